@@ -1,9 +1,9 @@
-ghost use Rattle.std.specs.Prelude.{◌≡◌, ◌==◌, ◌-◌, ◌<◌, ◌≤◌, ◌++◌, false, length, slice_get, vec_capacity, IfOk, IsSome, if◌then◌else◌};
+ghost use Rattle.std.specs.Prelude.{◌≡◌, ◌==◌, ◌-◌, ◌<◌, ◌≤◌, ◌++◌, true, false, length, slice_get, vec_capacity, IfOk, IfSome, IsSome, if◌then◌else◌};
 ghost use Rattle.std.specs.Option.{option_copied, option_map, option_map_or};
 ghost use Rattle.std.specs.List.{find, position};
 ghost use Rattle.plain_lists.specs.Edits.{changed_first, dropped};
 ghost use Rattle.plain_lists.specs.Rings.{keep_last};
-ghost use Rattle.operations.specs.Statuses.{is_live, cancel_of};
+ghost use Rattle.operations.specs.Statuses.{is_live, is_pending, cancel_of};
 ghost use Rattle.operations.specs.Kept.{no_operations, has_number, live_at, kept_at, live_status, first_pending_of, by_number, enter_answer, after_enter, with_work, moved, ends, cancel_answer, after_cancel};
 ghost use Rattle.operations.specs.Facts.{AreKept};
 ghost use Rattle.operations.specs.declared.status.Status.TheVariants as status;
@@ -56,12 +56,10 @@ impl<W: Drop> Slots<W> {
     /// The kept operation of this number.
     pub fn get(&self, number: u64) -> Option<&Operation<W>>
         ensures found { option_copied result ≡ kept_at self.now number }
+        ensures live { IfSome result (λ o. is_live o.now.status ≡ true → live_at self.now number ≡ Some o.now) }
         ensures facts { AreKept self.now }
     {
-        self.live
-            .iter()
-            .chain(self.ended.iter())
-            .find(|o| o.number == number)
+        found_in(&self.live, &self.ended, number)
     }
 
     /// How many are live.
@@ -75,10 +73,10 @@ impl<W: Drop> Slots<W> {
     /// The lowest number of those that are `Pending`.
     pub fn first_pending(&self) -> Option<u64>
         ensures lowest { result ≡ first_pending_of self.now }
+        ensures pending { IfSome result (λ number. live_status self.now number ≡ Some status.Pending) }
         ensures facts { AreKept self.now }
     {
-        let pending = self.live.iter().find(|o| matches!(o.status, Status::Pending));
-        pending.map(|o| o.number)
+        pending_in(&self.live)
     }
 
     /// The number that the next operation gets.
@@ -142,8 +140,7 @@ impl<W: Drop> Slots<W> {
         ensures old { option_map (λ (o : Operation W). o.work) (live_at self.old number) ≡ Some result }
         ensures state { self.new ≡ with_work number work self.old }
     {
-        let place = place_of(&self.live, number);
-        mem::replace(&mut self.live[place].work, work)
+        swap_in(&mut self.live, number, work)
     }
 
     /// A `Pending` operation becomes `Running`.
@@ -197,6 +194,21 @@ impl<W: Drop> Slots<W> {
     }
 }
 
+/// The operation of this number, in one of the lists.
+fn found_in<'x, W>(live: &'x [Operation<W>], ended: &'x [Operation<W>], number: u64) -> Option<&'x Operation<W>>
+    ensures { option_copied result ≡ find (has_number number) (live.now ++ ended.now) }
+{
+    live.iter().chain(ended.iter()).find(|o| o.number == number)
+}
+
+/// The number of the first that is `Pending`.
+fn pending_in<W>(operations: &[Operation<W>]) -> Option<u64>
+    ensures { result ≡ option_map (λ (o : Operation W). o.number) (find (λ (o : Operation W). is_pending o.status) operations.now) }
+{
+    let pending = operations.iter().find(|o| matches!(o.status, Status::Pending));
+    pending.map(|o| o.number)
+}
+
 /// What a cancel makes of a status.
 fn cancel_of(may_cancel: bool, status: Status) -> Result<Status, CancelFault>
     ensures { result ≡ cancel_of may_cancel status }
@@ -215,14 +227,36 @@ fn cancel_of(may_cancel: bool, status: Status) -> Result<Status, CancelFault>
 }
 
 /// The place of the operation of this number.
-fn place_of<W>(operations: &[Operation<W>], number: u64) -> usize
-    requires { IsSome (find (has_number number) operations.now) }
-    ensures { Some result ≡ position (has_number number) operations.now }
+fn place_of<W>(operations: &[Operation<W>], number: u64) -> Option<usize>
+    ensures { result ≡ position (has_number number) operations.now }
 {
-    match operations.iter().position(|o| o.number == number) {
+    operations.iter().position(|o| o.number == number)
+}
+
+/// The place of the operation of this number, which is there.
+fn known_place<W>(operations: &[Operation<W>], number: u64) -> usize
+    requires { IsSome (find (has_number number) operations.now) }
+    ensures place { Some result ≡ position (has_number number) operations.now }
+    ensures within { result < length operations.now }
+{
+    match place_of(operations, number) {
         Some(place) => place,
         None => unreachable!(),
     }
+}
+
+/// Puts another work into the operation of this number, and hands the old one out.
+fn swap_in<W>(operations: &mut Vec<Operation<W>>, number: u64, work: W) -> W
+    requires { IsSome (find (has_number number) operations.old.items) }
+    ensures old { option_map (λ (o : Operation W). o.work) (find (has_number number) operations.old.items) ≡ Some result }
+    ensures items {
+        operations.new.items ≡ changed_first (has_number number) (λ (o : Operation W). record o { work = work }) operations.old.items
+    }
+    ensures capacity { vec_capacity operations.new ≡ vec_capacity operations.old }
+{
+    let place = known_place(operations, number);
+    let operation = &mut operations[place];
+    mem::replace(&mut operation.work, work)
 }
 
 /// Gives the operation of this number another status.
@@ -234,7 +268,7 @@ fn set_status<W>(operations: &mut Vec<Operation<W>>, number: u64, status: Status
     }
     ensures capacity { vec_capacity operations.new ≡ vec_capacity operations.old }
 {
-    let place = place_of(operations, number);
+    let place = known_place(operations, number);
     let operation = &mut operations[place];
     operation.status = status;
     operation.updated = moment;
@@ -247,7 +281,7 @@ fn take_out<W>(operations: &mut Vec<Operation<W>>, number: u64) -> Operation<W>
     ensures rest { operations.new.items ≡ dropped (has_number number) operations.old.items }
     ensures capacity { vec_capacity operations.old ≤ vec_capacity operations.new }
 {
-    let place = place_of(operations, number);
+    let place = known_place(operations, number);
     operations.remove(place)
 }
 
@@ -275,7 +309,17 @@ fn forget(numbers: &mut Vec<u64>, gone: Option<u64>)
     let Some(number) = gone else {
         return;
     };
-    if let Some(place) = numbers.iter().position(|n| *n == number) {
-        numbers.remove(place);
+    match place_in(numbers, number) {
+        Some(place) => {
+            numbers.remove(place);
+        }
+        None => {}
     }
+}
+
+/// The place of a number.
+fn place_in(numbers: &[u64], number: u64) -> Option<usize>
+    ensures { result ≡ position (λ n. n == number) numbers.now }
+{
+    numbers.iter().position(|n| *n == number)
 }

@@ -4,7 +4,7 @@ use Rattle.std.specs.List.{find, list_any, position, position_from, position_or_
 use Rattle.std.proofs.lemmas.Iterator.Adapters.{position_from-zero}
 use Rattle.std.proofs.lemmas.List.Quantifiers.{position-Some}
 use Rattle.plain_lists.specs.Edits.{changed_first, dropped, inserted, replaced}
-use Rattle.plain_lists.proofs.Searches.{find-any}
+use Rattle.plain_lists.proofs.Searches.{any-none, none-find, find-any}
 use Rattle.plain_lists.proofs.EditLemmas.{dropped-none}
 
 -- what code does at the place that `position` gives
@@ -67,6 +67,9 @@ none_from p (y ∷ ys) i e = at (p y) e (none_from p ys (i + 1)) where
 -- no place, no element
 pub any-position : {X : Type 0} (p : X → Bool) (xs : List X) → None ≡ position p xs → list_any p xs ≡ false
 any-position p xs e = none_from p xs 0 (sym (position_from-zero p xs) ∙ sym e)
+
+pub none-position : {X : Type 0} (p : X → Bool) (xs : List X) → None ≡ position p xs → find p xs ≡ None
+none-position p xs e = none-find p xs (any-none p xs (any-position p xs e))
 
 pub replaced-new : {X : Type 0} (p before : X → Bool) (x : X) (xs : List X)
     → None ≡ position p xs → inserted before x xs ≡ replaced p before x xs

@@ -1,4 +1,4 @@
-use Rattle.std.proofs.Common.{◌≡◌, ℕ, ◌-◌, ◌<◌, ◌≤◌, List, [], ◌∷◌, ◌++◌, length, drop, ◌∙◌, ap, arith, length-drop}
+use Rattle.std.proofs.Common.{◌≡◌, ℕ, ◌-◌, ◌<◌, ◌≤◌, List, [], ◌∷◌, ◌++◌, length, drop, sym, ◌∙◌, ap, arith, length-drop}
 use Rattle.std.proofs.lemmas.List.{drop-append-le, length_push}
 use Rattle.plain_lists.specs.Rings.{keep_last, ring_push}
 use Rattle.plain_lists.specs.Members.{Each}
@@ -22,3 +22,9 @@ ring-full cap x xs h some =
 
 pub Each-ring : {X : Type 0} (P : X → Type 0) (cap : ℕ) {x : X} {xs : List X} → Each P xs → P x → Each P (ring_push cap x xs)
 Each-ring P cap {x} {xs} e p = Each-drop (length (xs ++ x ∷ []) - cap) (Each-push P e p)
+
+-- the oldest goes first, and then the new one is put at the end
+pub ring-place : {X : Type 0} (cap : ℕ) (x : X) (xs : List X) → 0 < cap → keep_last (cap - 1) xs ++ x ∷ [] ≡ ring_push cap x xs
+ring-place cap x xs some =
+    sym (drop-append-le (length xs - (cap - 1)) xs (x ∷ []) (omega arith))
+    ∙ ap (λ n. drop n (xs ++ x ∷ [])) (let e : length xs - (cap - 1) ≡ length (xs ++ x ∷ []) - cap = omega (arith, length_push xs x) in e)
