@@ -64,6 +64,7 @@ impl Keeper for MapKeeper {
     fn load(&mut self) -> Result<Seq<Entry>, Or<KeeperFailed>>
         ensures found { IfOk result (λ found. found ≡ self.old.entries) }
         ensures ordered { IfOk result IsOrderedEntries }
+        ensures cause { HasCauseOrMemory self.old.calls.failed self.new.calls.failed result }
         ensures kept { self.new ≡ record self.old { calls = after_call self.old.calls } }
         ensures fails { has_failed result ≡ is_next_failing self.old.calls }
     {
@@ -75,6 +76,7 @@ impl Keeper for MapKeeper {
     }
 
     fn commit(&mut self, changes: &Seq<EntryChange>) -> Result<(), Or<KeeperFailed>>
+        ensures cause { HasCauseOrMemory self.old.calls.failed self.new.calls.failed result }
         ensures kept { self.new ≡ record { entries = if is_ok result then after_changes changes.now self.old.entries else self.old.entries; calls = after_call self.old.calls } }
         ensures fails { has_failed result ≡ is_next_failing self.old.calls }
     {
