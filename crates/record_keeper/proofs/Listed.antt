@@ -1,10 +1,10 @@
 -- Facts on lists: a filter of which the passing elements stand together, and two sorted lists joined.
-use Rattle.std.proofs.Common.{◌≡◌, ℕ, zero, suc, ◌+◌, ◌<◌, ◌≤◌, Bool, true, false, cond, List, [], ◌∷◌, ◌++◌, length, take, drop, set, get_or, refl, ap, sym, ◌∙◌, subst, ⊎_elim, arith}
+use Rattle.std.proofs.Common.{◌≡◌, ℕ, zero, suc, ◌+◌, ◌<◌, Bool, true, false, cond, List, [], ◌∷◌, ◌++◌, length, take, drop, set, get_or, refl, ap, ◌∙◌, subst, ⊎_elim, arith}
 use Rattle.std.specs.List.{filter, AllWithin, HoldsAt, AllByRecursion}
 use Rattle.std.proofs.lemmas.Bool.{cases_lt}
 use Rattle.std.specs.List.Sorted.{IsStrictlySortedBy}
 use Rattle.std.specs.declared.cmp.Ordering.{Ordering}
-use Rattle.std.specs.declared.cmp.Ordering.TheVariants.{Less, Equal, Greater}
+use Rattle.std.specs.declared.cmp.Ordering.TheVariants.{Less}
 
 module _ {X : Type 0} (p : X → Bool) where
   -- all elements fail
@@ -82,8 +82,8 @@ module _ {X : Type 0} where
 
   -- a sorted list, and behind it another all of whose elements are above it
   pub sorted-append : (c : X → X → Ordering) (xs ys : List X)
-    → IsStrictlySortedBy c xs → IsStrictlySortedBy c ys → AllByRecursion (λ x. AllByRecursion (λ y. c x y ≡ Less) ys) xs
-    → IsStrictlySortedBy c (xs ++ ys)
+      → IsStrictlySortedBy c xs → IsStrictlySortedBy c ys → AllByRecursion (λ x. AllByRecursion (λ y. c x y ≡ Less) ys) xs
+      → IsStrictlySortedBy c (xs ++ ys)
   unfolding IsStrictlySortedBy
   sorted-append c [] ys front back between = back
   sorted-append c (x ∷ xs) ys front back between = (each-append _ xs ys front.0 between.0, sorted-append c xs ys front.1 back between.1)

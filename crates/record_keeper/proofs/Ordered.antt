@@ -1,8 +1,8 @@
 -- The list of entries: where a place is, and that every change keeps the order.
-use Rattle.std.proofs.Common.{◌≡◌, ℕ, suc, ◌+◌, ◌<◌, ◌≤◌, Bool, true, false, List, ◌++◌, ◌∷◌, [], length, get_or, set, take, drop, refl, ap, sym, subst, ◌∙◌, arith, Result, Ok, Err}
-use Rattle.std.specs.Cmp.{IsTotalOrder, alike_right, tied_back}
-use Rattle.std.specs.List.{AllWithin, HoldsAt, AllByRecursion, filter, insert, remove}
-use Rattle.std.specs.List.Sorted.{IsStrictlySortedBy, IsBinarySearchResult, IsSearchInRange, IsSortedBy, IsNonDecreasingBy}
+use Rattle.std.proofs.Common.{◌≡◌, ℕ, suc, ◌+◌, ◌<◌, ◌≤◌, true, false, List, ◌++◌, ◌∷◌, [], length, get_or, set, take, drop, refl, ap, sym, subst, ◌∙◌, arith, Result, Ok, Err}
+use Rattle.std.specs.Cmp.{IsTotalOrder, alike_right}
+use Rattle.std.specs.List.{AllWithin, HoldsAt, AllByRecursion, insert, remove}
+use Rattle.std.specs.List.Sorted.{IsStrictlySortedBy, IsBinarySearchResult, IsSearchInRange, IsNonDecreasingBy}
 use Rattle.std.specs.Ordering.{is_lt, is_gt, ordering_reverse, ordering_index}
 use Rattle.std.specs.declared.cmp.Ordering.{Ordering}
 use Rattle.std.specs.declared.cmp.Ordering.TheVariants.{Less, Equal, Greater}
@@ -157,5 +157,5 @@ entries_put-push (y ∷ ys) x es = entries_put-push ys x (put_entry y es)
 
 -- the entries up to an index, and the one at it
 pub entries_put-more : (xs : List Entry) (i : ℕ) (d : Entry) (es : List Entry) → i < length xs
-  → entries_put (take (i + 1) xs) es ≡ put_entry (get_or xs i d) (entries_put (take i xs) es)
+    → entries_put (take (i + 1) xs) es ≡ put_entry (get_or xs i d) (entries_put (take i xs) es)
 entries_put-more xs i d es within = ap (λ ys. entries_put ys es) (take_more xs i d within) ∙ entries_put-push (take i xs) (get_or xs i d) es

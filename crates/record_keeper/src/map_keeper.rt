@@ -44,7 +44,11 @@ impl MapKeeper {
 
     /// A keeper that has these entries already, put one after the other: of two with one kind and key the
     /// later one stays.
-    pub fn with_entries(alloc: Global, entries: &Seq<Entry>, fails: Seq<u64>) -> Result<MapKeeper, NoMemory>
+    pub fn with_entries(
+        alloc: Global,
+        entries: &Seq<Entry>,
+        fails: Seq<u64>,
+    ) -> Result<MapKeeper, NoMemory>
         ensures { IfOk result (λ k. k ≡ record { entries = entries_put entries.now []; calls = no_calls fails }) }
     {
         let entries = put_all(alloc, entries.view())?;
@@ -152,3 +156,6 @@ fn put_all(alloc: Global, entries: &[Entry]) -> Result<Vec<Entry>, NoMemory>
     }
     Ok(kept)
 }
+
+#[cfg(test)]
+mod tests;

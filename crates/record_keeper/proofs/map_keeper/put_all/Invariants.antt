@@ -4,6 +4,6 @@ use Rattle.record_keeper.proofs.map_keeper.put_all.Given as goal
 
 abbrev pub invariant-loop-entry : goal.invariant-loop-entry
 invariant-loop-entry l = record {
-    order : IsOrderedEntries l.kept.items;
-    items : l.kept.items ≡ entries_put (take l.entry-index l.entries) []
-  }
+  order : IsOrderedEntries l.kept.items;
+  items : l.kept.items ≡ entries_put (take l.entry-index l.entries) [];
+}

@@ -1,4 +1,4 @@
-use Rattle.std.proofs.Common.{◌≡◌, subst, sym, ◌∙◌, Ok}
+use Rattle.std.proofs.Common.{◌≡◌, subst, sym, ◌∙◌}
 use Rattle.std.specs.List.{insert}
 use Rattle.record_keeper.specs.Entries.{IsOrderedEntries, put_entry}
 use Rattle.record_keeper.proofs.Ordered.{put-found, put-new, ordered-put}
@@ -15,9 +15,9 @@ returns-in-Ok-clause-order c =
 put-is : (c : goal.Else-is_err) → c.insert.new.self.items ≡ put_entry c.args.entry c.args.entries.now.items
 put-is c =
     let placed : insert c.args.entries.now.items c.in-Err.index c.args.entry ≡ put_entry c.args.entry c.args.entries.now.items =
-        put-new c.args.entry c.args.entries.now.items c.in-Err.index (rw c.deref.ensures.value at c.in-Err.ensures) in
+    put-new c.args.entry c.args.entries.now.items c.in-Err.index (rw c.deref.ensures.value at c.in-Err.ensures) in
     let inserted : c.insert.new.self.items ≡ insert c.args.entries.now.items c.in-Err.index c.args.entry =
-        simp (c.is_err.ensures.negation, c.if-is_err.false) at c.insert.ensures.items in
+    simp (c.is_err.ensures.negation, c.if-is_err.false) at c.insert.ensures.items in
     inserted ∙ placed
 
 pub returns-else-is_err-clause-items : goal.returns-else-is_err-clause-items
