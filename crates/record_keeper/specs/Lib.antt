@@ -1,4 +1,3 @@
-pub mod Calls
 pub mod Entries
 pub mod MapKeeper
 pub mod Places

@@ -2,11 +2,9 @@
 //! fail, for runs without a file and for tests.
 #![tactic(auto)]
 
-mod calls;
 mod keeper;
 mod map_keeper;
 mod places;
 
-pub use calls::FailingCalls;
 pub use keeper::{Keeper, KeeperFailed};
 pub use map_keeper::MapKeeper;

@@ -1,12 +1,11 @@
 ghost use Rattle.std.specs.Prelude.{◌≡◌, [], is_ok, if◌then◌else◌, Some, option_map, IfOk, IfSome, OnOk, OnErr, vec_len, vec_capacity, ◌+◌, ◌≤◌};
 ghost use Rattle.size_values.specs.Causes.{HasCauseOrMemory};
-ghost use Rattle.record_keeper.specs.Calls.{no_calls, after_call, is_next_failing, has_failed};
+ghost use Rattle.size_values.specs.Calls.{no_calls, after_call, is_next_failing, has_failed};
 ghost use Rattle.record_keeper.specs.Entries.{IsOrderedEntries, after_changes, entries_put};
 
-use crate::calls::FailingCalls;
 use crate::keeper::{Keeper, KeeperFailed};
 use crate::places;
-use size_values::{Entry, EntryChange, NoMemory, Or, Seq, Text};
+use size_values::{Entry, EntryChange, FailingCalls, NoMemory, Or, Seq, Text};
 use std::alloc::Global;
 use std::marker::Model;
 
