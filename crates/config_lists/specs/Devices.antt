@@ -1,9 +1,7 @@
 -- Devices: a list of names and devices, each device the settings that it has.
-use Rattle.std.specs.Prelude.{◌≡◌, ℕ, ◌+◌, Bool, false, ◌&&◌, List, [], ◌∷◌, Option, Some, None, All, if◌then◌else◌, is_some, is_none, codes}
-use Rattle.std.specs.Option.{option_map_or}
-use Rattle.std.specs.Str.{bytes_eq}
+use Rattle.std.specs.Prelude.{ℕ, ◌+◌, Bool, ◌&&◌, List, [], ◌∷◌, Option, if◌then◌else◌, is_some, is_none, codes}
 use Rattle.config_lists.specs.Entries.{value_of, KeysRise}
-use Rattle.config_lists.specs.Settings.{Settings, setting, IsConfig}
+use Rattle.config_lists.specs.Settings.{Settings, setting, has_setting}
 use Rattle.config_lists.specs.declared.root.Root.{Root}
 use Rattle.config_lists.specs.declared.root.Root.TheVariants as root
 
@@ -14,14 +12,9 @@ NamedDevices = List (List ℕ × Settings)
 abbrev pub device : NamedDevices → List ℕ → Option Settings
 device devices name = value_of devices name
 
--- what every `Devices` is: names rise, and each device is a `Config`
+-- what every `Devices` is: names rise
 pub record IsDevices (devices : NamedDevices) : Type 0 where
   pub rising : KeysRise devices
-  pub each : All (λ e. IsConfig e.1) devices
-
--- whether a device has this value under this key
-abbrev pub has_setting : Settings → List ℕ → List ℕ → Bool
-has_setting config key value = option_map_or (bytes_eq value) (setting config key) false
 
 -- whether a device is a root disk: a disk at `/` with a pool and without a source
 unfoldable pub is_root_disk : Settings → Bool

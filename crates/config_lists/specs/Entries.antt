@@ -1,5 +1,5 @@
 -- Values under keys: a list of pairs, read as the map from keys to values.
-use Rattle.std.specs.Prelude.{◌≡◌, ℕ, ◌<◌, ◌≤◌, not, List, [], ◌∷◌, length, Option, Result, Ok, Err, filter}
+use Rattle.std.specs.Prelude.{◌≡◌, ℕ, ◌<◌, ◌≤◌, not, List, [], ◌∷◌, length, Option, filter}
 use Rattle.std.specs.BTreeMap.{insert_entry}
 use Rattle.std.specs.Cmp.Lexicographic.{slice_cmp}
 use Rattle.std.specs.List.{HoldsAt}
@@ -30,7 +30,12 @@ unfoldable pub replaced : {V : Type 0} → List (List ℕ × V) → List (List �
 replaced entries [] = entries
 replaced entries (new ∷ by) = replaced (put entries new.0 new.1) by
 
--- the place of a key, or else the place that it would take: behind each key below it, before each key above it
-abbrev pub IsPlace : {V : Type 0} → List (List ℕ × V) → List ℕ → Result ℕ ℕ → Type 0
-IsPlace entries key (Ok place) = (place < length entries) × HoldsAt (λ e. slice_cmp nat_cmp e.0 key ≡ Equal) entries place
-IsPlace entries key (Err place) = (place ≤ length entries) × IsPartitionPoint (λ e. slice_cmp nat_cmp e.0 key ≡ Less) (λ e. slice_cmp nat_cmp e.0 key ≡ Greater) entries place
+-- the key stands at this place
+pub record IsAt {V : Type 0} (entries : List (List ℕ × V)) (key : List ℕ) (place : ℕ) : Type 0 where
+  pub within : place < length entries
+  pub same : HoldsAt (λ e. slice_cmp nat_cmp e.0 key ≡ Equal) entries place
+
+-- no entry has the key, which would stand at this place: behind each key below it, before each key above it
+pub record IsGap {V : Type 0} (entries : List (List ℕ × V)) (key : List ℕ) (place : ℕ) : Type 0 where
+  pub within : place ≤ length entries
+  pub between : IsPartitionPoint (λ e. slice_cmp nat_cmp e.0 key ≡ Less) (λ e. slice_cmp nat_cmp e.0 key ≡ Greater) entries place

@@ -53,9 +53,10 @@ impl Changes {
     {
         let mut config = Config::new(self.changes.allocator());
         for place in 0..self.len() {
+            let key = self.key_at(place);
             let value = self.value_at(place);
             if !value.is_empty() {
-                config.set(self.key_at(place), value)?;
+                config.set(key, value)?;
             }
         }
         Ok(config)

@@ -2,7 +2,7 @@ ghost use Rattle.std.specs.Prelude.{◌≡◌, ◌≢◌, ◌<◌, [], length, s
 ghost use Rattle.std.specs.Option.{option_copied};
 ghost use Rattle.std.specs.Map.{keys_of, values_of};
 ghost use Rattle.config_lists.specs.Entries.{put, without};
-ghost use Rattle.config_lists.specs.Settings.{setting, IsConfig};
+ghost use Rattle.config_lists.specs.Settings.{setting, has_setting, IsConfig};
 ghost use Rattle.config_lists.specs.Changes.{patched, changed};
 
 use crate::changes::Changes;
@@ -50,6 +50,16 @@ impl Config {
         match self.settings.get(key) {
             Some(value) => Some(value.view()),
             None => None,
+        }
+    }
+
+    /// Whether a key has this value.
+    pub fn has(&self, key: &str, value: &str) -> bool
+        ensures { result ≡ has_setting self.now key.now value.now }
+    {
+        match self.get(key) {
+            Some(found) => found == value,
+            None => false,
         }
     }
 

@@ -1,7 +1,7 @@
 ghost use Rattle.std.specs.Prelude.{◌≡◌, ◌<◌, [], length, slice_get, is_some, IfOk, OnOk, OnErr, IsTrue};
 ghost use Rattle.std.specs.Option.{option_copied};
 ghost use Rattle.std.specs.Map.{keys_of, values_of};
-ghost use Rattle.config_lists.specs.Entries.{put, without, replaced};
+ghost use Rattle.config_lists.specs.Entries.{put, without, replaced, KeysRise};
 ghost use Rattle.config_lists.specs.Devices.{device, root_of, IsDevices};
 
 use crate::config::Device;
@@ -19,15 +19,11 @@ pub struct Devices {
 }
 
 impl Model for Devices {
-    ghost use Rattle.std.specs.Prelude.{List, ℕ, All};
+    ghost use Rattle.std.specs.Prelude.{List, ℕ};
 
     ghost Value = { List (List ℕ × List (List ℕ × List ℕ)) };
 
-    ghost use Rattle.config_lists.specs.Settings.{IsConfig};
-
     ghost view = { λ d. d.devices };
-
-    ghost invariant = { λ d. All (λ e. IsConfig e.1) d.devices };
 }
 
 impl Devices {
@@ -107,7 +103,8 @@ impl Devices {
     }
 
     fn put_each(&mut self, by: &Devices) -> Result<(), NoMemory>
-        ensures { OnOk result (self.new ≡ replaced self.old by.now) }
+        ensures after { OnOk result (self.new ≡ replaced self.old by.now) }
+        ensures rising { KeysRise by.now }
     {
         for place in 0..by.len() {
             self.put(by.name_at(place), by.device_at(place).copy()?)?;

@@ -26,11 +26,12 @@ impl Root {
 }
 
 /// Whether a device is a root disk: a disk at `/` with a pool and without a source.
+#[tactic(auto, unfolding(crate::specs::Devices::is_root_disk))]
 pub(crate) fn is_root_disk(device: &Device) -> bool
     ensures { result ≡ is_root_disk device.now }
 {
-    device.get("type") == Some("disk")
-        && device.get("path") == Some("/")
+    device.has("type", "disk")
+        && device.has("path", "/")
         && device.get("pool").is_some()
         && device.get("source").is_none()
 }

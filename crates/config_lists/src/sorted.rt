@@ -1,7 +1,7 @@
-ghost use Rattle.std.specs.Prelude.{◌≡◌, ◌<◌, [], ◌∷◌, ◌++◌, length, slice_get, is_some, OnOk, OnErr};
+ghost use Rattle.std.specs.Prelude.{◌≡◌, ◌<◌, [], ◌∷◌, ◌++◌, length, slice_get, is_some, IfOk, IfErr, OnOk, OnErr};
 ghost use Rattle.std.specs.Option.{option_copied};
 ghost use Rattle.std.specs.Map.{keys_of, values_of};
-ghost use Rattle.config_lists.specs.Entries.{value_of, put, without, KeysRise, IsPlace};
+ghost use Rattle.config_lists.specs.Entries.{value_of, put, without, KeysRise, IsAt, IsGap};
 
 use size_values::{NoMemory, Text};
 use std::alloc::Global;
@@ -48,7 +48,8 @@ impl<V> Sorted<V> {
 
     /// The place of a key, or else the place that it would take.
     fn place_of(&self, key: &str) -> Result<usize, usize>
-        ensures { IsPlace self.now key.now result }
+        ensures found { IfOk result (IsAt self.now key.now) }
+        ensures absent { IfErr result (IsGap self.now key.now) }
     {
         self.entries
             .as_slice()
@@ -88,12 +89,19 @@ impl<V: Drop> Sorted<V> {
         match self.place_of(key) {
             Ok(place) => {
                 self.entries[place].1 = value;
+                Ok(())
             }
-            Err(place) => {
-                let key = Text::from_text(self.allocator(), key)?;
-                self.entries.insert(place, (key, value))?;
-            }
+            Err(place) => self.insert(place, key, value),
         }
+    }
+
+    fn insert(&mut self, place: usize, key: &str, value: V) -> Result<(), NoMemory>
+        requires { IsGap self.old key.now place }
+        ensures ok { OnOk result (self.new ≡ put self.old key.now value) }
+        ensures err { OnErr result (self.new ≡ self.old) }
+    {
+        let key = Text::from_text(self.allocator(), key)?;
+        self.entries.insert(place, (key, value))?;
         Ok(())
     }
 
