@@ -107,7 +107,8 @@ impl Devices {
         ensures rising { KeysRise by.now }
     {
         for place in 0..by.len() {
-            self.put(by.name_at(place), by.device_at(place).copy()?)?;
+            let device = by.device_at(place).copy()?;
+            self.put(by.name_at(place), device)?;
         }
         Ok(())
     }

@@ -3,6 +3,7 @@
 #![tactic(auto)]
 
 mod amounts;
+mod calls;
 mod entry;
 mod kinds;
 mod memory;
@@ -11,6 +12,7 @@ mod seq;
 mod text;
 
 pub use amounts::{Amounts, Part};
+pub use calls::FailingCalls;
 pub use entry::{Entry, EntryChange};
 pub use kinds::{Action, Deed, Kind, ObjectKind, Power};
 pub use memory::{NoMemory, Or};
