@@ -16,7 +16,8 @@ use Rattle.plain_lists.proofs.PutsLemmas.{Each-puts, Each-unputs, Distinct-puts,
 use Rattle.plain_lists.proofs.EditLemmas.{Each-changed, changed-Puts, length-changed, Each-dropped, dropped-Puts}
 use Rattle.plain_lists.proofs.RingLemmas.{ring-few, Each-ring}
 use Rattle.plain_lists.proofs.Searches.{find-some, find-mem}
-use Rattle.operations.specs.declared.limits.TheConstants.{MOMENT_LIMIT, LIVE_LIMIT, ENDED_LIMIT, NUMBER_LIMIT}
+use Rattle.size_values.specs.declared.moment.TheConstants.{MOMENT_LIMIT}
+use Rattle.operations.specs.declared.limits.TheConstants.{LIVE_LIMIT, ENDED_LIMIT, NUMBER_LIMIT}
 use Rattle.operations.specs.declared.operation.Operation.{Operation}
 use Rattle.operations.specs.declared.operation.OpFault.{OpFault}
 use Rattle.operations.specs.declared.status.Status.{Status}

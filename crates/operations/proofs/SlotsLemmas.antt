@@ -15,7 +15,8 @@ use Rattle.plain_lists.proofs.PutsLemmas.{Puts-map, Puts-between, Puts-left, Put
 use Rattle.plain_lists.proofs.EditLemmas.{inserted-Puts, map-changed}
 use Rattle.plain_lists.proofs.RingLemmas.{ring-place}
 use Rattle.plain_lists.proofs.Searches.{find-mem, find-some}
-use Rattle.operations.specs.declared.limits.TheConstants.{MOMENT_LIMIT, LIVE_LIMIT, ENDED_LIMIT}
+use Rattle.size_values.specs.declared.moment.TheConstants.{MOMENT_LIMIT}
+use Rattle.operations.specs.declared.limits.TheConstants.{LIVE_LIMIT, ENDED_LIMIT}
 use Rattle.operations.specs.declared.operation.Operation.{Operation}
 use Rattle.operations.specs.declared.slots.Slots.TheInside.{Inside}
 use Rattle.operations.specs.declared.operation.OpFault.{OpFault}

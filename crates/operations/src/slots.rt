@@ -9,11 +9,11 @@ ghost use Rattle.operations.specs.Facts.{AreKept};
 ghost use Rattle.operations.specs.declared.status.Status.TheVariants as status;
 
 use crate::faults::{CancelFault, EnterFault};
-use crate::limits::{ENDED_LIMIT, LIVE_LIMIT, MOMENT_LIMIT, NUMBER_LIMIT};
+use crate::limits::{ENDED_LIMIT, LIVE_LIMIT, NUMBER_LIMIT};
 use crate::operation::{OpFault, Operation};
 use crate::status::Status;
 use plain_lists::push_reserved;
-use size_values::NoMemory;
+use size_values::{MOMENT_LIMIT, NoMemory};
 use std::alloc::Global;
 use std::marker::Model;
 use std::mem;
