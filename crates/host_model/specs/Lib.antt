@@ -1,0 +1,4 @@
+pub mod Roots
+pub mod Effects
+pub mod Reports
+pub mod ModelHost

@@ -1,0 +1,19 @@
+use Rattle.std.specs.Prelude.{◌≡◌, ℕ, List, Option}
+use Rattle.std.specs.Option.{option_map}
+use Rattle.host_model.specs.declared.root.HostRoot.{HostRoot}
+use Rattle.host_model.specs.declared.call.HostCall.{HostCall}
+use Rattle.host_model.specs.declared.report.Report.{Report}
+use Rattle.host_model.specs.declared.report.Report.TheVariants.{Done, Failed, NoMemory}
+use Rattle.host_model.specs.Effects.{effect_of}
+
+-- the told roots after a call of this report: those of the effect where it was done, and else as they were
+abbrev pub roots_after : Report → HostCall → Option (List HostRoot) → Option (List HostRoot)
+roots_after Done call told = option_map (effect_of call) told
+roots_after (Failed rise) call told = told
+roots_after NoMemory call told = told
+
+-- a failed report carries the counts before and after
+abbrev pub CarriesCounts : Report → ℕ → ℕ → Type 0
+CarriesCounts Done before after = Unit {0}
+CarriesCounts (Failed rise) before after = (rise.before ≡ before) × (rise.after ≡ after)
+CarriesCounts NoMemory before after = Unit {0}
