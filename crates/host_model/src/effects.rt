@@ -1,20 +1,24 @@
-ghost use Rattle.std.specs.Prelude.{◌≡◌, ◌<◌, ◌≤◌, ◌-◌, IfOk, OnOk, OnErr, unwrap_or, vec_len, vec_capacity};
+ghost use Rattle.std.specs.Prelude.{◌≡◌, ◌<◌, ◌≤◌, ◌-◌, IfOk, OnOk, OnErr, vec_len, vec_capacity};
 ghost use Rattle.std.specs.List.{find, position};
 ghost use Rattle.std.specs.Option.{option_copied};
 ghost use Rattle.size_values.specs.declared.kinds.Power.TheVariants as power_of;
-ghost use Rattle.host_model.specs.Roots.{is_at, root_at, with_root, without_root, made, snapshot_of, content_of};
+ghost use Rattle.host_model.specs.Roots.{is_at, root_at, with_root, without_root, made, content_of};
 ghost use Rattle.host_model.specs.Effects.{effect_of, with_power, with_spec, renamed, snapped, unsnapped, restored};
 
 use crate::call::HostCall;
 use crate::place::Place;
 use crate::root::{HostRoot, Spec};
 use plain_lists::push_reserved;
-use size_values::{NoMemory, Power, Seq, Text};
+use size_values::{NoMemory, Power, Text};
 use std::alloc::Global;
 
 /// Makes of the roots what a call makes of them. Where memory is refused, they are as before: each call works
 /// on a root of its own and puts it back at its end.
-pub(crate) fn change(alloc: Global, roots: &mut Vec<HostRoot>, call: &HostCall) -> Result<(), NoMemory>
+pub(crate) fn change(
+    alloc: Global,
+    roots: &mut Vec<HostRoot>,
+    call: &HostCall,
+) -> Result<(), NoMemory>
     ensures ok { OnOk result (roots.new.items ≡ effect_of call.now roots.old.items) }
     ensures err { OnErr result (roots.new.items ≡ roots.old.items) }
 {
@@ -24,10 +28,7 @@ pub(crate) fn change(alloc: Global, roots: &mut Vec<HostRoot>, call: &HostCall) 
             Ok(())
         }
         HostCall::MakeRoot { at, origin } => make(alloc, roots, at, origin.copy(alloc)?),
-        HostCall::CopyRoot { from, snapshot, to } => {
-            let content = content_of(alloc, roots, from, snapshot)?;
-            make(alloc, roots, to, content)
-        }
+        HostCall::CopyRoot { from, snapshot, to } => copy_content(alloc, roots, from, snapshot, to),
         HostCall::Start { at, spec } => start(alloc, roots, at, spec),
         HostCall::Stop { at } => set_power(alloc, roots, at, Power::Stopped),
         HostCall::Freeze { at } => set_power(alloc, roots, at, Power::Frozen),
@@ -61,6 +62,21 @@ fn make(alloc: Global, roots: &mut Vec<HostRoot>, at: &Place, content: Text) -> 
     put(roots, root)
 }
 
+/// Puts a root with the content of another one, or of its named snapshot.
+fn copy_content(
+    alloc: Global,
+    roots: &mut Vec<HostRoot>,
+    from: &Place,
+    snapshot: &Text,
+    to: &Place,
+) -> Result<(), NoMemory>
+    ensures ok { OnOk result (roots.new.items ≡ with_root (made to.now (content_of from.now snapshot.now roots.old.items)) roots.old.items) }
+    ensures err { OnErr result (roots.new.items ≡ roots.old.items) }
+{
+    let content = content_of(alloc, roots, from, snapshot)?;
+    make(alloc, roots, to, content)
+}
+
 fn start(alloc: Global, roots: &mut Vec<HostRoot>, at: &Place, spec: &Spec) -> Result<(), NoMemory>
     ensures ok { OnOk result (roots.new.items ≡ with_root (with_power power_of.Running (with_spec spec.now (root_at at.now roots.old.items))) roots.old.items) }
     ensures err { OnErr result (roots.new.items ≡ roots.old.items) }
@@ -71,7 +87,12 @@ fn start(alloc: Global, roots: &mut Vec<HostRoot>, at: &Place, spec: &Spec) -> R
     put(roots, root)
 }
 
-fn set_power(alloc: Global, roots: &mut Vec<HostRoot>, at: &Place, power: Power) -> Result<(), NoMemory>
+fn set_power(
+    alloc: Global,
+    roots: &mut Vec<HostRoot>,
+    at: &Place,
+    power: Power,
+) -> Result<(), NoMemory>
     ensures ok { OnOk result (roots.new.items ≡ with_root (with_power power (root_at at.now roots.old.items)) roots.old.items) }
     ensures err { OnErr result (roots.new.items ≡ roots.old.items) }
 {
@@ -89,7 +110,12 @@ fn apply(alloc: Global, roots: &mut Vec<HostRoot>, at: &Place, spec: &Spec) -> R
     put(roots, root)
 }
 
-fn rename(alloc: Global, roots: &mut Vec<HostRoot>, from: &Place, to: &Place) -> Result<(), NoMemory>
+fn rename(
+    alloc: Global,
+    roots: &mut Vec<HostRoot>,
+    from: &Place,
+    to: &Place,
+) -> Result<(), NoMemory>
     ensures ok { OnOk result (roots.new.items ≡ with_root (renamed to.now (root_at from.now roots.old.items)) (without_root from.now roots.old.items)) }
     ensures err { OnErr result (roots.new.items ≡ roots.old.items) }
 {
@@ -105,11 +131,8 @@ fn snap(alloc: Global, roots: &mut Vec<HostRoot>, at: &Place, name: &Text) -> Re
     ensures ok { OnOk result (roots.new.items ≡ with_root (snapped name.now (root_at at.now roots.old.items)) roots.old.items) }
     ensures err { OnErr result (roots.new.items ≡ roots.old.items) }
 {
-    let mut root = root_at(alloc, roots, at)?;
-    let mut snapshots = root.others(alloc, name)?;
-    let content = root.content.copy(alloc)?;
-    snapshots.push((name.copy(alloc)?, content))?;
-    root.snapshots = Seq::from_vec(snapshots);
+    let root = root_at(alloc, roots, at)?;
+    let root = root.snapped(alloc, name)?;
     put(roots, root)
 }
 
@@ -117,23 +140,32 @@ fn unsnap(alloc: Global, roots: &mut Vec<HostRoot>, at: &Place, name: &Text) -> 
     ensures ok { OnOk result (roots.new.items ≡ with_root (unsnapped name.now (root_at at.now roots.old.items)) roots.old.items) }
     ensures err { OnErr result (roots.new.items ≡ roots.old.items) }
 {
-    let mut root = root_at(alloc, roots, at)?;
-    let snapshots = root.others(alloc, name)?;
-    root.snapshots = Seq::from_vec(snapshots);
+    let root = root_at(alloc, roots, at)?;
+    let root = root.unsnapped(alloc, name)?;
     put(roots, root)
 }
 
-fn restore(alloc: Global, roots: &mut Vec<HostRoot>, at: &Place, name: &Text) -> Result<(), NoMemory>
+fn restore(
+    alloc: Global,
+    roots: &mut Vec<HostRoot>,
+    at: &Place,
+    name: &Text,
+) -> Result<(), NoMemory>
     ensures ok { OnOk result (roots.new.items ≡ with_root (restored name.now (root_at at.now roots.old.items)) roots.old.items) }
     ensures err { OnErr result (roots.new.items ≡ roots.old.items) }
 {
-    let mut root = root_at(alloc, roots, at)?;
-    root.content = restored_content(alloc, &root, name)?;
+    let root = root_at(alloc, roots, at)?;
+    let root = root.restored(alloc, name)?;
     put(roots, root)
 }
 
 /// The content of a root, or of its named snapshot.
-fn content_of(alloc: Global, roots: &[HostRoot], from: &Place, snapshot: &Text) -> Result<Text, NoMemory>
+fn content_of(
+    alloc: Global,
+    roots: &[HostRoot],
+    from: &Place,
+    snapshot: &Text,
+) -> Result<Text, NoMemory>
     ensures { IfOk result (λ t. t ≡ content_of from.now snapshot.now roots.now) }
 {
     let source = root_at(alloc, roots, from)?;
@@ -143,16 +175,6 @@ fn content_of(alloc: Global, roots: &[HostRoot], from: &Place, snapshot: &Text) 
     match source.snapshot(snapshot) {
         Some(content) => content.copy(alloc),
         None => Ok(Text::new(alloc)),
-    }
-}
-
-/// The content of the named snapshot, or of the root where there is none.
-fn restored_content(alloc: Global, root: &HostRoot, name: &Text) -> Result<Text, NoMemory>
-    ensures { IfOk result (λ t. t ≡ unwrap_or (snapshot_of name.now root.now) root.now.content) }
-{
-    match root.snapshot(name) {
-        Some(content) => content.copy(alloc),
-        None => root.content.copy(alloc),
     }
 }
 

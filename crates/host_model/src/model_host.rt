@@ -62,3 +62,6 @@ impl Host for ModelHost {
         self.calls.failed()
     }
 }
+
+#[cfg(test)]
+mod tests;

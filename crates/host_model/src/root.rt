@@ -1,6 +1,7 @@
 ghost use Rattle.std.specs.Prelude.{◌≡◌, IfOk};
 ghost use Rattle.std.specs.Option.{option_copied};
 ghost use Rattle.host_model.specs.Roots.{no_spec, made, others, snapshot_of};
+ghost use Rattle.host_model.specs.Effects.{snapped, unsnapped, restored};
 
 use crate::place::Place;
 use config_lists::{Config, Devices};
@@ -82,11 +83,36 @@ impl HostRoot {
         found.map(|s| &s.1)
     }
 
-    /// Copies of the snapshots of other names.
-    pub(crate) fn others(&self, alloc: Global, name: &Text) -> Result<Vec<(Text, Text)>, NoMemory>
-        ensures { IfOk result (λ v. v.items ≡ others name.now self.now.snapshots) }
+    /// The root with a snapshot of its content under this name, in place of an earlier one.
+    pub(crate) fn snapped(mut self, alloc: Global, name: &Text) -> Result<HostRoot, NoMemory>
+        ensures { IfOk result (λ r. r ≡ snapped name.now self) }
     {
-        other_snapshots(alloc, self.snapshots.view(), name)
+        let mut snapshots = other_snapshots(alloc, self.snapshots.view(), name)?;
+        let content = self.content.copy(alloc)?;
+        snapshots.push((name.copy(alloc)?, content))?;
+        self.snapshots = Seq::from_vec(snapshots);
+        Ok(self)
+    }
+
+    /// The root without the snapshot of this name.
+    pub(crate) fn unsnapped(mut self, alloc: Global, name: &Text) -> Result<HostRoot, NoMemory>
+        ensures { IfOk result (λ r. r ≡ unsnapped name.now self) }
+    {
+        let snapshots = other_snapshots(alloc, self.snapshots.view(), name)?;
+        self.snapshots = Seq::from_vec(snapshots);
+        Ok(self)
+    }
+
+    /// The root with the content of the snapshot of this name, where there is one.
+    pub(crate) fn restored(mut self, alloc: Global, name: &Text) -> Result<HostRoot, NoMemory>
+        ensures { IfOk result (λ r. r ≡ restored name.now self) }
+    {
+        let content = match self.snapshot(name) {
+            Some(content) => content.copy(alloc)?,
+            None => return Ok(self),
+        };
+        self.content = content;
+        Ok(self)
     }
 }
 
@@ -100,7 +126,11 @@ fn copy_snapshots(alloc: Global, snapshots: &[(Text, Text)]) -> Result<Seq<(Text
     Ok(Seq::from_vec(copies))
 }
 
-fn other_snapshots(alloc: Global, snapshots: &[(Text, Text)], name: &Text) -> Result<Vec<(Text, Text)>, NoMemory>
+fn other_snapshots(
+    alloc: Global,
+    snapshots: &[(Text, Text)],
+    name: &Text,
+) -> Result<Vec<(Text, Text)>, NoMemory>
     ensures { IfOk result (λ v. v.items ≡ others name.now snapshots.now) }
 {
     let mut copies = Vec::with_capacity(alloc, snapshots.len())?;

@@ -1,0 +1,11 @@
+use Rattle.std.proofs.Common.{◌≡◌, ◌∙◌, ap, subst}
+use Rattle.std.specs.Prelude.{OnOk}
+use Rattle.host_model.specs.declared.root.HostRoot.{HostRoot}
+use Rattle.host_model.specs.Roots.{root_at, with_root}
+use Rattle.host_model.specs.Effects.{restored}
+use Rattle.host_model.proofs.effects.restore.Goals as goal
+
+pub returns-clause-ok : goal.returns-clause-ok
+returns-clause-ok c =
+    let made = c.in_ok-root-2.ensures ∙ ap (restored c.args.name.now) (c.in_ok-root.ensures ∙ ap (root_at c.args.at.now) c.deref.ensures.value) in
+    subst (λ (root : HostRoot). OnOk c.put.result (c.put.new.roots.items ≡ with_root root c.args.roots.now.items)) made c.put.ensures.ok

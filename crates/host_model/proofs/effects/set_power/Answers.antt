@@ -1,0 +1,13 @@
+use Rattle.std.proofs.Common.{◌≡◌, ◌∙◌, ap, subst}
+use Rattle.std.specs.Prelude.{OnOk}
+use Rattle.size_values.specs.declared.kinds.Power.TheVariants.{Running}
+use Rattle.host_model.specs.declared.root.Spec.{Spec}
+use Rattle.host_model.specs.declared.root.HostRoot.{HostRoot}
+use Rattle.host_model.specs.Roots.{root_at, with_root, made, content_of}
+use Rattle.host_model.specs.Effects.{with_power, with_spec}
+use Rattle.host_model.proofs.effects.set_power.Goals as goal
+
+pub returns-clause-ok : goal.returns-clause-ok
+returns-clause-ok c =
+    let there = c.in_ok-root.ensures ∙ ap (root_at c.args.at.now) c.deref.ensures.value in
+    subst (λ (root : HostRoot). OnOk c.put.result (c.put.new.roots.items ≡ with_root (with_power c.args.power root) c.args.roots.now.items)) there c.put.ensures.ok

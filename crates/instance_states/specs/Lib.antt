@@ -1,0 +1,3 @@
+pub mod States
+pub mod Plans
+pub mod Numbers

@@ -1,0 +1,75 @@
+use Rattle.std.specs.Prelude.{ℕ, ◌+◌, ◌-◌, ◌==◌, ◌&&◌, ◌||◌, not, nat_le, nat_eq, Bool, max, Option, Some, None, List, [], ◌∷◌, ◌++◌, length, slice_index, slice_range, if◌then◌else◌}
+use Rattle.std.specs.List.{starts_with, ends_with, list_all}
+use Rattle.std.specs.Option.{option_map_or, option_and_then}
+use Rattle.std.specs.Char.{is_ascii_digit}
+use Rattle.std.specs.Str.Parse.{digits_value}
+use Rattle.std.specs.Fmt.{decimal}
+
+-- whether two bytes are `%d`
+abbrev pub is_hole : ℕ → ℕ → Bool
+is_hole a b = a == 37 && b == 100
+
+-- how often `%d` stands in a text
+abbrev pub holes : List ℕ → ℕ
+holes [] = 0
+holes (a ∷ []) = 0
+holes (a ∷ b ∷ rest) = (if is_hole a b then 1 else 0) + holes (b ∷ rest)
+
+-- the text before the first `%d`
+abbrev pub before_hole : List ℕ → List ℕ
+before_hole [] = []
+before_hole (a ∷ []) = a ∷ []
+before_hole (a ∷ b ∷ rest) = if is_hole a b then [] else a ∷ before_hole (b ∷ rest)
+
+-- the text behind the first `%d`
+abbrev pub behind_hole : List ℕ → List ℕ
+behind_hole [] = []
+behind_hole (a ∷ []) = []
+behind_hole (a ∷ b ∷ rest) = if is_hole a b then rest else behind_hole (b ∷ rest)
+
+-- the numbers that were seen in names: the text before and behind the number, and the greatest
+pub record Numbering : Type 0 where
+  pub before : List ℕ
+  pub behind : List ℕ
+  pub greatest : Option ℕ
+
+-- no name was seen yet
+abbrev pub unseen : List ℕ → Numbering
+unseen pattern = record { before = before_hole pattern; behind = behind_hole pattern; greatest = None }
+
+-- the number that one to nine digits write without a leading zero
+abbrev pub number_of : List ℕ → Option ℕ
+number_of digits =
+    if nat_le 1 (length digits) && nat_le (length digits) 9 && list_all is_ascii_digit digits
+      && (length digits == 1 || not (slice_index digits 0 == 48))
+    then Some (digits_value 10 digits)
+    else None
+
+-- the part of a name between the text before and the text behind
+abbrev pub between : List ℕ → List ℕ → List ℕ → Option (List ℕ)
+between before behind name =
+    if nat_le (length before + length behind) (length name) && starts_with nat_eq name before && ends_with nat_eq name behind
+    then Some (slice_range name (length before) (length name - length behind))
+    else None
+
+-- the number of a name, where the name is of the pattern
+abbrev pub number_in : Numbering → List ℕ → Option ℕ
+number_in numbers name = option_and_then number_of (between numbers.before numbers.behind name)
+
+-- the greater of two numbers, if there are any
+abbrev pub greater : Option ℕ → Option ℕ → Option ℕ
+greater None n = n
+greater (Some m) None = Some m
+greater (Some m) (Some n) = Some (max m n)
+
+-- after one more name
+abbrev pub seen : List ℕ → Numbering → Numbering
+seen name numbers = record numbers { greatest = greater numbers.greatest (number_in numbers name) }
+
+-- the next number is one more than the greatest, or 0
+abbrev pub next_number : Numbering → ℕ
+next_number numbers = option_map_or (λ n. n + 1) numbers.greatest 0
+
+-- the name with the next number
+abbrev pub next_name : Numbering → List ℕ
+next_name numbers = numbers.before ++ decimal (next_number numbers) ++ numbers.behind
