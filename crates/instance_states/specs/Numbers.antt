@@ -37,13 +37,15 @@ pub record Numbering : Type 0 where
 abbrev pub unseen : List ℕ → Numbering
 unseen pattern = record { before = before_hole pattern; behind = behind_hole pattern; greatest = None }
 
--- the number that one to nine digits write without a leading zero
+-- one to nine digits without a leading zero
+abbrev pub is_number : List ℕ → Bool
+is_number digits =
+    nat_le 1 (length digits) && nat_le (length digits) 9 && list_all is_ascii_digit digits
+    && (length digits == 1 || not (slice_index digits 0 == 48))
+
+-- the number that such digits write
 abbrev pub number_of : List ℕ → Option ℕ
-number_of digits =
-    if nat_le 1 (length digits) && nat_le (length digits) 9 && list_all is_ascii_digit digits
-      && (length digits == 1 || not (slice_index digits 0 == 48))
-    then Some (digits_value 10 digits)
-    else None
+number_of digits = if is_number digits then Some (digits_value 10 digits) else None
 
 -- the part of a name between the text before and the text behind
 abbrev pub between : List ℕ → List ℕ → List ℕ → Option (List ℕ)

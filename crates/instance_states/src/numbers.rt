@@ -1,8 +1,9 @@
-ghost use Rattle.std.specs.Prelude.{◌≡◌, ◌<◌, ◌*◌, ◌^◌, IfOk, IfSome, length, take, slice_range, list_all};
-ghost use Rattle.std.specs.Option.{option_copied};
+ghost use Rattle.std.specs.Prelude.{◌≡◌, ◌+◌, ◌<◌, ◌≤◌, ◌^◌, true, IfOk, IfSome, length};
+ghost use Rattle.std.specs.List.{list_all};
+ghost use Rattle.std.specs.Option.{option_copied, option_and_then};
 ghost use Rattle.std.specs.Char.{is_ascii_digit};
 ghost use Rattle.std.specs.Str.Parse.{digits_value};
-ghost use Rattle.instance_states.specs.Numbers.{holes, unseen, number_of, between, greater, seen, next_name};
+ghost use Rattle.instance_states.specs.Numbers.{holes, unseen, is_number, number_of, between, greater, seen, next_name};
 
 use size_values::{NoMemory, Text};
 use std::alloc::Global;
@@ -48,7 +49,11 @@ impl<'a> SnapshotNumbers<'a> {
     pub fn see(&mut self, name: &str)
         ensures { self.new ≡ seen name.now self.old }
     {
-        let number = number_in(self.before.as_bytes(), self.behind.as_bytes(), name.as_bytes());
+        let number = number_in(
+            self.before.as_bytes(),
+            self.behind.as_bytes(),
+            name.as_bytes(),
+        );
         self.greatest = greater(self.greatest, number);
     }
 
@@ -109,16 +114,27 @@ fn number_of(digits: &[u8]) -> Option<u32>
     ensures number { result ≡ number_of digits.now }
     ensures small { IfSome result (λ n. n < 10 ^ 9) }
 {
-    if digits.is_empty() || digits.len() > 9 {
-        return None;
+    if is_number(digits) {
+        Some(value_of(digits))
+    } else {
+        None
     }
-    if !digits.iter().all(|byte| byte.is_ascii_digit()) {
-        return None;
+}
+
+/// Whether these are one to nine digits without a leading zero.
+fn is_number(digits: &[u8]) -> bool
+    ensures { result ≡ is_number digits.now }
+{
+    if digits.is_empty() || digits.len() > 9 || !are_digits(digits) {
+        return false;
     }
-    if digits.len() > 1 && digits[0] == b'0' {
-        return None;
-    }
-    Some(value_of(digits))
+    digits.len() == 1 || digits[0] != b'0'
+}
+
+fn are_digits(bytes: &[u8]) -> bool
+    ensures { result ≡ list_all is_ascii_digit bytes.now }
+{
+    bytes.iter().all(|byte| byte.is_ascii_digit())
 }
 
 /// The number that digits write.
@@ -133,4 +149,46 @@ fn value_of(digits: &[u8]) -> u32
         value = value * 10 + u32::from(*byte - b'0');
     }
     value
+}
+
+#[cfg(test)]
+mod tests {
+    use super::*;
+    use std::test::Fail;
+
+    const NAMES: &[(&[&str], &str)] = &[
+        (&[], "snap0"),
+        (&["snap0"], "snap1"),
+        (&["snap0", "snap1"], "snap2"),
+        (&["snap1"], "snap2"),
+        (&["snap7", "snap3"], "snap8"),
+        (
+            &[
+                "snap01", "snap", "snap-1", "snap1x", "xsnap1", "nap1", "snap1 ",
+            ],
+            "snap0",
+        ),
+        (&["snap00"], "snap0"),
+        (&["snap999999999"], "snap1000000000"),
+        (&["snap1000000000"], "snap0"),
+        (&["snap0123456789", "snap41"], "snap42"),
+    ];
+
+    #[test]
+    fn numbers_follow_the_greatest(rt: HostRuntime) -> Result<(), Fail> {
+        let alloc = rt.alloc();
+        for (names, want) in NAMES {
+            let mut numbers = SnapshotNumbers::new("snap%d");
+            for name in *names {
+                numbers.see(name);
+            }
+            assert_eq!(rt; numbers.next(alloc)?.view(), *want);
+        }
+        let mut numbers = SnapshotNumbers::new("a%d.b");
+        for name in ["a4.b", "a.b", "a5b", "a12.b", "a3.b.b"] {
+            numbers.see(name);
+        }
+        assert_eq!(rt; numbers.next(alloc)?.view(), "a13.b");
+        Ok(())
+    }
 }

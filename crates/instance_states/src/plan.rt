@@ -1,5 +1,5 @@
 ghost use Rattle.std.specs.Prelude.{◌≡◌};
-ghost use Rattle.instance_states.specs.Plans.{calls_in, calls_of, undo_of};
+ghost use Rattle.instance_states.specs.Plans.{calls_in, calls_of, calls_of_action, undo_of};
 
 use size_values::{Action, Deed};
 
@@ -35,7 +35,11 @@ pub fn plan_of(deed: Deed) -> Plan
 {
     match deed {
         Deed::Create => undone(CallName::Clear, Some(CallName::MakeRoot), CallName::Clear),
-        Deed::Copy | Deed::CopyVolume => undone(CallName::Clear, Some(CallName::CopyRoot), CallName::Clear),
+        Deed::Copy | Deed::CopyVolume => undone(
+            CallName::Clear,
+            Some(CallName::CopyRoot),
+            CallName::Clear,
+        ),
         Deed::Snap => undone(CallName::Snap, None, CallName::Unsnap),
         Deed::Update => lasting(CallName::Apply, None),
         Deed::Restore => lasting(CallName::Restore, None),
@@ -79,5 +83,72 @@ fn lasting(first: CallName, second: Option<CallName>) -> Plan
         first,
         second,
         undo: None,
+    }
+}
+
+#[cfg(test)]
+mod tests {
+    use super::*;
+
+    type Case = (Deed, CallName, Option<CallName>, Option<CallName>);
+
+    const PLANS: &[Case] = &[
+        (
+            Deed::Create,
+            CallName::Clear,
+            Some(CallName::MakeRoot),
+            Some(CallName::Clear),
+        ),
+        (
+            Deed::Copy,
+            CallName::Clear,
+            Some(CallName::CopyRoot),
+            Some(CallName::Clear),
+        ),
+        (Deed::Update, CallName::Apply, None, None),
+        (Deed::Restore, CallName::Restore, None, None),
+        (Deed::Rename, CallName::Rename, None, None),
+        (Deed::Delete, CallName::Clear, None, None),
+        (Deed::Snap, CallName::Snap, None, Some(CallName::Unsnap)),
+        (Deed::Unsnap, CallName::Unsnap, None, None),
+        (
+            Deed::CopyVolume,
+            CallName::Clear,
+            Some(CallName::CopyRoot),
+            Some(CallName::Clear),
+        ),
+    ];
+
+    const ACTS: &[(Action, bool, CallName, Option<CallName>)] = &[
+        (Action::Start, false, CallName::Start, None),
+        (Action::Stop, false, CallName::Stop, None),
+        (Action::Stop, true, CallName::Stop, Some(CallName::Clear)),
+        (Action::Restart, true, CallName::Stop, Some(CallName::Start)),
+        (Action::Freeze, true, CallName::Freeze, None),
+        (Action::Unfreeze, false, CallName::Thaw, None),
+    ];
+
+    #[test]
+    fn plans_follow_the_table(rt: HostRuntime) {
+        for (deed, first, second, undo) in PLANS {
+            let want = Plan {
+                first: *first,
+                second: *second,
+                undo: *undo,
+            };
+            assert_eq!(rt; plan_of(*deed), want, "{deed:?}");
+        }
+        for (action, ephemeral, first, second) in ACTS {
+            let want = Plan {
+                first: *first,
+                second: *second,
+                undo: None,
+            };
+            let deed = Deed::Act {
+                action: *action,
+                ephemeral: *ephemeral,
+            };
+            assert_eq!(rt; plan_of(deed), want, "{action:?}");
+        }
     }
 }
