@@ -1,2 +1,11 @@
+pub mod Address
 pub mod Amounts
 pub mod Causes
+pub mod Count
+pub mod Cpu
+pub mod Expiry
+pub mod Fault
+pub mod MemorySize
+pub mod Reading
+pub mod Size
+pub mod Truth

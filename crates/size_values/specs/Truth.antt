@@ -1,0 +1,18 @@
+use Rattle.std.specs.Prelude.{ℕ, Bool, true, false, List, [], ◌∷◌, length, Option, Some, None, Result, Ok, Err, is_none, unwrap_or, find, codes, nat_lt}
+use Rattle.std.specs.Option.{option_map}
+use Rattle.std.specs.Str.{str_eq_ignore_ascii_case}
+use Rattle.size_values.specs.Reading.{reading, fault_if}
+use Rattle.size_values.specs.declared.fault.ValueFault.{ValueFault}
+use Rattle.size_values.specs.declared.fault.ValueFault.TheVariants.{Empty, OutOfRange}
+
+-- the words for true and false
+abbrev pub truths : List (List ℕ × Bool)
+truths =
+    (codes "true", true) ∷ (codes "1", true) ∷ (codes "yes", true) ∷ (codes "on", true)
+    ∷ (codes "false", false) ∷ (codes "0", false) ∷ (codes "no", false) ∷ (codes "off", false) ∷ []
+
+-- The truth that a text names in any ASCII case, or the first fault.
+unfoldable pub truth_of : List ℕ → Result Bool ValueFault
+truth_of text =
+    let truth = option_map (λ row. row.1) (find (λ row. str_eq_ignore_ascii_case row.0 text) truths) in
+    reading (fault_if (nat_lt (length text) 1) Empty ∷ fault_if (is_none truth) OutOfRange ∷ []) (unwrap_or truth false)

@@ -1,0 +1,32 @@
+ghost use Rattle.std.specs.Prelude.{◌≡◌};
+ghost use Rattle.size_values.specs.Count.{count_of};
+
+use crate::fault::ValueFault;
+use crate::number::Number;
+
+/// Reads a count: decimal digits alone, at most twenty, whose number is from `least` to `most` and below 2^63.
+pub fn read_count(text: &str, least: u64, most: u64) -> Result<u64, ValueFault>
+    ensures { result ≡ count_of text.now least most }
+{
+    read_digits(text.as_bytes(), least, most)
+}
+
+/// The same of the bytes of a text.
+pub fn read_digits(text: &[u8], least: u64, most: u64) -> Result<u64, ValueFault>
+    ensures { result ≡ count_of text.now least most }
+{
+    if text.is_empty() {
+        return Err(ValueFault::Empty);
+    }
+    let number = Number::at_front(text);
+    if number.len < text.len() {
+        return Err(ValueFault::BadByte(number.len as u64));
+    }
+    if number.is_too_large() {
+        return Err(ValueFault::TooLarge);
+    }
+    if !number.is_within(least, most) {
+        return Err(ValueFault::OutOfRange);
+    }
+    Ok(number.value)
+}

@@ -1,0 +1,41 @@
+ghost use Rattle.std.specs.Prelude.{◌≡◌};
+
+/// The greatest number of digits that a count or a size may have.
+const MOST_DIGITS: usize = 20;
+
+/// The first number that is too large for a count or a size.
+pub const TOO_LARGE: u64 = 1 << 63;
+
+/// The decimal number at the front of a text: how many digits it has, and its value, which stops at 2^64 - 1.
+#[derive(Clone, Copy)]
+pub struct Number {
+    pub len: usize,
+    pub value: u64,
+}
+
+impl Number {
+    /// Reads the digits at the front of the text.
+    pub fn at_front(text: &[u8]) -> Number {
+        let mut value: u64 = 0;
+        for (len, byte) in text.iter().enumerate() {
+            if !byte.is_ascii_digit() {
+                return Number { len, value };
+            }
+            value = value
+                .saturating_mul(10)
+                .saturating_add(u64::from(*byte - b'0'));
+        }
+        Number {
+            len: text.len(),
+            value,
+        }
+    }
+
+    pub fn is_too_large(&self) -> bool {
+        self.len > MOST_DIGITS || self.value >= TOO_LARGE
+    }
+
+    pub fn is_within(&self, least: u64, most: u64) -> bool {
+        least <= self.value && self.value <= most
+    }
+}
