@@ -51,17 +51,19 @@ is_address_unfit text = list_any (is_unfit 0 255) (slice_split is_dot text)
 -- The address that a text gives, or the first fault: four numbers joined by dots.
 unfoldable pub address_of : List ℕ → Result ℕ ValueFault
 address_of text =
-    reading (fault_if (nat_lt (length text) 1) Empty
-        ∷ option_map BadByte (stray may_follow_in_address is_whole_address text)
-        ∷ fault_if (is_address_unfit text) OutOfRange
-        ∷ []) (address_value text)
+    reading (address_value text) (
+    fault_if (nat_lt (length text) 1) Empty
+    ∷ option_map BadByte (stray may_follow_in_address is_whole_address text)
+    ∷ fault_if (is_address_unfit text) OutOfRange
+    ∷ [])
 
 -- The address and the length that a text gives, or the first fault: an address, a slash and a length from 8 to 30.
 unfoldable pub cidr_of : List ℕ → Result (ℕ × ℕ) ValueFault
 cidr_of text =
     let address = before_first is_slash text in
     let bits = after_first is_slash text in
-    reading (fault_if (nat_lt (length text) 1) Empty
-        ∷ option_map BadByte (stray may_follow_in_cidr is_whole_cidr text)
-        ∷ fault_if (is_address_unfit address || is_unfit 8 30 bits) OutOfRange
-        ∷ []) (address_value address, digits_value 10 bits)
+    reading (address_value address, digits_value 10 bits) (
+    fault_if (nat_lt (length text) 1) Empty
+    ∷ option_map BadByte (stray may_follow_in_cidr is_whole_cidr text)
+    ∷ fault_if (is_address_unfit address || is_unfit 8 30 bits) OutOfRange
+    ∷ [])

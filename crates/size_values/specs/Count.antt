@@ -9,8 +9,9 @@ use Rattle.size_values.specs.declared.fault.ValueFault.TheVariants.{Empty, BadBy
 -- The count that a text gives, or the first fault: digits alone, whose number is from least to most.
 unfoldable pub count_of : List ℕ → ℕ → ℕ → Result ℕ ValueFault
 count_of text least most =
-    reading (fault_if (nat_lt (length text) 1) Empty
-        ∷ option_map BadByte (stray (λ front b. is_ascii_digit b) (λ _. true) text)
-        ∷ fault_if (is_too_large text) TooLarge
-        ∷ fault_if (is_outside least most text) OutOfRange
-        ∷ []) (digits_value 10 text)
+    reading (digits_value 10 text) (
+    fault_if (nat_lt (length text) 1) Empty
+    ∷ option_map BadByte (stray (λ front b. is_ascii_digit b) (λ _. true) text)
+    ∷ fault_if (is_too_large text) TooLarge
+    ∷ fault_if (is_outside least most text) OutOfRange
+    ∷ [])

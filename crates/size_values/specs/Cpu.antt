@@ -37,10 +37,11 @@ unfoldable pub set_of : List ℕ → Result Cpu ValueFault
 set_of text =
     let numbers = slice_split (λ b. is_comma b || is_dash b) text in
     let parts = slice_split is_comma text in
-    reading (option_map BadByte (stray may_follow_in_set is_whole_set text)
-        ∷ fault_if (list_any is_too_large numbers) TooLarge
-        ∷ fault_if (list_any (is_outside 0 1000000) numbers || list_any falls parts) OutOfRange
-        ∷ []) Pinned
+    reading Pinned (
+    option_map BadByte (stray may_follow_in_set is_whole_set text)
+    ∷ fault_if (list_any is_too_large numbers) TooLarge
+    ∷ fault_if (list_any (is_outside 0 1000000) numbers || list_any falls parts) OutOfRange
+    ∷ [])
 
 -- The CPU setting that a text gives, or the first fault: digits alone are a count, any other text is a set.
 unfoldable pub cpu_of : List ℕ → Result Cpu ValueFault

@@ -39,19 +39,27 @@ abbrev pub amount_of : ℕ → List (List ℕ) → ℕ
 amount_of letter parts =
     unwrap_or (option_map (λ part. digits_value 10 (digits_of_part part)) (find (λ part. last_byte part == letter) parts)) 0
 
+-- the number of each unit
+abbrev pub amounts_in : List (List ℕ) → Expiry
+amounts_in parts = record {
+  minutes = amount_of (byte "M") parts;
+  hours = amount_of (byte "H") parts;
+  days = amount_of (byte "d") parts;
+  weeks = amount_of (byte "w") parts;
+  months = amount_of (byte "m") parts;
+  years = amount_of (byte "y") parts;
+}
+
+-- the letter of some unit comes twice
+abbrev pub repeats_unit : List ℕ → Bool
+repeats_unit text = list_any (λ letter. nat_lt 1 (count_by (λ b. b == letter) text)) unit_letters
+
 -- The expiry that a text gives, or the first fault: parts of digits and the letter of a unit, joined by one space.
 unfoldable pub expiry_of : List ℕ → Result Expiry ValueFault
 expiry_of text =
     let parts = slice_split is_space text in
-    reading (fault_if (nat_lt (length text) 1) Empty
-        ∷ option_map BadByte (stray may_follow_in_expiry is_whole_expiry text)
-        ∷ fault_if (list_any (λ part. is_outside 1 9999 (digits_of_part part)) parts
-            || list_any (λ letter. nat_lt 1 (count_by (λ b. b == letter) text)) unit_letters) OutOfRange
-        ∷ []) (record {
-          minutes = amount_of (byte "M") parts;
-          hours = amount_of (byte "H") parts;
-          days = amount_of (byte "d") parts;
-          weeks = amount_of (byte "w") parts;
-          months = amount_of (byte "m") parts;
-          years = amount_of (byte "y") parts;
-        })
+    reading (amounts_in parts) (
+    fault_if (nat_lt (length text) 1) Empty
+    ∷ option_map BadByte (stray may_follow_in_expiry is_whole_expiry text)
+    ∷ fault_if (list_any (λ part. is_outside 1 9999 (digits_of_part part)) parts || repeats_unit text) OutOfRange
+    ∷ [])

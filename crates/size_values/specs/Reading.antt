@@ -4,11 +4,11 @@ use Rattle.std.specs.List.{prefix_len, enumerate_from}
 use Rattle.std.specs.Str.Parse.{digits_value}
 use Rattle.size_values.specs.declared.fault.ValueFault.{ValueFault}
 
--- the first of the faults that stands, in the order of the list, else the value
-abbrev pub reading : {T : Type 0} → List (Option ValueFault) → T → Result T ValueFault
-reading [] value = Ok value
-reading (None ∷ faults) value = reading faults value
-reading (Some fault ∷ faults) value = Err fault
+-- the value, or the first of the faults that stands, in the order of the list
+abbrev pub reading : {T : Type 0} → T → List (Option ValueFault) → Result T ValueFault
+reading value [] = Ok value
+reading value (None ∷ faults) = reading value faults
+reading value (Some fault ∷ faults) = Err fault
 
 -- the fault, where the test holds
 abbrev pub fault_if : Bool → ValueFault → Option ValueFault

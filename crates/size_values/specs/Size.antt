@@ -33,8 +33,9 @@ size_of text =
     let digits = before_first is_ascii_alphabetic text in
     let factor = factor_of (drop (length digits) text) in
     let size = digits_value 10 digits * unwrap_or factor 0 in
-    reading (fault_if (nat_lt (length text) 1) Empty
-        ∷ option_map BadByte (stray may_follow_in_size (λ _. true) text)
-        ∷ fault_if (is_none factor) (UnknownSuffix (length digits))
-        ∷ fault_if (nat_lt 20 (length digits) || nat_le (2 ^ 63) size) TooLarge
-        ∷ []) size
+    reading size (
+    fault_if (nat_lt (length text) 1) Empty
+    ∷ option_map BadByte (stray may_follow_in_size (λ _. true) text)
+    ∷ fault_if (is_none factor) (UnknownSuffix (length digits))
+    ∷ fault_if (nat_lt 20 (length digits) || nat_le (2 ^ 63) size) TooLarge
+    ∷ [])

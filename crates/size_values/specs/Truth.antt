@@ -1,4 +1,4 @@
-use Rattle.std.specs.Prelude.{ℕ, Bool, true, false, List, [], ◌∷◌, length, Option, Some, None, Result, Ok, Err, is_none, unwrap_or, find, codes, nat_lt}
+use Rattle.std.specs.Prelude.{ℕ, Bool, true, false, List, [], ◌∷◌, length, Result, is_none, unwrap_or, find, codes, nat_lt}
 use Rattle.std.specs.Option.{option_map}
 use Rattle.std.specs.Str.{str_eq_ignore_ascii_case}
 use Rattle.size_values.specs.Reading.{reading, fault_if}
@@ -15,4 +15,7 @@ truths =
 unfoldable pub truth_of : List ℕ → Result Bool ValueFault
 truth_of text =
     let truth = option_map (λ row. row.1) (find (λ row. str_eq_ignore_ascii_case row.0 text) truths) in
-    reading (fault_if (nat_lt (length text) 1) Empty ∷ fault_if (is_none truth) OutOfRange ∷ []) (unwrap_or truth false)
+    reading (unwrap_or truth false) (
+    fault_if (nat_lt (length text) 1) Empty
+    ∷ fault_if (is_none truth) OutOfRange
+    ∷ [])

@@ -4,6 +4,7 @@ ghost use Rattle.size_values.specs.Truth.{truth_of};
 use crate::fault::ValueFault;
 
 const TRUE_WORDS: [&str; 4] = ["true", "1", "yes", "on"];
+
 const FALSE_WORDS: [&str; 4] = ["false", "0", "no", "off"];
 
 /// Reads a truth: `true`, `1`, `yes` or `on`, and `false`, `0`, `no` or `off`, in any ASCII case, as the Incus
