@@ -1,1 +1,5 @@
 pub mod AmountParts
+pub mod Forms
+pub mod Runs
+pub mod Counts
+pub mod Truths

@@ -52,7 +52,7 @@ is_address_unfit text = list_any (is_unfit 0 255) (slice_split is_dot text)
 unfoldable pub address_of : List ℕ → Result ℕ ValueFault
 address_of text =
     reading (address_value text) (
-    fault_if (nat_lt (length text) 1) Empty
+    fault_if (length text == 0) Empty
     ∷ option_map BadByte (stray may_follow_in_address is_whole_address text)
     ∷ fault_if (is_address_unfit text) OutOfRange
     ∷ [])
@@ -63,7 +63,7 @@ cidr_of text =
     let address = before_first is_slash text in
     let bits = after_first is_slash text in
     reading (address_value address, digits_value 10 bits) (
-    fault_if (nat_lt (length text) 1) Empty
+    fault_if (length text == 0) Empty
     ∷ option_map BadByte (stray may_follow_in_cidr is_whole_cidr text)
     ∷ fault_if (is_address_unfit address || is_unfit 8 30 bits) OutOfRange
     ∷ [])

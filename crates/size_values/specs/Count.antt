@@ -1,4 +1,4 @@
-use Rattle.std.specs.Prelude.{ℕ, true, List, [], ◌∷◌, length, Result, nat_lt}
+use Rattle.std.specs.Prelude.{ℕ, ◌==◌, true, List, [], ◌∷◌, length, Result}
 use Rattle.std.specs.Option.{option_map}
 use Rattle.std.specs.Char.{is_ascii_digit}
 use Rattle.std.specs.Str.Parse.{digits_value}
@@ -10,7 +10,7 @@ use Rattle.size_values.specs.declared.fault.ValueFault.TheVariants.{Empty, BadBy
 unfoldable pub count_of : List ℕ → ℕ → ℕ → Result ℕ ValueFault
 count_of text least most =
     reading (digits_value 10 text) (
-    fault_if (nat_lt (length text) 1) Empty
+    fault_if (length text == 0) Empty
     ∷ option_map BadByte (stray (λ front b. is_ascii_digit b) (λ _. true) text)
     ∷ fault_if (is_too_large text) TooLarge
     ∷ fault_if (is_outside least most text) OutOfRange

@@ -59,7 +59,7 @@ unfoldable pub expiry_of : List ℕ → Result Expiry ValueFault
 expiry_of text =
     let parts = slice_split is_space text in
     reading (amounts_in parts) (
-    fault_if (nat_lt (length text) 1) Empty
+    fault_if (length text == 0) Empty
     ∷ option_map BadByte (stray may_follow_in_expiry is_whole_expiry text)
     ∷ fault_if (list_any (λ part. is_outside 1 9999 (digits_of_part part)) parts || repeats_unit text) OutOfRange
     ∷ [])

@@ -6,6 +6,7 @@ pub mod Cpu
 pub mod Expiry
 pub mod Fault
 pub mod MemorySize
+pub mod Number
 pub mod Reading
 pub mod Size
 pub mod Truth

@@ -1,4 +1,4 @@
-use Rattle.std.specs.Prelude.{ℕ, ◌*◌, ◌^◌, Bool, true, not, ◌&&◌, ◌||◌, if◌then◌else◌, List, [], ◌∷◌, length, drop, is_none, unwrap_or, Option, Result, find, codes, nat_lt, nat_le}
+use Rattle.std.specs.Prelude.{ℕ, ◌==◌, ◌*◌, ◌^◌, Bool, true, not, ◌&&◌, ◌||◌, if◌then◌else◌, List, [], ◌∷◌, length, drop, is_none, unwrap_or, Option, Result, find, codes, nat_lt, nat_le}
 use Rattle.std.specs.Option.{option_map}
 use Rattle.std.specs.List.{before_first, list_any}
 use Rattle.std.specs.Char.{is_ascii_digit, is_ascii_alphabetic}
@@ -34,7 +34,7 @@ size_of text =
     let factor = factor_of (drop (length digits) text) in
     let size = digits_value 10 digits * unwrap_or factor 0 in
     reading size (
-    fault_if (nat_lt (length text) 1) Empty
+    fault_if (length text == 0) Empty
     ∷ option_map BadByte (stray may_follow_in_size (λ _. true) text)
     ∷ fault_if (is_none factor) (UnknownSuffix (length digits))
     ∷ fault_if (nat_lt 20 (length digits) || nat_le (2 ^ 63) size) TooLarge

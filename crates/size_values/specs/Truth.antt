@@ -1,4 +1,4 @@
-use Rattle.std.specs.Prelude.{ℕ, Bool, true, false, List, [], ◌∷◌, length, Result, is_none, unwrap_or, find, codes, nat_lt}
+use Rattle.std.specs.Prelude.{ℕ, ◌==◌, Bool, true, false, List, [], ◌∷◌, length, Option, Result, is_none, unwrap_or, find, codes}
 use Rattle.std.specs.Option.{option_map}
 use Rattle.std.specs.Str.{str_eq_ignore_ascii_case}
 use Rattle.size_values.specs.Reading.{reading, fault_if}
@@ -11,11 +11,14 @@ truths =
     (codes "true", true) ∷ (codes "1", true) ∷ (codes "yes", true) ∷ (codes "on", true)
     ∷ (codes "false", false) ∷ (codes "0", false) ∷ (codes "no", false) ∷ (codes "off", false) ∷ []
 
--- The truth that a text names in any ASCII case, or the first fault.
+-- the truth that a text names in any ASCII case, if it names one
+abbrev pub truth_named : List ℕ → Option Bool
+truth_named text = option_map (λ row. row.1) (find (λ row. str_eq_ignore_ascii_case row.0 text) truths)
+
+-- The truth that a text names, or the first fault.
 unfoldable pub truth_of : List ℕ → Result Bool ValueFault
 truth_of text =
-    let truth = option_map (λ row. row.1) (find (λ row. str_eq_ignore_ascii_case row.0 text) truths) in
-    reading (unwrap_or truth false) (
-    fault_if (nat_lt (length text) 1) Empty
-    ∷ fault_if (is_none truth) OutOfRange
+    reading (unwrap_or (truth_named text) false) (
+    fault_if (length text == 0) Empty
+    ∷ fault_if (is_none (truth_named text)) OutOfRange
     ∷ [])

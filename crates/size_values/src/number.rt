@@ -1,4 +1,4 @@
-ghost use Rattle.std.specs.Prelude.{◌≡◌};
+ghost use Rattle.std.specs.Prelude.{◌≡◌, ◌^◌, ◌&&◌, ◌||◌, nat_lt, nat_le};
 
 /// The greatest number of digits that a count or a size may have.
 const MOST_DIGITS: usize = 20;
@@ -14,8 +14,12 @@ pub struct Number {
 }
 
 impl Number {
+    ghost use Rattle.size_values.specs.Number.{number_at};
+
     /// Reads the digits at the front of the text.
-    pub fn at_front(text: &[u8]) -> Number {
+    pub fn at_front(text: &[u8]) -> Number
+        ensures { result ≡ number_at text.now }
+    {
         let mut value: u64 = 0;
         for (len, byte) in text.iter().enumerate() {
             if !byte.is_ascii_digit() {
@@ -31,11 +35,15 @@ impl Number {
         }
     }
 
-    pub fn is_too_large(&self) -> bool {
+    pub fn is_too_large(&self) -> bool
+        ensures { result ≡ (nat_lt 20 self.now.len || nat_le (2 ^ 63) self.now.value) }
+    {
         self.len > MOST_DIGITS || self.value >= TOO_LARGE
     }
 
-    pub fn is_within(&self, least: u64, most: u64) -> bool {
+    pub fn is_within(&self, least: u64, most: u64) -> bool
+        ensures { result ≡ (nat_le least self.now.value && nat_le self.now.value most) }
+    {
         least <= self.value && self.value <= most
     }
 }

@@ -1,5 +1,7 @@
-ghost use Rattle.std.specs.Prelude.{◌≡◌};
-ghost use Rattle.size_values.specs.Size.{size_of};
+ghost use Rattle.std.specs.Prelude.{◌≡◌, find};
+ghost use Rattle.std.specs.Option.{option_map};
+ghost use Rattle.std.specs.Str.{bytes_eq};
+ghost use Rattle.size_values.specs.Size.{size_of, factor_of};
 
 use crate::fault::ValueFault;
 use crate::number::{Number, TOO_LARGE};
@@ -58,9 +60,16 @@ fn letters_len(text: &[u8]) -> usize {
 }
 
 /// The bytes that one of the suffix stands for, where it is listed.
-fn factor(suffix: &[u8]) -> Option<u64> {
-    SUFFIXES
-        .iter()
+fn factor(suffix: &[u8]) -> Option<u64>
+    ensures { result ≡ factor_of suffix.now }
+{
+    factor_in(&SUFFIXES, suffix)
+}
+
+fn factor_in(rows: &[(&str, u64)], suffix: &[u8]) -> Option<u64>
+    ensures { result ≡ option_map (λ row. row.1) (find (λ row. bytes_eq row.0.now suffix.now) rows.now) }
+{
+    rows.iter()
         .find(|row| row.0.as_bytes() == suffix)
         .map(|row| row.1)
 }
