@@ -3,3 +3,4 @@ pub mod Forms
 pub mod Runs
 pub mod Counts
 pub mod Truths
+pub mod Sizes

@@ -8,11 +8,11 @@ use crate::number::Number;
 pub fn read_count(text: &str, least: u64, most: u64) -> Result<u64, ValueFault>
     ensures { result ≡ count_of text.now least most }
 {
-    read_digits(text.as_bytes(), least, most)
+    count_in(text.as_bytes(), least, most)
 }
 
 /// The same of the bytes of a text.
-pub fn read_digits(text: &[u8], least: u64, most: u64) -> Result<u64, ValueFault>
+pub fn count_in(text: &[u8], least: u64, most: u64) -> Result<u64, ValueFault>
     ensures { result ≡ count_of text.now least most }
 {
     if text.is_empty() {

@@ -1,7 +1,7 @@
 ghost use Rattle.std.specs.Prelude.{◌≡◌};
 ghost use Rattle.size_values.specs.Cpu.{cpu_of};
 
-use crate::count::read_digits;
+use crate::count::count_in;
 use crate::fault::ValueFault;
 use crate::number::Number;
 
@@ -27,7 +27,7 @@ pub fn read_cpu(text: &str) -> Result<Cpu, ValueFault>
     if number.len < bytes.len() {
         return read_set(bytes);
     }
-    let count = read_digits(bytes, 1, MOST)?;
+    let count = count_in(bytes, 1, MOST)?;
     Ok(Cpu::Count(count as u32))
 }
 

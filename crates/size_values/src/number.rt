@@ -1,10 +1,10 @@
-ghost use Rattle.std.specs.Prelude.{◌≡◌, ◌^◌, ◌&&◌, ◌||◌, nat_lt, nat_le};
+ghost use Rattle.std.specs.Prelude.{◌≡◌, ◌-◌, ◌*◌, ◌^◌, ◌≤◌, min, ◌&&◌, ◌||◌, length, nat_lt, nat_le};
 
 /// The greatest number of digits that a count or a size may have.
 const MOST_DIGITS: usize = 20;
 
 /// The first number that is too large for a count or a size.
-pub const TOO_LARGE: u64 = 1 << 63;
+const TOO_LARGE: u64 = 1 << 63;
 
 /// The decimal number at the front of a text: how many digits it has, and its value, which stops at 2^64 - 1.
 #[derive(Clone, Copy)]
@@ -18,7 +18,8 @@ impl Number {
 
     /// Reads the digits at the front of the text.
     pub fn at_front(text: &[u8]) -> Number
-        ensures { result ≡ number_at text.now }
+        ensures number { result ≡ number_at text.now }
+        ensures within { result.len ≤ length text.now }
     {
         let mut value: u64 = 0;
         for (len, byte) in text.iter().enumerate() {
@@ -32,6 +33,16 @@ impl Number {
         Number {
             len: text.len(),
             value,
+        }
+    }
+
+    /// So many times the number.
+    pub fn times(&self, factor: u64) -> Number
+        ensures { result ≡ record self.now { value = min (self.now.value * factor) (2 ^ 64 - 1) } }
+    {
+        Number {
+            len: self.len,
+            value: self.value.saturating_mul(factor),
         }
     }
 

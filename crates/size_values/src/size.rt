@@ -1,10 +1,12 @@
 ghost use Rattle.std.specs.Prelude.{◌≡◌, find};
 ghost use Rattle.std.specs.Option.{option_map};
+ghost use Rattle.std.specs.Char.{is_ascii_alphabetic};
+ghost use Rattle.std.specs.List.{prefix_len};
 ghost use Rattle.std.specs.Str.{bytes_eq};
 ghost use Rattle.size_values.specs.Size.{size_of, factor_of};
 
 use crate::fault::ValueFault;
-use crate::number::{Number, TOO_LARGE};
+use crate::number::Number;
 
 /// The suffixes of sizes, each with the bytes that one of it stands for.
 const SUFFIXES: [(&str, u64); 14] = [
@@ -30,33 +32,42 @@ const SUFFIXES: [(&str, u64); 14] = [
 pub fn read_size(text: &str) -> Result<u64, ValueFault>
     ensures { result ≡ size_of text.now }
 {
-    let bytes = text.as_bytes();
-    if bytes.is_empty() {
+    size_in(text.as_bytes())
+}
+
+/// The same of the bytes of a text.
+pub fn size_in(text: &[u8]) -> Result<u64, ValueFault>
+    ensures { result ≡ size_of text.now }
+{
+    if text.is_empty() {
         return Err(ValueFault::Empty);
     }
-    let number = Number::at_front(bytes);
-    let suffix = &bytes[number.len..];
+    let number = Number::at_front(text);
+    if number.len == 0 {
+        return Err(ValueFault::BadByte(0));
+    }
+    let suffix = &text[number.len..];
     let letters = letters_len(suffix);
-    if number.len == 0 || letters < suffix.len() {
+    if letters < suffix.len() {
         return Err(ValueFault::BadByte((number.len + letters) as u64));
     }
     let Some(factor) = factor(suffix) else {
         return Err(ValueFault::UnknownSuffix(number.len as u64));
     };
-    if number.is_too_large() {
+    let size = number.times(factor);
+    if size.is_too_large() {
         return Err(ValueFault::TooLarge);
     }
-    match number.value.checked_mul(factor) {
-        Some(size) if size < TOO_LARGE => Ok(size),
-        _ => Err(ValueFault::TooLarge),
-    }
+    Ok(size.value)
 }
 
 /// How many letters stand at the front.
-fn letters_len(text: &[u8]) -> usize {
+fn letters_len(text: &[u8]) -> usize
+    ensures { result ≡ prefix_len is_ascii_alphabetic text.now }
+{
     text.iter()
-        .position(|byte| !byte.is_ascii_alphabetic())
-        .unwrap_or(text.len())
+        .take_while(|byte| byte.is_ascii_alphabetic())
+        .count()
 }
 
 /// The bytes that one of the suffix stands for, where it is listed.

@@ -1,26 +1,26 @@
 use Rattle.std.proofs.Common.{◌∙◌, sym}
 use Rattle.size_values.proofs.Counts.{count-empty, count-strays, count-large, count-outside, count-value}
-use Rattle.size_values.proofs.count.read_digits.Goals as goal
+use Rattle.size_values.proofs.count.count_in.Goals as goal
 
 pub returns-then-is_empty : goal.returns-then-is_empty
 returns-then-is_empty c = count-empty c.args.text.now c.args.least c.args.most (sym c.is_empty.ensures ∙ c.if-is_empty.true)
 
 pub returns-then-number-text : goal.returns-then-number-text
 returns-then-number-text c =
-    count-strays c.args.text.now c.args.least c.args.most c.at_front-number.result c.at_front-number.ensures (sym c.is_empty.ensures ∙ c.if-is_empty.false)
+    count-strays c.args.text.now c.args.least c.args.most c.at_front-number.result c.at_front-number.ensures.number (sym c.is_empty.ensures ∙ c.if-is_empty.false)
     c.if-number-text.true
 
 pub returns-then-is_too_large : goal.returns-then-is_too_large
 returns-then-is_too_large c =
-    count-large c.args.text.now c.args.least c.args.most c.at_front-number.result c.at_front-number.ensures (sym c.is_empty.ensures ∙ c.if-is_empty.false)
+    count-large c.args.text.now c.args.least c.args.most c.at_front-number.result c.at_front-number.ensures.number (sym c.is_empty.ensures ∙ c.if-is_empty.false)
     c.if-number-text.false (sym c.is_too_large.ensures ∙ c.if-is_too_large.true)
 
 pub returns-then-not-is_within : goal.returns-then-not-is_within
 returns-then-not-is_within c =
-    count-outside c.args.text.now c.args.least c.args.most c.at_front-number.result c.at_front-number.ensures (sym c.is_empty.ensures ∙ c.if-is_empty.false)
+    count-outside c.args.text.now c.args.least c.args.most c.at_front-number.result c.at_front-number.ensures.number (sym c.is_empty.ensures ∙ c.if-is_empty.false)
     c.if-number-text.false (sym c.is_too_large.ensures ∙ c.if-is_too_large.false) (sym c.is_within.ensures ∙ c.if-not-is_within.true)
 
 pub returns : goal.returns
 returns c =
-    count-value c.args.text.now c.args.least c.args.most c.at_front-number.result c.at_front-number.ensures (sym c.is_empty.ensures ∙ c.if-is_empty.false)
+    count-value c.args.text.now c.args.least c.args.most c.at_front-number.result c.at_front-number.ensures.number (sym c.is_empty.ensures ∙ c.if-is_empty.false)
     c.if-number-text.false (sym c.is_too_large.ensures ∙ c.if-is_too_large.false) (sym c.is_within.ensures ∙ c.if-not-is_within.false)
