@@ -4,3 +4,4 @@ pub mod Runs
 pub mod Counts
 pub mod Truths
 pub mod Sizes
+pub mod MemorySizes

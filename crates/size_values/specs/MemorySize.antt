@@ -1,7 +1,6 @@
-use Rattle.std.specs.Prelude.{ℕ, ◌-◌, ◌==◌, if◌then◌else◌, List, length, take, Result}
+use Rattle.std.specs.Prelude.{ℕ, ◌-◌, if◌then◌else◌, List, length, take, Result, codes, nat_eq}
 use Rattle.std.specs.Result.{result_map_both}
-use Rattle.std.specs.Str.{byte}
-use Rattle.size_values.specs.Reading.{last_byte}
+use Rattle.std.specs.List.{ends_with}
 use Rattle.size_values.specs.Count.{count_of}
 use Rattle.size_values.specs.Size.{size_of}
 use Rattle.size_values.specs.declared.fault.ValueFault.{ValueFault}
@@ -12,5 +11,5 @@ use Rattle.size_values.specs.declared.memory_size.Memory.TheVariants.{Bytes, Per
 -- other text is a size.
 unfoldable pub memory_of : List ℕ → Result Memory ValueFault
 memory_of text =
-    if last_byte text == byte "%" then result_map_both Percent (λ e. e) (count_of (take (length text - 1) text) 1 100)
+    if ends_with nat_eq text (codes "%") then result_map_both Percent (λ e. e) (count_of (take (length text - 1) text) 1 100)
     else result_map_both Bytes (λ e. e) (size_of text)

@@ -1,4 +1,4 @@
-ghost use Rattle.std.specs.Prelude.{◌≡◌};
+ghost use Rattle.std.specs.Prelude.{◌≡◌, ◌≤◌, IfOk};
 ghost use Rattle.size_values.specs.Count.{count_of};
 
 use crate::fault::ValueFault;
@@ -13,7 +13,8 @@ pub fn read_count(text: &str, least: u64, most: u64) -> Result<u64, ValueFault>
 
 /// The same of the bytes of a text.
 pub fn count_in(text: &[u8], least: u64, most: u64) -> Result<u64, ValueFault>
-    ensures { result ≡ count_of text.now least most }
+    ensures count { result ≡ count_of text.now least most }
+    ensures within { IfOk result (λ n. (least ≤ n) × (n ≤ most)) }
 {
     if text.is_empty() {
         return Err(ValueFault::Empty);

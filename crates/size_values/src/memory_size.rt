@@ -1,9 +1,9 @@
 ghost use Rattle.std.specs.Prelude.{◌≡◌};
 ghost use Rattle.size_values.specs.MemorySize.{memory_of};
 
-use crate::count::read_count;
+use crate::count::count_in;
 use crate::fault::ValueFault;
-use crate::size::read_size;
+use crate::size::size_in;
 
 /// The memory that an instance may take, as `limits.memory` of the Incus documentation's "Instance options" says it.
 #[derive(Clone, Copy, Debug, PartialEq, Eq, Hash)]
@@ -18,8 +18,17 @@ pub enum Memory {
 pub fn read_memory(text: &str) -> Result<Memory, ValueFault>
     ensures { result ≡ memory_of text.now }
 {
-    match text.strip_suffix('%') {
-        Some(percent) => Ok(Memory::Percent(read_count(percent, 1, 100)? as u8)),
-        None => Ok(Memory::Bytes(read_size(text)?)),
+    memory_in(text.as_bytes())
+}
+
+/// The same of the bytes of a text.
+fn memory_in(text: &[u8]) -> Result<Memory, ValueFault>
+    ensures { result ≡ memory_of text.now }
+{
+    if text.ends_with(b"%") {
+        let percent = count_in(&text[..text.len() - 1], 1, 100)?;
+        return Ok(Memory::Percent(percent as u8));
     }
+    let bytes = size_in(text)?;
+    Ok(Memory::Bytes(bytes))
 }
