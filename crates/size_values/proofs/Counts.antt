@@ -15,7 +15,8 @@ use Rattle.size_values.specs.declared.number.Number.{Number}
 use Rattle.size_values.specs.declared.fault.ValueFault.{ValueFault}
 use Rattle.std.specs.Option.{option_map}
 use Rattle.size_values.specs.declared.fault.ValueFault.TheVariants.{Empty, BadByte, TooLarge, OutOfRange}
-use Rattle.size_values.proofs.Forms.{reading-here, reading-past, reading-strays, reading-formed, StandsTo, stray-at, stray-none}
+use Rattle.size_values.specs.Form.{StandsTo}
+use Rattle.size_values.proofs.Forms.{reading-here, reading-past, reading-strays, reading-formed, stray-at, stray-none}
 
 -- digits stand up to the first byte that is none
 digits-stand : (text : List ℕ) (n : ℕ) → n ≡ prefix_len is_ascii_digit text → StandsTo (λ front b. is_ascii_digit b) text n

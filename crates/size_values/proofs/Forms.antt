@@ -8,6 +8,7 @@ use Rattle.std.specs.Option.{option_map}
 use Rattle.std.specs.List.{prefix_len, enumerate_from}
 use Rattle.std.proofs.lemmas.List.FromFn.{length-enumerate_from, get_or-enumerate_from}
 use Rattle.std.proofs.lemmas.List.Sums.{prefix_len_is}
+use Rattle.size_values.specs.Form.{StandsTo}
 use Rattle.size_values.specs.Reading.{reading, fault_if, stray}
 use Rattle.size_values.specs.declared.fault.ValueFault.{ValueFault}
 use Rattle.size_values.specs.declared.fault.ValueFault.TheVariants.{BadByte}
@@ -26,11 +27,6 @@ reading-strays value place n faults h = ap (λ p. reading value (option_map BadB
 
 pub reading-formed : {T : Type 0} (value : T) (place : Option ℕ) (faults : List (Option ValueFault)) → place ≡ None → reading value faults ≡ reading value (option_map BadByte place ∷ faults)
 reading-formed value place faults h = ap (λ p. reading value (option_map BadByte p ∷ faults)) (sym h)
-
--- each of the first n bytes may follow the bytes before it
-pub record StandsTo (may_follow : List ℕ → ℕ → Bool) (text : List ℕ) (n : ℕ) : Type 0 where
-  pub within : n ≤ length text
-  pub each : (k : ℕ) → k < n → may_follow (take k text) (get_or text k 0) ≡ true
 
 module _ (may_follow : List ℕ → ℕ → Bool) where
   place-is : (text : List ℕ) (n : ℕ) → StandsTo may_follow text n → (n < length text → may_follow (take n text) (get_or text n 0) ≡ false)

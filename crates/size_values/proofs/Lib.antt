@@ -5,3 +5,5 @@ pub mod Counts
 pub mod Truths
 pub mod Sizes
 pub mod MemorySizes
+pub mod Fronts
+pub mod Quads

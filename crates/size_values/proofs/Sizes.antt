@@ -19,7 +19,8 @@ use Rattle.size_values.specs.Size.{suffixes, factor_of, may_follow_in_size, size
 use Rattle.size_values.specs.declared.number.Number.{Number}
 use Rattle.size_values.specs.declared.fault.ValueFault.{ValueFault}
 use Rattle.size_values.specs.declared.fault.ValueFault.TheVariants.{Empty, BadByte, UnknownSuffix, TooLarge}
-use Rattle.size_values.proofs.Forms.{reading-here, reading-past, reading-strays, reading-formed, StandsTo, stands-start, stands-run, stray-at, stray-none}
+use Rattle.size_values.specs.Form.{StandsTo}
+use Rattle.size_values.proofs.Forms.{reading-here, reading-past, reading-strays, reading-formed, stands-start, stands-run, stray-at, stray-none}
 
 digit-no_letter : (c : ℕ) → is_ascii_digit c ≡ true → is_ascii_alphabetic c ≡ false
 digit-no_letter c h = grind (arith, nat_tests)

@@ -5,8 +5,10 @@ pub mod Count
 pub mod Cpu
 pub mod Expiry
 pub mod Fault
+pub mod Form
 pub mod MemorySize
 pub mod Number
+pub mod Quad
 pub mod Reading
 pub mod Size
 pub mod Truth

@@ -1,16 +1,135 @@
-ghost use Rattle.std.specs.Prelude.{◌≡◌};
-ghost use Rattle.size_values.specs.Address.{address_of, cidr_of};
+ghost use Rattle.std.specs.Prelude.{◌≡◌, ◌+◌, ◌≤◌, IfOk, IfErr, IfSome, IfNone, length, drop, take_while};
+ghost use Rattle.std.specs.Char.{is_ascii_digit};
+ghost use Rattle.std.specs.List.{prefix_len};
+ghost use Rattle.size_values.specs.Address.{address_of, cidr_of, has_leading_zero};
+ghost use Rattle.size_values.specs.Number.{number_at};
+ghost use Rattle.size_values.specs.Quad.{fit_of, quad_value, IsOctetAt, FollowsDot, MissesDot, IsQuad, IsAstray};
 
 use crate::fault::ValueFault;
+use crate::number::Number;
 
+/// One number of an address: where its digits end, and its value, if they are fit.
+#[derive(Clone, Copy)]
+pub struct Octet {
+    pub end: usize,
+    pub value: Option<u8>,
+}
+
+/// Four numbers joined by dots at the front of a text: where they end, and the address, if all four are fit.
+#[derive(Clone, Copy)]
+pub struct Quad {
+    pub end: usize,
+    pub address: Option<u32>,
+}
+
+/// Reads an IPv4 address: four numbers from 0 to 255 without leading zeros, joined by dots. The first number is the
+/// highest byte of the answer.
 pub fn read_address(text: &str) -> Result<u32, ValueFault>
     ensures { result ≡ address_of text.now }
+{
+    address_in(text.as_bytes())
+}
+
+/// Reads an IPv4 address with the length of its network, as `ipv4.address` of the Incus documentation's bridge options
+/// takes it: an address, `/` and a length from 8 to 30.
+pub fn read_cidr(text: &str) -> Result<(u32, u8), ValueFault>
+    ensures { result ≡ cidr_of text.now }
+{
+    cidr_in(text.as_bytes())
+}
+
+fn address_in(text: &[u8]) -> Result<u32, ValueFault>
+    ensures { result ≡ address_of text.now }
+{
+    if text.is_empty() {
+        return Err(ValueFault::Empty);
+    }
+    match read_quad(text) {
+        Ok(quad) if quad.end == text.len() => quad.address.ok_or(ValueFault::OutOfRange),
+        Ok(quad) => Err(ValueFault::BadByte(quad.end as u64)),
+        Err(place) => Err(ValueFault::BadByte(place as u64)),
+    }
+}
+
+fn cidr_in(text: &[u8]) -> Result<(u32, u8), ValueFault>
+    ensures { result ≡ cidr_of text.now }
 {
     Err(ValueFault::Empty)
 }
 
-pub fn read_cidr(text: &str) -> Result<(u32, u8), ValueFault>
-    ensures { result ≡ cidr_of text.now }
+/// The four numbers at the front, or the place at which the text leaves their form.
+fn read_quad(text: &[u8]) -> Result<Quad, usize>
+    ensures ok { IfOk result (IsQuad text.now) }
+    ensures err { IfErr result (IsAstray text.now) }
 {
-    Err(ValueFault::Empty)
+    let first = octet_at(text, 0).ok_or(0_usize)?;
+    let second = octet_behind_dot(text, first.end)?;
+    let third = octet_behind_dot(text, second.end)?;
+    let fourth = octet_behind_dot(text, third.end)?;
+    Ok(Quad {
+        end: fourth.end,
+        address: address(first.value, second.value, third.value, fourth.value),
+    })
+}
+
+/// The address of four numbers, if all are fit.
+fn address(
+    first: Option<u8>,
+    second: Option<u8>,
+    third: Option<u8>,
+    fourth: Option<u8>,
+) -> Option<u32>
+    ensures { result ≡ quad_value first second third fourth }
+{
+    Some(u32::from_be_bytes([first?, second?, third?, fourth?]))
+}
+
+/// The number that follows a dot at the place, or the place at which the text leaves that form.
+fn octet_behind_dot(text: &[u8], at: usize) -> Result<Octet, usize>
+    requires { at ≤ length text.now }
+    ensures ok { IfOk result (FollowsDot text.now at) }
+    ensures err { IfErr result (MissesDot text.now at) }
+{
+    if text.get(at) != Some(&b'.') {
+        return Err(at);
+    }
+    octet_at(text, at + 1).ok_or(at + 1)
+}
+
+/// The number whose digits begin at the place, if one stands there.
+fn octet_at(text: &[u8], at: usize) -> Option<Octet>
+    requires { at ≤ length text.now }
+    ensures some { IfSome result (IsOctetAt text.now at) }
+    ensures none { IfNone result (prefix_len is_ascii_digit (drop at text.now) ≡ 0) }
+{
+    let digits = &text[at..];
+    let number = Number::at_front(digits);
+    if number.len == 0 {
+        return None;
+    }
+    Some(Octet {
+        end: at + number.len,
+        value: fit_value(digits, number, 0, 255),
+    })
+}
+
+/// The value of the digits at the front, where it is from the least to the most and has no leading zero.
+fn fit_value(text: &[u8], number: Number, least: u64, most: u64) -> Option<u8>
+    requires number { number ≡ number_at text.now }
+    requires within { number.len ≤ length text.now }
+    requires bounds { least ≤ most × most ≤ 255 }
+    ensures { result ≡ fit_of least most (take_while is_ascii_digit text.now) }
+{
+    if has_leading_zero(text, number) || !number.is_within(least, most) {
+        return None;
+    }
+    Some(number.value as u8)
+}
+
+fn has_leading_zero(text: &[u8], number: Number) -> bool
+    requires number { number ≡ number_at text.now }
+    requires within { number.len ≤ length text.now }
+    ensures { result ≡ has_leading_zero (take_while is_ascii_digit text.now) }
+{
+    number.len > 1 && text[0] == b'0'
 }
