@@ -1,6 +1,6 @@
 -- The front of a text that has been read, and one more run of digits behind it.
 use Rattle.std.proofs.Common.{◌≡◌, ℕ, ◌+◌, ◌-◌, ◌<◌, ◌≤◌, Bool, true, false, cond, List, [], ◌∷◌, ◌++◌, length, take, drop, get_or, sym, refl, ap, ◌∙◌, subst, inl, inr, ◌⊎◌, arith, add-one, length-take, length-drop, get_or-take, get_or-drop}
-use Rattle.std.proofs.lemmas.Bool.{cases_lt}
+use Rattle.std.proofs.lemmas.Bool.{cases_lt, true≢false}
 use Rattle.std.proofs.lemmas.List.{take-append-drop, take-take, drop-take, drop_more, get_or_past}
 use Rattle.std.proofs.lemmas.List.Splits.{slice_split-cons_yes, slice_split-cons_no, slice_split_none, length-slice_split}
 use Rattle.std.proofs.lemmas.List.Sums.{prefix_len_passes, prefix_len_stops, prefix_len-le-length}
@@ -50,6 +50,14 @@ slice_split-snoc {X} p (x ∷ xs) y ys cuts one = at (p x) refl (slice_split-sno
         slice_split-cons_no p x (xs ++ y ∷ ys) e ∙ ap (onto_first x) rest
         ∙ onto_first-append x (slice_split p xs) (ys ∷ []) (omega (arith, length-slice_split p xs))
         ∙ ap (λ (parts : List (List X)). parts ++ ys ∷ []) (sym (slice_split-cons_no p x xs e))
+
+-- a byte that passes a test which 0 fails is in the text
+pub passing-inside : (p : ℕ → Bool) → p 0 ≡ false → (text : List ℕ) (n : ℕ) → p (get_or text n 0) ≡ true → n < length text
+passing-inside p none text n passes = by (cases_lt n (length text))
+  where
+    by : (n < length text) ⊎ (length text ≤ n) → n < length text
+    by (inl less) = less
+    by (inr more) = absurd (true≢false (sym passes ∙ ap p (get_or_past text n 0 more) ∙ none))
 
 -- digits are one part where no digit is a separator
 pub run-unsplit : (p : ℕ → Bool) → ((c : ℕ) → is_ascii_digit c ≡ true → p c ≡ false) → (xs : List ℕ)

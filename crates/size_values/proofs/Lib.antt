@@ -7,3 +7,4 @@ pub mod Sizes
 pub mod MemorySizes
 pub mod Fronts
 pub mod Quads
+pub mod Addresses

@@ -14,11 +14,11 @@ use Rattle.std.specs.List.{prefix_len, take_while, list_any, slice_split}
 use Rattle.size_values.specs.Form.{StandsTo}
 use Rattle.size_values.specs.Reading.{last_byte}
 use Rattle.size_values.specs.Address.{is_dot, is_slash, may_follow_in_address, is_whole_address, is_unfit, is_address_unfit, address_value}
-use Rattle.size_values.specs.Quad.{fit_of, quad_value, IsOctetAt, FollowsDot, MissesDot, IsQuad, IsAstray}
-use Rattle.size_values.specs.declared.address.Octet.{Octet}
+use Rattle.size_values.specs.Quad.{fit_of, quad_value, IsFrom, Follows, Misses, IsQuad, IsAstray}
+use Rattle.size_values.specs.declared.address.SmallNumber.{SmallNumber}
 use Rattle.size_values.specs.declared.address.Quad.{Quad}
 use Rattle.size_values.proofs.Forms.{stands-start, stands-run, stands-more}
-use Rattle.size_values.proofs.Fronts.{take-more, last_byte-take, slice_split-snoc, run-unsplit, run-within, run-digit, run-end}
+use Rattle.size_values.proofs.Fronts.{take-more, last_byte-take, slice_split-snoc, passing-inside, run-unsplit, run-within, run-digit, run-end}
 
 -- these numbers, joined by dots, stand at the front, and no digit follows them
 pub record IsFront (text : List ℕ) (n : ℕ) (parts : List (List ℕ)) : Type 0 where
@@ -57,14 +57,14 @@ digits-last text at n within end some =
     ap is_ascii_digit (last_byte-take text n (omega arith) (omega (arith, run-within text at within)))
     ∙ run-digit text at within (n - 1) (omega arith) (omega arith)
 
-pub front-first : (text : List ℕ) (octet : Octet) → IsOctetAt text 0 octet → IsFront text octet.end (take_while is_ascii_digit text ∷ [])
-front-first text octet h = record {
+pub front-first : (text : List ℕ) (number : SmallNumber) → IsFrom 0 255 text 0 number → IsFront text number.end (take_while is_ascii_digit text ∷ [])
+front-first text number h = record {
   stands = subst (λ (n : ℕ). StandsTo may_follow_in_address text n) (sym h.end) (digits-stand text 0 (stands-start may_follow_in_address text));
   split = ap (λ n. slice_split is_dot (take n text)) end ∙ run-unsplit is_dot digit-no_dot text;
-  last = digits-last text 0 octet.end (omega arith) h.end h.some;
+  last = digits-last text 0 number.end (omega arith) h.end h.some;
   ends = ap (λ n. is_ascii_digit (get_or text n 0)) h.end ∙ run-end text 0 (omega arith);
 } where
-    end : octet.end ≡ prefix_len is_ascii_digit text
+    end : number.end ≡ prefix_len is_ascii_digit text
     end = omega (arith, h.end)
 
 module _ (text : List ℕ) (n : ℕ) (parts : List (List ℕ)) (front : IsFront text n parts) (few : length parts ≤ 3) where
@@ -79,11 +79,7 @@ module _ (text : List ℕ) (n : ℕ) (parts : List (List ℕ)) (front : IsFront 
 
   module _ (dot : is_dot (get_or text n 0) ≡ true) where
     inside : n < length text
-    inside = by (cases_lt n (length text))
-      where
-        by : (n < length text) ⊎ (length text ≤ n) → n < length text
-        by (inl less) = less
-        by (inr more) = absurd (false≢true (sym (ap is_dot (get_or_past text n 0 more)) ∙ dot))
+    inside = passing-inside is_dot refl text n dot
 
     dot-in-place : StandsTo may_follow_in_address text (n + 1)
     dot-in-place = stands-more may_follow_in_address text n front.stands inside (dot-stands (take n text) (get_or text n 0) dot front.last dots)
@@ -103,21 +99,21 @@ module _ (text : List ℕ) (n : ℕ) (parts : List (List ℕ)) (front : IsFront 
         by b h = grind arith
 
   -- one more number
-  pub front-next : (octet : Octet) → FollowsDot text n octet → IsFront text octet.end (parts ++ take_while is_ascii_digit (drop (n + 1) text) ∷ [])
-  front-next octet h = record {
-    stands = subst (λ (k : ℕ). StandsTo may_follow_in_address text k) (sym h.number.end) (digits-stand text (n + 1) (dot-in-place h.dot));
+  pub front-next : (number : SmallNumber) → Follows 46 0 255 text n number → IsFront text number.end (parts ++ take_while is_ascii_digit (drop (n + 1) text) ∷ [])
+  front-next number h = record {
+    stands = subst (λ (k : ℕ). StandsTo may_follow_in_address text k) (sym h.number_is.end) (digits-stand text (n + 1) (dot-in-place h.separates));
     split =
-        ap (λ k. slice_split is_dot (take k text)) h.number.end
-        ∙ ap (slice_split is_dot) (take-more n (prefix_len is_ascii_digit (drop (n + 1) text)) text (inside h.dot))
-        ∙ slice_split-snoc is_dot (take n text) (get_or text n 0) (take_while is_ascii_digit (drop (n + 1) text)) h.dot
+        ap (λ k. slice_split is_dot (take k text)) h.number_is.end
+        ∙ ap (slice_split is_dot) (take-more n (prefix_len is_ascii_digit (drop (n + 1) text)) text (inside h.separates))
+        ∙ slice_split-snoc is_dot (take n text) (get_or text n 0) (take_while is_ascii_digit (drop (n + 1) text)) h.separates
         (run-unsplit is_dot digit-no_dot (drop (n + 1) text))
         ∙ ap (λ (ps : List (List ℕ)). ps ++ take_while is_ascii_digit (drop (n + 1) text) ∷ []) front.split;
-    last = digits-last text (n + 1) octet.end (omega (arith, inside h.dot)) h.number.end h.number.some;
-    ends = ap (λ k. is_ascii_digit (get_or text k 0)) h.number.end ∙ run-end text (n + 1) (omega (arith, inside h.dot));
+    last = digits-last text (n + 1) number.end (omega (arith, inside h.separates)) h.number_is.end h.number_is.some;
+    ends = ap (λ k. is_ascii_digit (get_or text k 0)) h.number_is.end ∙ run-end text (n + 1) (omega (arith, inside h.separates));
   }
 
   -- or none
-  pub astray-next : (place : ℕ) → MissesDot text n place → IsAstray text place
+  pub astray-next : (place : ℕ) → Misses 46 text n place → IsAstray text place
   astray-next place h = by h.misses
     where
       by : ((place ≡ n) × (is_dot (get_or text n 0) ≡ false)) ⊎ ((place ≡ n + 1) × (is_dot (get_or text n 0) ≡ true) × (prefix_len is_ascii_digit (drop place text) ≡ 0))
@@ -176,30 +172,30 @@ quad-is text n a b c d address front is = record {
     by k b e h = grind (arith, nat_tests)
 
 -- the four numbers that are read, each behind those before it
-module _ (text : List ℕ) (first : Octet) (h₁ : IsOctetAt text 0 first) where
+module _ (text : List ℕ) (first : SmallNumber) (h₁ : IsFrom 0 255 text 0 first) where
   front₁ : IsFront text first.end (take_while is_ascii_digit text ∷ [])
   front₁ = front-first text first h₁
 
-  pub second-astray : (place : ℕ) → MissesDot text first.end place → IsAstray text place
+  pub second-astray : (place : ℕ) → Misses 46 text first.end place → IsAstray text place
   second-astray place h = astray-next text first.end _ front₁ (lit≤ tt) place h
 
-  module _ (second : Octet) (h₂ : FollowsDot text first.end second) where
+  module _ (second : SmallNumber) (h₂ : Follows 46 0 255 text first.end second) where
     front₂ : IsFront text second.end (take_while is_ascii_digit text ∷ take_while is_ascii_digit (drop (first.end + 1) text) ∷ [])
     front₂ = front-next text first.end _ front₁ (lit≤ tt) second h₂
 
-    pub third-astray : (place : ℕ) → MissesDot text second.end place → IsAstray text place
+    pub third-astray : (place : ℕ) → Misses 46 text second.end place → IsAstray text place
     third-astray place h = astray-next text second.end _ front₂ (lit≤ tt) place h
 
-    module _ (third : Octet) (h₃ : FollowsDot text second.end third) where
+    module _ (third : SmallNumber) (h₃ : Follows 46 0 255 text second.end third) where
       front₃ : IsFront text third.end (take_while is_ascii_digit text ∷ take_while is_ascii_digit (drop (first.end + 1) text)
         ∷ take_while is_ascii_digit (drop (second.end + 1) text) ∷ [])
       front₃ = front-next text second.end _ front₂ (lit≤ tt) third h₃
 
-      pub fourth-astray : (place : ℕ) → MissesDot text third.end place → IsAstray text place
+      pub fourth-astray : (place : ℕ) → Misses 46 text third.end place → IsAstray text place
       fourth-astray place h = astray-next text third.end _ front₃ (lit≤ tt) place h
 
-      pub quad-read : (fourth : Octet) → FollowsDot text third.end fourth → (address : Option ℕ)
+      pub quad-read : (fourth : SmallNumber) → Follows 46 0 255 text third.end fourth → (address : Option ℕ)
         → address ≡ quad_value first.value second.value third.value fourth.value → IsQuad text (record { end = fourth.end; address = address })
       quad-read fourth h₄ address is =
           quad-is text fourth.end _ _ _ _ address (front-next text third.end _ front₃ (lit≤ tt) fourth h₄)
-          (is ∙ λ i. quad_value (h₁.value i) (h₂.number.value i) (h₃.number.value i) (h₄.number.value i))
+          (is ∙ λ i. quad_value (h₁.value i) (h₂.number_is.value i) (h₃.number_is.value i) (h₄.number_is.value i))

@@ -1,11 +1,11 @@
 -- Words for the contracts with which an address is read number by number.
-use Rattle.std.specs.Prelude.{ℕ, ◌≡◌, ◌+◌, ◌*◌, ◌<◌, ◌≤◌, ◌⊎◌, Bool, true, false, if◌then◌else◌, List, length, take, drop, slice_index, take_while, Option, Some, None}
+use Rattle.std.specs.Prelude.{ℕ, ◌≡◌, ◌+◌, ◌*◌, ◌<◌, ◌≤◌, ◌⊎◌, ◌==◌, Bool, true, false, if◌then◌else◌, List, length, take, drop, slice_index, take_while, Option, Some, None}
 use Rattle.std.specs.List.{prefix_len}
 use Rattle.std.specs.Char.{is_ascii_digit}
 use Rattle.std.specs.Str.Parse.{digits_value}
 use Rattle.size_values.specs.Form.{StandsTo}
 use Rattle.size_values.specs.Address.{is_dot, is_unfit, may_follow_in_address, is_whole_address, is_address_unfit, address_value}
-use Rattle.size_values.specs.declared.address.Octet.{Octet}
+use Rattle.size_values.specs.declared.address.SmallNumber.{SmallNumber}
 use Rattle.size_values.specs.declared.address.Quad.{Quad}
 
 -- the number that digits write, if they are fit
@@ -17,22 +17,23 @@ abbrev pub quad_value : Option ℕ → Option ℕ → Option ℕ → Option ℕ 
 quad_value (Some a) (Some b) (Some c) (Some d) = Some (((a * 256 + b) * 256 + c) * 256 + d)
 quad_value a b c d = None
 
--- the octet is the number whose digits begin at the place
-pub record IsOctetAt (text : List ℕ) (at : ℕ) (octet : Octet) : Type 0 where
-  pub end : octet.end ≡ at + prefix_len is_ascii_digit (drop at text)
-  pub within : octet.end ≤ length text
-  pub some : at < octet.end
-  pub value : octet.value ≡ fit_of 0 255 (take_while is_ascii_digit (drop at text))
+-- the number is the one whose digits begin at the place
+pub record IsFrom (least most : ℕ) (text : List ℕ) (at : ℕ) (number : SmallNumber) : Type 0 where
+  pub end : number.end ≡ at + prefix_len is_ascii_digit (drop at text)
+  pub within : number.end ≤ length text
+  pub some : at < number.end
+  pub value : number.value ≡ fit_of least most (take_while is_ascii_digit (drop at text))
 
--- the octet is the number behind a dot at the place
-pub record FollowsDot (text : List ℕ) (at : ℕ) (octet : Octet) : Type 0 where
-  pub dot : is_dot (slice_index text at) ≡ true
-  pub number : IsOctetAt text (at + 1) octet
+-- the number is the one behind the separator at the place
+pub record Follows (separator least most : ℕ) (text : List ℕ) (at : ℕ) (number : SmallNumber) : Type 0 where
+  pub separates : (slice_index text at == separator) ≡ true
+  pub number_is : IsFrom least most text (at + 1) number
 
--- no dot stands at the place, or no number behind it
-pub record MissesDot (text : List ℕ) (at place : ℕ) : Type 0 where
+-- the separator does not stand at the place, or no digit behind it
+pub record Misses (separator : ℕ) (text : List ℕ) (at place : ℕ) : Type 0 where
   pub within : place ≤ length text
-  pub misses : ((place ≡ at) × (is_dot (slice_index text at) ≡ false)) ⊎ ((place ≡ at + 1) × (is_dot (slice_index text at) ≡ true) × (prefix_len is_ascii_digit (drop place text) ≡ 0))
+  pub misses : ((place ≡ at) × ((slice_index text at == separator) ≡ false))
+      ⊎ ((place ≡ at + 1) × ((slice_index text at == separator) ≡ true) × (prefix_len is_ascii_digit (drop place text) ≡ 0))
 
 -- an address stands at the front, and no digit follows it
 pub record IsQuad (text : List ℕ) (quad : Quad) : Type 0 where

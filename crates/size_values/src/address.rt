@@ -1,16 +1,16 @@
-ghost use Rattle.std.specs.Prelude.{◌≡◌, ◌+◌, ◌≤◌, IfOk, IfErr, IfSome, IfNone, length, drop, take_while};
+ghost use Rattle.std.specs.Prelude.{◌≡◌, ◌+◌, ◌<◌, ◌≤◌, IfOk, IfErr, IfSome, IfNone, length, drop, take_while};
 ghost use Rattle.std.specs.Char.{is_ascii_digit};
 ghost use Rattle.std.specs.List.{prefix_len};
 ghost use Rattle.size_values.specs.Address.{address_of, cidr_of, has_leading_zero};
 ghost use Rattle.size_values.specs.Number.{number_at};
-ghost use Rattle.size_values.specs.Quad.{fit_of, quad_value, IsOctetAt, FollowsDot, MissesDot, IsQuad, IsAstray};
+ghost use Rattle.size_values.specs.Quad.{fit_of, quad_value, IsFrom, Follows, Misses, IsQuad, IsAstray};
 
-use crate::fault::ValueFault;
+use crate::fault::{Stray, ValueFault};
 use crate::number::Number;
 
-/// One number of an address: where its digits end, and its value, if they are fit.
+/// A number of at most 255 in a text: where its digits end, and its value, if it is fit.
 #[derive(Clone, Copy)]
-pub struct Octet {
+pub struct SmallNumber {
     pub end: usize,
     pub value: Option<u8>,
 }
@@ -44,28 +44,38 @@ fn address_in(text: &[u8]) -> Result<u32, ValueFault>
     if text.is_empty() {
         return Err(ValueFault::Empty);
     }
-    match read_quad(text) {
-        Ok(quad) if quad.end == text.len() => quad.address.ok_or(ValueFault::OutOfRange),
-        Ok(quad) => Err(ValueFault::BadByte(quad.end as u64)),
-        Err(place) => Err(ValueFault::BadByte(place as u64)),
+    let quad = read_quad(text)?;
+    if quad.end < text.len() {
+        return Err(ValueFault::BadByte(quad.end as u64));
     }
+    quad.address.ok_or(ValueFault::OutOfRange)
 }
 
 fn cidr_in(text: &[u8]) -> Result<(u32, u8), ValueFault>
     ensures { result ≡ cidr_of text.now }
 {
-    Err(ValueFault::Empty)
+    if text.is_empty() {
+        return Err(ValueFault::Empty);
+    }
+    let quad = read_quad(text)?;
+    let bits = number_behind(text, quad.end, b'/', 8, 30)?;
+    if bits.end < text.len() {
+        return Err(ValueFault::BadByte(bits.end as u64));
+    }
+    quad.address
+        .zip(bits.value)
+        .ok_or(ValueFault::OutOfRange)
 }
 
 /// The four numbers at the front, or the place at which the text leaves their form.
-fn read_quad(text: &[u8]) -> Result<Quad, usize>
+fn read_quad(text: &[u8]) -> Result<Quad, Stray>
     ensures ok { IfOk result (IsQuad text.now) }
-    ensures err { IfErr result (IsAstray text.now) }
+    ensures err { IfErr result (λ stray. IsAstray text.now stray.place) }
 {
-    let first = octet_at(text, 0).ok_or(0_usize)?;
-    let second = octet_behind_dot(text, first.end)?;
-    let third = octet_behind_dot(text, second.end)?;
-    let fourth = octet_behind_dot(text, third.end)?;
+    let first = number_from(text, 0, 0, 255).ok_or(Stray { place: 0 })?;
+    let second = number_behind(text, first.end, b'.', 0, 255)?;
+    let third = number_behind(text, second.end, b'.', 0, 255)?;
+    let fourth = number_behind(text, third.end, b'.', 0, 255)?;
     Ok(Quad {
         end: fourth.end,
         address: address(first.value, second.value, third.value, fourth.value),
@@ -84,22 +94,25 @@ fn address(
     Some(u32::from_be_bytes([first?, second?, third?, fourth?]))
 }
 
-/// The number that follows a dot at the place, or the place at which the text leaves that form.
-fn octet_behind_dot(text: &[u8], at: usize) -> Result<Octet, usize>
-    requires { at ≤ length text.now }
-    ensures ok { IfOk result (FollowsDot text.now at) }
-    ensures err { IfErr result (MissesDot text.now at) }
+/// The number that follows the separator at the place, or the place at which the text leaves that form.
+fn number_behind(text: &[u8], at: usize, separator: u8, least: u64, most: u64) -> Result<SmallNumber, Stray>
+    requires within { at ≤ length text.now }
+    requires separator { 0 < separator }
+    requires bounds { (least ≤ most) × (most ≤ 255) }
+    ensures ok { IfOk result (Follows separator least most text.now at) }
+    ensures err { IfErr result (λ stray. Misses separator text.now at stray.place) }
 {
-    if text.get(at) != Some(&b'.') {
-        return Err(at);
+    if text.get(at) != Some(&separator) {
+        return Err(Stray { place: at });
     }
-    octet_at(text, at + 1).ok_or(at + 1)
+    number_from(text, at + 1, least, most).ok_or(Stray { place: at + 1 })
 }
 
 /// The number whose digits begin at the place, if one stands there.
-fn octet_at(text: &[u8], at: usize) -> Option<Octet>
-    requires { at ≤ length text.now }
-    ensures some { IfSome result (IsOctetAt text.now at) }
+fn number_from(text: &[u8], at: usize, least: u64, most: u64) -> Option<SmallNumber>
+    requires within { at ≤ length text.now }
+    requires bounds { (least ≤ most) × (most ≤ 255) }
+    ensures some { IfSome result (IsFrom least most text.now at) }
     ensures none { IfNone result (prefix_len is_ascii_digit (drop at text.now) ≡ 0) }
 {
     let digits = &text[at..];
@@ -107,9 +120,9 @@ fn octet_at(text: &[u8], at: usize) -> Option<Octet>
     if number.len == 0 {
         return None;
     }
-    Some(Octet {
+    Some(SmallNumber {
         end: at + number.len,
-        value: fit_value(digits, number, 0, 255),
+        value: fit_value(digits, number, least, most),
     })
 }
 
@@ -117,7 +130,7 @@ fn octet_at(text: &[u8], at: usize) -> Option<Octet>
 fn fit_value(text: &[u8], number: Number, least: u64, most: u64) -> Option<u8>
     requires number { number ≡ number_at text.now }
     requires within { number.len ≤ length text.now }
-    requires bounds { least ≤ most × most ≤ 255 }
+    requires bounds { (least ≤ most) × (most ≤ 255) }
     ensures { result ≡ fit_of least most (take_while is_ascii_digit text.now) }
 {
     if has_leading_zero(text, number) || !number.is_within(least, most) {

@@ -31,3 +31,19 @@ impl ValueFault {
         }
     }
 }
+
+/// A text leaves its form at this place, which is its length where it ends too early.
+#[derive(Clone, Copy)]
+pub struct Stray {
+    pub place: usize,
+}
+
+impl From<Stray> for ValueFault {
+    ghost use Rattle.size_values.specs.declared.fault.ValueFault.TheVariants.{BadByte};
+
+    ghost from_gives = { λ stray fault. fault ≡ BadByte stray.place };
+
+    fn from(stray: Stray) -> Self {
+        ValueFault::BadByte(stray.place as u64)
+    }
+}
