@@ -10,5 +10,6 @@ pub mod MemorySize
 pub mod Number
 pub mod Quad
 pub mod Reading
+pub mod Set
 pub mod Size
 pub mod Truth
