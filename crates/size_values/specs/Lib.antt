@@ -1,5 +1,6 @@
 pub mod Address
 pub mod Amounts
+pub mod Calls
 pub mod Causes
 pub mod Count
 pub mod Cpu

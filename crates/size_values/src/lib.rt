@@ -5,6 +5,7 @@
 
 mod address;
 mod amounts;
+mod calls;
 mod count;
 mod cpu;
 mod entry;
@@ -22,6 +23,7 @@ mod truth;
 
 pub use address::{read_address, read_cidr};
 pub use amounts::{Amounts, Part};
+pub use calls::FailingCalls;
 pub use count::read_count;
 pub use cpu::{Cpu, read_cpu};
 pub use entry::{Entry, EntryChange};
