@@ -19,7 +19,7 @@ use Rattle.size_values.specs.declared.address.SmallNumber.{SmallNumber}
 use Rattle.size_values.specs.declared.address.Quad.{Quad}
 use Rattle.size_values.specs.declared.fault.ValueFault.{ValueFault}
 use Rattle.size_values.specs.declared.fault.ValueFault.TheVariants.{Empty, BadByte, OutOfRange}
-use Rattle.size_values.proofs.Forms.{reading-here, reading-past, reading-strays, reading-formed, stray-at, stray-end, stray-none, stands-run, stands-more}
+use Rattle.size_values.proofs.Forms.{reading-here, reading-past, reading-strays, reading-formed, stray-at, stray-none, leaves, whole-front, stands-run, stands-more}
 use Rattle.size_values.proofs.Fronts.{passing-inside, run-within, run-digit, run-end}
 
 pub address-empty : (text : List ℕ) → eqb (length text) 0 ≡ true → Err Empty ≡ address_of text
@@ -29,21 +29,6 @@ address-empty text h = reading-here _ _ _ _ h
 pub cidr-empty : (text : List ℕ) → eqb (length text) 0 ≡ true → Err Empty ≡ cidr_of text
 unfolding cidr_of
 cidr-empty text h = reading-here _ _ _ _ h
-
--- where a front stands, the form is left at the next byte or at the end
-leaves : (may_follow : List ℕ → ℕ → Bool) (is_whole : List ℕ → Bool) (text : List ℕ) (n : ℕ) → StandsTo may_follow text n
-  → (n < length text → may_follow (take n text) (get_or text n 0) ≡ false) → (n ≡ length text → is_whole text ≡ false) → stray may_follow is_whole text ≡ Some n
-leaves may_follow is_whole text n stands stops part = by (cases_lt n (length text))
-  where
-    by : (n < length text) ⊎ (length text ≤ n) → stray may_follow is_whole text ≡ Some n
-    by (inl less) = stray-at may_follow is_whole text n stands less (stops less)
-    by (inr more) =
-        let same : n ≡ length text = omega (arith, stands.within) in
-        stray-end may_follow is_whole text (subst (λ (k : ℕ). StandsTo may_follow text k) same stands) (part same) ∙ ap (λ k. Some k) (sym same)
-
--- the front is the whole text where it ends with it
-whole-front : (test : List ℕ → Bool) (text : List ℕ) (n : ℕ) (b : Bool) → length text ≤ n → test (take n text) ≡ b → test text ≡ b
-whole-front test text n b all is = ap test (sym (take_all n text all)) ∙ is
 
 -- behind a whole address stands no fourth dot
 fourth_dot : (front : List ℕ) (c : ℕ) → is_ascii_digit c ≡ false → is_whole_address front ≡ true → may_follow_in_address front c ≡ false

@@ -2,6 +2,7 @@
 use Rattle.std.proofs.Common.{◌≡◌, ℕ, ◌+◌, ◌<◌, ◌≤◌, Bool, true, false, not, cond, ◌||◌, List, [], ◌∷◌, length, take, get_or, Option, Some, None, Result, Ok, Err, sym, refl, ap, ◌∙◌, subst, arith, zero-add, ltb, ◌⊎◌, inl, inr}
 use Rattle.std.proofs.lemmas.Grind.{common_steps}
 use Rattle.std.proofs.lemmas.Bool.{cases_lt}
+use Rattle.std.proofs.lemmas.List.{take_all}
 use Rattle.std.proofs.lemmas.Bool.Decides.{nat_tests}
 use Rattle.std.specs.Prelude.{nat_lt}
 use Rattle.std.specs.Option.{option_map}
@@ -82,3 +83,18 @@ module _ (may_follow : List ℕ → ℕ → Bool) where
   pub stands-more : (text : List ℕ) (n : ℕ) → StandsTo may_follow text n → n < length text → may_follow (take n text) (get_or text n 0) ≡ true
     → StandsTo may_follow text (n + 1)
   stands-more text n h less is = stands-run text n 1 h (omega arith) (λ k low high. let e : n ≡ k = omega arith in subst (λ (i : ℕ). may_follow (take i text) (get_or text i 0) ≡ true) e is)
+
+-- where a front stands, the form is left at the next byte or at the end
+pub leaves : (may_follow : List ℕ → ℕ → Bool) (is_whole : List ℕ → Bool) (text : List ℕ) (n : ℕ) → StandsTo may_follow text n
+  → (n < length text → may_follow (take n text) (get_or text n 0) ≡ false) → (n ≡ length text → is_whole text ≡ false) → stray may_follow is_whole text ≡ Some n
+leaves may_follow is_whole text n stands stops part = by (cases_lt n (length text))
+  where
+    by : (n < length text) ⊎ (length text ≤ n) → stray may_follow is_whole text ≡ Some n
+    by (inl less) = stray-at may_follow is_whole text n stands less (stops less)
+    by (inr more) =
+        let same : n ≡ length text = omega (arith, stands.within) in
+        stray-end may_follow is_whole text (subst (λ (k : ℕ). StandsTo may_follow text k) same stands) (part same) ∙ ap (λ k. Some k) (sym same)
+
+-- the front is the whole text where it ends with it
+pub whole-front : (test : List ℕ → Bool) (text : List ℕ) (n : ℕ) (b : Bool) → length text ≤ n → test (take n text) ≡ b → test text ≡ b
+whole-front test text n b all is = ap test (sym (take_all n text all)) ∙ is

@@ -1,5 +1,6 @@
 ghost use Rattle.std.specs.Prelude.{◌≡◌, ◌≤◌, IfOk};
 ghost use Rattle.size_values.specs.Count.{count_of};
+ghost use Rattle.size_values.specs.Number.{number_at};
 
 use crate::fault::ValueFault;
 use crate::number::Number;
@@ -16,10 +17,18 @@ pub fn count_in(text: &[u8], least: u64, most: u64) -> Result<u64, ValueFault>
     ensures count { result ≡ count_of text.now least most }
     ensures within { IfOk result (λ n. (least ≤ n) × (n ≤ most)) }
 {
+    counted(text, Number::at_front(text), least, most)
+}
+
+/// The same of the bytes of a text and of the number at their front.
+pub fn counted(text: &[u8], number: Number, least: u64, most: u64) -> Result<u64, ValueFault>
+    requires { number ≡ number_at text.now }
+    ensures count { result ≡ count_of text.now least most }
+    ensures within { IfOk result (λ n. (least ≤ n) × (n ≤ most)) }
+{
     if text.is_empty() {
         return Err(ValueFault::Empty);
     }
-    let number = Number::at_front(text);
     if number.len < text.len() {
         return Err(ValueFault::BadByte(number.len as u64));
     }

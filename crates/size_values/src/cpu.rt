@@ -1,8 +1,9 @@
 ghost use Rattle.std.specs.Prelude.{◌≡◌, ◌<◌, IfOk, IfErr, length};
 ghost use Rattle.size_values.specs.Cpu.{cpu_of, set_of};
-ghost use Rattle.size_values.specs.Set.{BeginsSet, BreaksAtOnce, ContinuesSet, BreaksSet};
+ghost use Rattle.size_values.specs.Number.{number_at};
+ghost use Rattle.size_values.specs.Set.{BeginsSet, ContinuesSet, BreaksSet};
 
-use crate::count::count_in;
+use crate::count::counted;
 use crate::fault::{Stray, ValueFault};
 use crate::number::Number;
 
@@ -44,16 +45,18 @@ fn cpu_in(text: &[u8]) -> Result<Cpu, ValueFault>
 {
     let number = Number::at_front(text);
     if number.len < text.len() {
-        return set_in(text);
+        return set_in(text, number);
     }
-    let count = count_in(text, 1, MOST)?;
+    let count = counted(text, number, 1, MOST)?;
     Ok(Cpu::Count(count as u32))
 }
 
-fn set_in(text: &[u8]) -> Result<Cpu, ValueFault>
+/// A set, and the number at its front.
+fn set_in(text: &[u8], number: Number) -> Result<Cpu, ValueFault>
+    requires { number ≡ number_at text.now }
     ensures { result ≡ set_of text.now }
 {
-    let mut front = SetFront::first(text)?;
+    let mut front = SetFront::first(number)?;
     while front.end < text.len() {
         front = front.next(text)?;
     }
@@ -68,11 +71,10 @@ fn set_in(text: &[u8]) -> Result<Cpu, ValueFault>
 
 impl SetFront {
     /// The first number of a set.
-    fn first(text: &[u8]) -> Result<SetFront, Stray>
-        ensures ok { IfOk result (BeginsSet text.now) }
-        ensures err { IfErr result (λ stray. BreaksAtOnce text.now stray.place) }
+    fn first(number: Number) -> Result<SetFront, Stray>
+        ensures ok { IfOk result (BeginsSet number) }
+        ensures err { IfErr result (λ stray. (number.len ≡ 0) × (stray.place ≡ 0)) }
     {
-        let number = Number::at_front(text);
         if number.len == 0 {
             return Err(Stray { place: 0 });
         }
