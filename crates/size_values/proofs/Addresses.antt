@@ -65,6 +65,7 @@ module _ (text : List ℕ) (filled : eqb (length text) 0 ≡ false) where
       where
         same : quad.end ≡ length text
         same = omega (arith, is.stands.within)
+
         formed : stray may_follow_in_address is_whole_address text ≡ None
         formed = stray-none may_follow_in_address is_whole_address text (subst (λ (k : ℕ). StandsTo may_follow_in_address text k) same is.stands)
             (whole-front is_whole_address text quad.end true all is.whole)
@@ -86,7 +87,7 @@ no_slash text n h k low = list_any_none is_slash (take k text) (λ j d less. at 
 
 -- what may follow in an address may follow before the slash
 before-slash : (front : List ℕ) (c : ℕ) (b : Bool) → list_any is_slash front ≡ false → (may_follow_in_address front c || (is_slash c && is_whole_address front)) ≡ b
-  → may_follow_in_cidr front c ≡ b
+    → may_follow_in_cidr front c ≡ b
 before-slash front c b none is = ap (λ s. cond s (is_ascii_digit c) (may_follow_in_address front c || (is_slash c && is_whole_address front))) none ∙ is
 
 behind-slash : (front : List ℕ) (c : ℕ) (b : Bool) → list_any is_slash front ≡ true → is_ascii_digit c ≡ b → may_follow_in_cidr front c ≡ b
@@ -180,7 +181,7 @@ module _ (text : List ℕ) (filled : eqb (length text) 0 ≡ false) where
 
       -- the form is left where the digits end
       leaves-behind : (n : ℕ) → n ≡ quad.end + 1 + prefix_len is_ascii_digit (drop (quad.end + 1) text) → (n ≡ length text → is_ascii_digit (last_byte text) ≡ false)
-        → Err (BadByte n) ≡ cidr_of text
+          → Err (BadByte n) ≡ cidr_of text
       unfolding cidr_of
       leaves-behind n end part =
           reading-strays _ _ _ _ (leaves may_follow_in_cidr is_whole_cidr text n (subst (λ (k : ℕ). StandsTo may_follow_in_cidr text k) (sym end) digits-stand)
@@ -197,6 +198,7 @@ module _ (text : List ℕ) (filled : eqb (length text) 0 ≡ false) where
         where
           slash-no_digit : (c : ℕ) → is_slash c ≡ true → is_ascii_digit c ≡ false
           slash-no_digit c h = grind (arith, nat_tests)
+
           by : quad.end + 1 ≡ length text → is_ascii_digit (last_byte text) ≡ false
           by e =
               let same : length text - 1 ≡ quad.end = omega arith in
@@ -216,6 +218,7 @@ module _ (text : List ℕ) (filled : eqb (length text) 0 ≡ false) where
             where
               last : is_ascii_digit (last_byte text) ≡ true
               last = run-digit text (quad.end + 1) slash-stands.within (length text - 1) (omega (arith, from.some)) (omega (arith, ends, inside))
+
               by : (a b : Bool) → a ≡ true → b ≡ true → (a && b) ≡ true
               by a b h e = grind arith
 

@@ -10,3 +10,4 @@ pub mod Quads
 pub mod Addresses
 pub mod Sets
 pub mod Cpus
+pub mod Expiries

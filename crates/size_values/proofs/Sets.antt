@@ -25,7 +25,7 @@ use Rattle.size_values.specs.declared.cpu.Cpu.{Cpu}
 use Rattle.size_values.specs.declared.cpu.Cpu.TheVariants.{Pinned}
 use Rattle.size_values.proofs.Counts.{too_large-is}
 use Rattle.size_values.proofs.Forms.{reading-here, reading-past, reading-strays, reading-formed, stray-at, stray-none, leaves, whole-front, stands-start, stands-run, stands-more}
-use Rattle.size_values.proofs.Fronts.{take-more, last_byte-take, slice_split-snoc, passing-inside, run-unsplit, run-within, run-digit, run-end}
+use Rattle.size_values.proofs.Fronts.{take-more, last_byte-take, last_byte-push, slice_split-snoc, slice_split-extend, passing-inside, run-unsplit, run-within, run-digit, run-end}
 
 abbrev separates : ℕ → Bool
 separates b = is_comma b || is_dash b
@@ -79,9 +79,6 @@ digits-signs (x ∷ xs) = ap signs (take_while-cons is_ascii_digit x xs) ∙ at 
     at true e rest = ap (λ c. cond (not c) (x ∷ signs (take_while is_ascii_digit xs)) (signs (take_while is_ascii_digit xs))) e ∙ rest
     at false e rest = refl
 
-last_byte-push : (xs : List ℕ) (y : ℕ) → last_byte (xs ++ y ∷ []) ≡ y
-last_byte-push xs y = get_or_at xs y [] 0 (length (xs ++ y ∷ []) - 1) (omega (arith, length-append xs (y ∷ [])))
-
 -- the last sign of a front that goes on with a sign and digits
 last-sign : (front : List ℕ) (c : ℕ) (xs : List ℕ) → is_ascii_digit c ≡ false → last_byte (signs (front ++ c ∷ take_while is_ascii_digit xs)) ≡ c
 last-sign front c xs sign =
@@ -89,42 +86,6 @@ last-sign front c xs sign =
     ∙ ap (λ (ys : List ℕ). signs front ++ ys) (ap (λ b. cond (not b) (c ∷ signs (take_while is_ascii_digit xs)) (signs (take_while is_ascii_digit xs))) sign
     ∙ ap (λ (ys : List ℕ). c ∷ ys) (digits-signs xs)))
     ∙ last_byte-push (signs front) c
-
--- bytes without a separator extend the last part
-slice_split-extend : (p : ℕ → Bool) (xs ys : List ℕ) (init : List (List ℕ)) (part : List ℕ) → slice_split p ys ≡ ys ∷ []
-  → slice_split p xs ≡ init ++ part ∷ [] → slice_split p (xs ++ ys) ≡ init ++ (part ++ ys) ∷ []
-slice_split-extend p [] ys [] part one h = one ∙ (let e : [] ≡ part = cc in ap (λ (q : List ℕ). (q ++ ys) ∷ []) e)
-slice_split-extend p [] ys (i ∷ is) part one h = absurd (omega (arith, ap (λ (ps : List (List ℕ)). length ps) h, length-append is (part ∷ [])))
-slice_split-extend p (x ∷ xs) ys init part one h =
-    at (p x) refl (slice_split p xs) refl init (sym (split-cons (p x) refl) ∙ h) (λ init' part' h'. slice_split-extend p xs ys init' part' one h')
-  where
-    split-cons : (b : Bool) → p x ≡ b → slice_split p (x ∷ xs) ≡ cond b ([] ∷ slice_split p xs) (onto_first x (slice_split p xs))
-    split-cons b e = ap (λ c. cond c ([] ∷ slice_split p xs) (onto_first x (slice_split p xs))) e
-    split-more : (b : Bool) → p x ≡ b → slice_split p (x ∷ (xs ++ ys)) ≡ cond b ([] ∷ slice_split p (xs ++ ys)) (onto_first x (slice_split p (xs ++ ys)))
-    split-more b e = ap (λ c. cond c ([] ∷ slice_split p (xs ++ ys)) (onto_first x (slice_split p (xs ++ ys)))) e
-    at : (b : Bool) → p x ≡ b → (ps : List (List ℕ)) → slice_split p xs ≡ ps → (init : List (List ℕ))
-      → cond b ([] ∷ slice_split p xs) (onto_first x (slice_split p xs)) ≡ init ++ part ∷ []
-      → ((init' : List (List ℕ)) (part' : List ℕ) → slice_split p xs ≡ init' ++ part' ∷ [] → slice_split p (xs ++ ys) ≡ init' ++ (part' ++ ys) ∷ [])
-      → slice_split p (x ∷ (xs ++ ys)) ≡ init ++ (part ++ ys) ∷ []
-    at true e ps eps [] f rest =
-        let none : slice_split p xs ≡ [] = cc f in
-        absurd (omega (arith, length-slice_split p xs, ap (λ (qs : List (List ℕ)). length qs) none))
-    at true e ps eps (i ∷ is) f rest =
-        let first : [] ≡ i = cc f in
-        let others : slice_split p xs ≡ is ++ part ∷ [] = cc f in
-        split-more true e ∙ (λ k. first k ∷ rest is part others k)
-    at false e [] eps init f rest = absurd (omega (arith, length-slice_split p xs, ap (λ (qs : List (List ℕ)). length qs) eps))
-    at false e (q ∷ qs) eps [] f rest =
-        let g : (x ∷ q) ∷ qs ≡ part ∷ [] = ap (onto_first x) (sym eps) ∙ f in
-        let first : x ∷ q ≡ part = cc g in
-        let others : qs ≡ [] = cc g in
-        split-more false e ∙ ap (onto_first x) (rest [] q (eps ∙ ap (λ (rs : List (List ℕ)). q ∷ rs) others)) ∙ ap (λ (r : List ℕ). (r ++ ys) ∷ []) first
-    at false e (q ∷ qs) eps (i ∷ is) f rest =
-        let g : (x ∷ q) ∷ qs ≡ i ∷ (is ++ part ∷ []) = ap (onto_first x) (sym eps) ∙ f in
-        let first : x ∷ q ≡ i = cc g in
-        let others : qs ≡ is ++ part ∷ [] = cc g in
-        split-more false e ∙ ap (onto_first x) (rest (q ∷ is) part (eps ∙ ap (λ (rs : List (List ℕ)). q ∷ rs) others))
-        ∙ ap (λ (r : List ℕ). r ∷ (is ++ (part ++ ys) ∷ [])) first
 
 digit-stands : (front : List ℕ) (c : ℕ) → is_ascii_digit c ≡ true → may_follow_in_set front c ≡ true
 digit-stands front c h = grind arith
@@ -168,12 +129,13 @@ dash-first (x ∷ xs) c ys none dash =
   where
     first : (a b : Bool) → (a || b) ≡ false → a ≡ false
     first a b e = grind arith
+
     others : (a b : Bool) → (a || b) ≡ false → b ≡ false
     others a b e = grind arith
 
 -- a range falls where its second number is below its first
 range-falls : (xs : List ℕ) (c : ℕ) (ys : List ℕ) → list_any is_dash xs ≡ false → is_dash c ≡ true
-  → falls (xs ++ c ∷ ys) ≡ nat_lt (digits_value 10 ys) (digits_value 10 xs)
+    → falls (xs ++ c ∷ ys) ≡ nat_lt (digits_value 10 ys) (digits_value 10 xs)
 range-falls xs c ys none dash =
     ap (λ b. b && nat_lt (digits_value 10 (after_first is_dash (xs ++ c ∷ ys))) (digits_value 10 (before_first is_dash (xs ++ c ∷ ys)))) has_dash
     ∙ (λ i. nat_lt (digits_value 10 (behind i)) (digits_value 10 (before i)))
@@ -183,10 +145,13 @@ range-falls xs c ys none dash =
       where
         by : (a b d : Bool) → b ≡ true → (a || (b || d)) ≡ true
         by a b d e = grind arith
+
     at : position_or_len is_dash (xs ++ c ∷ ys) ≡ length xs
     at = dash-first xs c ys none dash
+
     before : before_first is_dash (xs ++ c ∷ ys) ≡ xs
     before = ap (λ n. take n (xs ++ c ∷ ys)) at ∙ take_at xs (c ∷ ys) (length xs) refl
+
     behind : after_first is_dash (xs ++ c ∷ ys) ≡ ys
     behind =
         ap (λ n. drop (n + 1) (xs ++ c ∷ ys)) at
@@ -212,19 +177,22 @@ first-front text front h = record {
       ∙ by (is_outside 0 1000000 (take_while is_ascii_digit text)) (falls (take_while is_ascii_digit text)) (dashless (take_while is_ascii_digit text) (digits-no_dash text))
       ∙ sym (h.unfit ∙ above-is (take_while is_ascii_digit text) (number_at text).value refl);
 } where
-    numbers : slice_split separates (take front.end text) ≡ take_while is_ascii_digit text ∷ []
-    numbers = ap (λ n. slice_split separates (take n text)) h.end ∙ run-unsplit separates digit-no_sign text
-    one_part : slice_split is_comma (take front.end text) ≡ take_while is_ascii_digit text ∷ []
-    one_part = ap (λ n. slice_split is_comma (take n text)) h.end ∙ run-unsplit is_comma digit-no_comma text
-    by : (a b : Bool) → b ≡ false → ((a || false) || (b || false)) ≡ a
-    by a b e = grind arith
-    end : front.end ≡ 0 + prefix_len is_ascii_digit (drop 0 text)
-    end = omega (arith, h.end)
+  numbers : slice_split separates (take front.end text) ≡ take_while is_ascii_digit text ∷ []
+  numbers = ap (λ n. slice_split separates (take n text)) h.end ∙ run-unsplit separates digit-no_sign text
+
+  one_part : slice_split is_comma (take front.end text) ≡ take_while is_ascii_digit text ∷ []
+  one_part = ap (λ n. slice_split is_comma (take n text)) h.end ∙ run-unsplit is_comma digit-no_comma text
+
+  by : (a b : Bool) → b ≡ false → ((a || false) || (b || false)) ≡ a
+  by a b e = grind arith
+
+  end : front.end ≡ 0 + prefix_len is_ascii_digit (drop 0 text)
+  end = omega (arith, h.end)
 
 -- A range is seen to fall by numbers that stop at the last value of 64 bits, since numbers so large are unfit anyway.
 unfit-range : (o f u : Bool) (second first v w : ℕ) → (o || (f || (false || false))) ≡ u → v ≡ min second (2 ^ 64 - 1) → w ≡ min first (2 ^ 64 - 1)
-  → ((nat_lt first 0 || nat_lt 1000000 first) ≡ true → u ≡ true)
-  → ((o || ((nat_lt second 0 || nat_lt 1000000 second) || false)) || (f || (nat_lt second first || false))) ≡ (u || nat_lt 1000000 v || (true && nat_lt v w))
+    → ((nat_lt first 0 || nat_lt 1000000 first) ≡ true → u ≡ true)
+    → ((o || ((nat_lt second 0 || nat_lt 1000000 second) || false)) || (f || (nat_lt second first || false))) ≡ (u || nat_lt 1000000 v || (true && nat_lt v w))
 unfit-range o f u second first v w was h k seen = grind (arith, nat_tests)
 
 module _ (text : List ℕ) (old : SetFront) (h : IsSetFront text old) where
@@ -232,14 +200,14 @@ module _ (text : List ℕ) (old : SetFront) (h : IsSetFront text old) where
   sign-stands sign = by (is_ascii_digit (last_byte (take old.end text))) (is_dash (last_byte (signs (take old.end text)))) h.whole h.sign sign
     where
       by : (last dash : Bool) → last ≡ true → dash ≡ old.in_range → is_sign text old ≡ true
-        → (is_ascii_digit (get_or text old.end 0) || (last && (is_comma (get_or text old.end 0) || (is_dash (get_or text old.end 0) && not dash)))) ≡ true
+          → (is_ascii_digit (get_or text old.end 0) || (last && (is_comma (get_or text old.end 0) || (is_dash (get_or text old.end 0) && not dash)))) ≡ true
       by last dash l d s = grind arith
 
   sign-falls : is_sign text old ≡ false → may_follow_in_set (take old.end text) (get_or text old.end 0) ≡ false
   sign-falls sign = by (is_ascii_digit (last_byte (take old.end text))) (is_dash (last_byte (signs (take old.end text)))) h.ends h.whole h.sign sign
     where
       by : (last dash : Bool) → is_ascii_digit (get_or text old.end 0) ≡ false → last ≡ true → dash ≡ old.in_range → is_sign text old ≡ false
-        → (is_ascii_digit (get_or text old.end 0) || (last && (is_comma (get_or text old.end 0) || (is_dash (get_or text old.end 0) && not dash)))) ≡ false
+          → (is_ascii_digit (get_or text old.end 0) || (last && (is_comma (get_or text old.end 0) || (is_dash (get_or text old.end 0) && not dash)))) ≡ false
       by last dash e l d s = grind arith
 
   sign-separates : is_sign text old ≡ true → separates (get_or text old.end 0) ≡ true
@@ -275,100 +243,104 @@ module _ (text : List ℕ) (old : SetFront) (h : IsSetFront text old) where
     seen = λ e. g.unfit ∙ or-middle old.unfit (nat_lt 1000000 new.last) (new.in_range && nat_lt new.last old.last) (above ∙ e);
     unfit = unfit (is_dash (get_or text old.end 0)) refl;
   } where
-      front : take new.end text ≡ take old.end text ++ get_or text old.end 0 ∷ take_while is_ascii_digit (drop (old.end + 1) text)
-      front = ap (λ n. take n text) g.end ∙ take-more old.end (prefix_len is_ascii_digit (drop (old.end + 1) text)) text (inside g.sign)
-      D : List ℕ
-      D = take_while is_ascii_digit (drop (old.end + 1) text)
+    front : take new.end text ≡ take old.end text ++ get_or text old.end 0 ∷ take_while is_ascii_digit (drop (old.end + 1) text)
+    front = ap (λ n. take n text) g.end ∙ take-more old.end (prefix_len is_ascii_digit (drop (old.end + 1) text)) text (inside g.sign)
 
-      numbers : slice_split separates (take new.end text) ≡ slice_split separates (take old.end text) ++ D ∷ []
-      numbers =
-          ap (slice_split separates) front
-          ∙ slice_split-snoc separates (take old.end text) (get_or text old.end 0) D (sign-separates g.sign) (run-unsplit separates digit-no_sign (drop (old.end + 1) text))
+    D : List ℕ
+    D = take_while is_ascii_digit (drop (old.end + 1) text)
 
-      above : nat_lt 1000000 new.last ≡ is_outside 0 1000000 D
-      above = above-is D new.last g.last
+    numbers : slice_split separates (take new.end text) ≡ slice_split separates (take old.end text) ++ D ∷ []
+    numbers =
+        ap (slice_split separates) front
+        ∙ slice_split-snoc separates (take old.end text) (get_or text old.end 0) D (sign-separates g.sign) (run-unsplit separates digit-no_sign (drop (old.end + 1) text))
 
-      or-middle : (a b d : Bool) → b ≡ true → (a || b || d) ≡ true
-      or-middle a b d e = grind arith
+    above : nat_lt 1000000 new.last ≡ is_outside 0 1000000 D
+    above = above-is D new.last g.last
 
-      comma : is_dash (get_or text old.end 0) ≡ false → is_comma (get_or text old.end 0) ≡ true
-      comma e = by (is_comma (get_or text old.end 0)) (is_dash (get_or text old.end 0)) e g.sign
-        where
-          by : (a b : Bool) → b ≡ false → (a || (b && not old.in_range)) ≡ true → a ≡ true
-          by a b n s = grind arith
+    or-middle : (a b d : Bool) → b ≡ true → (a || b || d) ≡ true
+    or-middle a b d e = grind arith
 
-      no_comma : is_dash (get_or text old.end 0) ≡ true → is_comma (get_or text old.end 0) ≡ false
-      no_comma e = by (get_or text old.end 0) e
-        where
-          by : (b : ℕ) → is_dash b ≡ true → is_comma b ≡ false
-          by b d = grind (arith, nat_tests)
+    comma : is_dash (get_or text old.end 0) ≡ false → is_comma (get_or text old.end 0) ≡ true
+    comma e = by (is_comma (get_or text old.end 0)) (is_dash (get_or text old.end 0)) e g.sign
+      where
+        by : (a b : Bool) → b ≡ false → (a || (b && not old.in_range)) ≡ true → a ≡ true
+        by a b n s = grind arith
 
-      was-single : is_dash (get_or text old.end 0) ≡ true → old.in_range ≡ false
-      was-single e = by (is_comma (get_or text old.end 0)) (is_dash (get_or text old.end 0)) (no_comma e) g.sign
-        where
-          by : (a b : Bool) → a ≡ false → (a || (b && not old.in_range)) ≡ true → old.in_range ≡ false
-          by a b n s = grind arith
+    no_comma : is_dash (get_or text old.end 0) ≡ true → is_comma (get_or text old.end 0) ≡ false
+    no_comma e = by (get_or text old.end 0) e
+      where
+        by : (b : ℕ) → is_dash b ≡ true → is_comma b ≡ false
+        by b d = grind (arith, nat_tests)
 
-      -- the parts behind a comma and behind a dash
-      parts-comma : is_dash (get_or text old.end 0) ≡ false → slice_split is_comma (take new.end text) ≡ slice_split is_comma (take old.end text) ++ D ∷ []
-      parts-comma e =
-          ap (slice_split is_comma) front
-          ∙ slice_split-snoc is_comma (take old.end text) (get_or text old.end 0) D (comma e) (run-unsplit is_comma digit-no_comma (drop (old.end + 1) text))
+    was-single : is_dash (get_or text old.end 0) ≡ true → old.in_range ≡ false
+    was-single e = by (is_comma (get_or text old.end 0)) (is_dash (get_or text old.end 0)) (no_comma e) g.sign
+      where
+        by : (a b : Bool) → a ≡ false → (a || (b && not old.in_range)) ≡ true → old.in_range ≡ false
+        by a b n s = grind arith
 
-      parts-dash : is_dash (get_or text old.end 0) ≡ true → slice_split is_comma (take new.end text) ≡ h.ending.init ++ (h.ending.part ++ get_or text old.end 0 ∷ D) ∷ []
-      parts-dash e =
-          ap (slice_split is_comma) front
-          ∙ slice_split-extend is_comma (take old.end text) (get_or text old.end 0 ∷ D) h.ending.init h.ending.part
-          (slice_split-cons_no is_comma (get_or text old.end 0) D (no_comma e) ∙ ap (onto_first (get_or text old.end 0)) (run-unsplit is_comma digit-no_comma (drop (old.end + 1) text)))
-          h.ending.is
+    -- the parts behind a comma and behind a dash
+    parts-comma : is_dash (get_or text old.end 0) ≡ false → slice_split is_comma (take new.end text) ≡ slice_split is_comma (take old.end text) ++ D ∷ []
+    parts-comma e =
+        ap (slice_split is_comma) front
+        ∙ slice_split-snoc is_comma (take old.end text) (get_or text old.end 0) D (comma e) (run-unsplit is_comma digit-no_comma (drop (old.end + 1) text))
 
-      ending : (b : Bool) → is_dash (get_or text old.end 0) ≡ b → EndsWithPart (slice_split is_comma (take new.end text)) new.in_range D
-      ending true e = record {
-        init = h.ending.init;
-        part = h.ending.part ++ get_or text old.end 0 ∷ D;
-        is = parts-dash e;
-        single = λ n. absurd (true≢false (sym (g.in_range ∙ e) ∙ n));
-      }
-      ending false e = record {
-        init = slice_split is_comma (take old.end text);
-        part = D;
-        is = parts-comma e;
-        single = λ _. refl;
-      }
+    parts-dash : is_dash (get_or text old.end 0) ≡ true → slice_split is_comma (take new.end text) ≡ h.ending.init ++ (h.ending.part ++ get_or text old.end 0 ∷ D) ∷ []
+    parts-dash e =
+        ap (slice_split is_comma) front
+        ∙ slice_split-extend is_comma (take old.end text) (get_or text old.end 0 ∷ D) h.ending.init h.ending.part
+        (slice_split-cons_no is_comma (get_or text old.end 0) D (no_comma e) ∙ ap (onto_first (get_or text old.end 0)) (run-unsplit is_comma digit-no_comma (drop (old.end + 1) text)))
+        h.ending.is
 
-      unfit : (b : Bool) → is_dash (get_or text old.end 0) ≡ b
+    ending : (b : Bool) → is_dash (get_or text old.end 0) ≡ b → EndsWithPart (slice_split is_comma (take new.end text)) new.in_range D
+    ending true e = record {
+      init = h.ending.init;
+      part = h.ending.part ++ get_or text old.end 0 ∷ D;
+      is = parts-dash e;
+      single = λ n. absurd (true≢false (sym (g.in_range ∙ e) ∙ n));
+    }
+    ending false e = record {
+      init = slice_split is_comma (take old.end text);
+      part = D;
+      is = parts-comma e;
+      single = λ _. refl;
+    }
+
+    unfit : (b : Bool) → is_dash (get_or text old.end 0) ≡ b
         → (list_any (is_outside 0 1000000) (slice_split separates (take new.end text)) || list_any falls (slice_split is_comma (take new.end text))) ≡ new.unfit
-      unfit true e =
-          (λ i. list_any (is_outside 0 1000000) (numbers i) || list_any falls (parts-dash e i))
-          ∙ (λ i. list_any-append (is_outside 0 1000000) (slice_split separates (take old.end text)) (D ∷ []) i
-          || list_any-append falls h.ending.init ((h.ending.part ++ get_or text old.end 0 ∷ D) ∷ []) i)
-          ∙ ap (λ r. (list_any (is_outside 0 1000000) (slice_split separates (take old.end text)) || (is_outside 0 1000000 D || false)) || (list_any falls h.ending.init || (r || false))) falls-now
-          ∙ unfit-range (list_any (is_outside 0 1000000) (slice_split separates (take old.end text))) (list_any falls h.ending.init) old.unfit (digits_value 10 D) (digits_value 10 h.digits)
-          new.last old.last was g.last h.last h.seen
-          ∙ sym (g.unfit ∙ ap (λ r. old.unfit || nat_lt 1000000 new.last || (r && nat_lt new.last old.last)) (g.in_range ∙ e))
-        where
-          single : h.ending.part ≡ h.digits
-          single = h.ending.single (was-single e)
-          falls-now : falls (h.ending.part ++ get_or text old.end 0 ∷ D) ≡ nat_lt (digits_value 10 D) (digits_value 10 h.digits)
-          falls-now = ap (λ (p : List ℕ). falls (p ++ get_or text old.end 0 ∷ D)) single ∙ range-falls h.digits (get_or text old.end 0) D h.no_dash e
-          was : (list_any (is_outside 0 1000000) (slice_split separates (take old.end text)) || (list_any falls h.ending.init || (false || false))) ≡ old.unfit
-          was =
-              ap (λ r. list_any (is_outside 0 1000000) (slice_split separates (take old.end text)) || (list_any falls h.ending.init || (r || false)))
-              (sym (ap falls single ∙ dashless h.digits h.no_dash))
-              ∙ ap (λ r. list_any (is_outside 0 1000000) (slice_split separates (take old.end text)) || r)
-              (sym (ap (list_any falls) h.ending.is ∙ list_any-append falls h.ending.init (h.ending.part ∷ [])))
-              ∙ h.unfit
-      unfit false e =
-          (λ i. list_any (is_outside 0 1000000) (numbers i) || list_any falls (parts-comma e i))
-          ∙ (λ i. list_any-append (is_outside 0 1000000) (slice_split separates (take old.end text)) (D ∷ []) i || list_any-append falls (slice_split is_comma (take old.end text)) (D ∷ []) i)
-          ∙ by (list_any (is_outside 0 1000000) (slice_split separates (take old.end text))) (list_any falls (slice_split is_comma (take old.end text))) (is_outside 0 1000000 D) (falls D)
-          h.unfit (dashless D (digits-no_dash (drop (old.end + 1) text)))
-          ∙ sym (g.unfit ∙ no_range old.unfit (nat_lt 1000000 new.last) new.in_range (nat_lt new.last old.last) (g.in_range ∙ e) ∙ ap (λ b. old.unfit || b) above)
-        where
-          no_range : (a b r l : Bool) → r ≡ false → (a || b || (r && l)) ≡ (a || b)
-          no_range a b r l n = grind arith
-          by : (o f d r : Bool) → (o || f) ≡ old.unfit → r ≡ false → ((o || (d || false)) || (f || (r || false))) ≡ (old.unfit || d)
-          by o f d r u n = grind arith
+    unfit true e =
+        (λ i. list_any (is_outside 0 1000000) (numbers i) || list_any falls (parts-dash e i))
+        ∙ (λ i. list_any-append (is_outside 0 1000000) (slice_split separates (take old.end text)) (D ∷ []) i
+        || list_any-append falls h.ending.init ((h.ending.part ++ get_or text old.end 0 ∷ D) ∷ []) i)
+        ∙ ap (λ r. (list_any (is_outside 0 1000000) (slice_split separates (take old.end text)) || (is_outside 0 1000000 D || false)) || (list_any falls h.ending.init || (r || false))) falls-now
+        ∙ unfit-range (list_any (is_outside 0 1000000) (slice_split separates (take old.end text))) (list_any falls h.ending.init) old.unfit (digits_value 10 D) (digits_value 10 h.digits)
+        new.last old.last was g.last h.last h.seen
+        ∙ sym (g.unfit ∙ ap (λ r. old.unfit || nat_lt 1000000 new.last || (r && nat_lt new.last old.last)) (g.in_range ∙ e))
+      where
+        single : h.ending.part ≡ h.digits
+        single = h.ending.single (was-single e)
+
+        falls-now : falls (h.ending.part ++ get_or text old.end 0 ∷ D) ≡ nat_lt (digits_value 10 D) (digits_value 10 h.digits)
+        falls-now = ap (λ (p : List ℕ). falls (p ++ get_or text old.end 0 ∷ D)) single ∙ range-falls h.digits (get_or text old.end 0) D h.no_dash e
+
+        was : (list_any (is_outside 0 1000000) (slice_split separates (take old.end text)) || (list_any falls h.ending.init || (false || false))) ≡ old.unfit
+        was =
+            ap (λ r. list_any (is_outside 0 1000000) (slice_split separates (take old.end text)) || (list_any falls h.ending.init || (r || false)))
+            (sym (ap falls single ∙ dashless h.digits h.no_dash))
+            ∙ ap (λ r. list_any (is_outside 0 1000000) (slice_split separates (take old.end text)) || r)
+            (sym (ap (list_any falls) h.ending.is ∙ list_any-append falls h.ending.init (h.ending.part ∷ [])))
+            ∙ h.unfit
+    unfit false e =
+        (λ i. list_any (is_outside 0 1000000) (numbers i) || list_any falls (parts-comma e i))
+        ∙ (λ i. list_any-append (is_outside 0 1000000) (slice_split separates (take old.end text)) (D ∷ []) i || list_any-append falls (slice_split is_comma (take old.end text)) (D ∷ []) i)
+        ∙ by (list_any (is_outside 0 1000000) (slice_split separates (take old.end text))) (list_any falls (slice_split is_comma (take old.end text))) (is_outside 0 1000000 D) (falls D)
+        h.unfit (dashless D (digits-no_dash (drop (old.end + 1) text)))
+        ∙ sym (g.unfit ∙ no_range old.unfit (nat_lt 1000000 new.last) new.in_range (nat_lt new.last old.last) (g.in_range ∙ e) ∙ ap (λ b. old.unfit || b) above)
+      where
+        no_range : (a b r l : Bool) → r ≡ false → (a || b || (r && l)) ≡ (a || b)
+        no_range a b r l n = grind arith
+
+        by : (o f d r : Bool) → (o || f) ≡ old.unfit → r ≡ false → ((o || (d || false)) || (f || (r || false))) ≡ (old.unfit || d)
+        by o f d r u n = grind arith
 
 -- neither a digit nor a sign may follow where no digit stands last
 no_digit-falls : (front : List ℕ) (c : ℕ) → is_ascii_digit c ≡ false → is_ascii_digit (last_byte front) ≡ false → may_follow_in_set front c ≡ false
@@ -403,6 +375,7 @@ module _ (text : List ℕ) (front : SetFront) (h : IsSetFront text front) where
       ends : is_ascii_digit (get_or text (front.end + 1) 0) ≡ false
       ends = let same : front.end + 1 + prefix_len is_ascii_digit (drop (front.end + 1) text) ≡ front.end + 1 = omega (arith, behind.2) in
           subst (λ (k : ℕ). is_ascii_digit (get_or text k 0) ≡ false) same (run-end text (front.end + 1) (omega arith))
+
       last : is_ascii_digit (last_byte (take (front.end + 1) text)) ≡ false
       last = let same : front.end + 1 - 1 ≡ front.end = omega arith in
           ap is_ascii_digit (last_byte-take text (front.end + 1) (omega arith) (omega arith) ∙ ap (λ k. get_or text k 0) same) ∙ h.ends

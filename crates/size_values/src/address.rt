@@ -62,9 +62,7 @@ fn cidr_in(text: &[u8]) -> Result<(u32, u8), ValueFault>
     if bits.end < text.len() {
         return Err(ValueFault::BadByte(bits.end as u64));
     }
-    quad.address
-        .zip(bits.value)
-        .ok_or(ValueFault::OutOfRange)
+    quad.address.zip(bits.value).ok_or(ValueFault::OutOfRange)
 }
 
 /// The four numbers at the front, or the place at which the text leaves their form.
@@ -95,7 +93,13 @@ fn address(
 }
 
 /// The number that follows the separator at the place, or the place at which the text leaves that form.
-fn number_behind(text: &[u8], at: usize, separator: u8, least: u64, most: u64) -> Result<SmallNumber, Stray>
+fn number_behind(
+    text: &[u8],
+    at: usize,
+    separator: u8,
+    least: u64,
+    most: u64,
+) -> Result<SmallNumber, Stray>
     requires within { at ≤ length text.now }
     requires separator { 0 < separator }
     requires bounds { (least ≤ most) × (most ≤ 255) }
