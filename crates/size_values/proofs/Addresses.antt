@@ -1,20 +1,18 @@
 -- The exits of the readers of addresses.
-use Rattle.std.proofs.Common.{◌≡◌, ℕ, ◌+◌, ◌-◌, ◌*◌, ◌<◌, ◌≤◌, Bool, true, false, cond, not, ◌&&◌, ◌||◌, List, [], ◌∷◌, ◌++◌, length, take, drop, get_or, Option, Some, None, Result, Ok, Err, sym, refl, ap, ◌∙◌, subst, inl, inr, ◌⊎◌, arith, length-take, length-drop, get_or-take, get_or-drop, eqb}
-use Rattle.std.proofs.lemmas.Grind.{common_steps}
+use Rattle.std.proofs.Common.{◌≡◌, ℕ, ◌+◌, ◌-◌, ◌<◌, ◌≤◌, Bool, true, false, cond, ◌&&◌, ◌||◌, List, [], ◌∷◌, length, take, drop, get_or, Some, None, Result, Err, sym, refl, ap, ◌∙◌, subst, inl, inr, ◌⊎◌, arith, length-take, length-drop, get_or-take, eqb}
 use Rattle.std.proofs.lemmas.Bool.Decides.{nat_tests}
-use Rattle.std.proofs.lemmas.Bool.{cases_lt}
 use Rattle.std.proofs.lemmas.List.{take_all, get_or_default}
 use Rattle.std.proofs.lemmas.List.Folds.{list_any_none, list_any_at}
 use Rattle.std.proofs.lemmas.List.Sums.{position_or_len_is}
-use Rattle.std.specs.Prelude.{nat_lt, fold, count_by}
+use Rattle.std.specs.Prelude.{nat_lt, count_by}
 use Rattle.std.specs.Option.{option_map, option_zip, ok_or}
 use Rattle.std.specs.Char.{is_ascii_digit}
 use Rattle.std.specs.Str.Parse.{digits_value}
-use Rattle.std.specs.List.{prefix_len, position_or_len, before_first, after_first, take_while, list_any, slice_split}
+use Rattle.std.specs.List.{prefix_len, position_or_len, take_while, list_any}
 use Rattle.size_values.specs.Form.{StandsTo}
 use Rattle.size_values.specs.Reading.{reading, fault_if, stray, last_byte}
 use Rattle.size_values.specs.Address.{is_dot, is_slash, may_follow_in_address, is_whole_address, may_follow_in_cidr, is_whole_cidr, is_unfit, is_address_unfit, address_value, address_of, cidr_of}
-use Rattle.size_values.specs.Quad.{fit_of, IsFrom, Follows, Misses, IsQuad, IsAstray}
+use Rattle.size_values.specs.Quad.{IsFrom, Misses, IsQuad, IsAstray}
 use Rattle.size_values.specs.declared.address.SmallNumber.{SmallNumber}
 use Rattle.size_values.specs.declared.address.Quad.{Quad}
 use Rattle.size_values.specs.declared.fault.ValueFault.{ValueFault}

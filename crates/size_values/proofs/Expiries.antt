@@ -1,22 +1,19 @@
 -- Expiries, part by part.
-use Rattle.std.proofs.Common.{◌≡◌, ℕ, zero, suc, ◌+◌, ◌-◌, ◌^◌, ◌<◌, ◌≤◌, min, Bool, true, false, cond, not, ◌&&◌, ◌||◌, List, [], ◌∷◌, ◌++◌, length, take, drop, get_or, Option, Some, None, Result, Ok, Err, sym, refl, ap, ◌∙◌, subst, inl, inr, ◌⊎◌, arith, length-take, length-drop, length-append, get_or-take, append_assoc, eqb}
-use Rattle.std.proofs.lemmas.Grind.{common_steps}
+use Rattle.std.proofs.Common.{◌≡◌, ℕ, zero, suc, ◌+◌, ◌-◌, ◌^◌, ◌<◌, ◌≤◌, min, Bool, true, false, cond, not, ◌&&◌, ◌||◌, List, [], ◌∷◌, ◌++◌, length, take, drop, get_or, Option, Some, None, Err, sym, refl, ap, ◌∙◌, subst, inl, inr, ◌⊎◌, arith, append_assoc, eqb}
 use Rattle.std.proofs.lemmas.Bool.Decides.{nat_tests}
 use Rattle.std.proofs.lemmas.Bool.{cases_lt}
-use Rattle.std.proofs.lemmas.List.{take_all, take_more, nil_from_length}
+use Rattle.std.proofs.lemmas.List.{take_all, take_more}
 use Rattle.std.proofs.lemmas.List.Splits.{slice_split-cons_no}
-use Rattle.std.proofs.lemmas.List.Folds.{list_any-append, find-append, length-prefix_len}
-use Rattle.std.proofs.lemmas.List.Sums.{prefix_len_passes, sum_by_push, sum_by-cons, take_while-cons}
+use Rattle.std.proofs.lemmas.List.Folds.{list_any-append, find-append}
+use Rattle.std.proofs.lemmas.List.Sums.{sum_by_push, sum_by-cons, take_while-cons}
 use Rattle.std.specs.Prelude.{nat_lt, nat_le, find, count_by}
 use Rattle.std.specs.Option.{option_map, option_and_then, option_or, unwrap_or, ok_or}
 use Rattle.std.specs.Char.{is_ascii_digit}
-use Rattle.std.specs.Str.{byte}
 use Rattle.std.specs.Str.Parse.{digits_value}
 use Rattle.std.specs.List.{prefix_len, take_while, list_any, slice_split}
 use Rattle.size_values.specs.Form.{StandsTo}
-use Rattle.size_values.specs.Number.{number_at}
 use Rattle.size_values.specs.Reading.{reading, fault_if, stray, last_byte, is_outside}
-use Rattle.size_values.specs.Expiry.{is_unit, is_space, unit_letters, may_follow_in_expiry, is_whole_expiry, digits_of_part, has_letter, amount_of, amounts_in, repeats_unit, expiry_of}
+use Rattle.size_values.specs.Expiry.{is_unit, is_space, may_follow_in_expiry, is_whole_expiry, digits_of_part, has_letter, amount_of, amounts_in, repeats_unit, expiry_of}
 use Rattle.size_values.specs.ExpiryParts.{letter_of, amount_in, with_amount, none_yet, with_part, IsPartAt, MissesPart, FollowsSpace, MissesSpace}
 use Rattle.size_values.specs.declared.number.Number.{Number}
 use Rattle.size_values.specs.declared.expiry.Expiry.{Expiry}
@@ -24,10 +21,9 @@ use Rattle.size_values.specs.declared.expiry.ExpiryFront.{ExpiryFront}
 use Rattle.size_values.specs.declared.expiry.Part.{Part}
 use Rattle.size_values.specs.declared.expiry.Unit.{Unit}
 use Rattle.size_values.specs.declared.expiry.Unit.TheVariants.{Minutes, Hours, Days, Weeks, Months, Years}
-use Rattle.size_values.specs.declared.fault.ValueFault.{ValueFault}
 use Rattle.size_values.specs.declared.fault.ValueFault.TheVariants.{Empty, BadByte, OutOfRange}
 use Rattle.size_values.proofs.Forms.{reading-here, reading-past, reading-strays, reading-formed, stray-at, stray-none, leaves, whole-front, stands-start, stands-run, stands-more}
-use Rattle.size_values.proofs.Fronts.{take-add, take-more, last_byte-take, last_byte-push, slice_split-snoc, slice_split-extend, passing-inside, run-unsplit, run-within, run-digit, run-end}
+use Rattle.size_values.proofs.Fronts.{take-add, last_byte-take, last_byte-push, slice_split-snoc, slice_split-extend, passing-inside, run-unsplit, run-within, run-digit, run-end}
 
 -- what parts say, if all of them are fit
 abbrev pub unfit : List (List ℕ) → Bool

@@ -5,7 +5,7 @@ use Rattle.std.proofs.lemmas.List.{take-append-drop, take-take, drop-take, drop_
 use Rattle.std.proofs.lemmas.List.Splits.{slice_split-cons_yes, slice_split-cons_no, slice_split_none, length-slice_split}
 use Rattle.std.proofs.lemmas.List.Sums.{prefix_len_passes, prefix_len_stops, prefix_len-le-length}
 use Rattle.std.specs.Char.{is_ascii_digit}
-use Rattle.std.specs.List.{prefix_len, take_while, list_any, slice_split, onto_first}
+use Rattle.std.specs.List.{prefix_len, take_while, slice_split, onto_first}
 use Rattle.size_values.specs.Reading.{last_byte}
 
 -- the first m bytes and n more

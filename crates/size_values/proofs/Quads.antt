@@ -1,22 +1,16 @@
 -- Four numbers joined by dots, one after the other.
-use Rattle.std.proofs.Common.{◌≡◌, ℕ, ◌+◌, ◌-◌, ◌*◌, ◌<◌, ◌≤◌, Bool, true, false, cond, ◌&&◌, ◌||◌, List, [], ◌∷◌, ◌++◌, length, take, drop, get_or, Option, Some, None, sym, refl, ap, ◌∙◌, subst, inl, inr, ◌⊎◌, arith, length-take, length-append, get_or-take, eqb, lit≤}
-use Rattle.std.proofs.lemmas.Grind.{common_steps}
+use Rattle.std.proofs.Common.{◌≡◌, ℕ, ◌+◌, ◌-◌, ◌*◌, ◌<◌, ◌≤◌, Bool, true, false, cond, ◌&&◌, ◌||◌, List, [], ◌∷◌, ◌++◌, length, take, drop, get_or, Option, Some, None, sym, refl, ap, ◌∙◌, subst, inl, inr, ◌⊎◌, arith, eqb, lit≤}
 use Rattle.std.proofs.lemmas.Bool.Decides.{nat_tests}
-use Rattle.std.proofs.lemmas.Bool.{lt-ltb, eq-eqb, cases_lt, false≢true}
-use Rattle.std.proofs.lemmas.List.{take_all, get_or_past, get_or_default}
-use Rattle.std.proofs.lemmas.List.Splits.{slice_split_none, length-slice_split}
-use Rattle.std.proofs.lemmas.List.Folds.{list_any_none, list_any_at}
-use Rattle.std.proofs.lemmas.List.Sums.{prefix_len-le-length}
+use Rattle.std.proofs.lemmas.List.Splits.{length-slice_split}
 use Rattle.std.specs.Prelude.{nat_lt, fold, count_by}
 use Rattle.std.specs.Char.{is_ascii_digit}
 use Rattle.std.specs.Str.Parse.{digits_value}
 use Rattle.std.specs.List.{prefix_len, take_while, list_any, slice_split}
 use Rattle.size_values.specs.Form.{StandsTo}
 use Rattle.size_values.specs.Reading.{last_byte}
-use Rattle.size_values.specs.Address.{is_dot, is_slash, may_follow_in_address, is_whole_address, is_unfit, is_address_unfit, address_value}
+use Rattle.size_values.specs.Address.{is_dot, may_follow_in_address, is_whole_address, is_unfit}
 use Rattle.size_values.specs.Quad.{fit_of, quad_value, IsFrom, Follows, Misses, IsQuad, IsAstray}
 use Rattle.size_values.specs.declared.address.SmallNumber.{SmallNumber}
-use Rattle.size_values.specs.declared.address.Quad.{Quad}
 use Rattle.size_values.proofs.Forms.{stands-start, stands-run, stands-more}
 use Rattle.size_values.proofs.Fronts.{take-more, last_byte-take, slice_split-snoc, passing-inside, run-unsplit, run-within, run-digit, run-end}
 

@@ -1,27 +1,23 @@
 -- CPU sets, number by number.
-use Rattle.std.proofs.Common.{◌≡◌, ℕ, ◌+◌, ◌-◌, ◌^◌, ◌<◌, ◌≤◌, min, Bool, true, false, cond, not, ◌&&◌, ◌||◌, List, [], ◌∷◌, ◌++◌, length, take, drop, get_or, Option, Some, None, Result, Ok, Err, sym, refl, ap, ◌∙◌, subst, inl, inr, ◌⊎◌, arith, length-take, length-drop, length-append, get_or-take, append_assoc, eqb}
-use Rattle.std.proofs.lemmas.Grind.{common_steps}
+use Rattle.std.proofs.Common.{◌≡◌, ℕ, ◌+◌, ◌-◌, ◌^◌, ◌<◌, ◌≤◌, min, Bool, true, false, cond, not, ◌&&◌, ◌||◌, List, [], ◌∷◌, ◌++◌, length, take, drop, get_or, None, Ok, Err, sym, refl, ap, ◌∙◌, subst, inl, inr, arith, length-take, get_or-take}
 use Rattle.std.proofs.lemmas.Bool.Decides.{nat_tests}
-use Rattle.std.proofs.lemmas.Bool.{false≢true, true≢false}
-use Rattle.std.proofs.lemmas.List.{take_all, take_at, drop_at, drop-drop, get_or_at, nil_from_length}
-use Rattle.std.proofs.lemmas.List.Splits.{slice_split-cons_yes, slice_split-cons_no, length-slice_split}
+use Rattle.std.proofs.lemmas.Bool.{true≢false}
+use Rattle.std.proofs.lemmas.List.{take_all, take_at, drop_at, drop-drop, nil_from_length}
+use Rattle.std.proofs.lemmas.List.Splits.{slice_split-cons_no}
 use Rattle.std.proofs.lemmas.List.Folds.{list_any-append, list_any_none, length-prefix_len}
 use Rattle.std.proofs.lemmas.List.Elements.{filter-append}
-use Rattle.std.proofs.lemmas.List.Sums.{prefix_len_passes, position_or_len_is, take_while-cons}
+use Rattle.std.proofs.lemmas.List.Sums.{prefix_len_passes, take_while-cons}
 use Rattle.std.specs.Prelude.{nat_lt, nat_le, filter}
-use Rattle.std.specs.Option.{option_map}
 use Rattle.std.specs.Char.{is_ascii_digit}
 use Rattle.std.specs.Str.Parse.{digits_value}
-use Rattle.std.specs.List.{prefix_len, take_while, list_any, list_all, position_or_len, before_first, after_first, slice_split, onto_first}
+use Rattle.std.specs.List.{prefix_len, take_while, list_any, position_or_len, before_first, after_first, slice_split, onto_first}
 use Rattle.size_values.specs.Form.{StandsTo}
 use Rattle.size_values.specs.Number.{number_at}
-use Rattle.size_values.specs.Reading.{reading, fault_if, stray, last_byte, is_too_large, is_outside}
+use Rattle.size_values.specs.Reading.{stray, last_byte, is_too_large, is_outside}
 use Rattle.size_values.specs.Cpu.{is_comma, is_dash, may_follow_in_set, is_whole_set, falls, set_of}
 use Rattle.size_values.specs.Set.{is_sign, is_number_large, BeginsSet, ContinuesSet, BreaksSet}
 use Rattle.size_values.specs.declared.cpu.SetFront.{SetFront}
-use Rattle.size_values.specs.declared.fault.ValueFault.{ValueFault}
 use Rattle.size_values.specs.declared.fault.ValueFault.TheVariants.{BadByte, TooLarge, OutOfRange}
-use Rattle.size_values.specs.declared.cpu.Cpu.{Cpu}
 use Rattle.size_values.specs.declared.cpu.Cpu.TheVariants.{Pinned}
 use Rattle.size_values.proofs.Counts.{too_large-is}
 use Rattle.size_values.proofs.Forms.{reading-here, reading-past, reading-strays, reading-formed, stray-at, stray-none, leaves, whole-front, stands-start, stands-run, stands-more}

@@ -1,5 +1,5 @@
 -- Words for the contracts with which an expiry is read part by part.
-use Rattle.std.specs.Prelude.{ℕ, ◌≡◌, ◌+◌, ◌<◌, ◌⊎◌, ◌==◌, Bool, true, false, not, ◌&&◌, ◌||◌, if◌then◌else◌, List, length, drop, slice_index, Option, Some, None, nat_le}
+use Rattle.std.specs.Prelude.{ℕ, ◌≡◌, ◌+◌, ◌<◌, ◌⊎◌, ◌==◌, true, false, not, ◌&&◌, ◌||◌, if◌then◌else◌, List, drop, slice_index, Option, Some, None, nat_le}
 use Rattle.std.specs.Str.{byte}
 use Rattle.size_values.specs.Number.{number_at}
 use Rattle.size_values.specs.Expiry.{is_unit, is_space}

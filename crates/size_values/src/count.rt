@@ -40,3 +40,41 @@ pub fn counted(text: &[u8], number: Number, least: u64, most: u64) -> Result<u64
     }
     Ok(number.value)
 }
+
+#[cfg(test)]
+mod tests {
+    use super::*;
+    use crate::fault::ValueFault::{BadByte, Empty, OutOfRange, TooLarge};
+
+    #[test]
+    fn reads_counts(rt: HostRuntime) {
+        let rows = [
+            ("", Err(Empty)),
+            ("0", Err(OutOfRange)),
+            ("1", Ok(1)),
+            ("007", Ok(7)),
+            ("100", Ok(100)),
+            ("101", Err(OutOfRange)),
+            ("a", Err(BadByte(0))),
+            ("+1", Err(BadByte(0))),
+            ("1x", Err(BadByte(1))),
+            ("1 ", Err(BadByte(1))),
+            ("00000000000000000100", Ok(100)),
+            ("000000000000000000100", Err(TooLarge)),
+            ("9223372036854775807", Err(OutOfRange)),
+            ("9223372036854775808", Err(TooLarge)),
+            ("99999999999999999999x", Err(BadByte(20))),
+        ];
+        for (text, want) in rows {
+            assert_eq!(rt; read_count(text, 1, 100), want, "at {text}");
+        }
+        assert_eq!(rt;
+            read_count("9223372036854775807", 0, u64::MAX),
+            Ok(9_223_372_036_854_775_807)
+        );
+        assert_eq!(rt;
+            read_count("9223372036854775808", 0, u64::MAX),
+            Err(TooLarge)
+        );
+    }
+}
