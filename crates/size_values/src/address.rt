@@ -156,60 +156,62 @@ mod tests {
     use super::*;
     use crate::fault::ValueFault::{BadByte, Empty, OutOfRange};
 
+    const ROWS: [(&str, Result<u32, ValueFault>); 21] = [
+        ("0.0.0.0", Ok(0)),
+        ("10.0.255.1", Ok(0x0a00_ff01)),
+        ("255.255.255.255", Ok(0xffff_ffff)),
+        ("", Err(Empty)),
+        ("1", Err(BadByte(1))),
+        (".1.2.3", Err(BadByte(0))),
+        ("a.1.2.3", Err(BadByte(0))),
+        ("1..2.3", Err(BadByte(2))),
+        ("1.2.3", Err(BadByte(5))),
+        ("1.2.3.", Err(BadByte(6))),
+        ("1.2.3.4 ", Err(BadByte(7))),
+        ("1.2.3.4.5", Err(BadByte(7))),
+        ("1.2.3.4/24", Err(BadByte(7))),
+        ("999.2.3.x", Err(BadByte(8))),
+        ("256.2.3.4", Err(OutOfRange)),
+        ("1.2.3.256", Err(OutOfRange)),
+        ("1000.1.1.1", Err(OutOfRange)),
+        ("01.2.3.4", Err(OutOfRange)),
+        ("1.2.3.00", Err(OutOfRange)),
+        ("1.2.3.00000000000000000004", Err(OutOfRange)),
+        ("1.2.3.999999999999999999999", Err(OutOfRange)),
+    ];
+
     #[test]
     fn reads_addresses(rt: HostRuntime) {
-        let rows = [
-            ("0.0.0.0", Ok(0)),
-            ("10.0.255.1", Ok(0x0a00_ff01)),
-            ("255.255.255.255", Ok(0xffff_ffff)),
-            ("", Err(Empty)),
-            ("1", Err(BadByte(1))),
-            (".1.2.3", Err(BadByte(0))),
-            ("a.1.2.3", Err(BadByte(0))),
-            ("1..2.3", Err(BadByte(2))),
-            ("1.2.3", Err(BadByte(5))),
-            ("1.2.3.", Err(BadByte(6))),
-            ("1.2.3.4 ", Err(BadByte(7))),
-            ("1.2.3.4.5", Err(BadByte(7))),
-            ("1.2.3.4/24", Err(BadByte(7))),
-            ("999.2.3.x", Err(BadByte(8))),
-            ("256.2.3.4", Err(OutOfRange)),
-            ("1.2.3.256", Err(OutOfRange)),
-            ("1000.1.1.1", Err(OutOfRange)),
-            ("01.2.3.4", Err(OutOfRange)),
-            ("1.2.3.00", Err(OutOfRange)),
-            ("1.2.3.00000000000000000004", Err(OutOfRange)),
-            ("1.2.3.999999999999999999999", Err(OutOfRange)),
-        ];
-        for (text, want) in rows {
-            assert_eq!(rt; read_address(text), want, "at {text}");
+        for (text, want) in &ROWS {
+            assert!(rt; read_address(text) == *want, "for {text}");
         }
     }
 
+    const CIDR_ROWS: [(&str, Result<(u32, u8), ValueFault>); 18] = [
+        ("10.0.0.1/24", Ok((0x0a00_0001, 24))),
+        ("10.0.0.1/8", Ok((0x0a00_0001, 8))),
+        ("255.255.255.255/30", Ok((0xffff_ffff, 30))),
+        ("", Err(Empty)),
+        ("/24", Err(BadByte(0))),
+        ("10.0.0/24", Err(BadByte(6))),
+        ("10.0.0.1", Err(BadByte(8))),
+        ("10.0.0.1.2/24", Err(BadByte(8))),
+        ("10.0.0.1/", Err(BadByte(9))),
+        ("10.0.0.1/x", Err(BadByte(9))),
+        ("10.0.0.1/24/", Err(BadByte(11))),
+        ("10.0.0.1/24.", Err(BadByte(11))),
+        ("256.0.0.1/24x", Err(BadByte(12))),
+        ("10.0.0.1/7", Err(OutOfRange)),
+        ("10.0.0.1/31", Err(OutOfRange)),
+        ("10.0.0.1/08", Err(OutOfRange)),
+        ("10.0.0.256/24", Err(OutOfRange)),
+        ("10.0.00.1/24", Err(OutOfRange)),
+    ];
+
     #[test]
     fn reads_addresses_with_lengths(rt: HostRuntime) {
-        let rows = [
-            ("10.0.0.1/24", Ok((0x0a00_0001, 24))),
-            ("10.0.0.1/8", Ok((0x0a00_0001, 8))),
-            ("255.255.255.255/30", Ok((0xffff_ffff, 30))),
-            ("", Err(Empty)),
-            ("/24", Err(BadByte(0))),
-            ("10.0.0/24", Err(BadByte(6))),
-            ("10.0.0.1", Err(BadByte(8))),
-            ("10.0.0.1.2/24", Err(BadByte(8))),
-            ("10.0.0.1/", Err(BadByte(9))),
-            ("10.0.0.1/x", Err(BadByte(9))),
-            ("10.0.0.1/24/", Err(BadByte(11))),
-            ("10.0.0.1/24.", Err(BadByte(11))),
-            ("256.0.0.1/24x", Err(BadByte(12))),
-            ("10.0.0.1/7", Err(OutOfRange)),
-            ("10.0.0.1/31", Err(OutOfRange)),
-            ("10.0.0.1/08", Err(OutOfRange)),
-            ("10.0.0.256/24", Err(OutOfRange)),
-            ("10.0.00.1/24", Err(OutOfRange)),
-        ];
-        for (text, want) in rows {
-            assert_eq!(rt; read_cidr(text), want, "at {text}");
+        for (text, want) in &CIDR_ROWS {
+            assert!(rt; read_cidr(text) == *want, "for {text}");
         }
     }
 }

@@ -161,9 +161,9 @@ mod tests {
             parts[part] = 5;
             let mut above = [0; 7];
             above[part] = 3;
-            assert!(rt; !amounts(parts).fits(&most), "at {part}");
-            assert_eq!(rt; amounts(parts).excess(&most), amounts(above), "at {part}");
-            assert_eq!(rt; most.excess(&amounts(parts)), Amounts::zero(), "at {part}");
+            assert!(rt; !amounts(parts).fits(&most), "for {part}");
+            assert_eq!(rt; amounts(parts).excess(&most), amounts(above), "for {part}");
+            assert_eq!(rt; most.excess(&amounts(parts)), Amounts::zero(), "for {part}");
         }
     }
 }

@@ -46,27 +46,28 @@ mod tests {
     use super::*;
     use crate::fault::ValueFault::{BadByte, Empty, OutOfRange, TooLarge};
 
+    const ROWS: [(&str, Result<u64, ValueFault>); 15] = [
+        ("", Err(Empty)),
+        ("0", Err(OutOfRange)),
+        ("1", Ok(1)),
+        ("007", Ok(7)),
+        ("100", Ok(100)),
+        ("101", Err(OutOfRange)),
+        ("a", Err(BadByte(0))),
+        ("+1", Err(BadByte(0))),
+        ("1x", Err(BadByte(1))),
+        ("1 ", Err(BadByte(1))),
+        ("00000000000000000100", Ok(100)),
+        ("000000000000000000100", Err(TooLarge)),
+        ("9223372036854775807", Err(OutOfRange)),
+        ("9223372036854775808", Err(TooLarge)),
+        ("99999999999999999999x", Err(BadByte(20))),
+    ];
+
     #[test]
     fn reads_counts(rt: HostRuntime) {
-        let rows = [
-            ("", Err(Empty)),
-            ("0", Err(OutOfRange)),
-            ("1", Ok(1)),
-            ("007", Ok(7)),
-            ("100", Ok(100)),
-            ("101", Err(OutOfRange)),
-            ("a", Err(BadByte(0))),
-            ("+1", Err(BadByte(0))),
-            ("1x", Err(BadByte(1))),
-            ("1 ", Err(BadByte(1))),
-            ("00000000000000000100", Ok(100)),
-            ("000000000000000000100", Err(TooLarge)),
-            ("9223372036854775807", Err(OutOfRange)),
-            ("9223372036854775808", Err(TooLarge)),
-            ("99999999999999999999x", Err(BadByte(20))),
-        ];
-        for (text, want) in rows {
-            assert_eq!(rt; read_count(text, 1, 100), want, "at {text}");
+        for (text, want) in &ROWS {
+            assert!(rt; read_count(text, 1, 100) == *want, "for {text}");
         }
         assert_eq!(rt;
             read_count("9223372036854775807", 0, u64::MAX),

@@ -118,54 +118,46 @@ mod tests {
     use super::*;
     use crate::fault::ValueFault::{BadByte, Empty, OutOfRange, TooLarge};
 
-    #[test]
-    fn reads_cpu_counts(rt: HostRuntime) {
-        let rows = [
-            ("", Err(Empty)),
-            ("0", Err(OutOfRange)),
-            ("1", Ok(Cpu::Count(1))),
-            ("01", Ok(Cpu::Count(1))),
-            ("1000000", Ok(Cpu::Count(1_000_000))),
-            ("1000001", Err(OutOfRange)),
-            ("00000000000000000001", Ok(Cpu::Count(1))),
-            ("000000000000000000001", Err(TooLarge)),
-        ];
-        for (text, want) in rows {
-            assert_eq!(rt; read_cpu(text), want, "at {text}");
-        }
-    }
+    const ROWS: [(&str, Result<Cpu, ValueFault>); 33] = [
+        ("", Err(Empty)),
+        ("0", Err(OutOfRange)),
+        ("1", Ok(Cpu::Count(1))),
+        ("01", Ok(Cpu::Count(1))),
+        ("1000000", Ok(Cpu::Count(1_000_000))),
+        ("1000001", Err(OutOfRange)),
+        ("00000000000000000001", Ok(Cpu::Count(1))),
+        ("000000000000000000001", Err(TooLarge)),
+        ("0-3", Ok(Cpu::Pinned)),
+        ("3-3", Ok(Cpu::Pinned)),
+        ("0,1000000", Ok(Cpu::Pinned)),
+        ("0-3,5,7-9", Ok(Cpu::Pinned)),
+        ("0,00000000000000000001", Ok(Cpu::Pinned)),
+        ("3-0", Err(OutOfRange)),
+        ("1-2,4-3", Err(OutOfRange)),
+        ("0,1000001", Err(OutOfRange)),
+        ("0-1000001", Err(OutOfRange)),
+        ("0,9223372036854775808", Err(TooLarge)),
+        ("0,000000000000000000001", Err(TooLarge)),
+        ("5-1,99999999999999999999", Err(TooLarge)),
+        ("18446744073709551615-18446744073709551614", Err(TooLarge)),
+        ("a", Err(BadByte(0))),
+        (",1", Err(BadByte(0))),
+        ("-1", Err(BadByte(0))),
+        ("1 2", Err(BadByte(1))),
+        ("1,", Err(BadByte(2))),
+        ("1-", Err(BadByte(2))),
+        ("1,,2", Err(BadByte(2))),
+        ("1-,2", Err(BadByte(2))),
+        ("1-2-3", Err(BadByte(3))),
+        ("1,2-3-4", Err(BadByte(5))),
+        ("1,2 ", Err(BadByte(3))),
+        ("5-1,99999999999999999999x", Err(BadByte(24))),
+    ];
 
     #[test]
-    fn reads_cpu_sets(rt: HostRuntime) {
-        let rows = [
-            ("0-3", Ok(Cpu::Pinned)),
-            ("3-3", Ok(Cpu::Pinned)),
-            ("0,1000000", Ok(Cpu::Pinned)),
-            ("0-3,5,7-9", Ok(Cpu::Pinned)),
-            ("0,00000000000000000001", Ok(Cpu::Pinned)),
-            ("3-0", Err(OutOfRange)),
-            ("1-2,4-3", Err(OutOfRange)),
-            ("0,1000001", Err(OutOfRange)),
-            ("0-1000001", Err(OutOfRange)),
-            ("0,9223372036854775808", Err(TooLarge)),
-            ("0,000000000000000000001", Err(TooLarge)),
-            ("5-1,99999999999999999999", Err(TooLarge)),
-            ("18446744073709551615-18446744073709551614", Err(TooLarge)),
-            ("a", Err(BadByte(0))),
-            (",1", Err(BadByte(0))),
-            ("-1", Err(BadByte(0))),
-            ("1 2", Err(BadByte(1))),
-            ("1,", Err(BadByte(2))),
-            ("1-", Err(BadByte(2))),
-            ("1,,2", Err(BadByte(2))),
-            ("1-,2", Err(BadByte(2))),
-            ("1-2-3", Err(BadByte(3))),
-            ("1,2-3-4", Err(BadByte(5))),
-            ("1,2 ", Err(BadByte(3))),
-            ("5-1,99999999999999999999x", Err(BadByte(24))),
-        ];
-        for (text, want) in rows {
-            assert_eq!(rt; read_cpu(text), want, "at {text}");
+    fn reads_cpu_settings(rt: HostRuntime) {
+        for (text, want) in &ROWS {
+            assert!(rt; read_cpu(text) == *want, "for {text}");
         }
     }
 }

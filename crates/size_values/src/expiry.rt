@@ -193,60 +193,126 @@ mod tests {
     use super::*;
     use crate::fault::ValueFault::{BadByte, Empty, OutOfRange};
 
-    #[test]
-    fn reads_expiries(rt: HostRuntime) {
-        let rows = [
-            ("1M", [1, 0, 0, 0, 0, 0]),
-            ("2H", [0, 2, 0, 0, 0, 0]),
-            ("3d", [0, 0, 3, 0, 0, 0]),
-            ("4w", [0, 0, 0, 4, 0, 0]),
-            ("5m", [0, 0, 0, 0, 5, 0]),
-            ("9999y", [0, 0, 0, 0, 0, 9_999]),
-            ("1m 2M", [2, 0, 0, 0, 1, 0]),
-            ("4w 007d", [0, 0, 7, 4, 0, 0]),
-            ("1M 2H 3d 4w 5m 6y", [1, 2, 3, 4, 5, 6]),
-            ("6y 5m 4w 3d 2H 1M", [1, 2, 3, 4, 5, 6]),
-            ("00000000000000000001d", [0, 0, 1, 0, 0, 0]),
-            ("000000000000000000001d", [0, 0, 1, 0, 0, 0]),
-        ];
-        for (text, [minutes, hours, days, weeks, months, years]) in rows {
-            let want = Expiry {
-                minutes,
-                hours,
-                days,
-                weeks,
-                months,
-                years,
-            };
-            assert_eq!(rt; read_expiry(text), Ok(want), "at {text}");
-        }
-    }
+    const ROWS: [(&str, Result<Expiry, ValueFault>); 31] = [
+        (
+            "1M",
+            Ok(Expiry {
+                minutes: 1,
+                ..Expiry::NONE
+            }),
+        ),
+        (
+            "2H",
+            Ok(Expiry {
+                hours: 2,
+                ..Expiry::NONE
+            }),
+        ),
+        (
+            "3d",
+            Ok(Expiry {
+                days: 3,
+                ..Expiry::NONE
+            }),
+        ),
+        (
+            "4w",
+            Ok(Expiry {
+                weeks: 4,
+                ..Expiry::NONE
+            }),
+        ),
+        (
+            "5m",
+            Ok(Expiry {
+                months: 5,
+                ..Expiry::NONE
+            }),
+        ),
+        (
+            "9999y",
+            Ok(Expiry {
+                years: 9_999,
+                ..Expiry::NONE
+            }),
+        ),
+        (
+            "1m 2M",
+            Ok(Expiry {
+                minutes: 2,
+                months: 1,
+                ..Expiry::NONE
+            }),
+        ),
+        (
+            "4w 007d",
+            Ok(Expiry {
+                days: 7,
+                weeks: 4,
+                ..Expiry::NONE
+            }),
+        ),
+        (
+            "1M 2H 3d 4w 5m 6y",
+            Ok(Expiry {
+                minutes: 1,
+                hours: 2,
+                days: 3,
+                weeks: 4,
+                months: 5,
+                years: 6,
+            }),
+        ),
+        (
+            "6y 5m 4w 3d 2H 1M",
+            Ok(Expiry {
+                minutes: 1,
+                hours: 2,
+                days: 3,
+                weeks: 4,
+                months: 5,
+                years: 6,
+            }),
+        ),
+        (
+            "00000000000000000001d",
+            Ok(Expiry {
+                days: 1,
+                ..Expiry::NONE
+            }),
+        ),
+        (
+            "000000000000000000001d",
+            Ok(Expiry {
+                days: 1,
+                ..Expiry::NONE
+            }),
+        ),
+        ("", Err(Empty)),
+        ("d", Err(BadByte(0))),
+        (" 3d", Err(BadByte(0))),
+        ("3", Err(BadByte(1))),
+        ("3D", Err(BadByte(1))),
+        ("3 d", Err(BadByte(1))),
+        ("3h", Err(BadByte(1))),
+        ("3dd", Err(BadByte(2))),
+        ("3d4w", Err(BadByte(2))),
+        ("3d ", Err(BadByte(3))),
+        ("3d  4w", Err(BadByte(3))),
+        ("3d 4", Err(BadByte(4))),
+        ("0d x", Err(BadByte(3))),
+        ("0d", Err(OutOfRange)),
+        ("10000y", Err(OutOfRange)),
+        ("99999999999999999999d", Err(OutOfRange)),
+        ("1d 2d", Err(OutOfRange)),
+        ("1d 4w 1d", Err(OutOfRange)),
+        ("4w 0d", Err(OutOfRange)),
+    ];
 
     #[test]
-    fn names_the_first_fault_of_an_expiry(rt: HostRuntime) {
-        let rows = [
-            ("", Empty),
-            ("d", BadByte(0)),
-            (" 3d", BadByte(0)),
-            ("3", BadByte(1)),
-            ("3D", BadByte(1)),
-            ("3 d", BadByte(1)),
-            ("3h", BadByte(1)),
-            ("3dd", BadByte(2)),
-            ("3d4w", BadByte(2)),
-            ("3d ", BadByte(3)),
-            ("3d  4w", BadByte(3)),
-            ("3d 4", BadByte(4)),
-            ("0d x", BadByte(3)),
-            ("0d", OutOfRange),
-            ("10000y", OutOfRange),
-            ("99999999999999999999d", OutOfRange),
-            ("1d 2d", OutOfRange),
-            ("1d 4w 1d", OutOfRange),
-            ("4w 0d", OutOfRange),
-        ];
-        for (text, want) in rows {
-            assert_eq!(rt; read_expiry(text), Err(want), "at {text}");
+    fn reads_expiries(rt: HostRuntime) {
+        for (text, want) in &ROWS {
+            assert!(rt; read_expiry(text) == *want, "for {text}");
         }
     }
 }

@@ -18,6 +18,8 @@ mod number;
 mod rise;
 mod seq;
 mod size;
+#[cfg(test)]
+mod tests;
 mod text;
 mod truth;
 
