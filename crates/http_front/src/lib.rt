@@ -1,0 +1,9 @@
+//! Requests from the bytes of a source, in whatever pieces they come, and the bytes of replies. The traits of the
+//! outside, `Source` and `Sink`, with an object in memory and one over std's readers and writers for each.
+#![tactic(auto)]
+
+mod sink;
+mod source;
+
+pub use sink::{ByteSink, Sink, SinkFailed, WriterSink};
+pub use source::{ByteSource, ReaderSource, Source, SourceFailed};
