@@ -1,5 +1,5 @@
 -- Steps of the search for the end of a head.
-use Rattle.std.proofs.Common.{◌≡◌, ℕ, suc, ◌+◌, ◌-◌, ◌<◌, ◌≤◌, ◌==◌, ◌≢◌, Bool, true, false, cond, List, [], ◌∷◌, ◌++◌, length, take, drop, get_or, Option, Some, None, Result, Ok, Err, IfOk, IfErr, refl, sym, ap, ◌∙◌, subst, arith, append-nil, append_assoc, length-append, length-drop}
+use Rattle.std.proofs.Common.{◌≡◌, ℕ, suc, ◌+◌, ◌-◌, ◌<◌, ◌≤◌, ◌==◌, ◌≢◌, true, false, cond, List, [], ◌∷◌, ◌++◌, length, take, drop, get_or, Option, Some, None, Result, Ok, Err, IfOk, IfErr, refl, sym, ap, ◌∙◌, subst, arith, append-nil, append_assoc, length-append, length-drop}
 use Rattle.std.specs.Option.{option_map, option_or}
 use Rattle.std.proofs.lemmas.List.{drop_more, drop_all, drop-append-le, get_or_append_left}
 use Rattle.std.proofs.lemmas.Bool.Decides.{nat_tests}
@@ -7,7 +7,7 @@ use Rattle.std.proofs.Math.Seq.{take-length}
 use Rattle.http_heads.specs.Heads.{is_line_byte, blank_len, line_end, empty_line_end, head_end}
 use Rattle.http_heads.specs.declared.search.Search.{Search}
 use Rattle.http_heads.specs.declared.search.Search.TheVariants.{Blank, Lines}
-use Rattle.http_heads.specs.Search.{place_of, resumed, FindsSame, GoesOn, HasSearched, Follows, StandsAt}
+use Rattle.http_heads.specs.Search.{resumed, FindsSame, GoesOn, HasSearched, Follows, StandsAt}
 use Rattle.http_heads.specs.declared.search.After.{After}
 use Rattle.http_heads.specs.declared.search.After.TheVariants.{LineEnd, Other, Open}
 
@@ -128,10 +128,13 @@ StandsAt-follows bytes at after h is follows = by_case after follows
   where
     behind : (more : List ℕ) → drop (at + 1) (bytes ++ more) ≡ drop (at + 1) bytes ++ more
     behind more = drop-append-le (at + 1) bytes more (omega arith)
+
     at_front : (more : List ℕ) → drop at (bytes ++ more) ≡ 10 ∷ drop (at + 1) (bytes ++ more)
     at_front more = drop_front at bytes more h ∙ ap (λ b. b ∷ drop (at + 1) (bytes ++ more)) is
+
     here : drop at bytes ≡ 10 ∷ drop (at + 1) bytes
     here = drop_more bytes at 0 h ∙ ap (λ b. b ∷ drop (at + 1) bytes) is
+
     by_case : (a : After) → Follows (drop (at + 1) bytes) a → StandsAt bytes at a
     by_case (LineEnd n) f = (
       omega (arith, f.0, length-drop (at + 1) bytes),

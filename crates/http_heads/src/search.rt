@@ -103,7 +103,8 @@ fn is_line_byte(byte: u8) -> bool
 
 /// How many CR and LF bytes the text begins with.
 pub fn leading_line_bytes(bytes: &[u8]) -> usize
-    ensures { result ≡ blank_len bytes.now }
+    ensures count { result ≡ blank_len bytes.now }
+    ensures within { result ≤ length bytes.now }
 {
     for (at, byte) in bytes.iter().enumerate() {
         if !is_line_byte(*byte) {

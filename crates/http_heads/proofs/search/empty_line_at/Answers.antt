@@ -1,4 +1,3 @@
-use Rattle.std.proofs.Common.{◌≡◌}
 use Rattle.http_heads.proofs.SearchLemmas.{rest_of_slice, StandsAt-follows}
 use Rattle.http_heads.proofs.search.empty_line_at.Goals as goal
 

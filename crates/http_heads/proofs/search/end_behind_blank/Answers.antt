@@ -1,4 +1,4 @@
-use Rattle.std.proofs.Common.{◌≡◌, ◌<◌, ◌∙◌, length, arith}
+use Rattle.std.proofs.Common.{◌<◌, ◌∙◌, length, arith}
 use Rattle.http_heads.proofs.SearchLemmas.{same_here, same_further, blank_at_end, begins_here, GoesOn-further}
 use Rattle.http_heads.proofs.search.end_behind_blank.Goals as goal
 

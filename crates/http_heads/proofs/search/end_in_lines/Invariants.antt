@@ -1,4 +1,4 @@
-use Rattle.http_heads.specs.declared.search.Search.TheVariants.{Blank, Lines}
+use Rattle.http_heads.specs.declared.search.Search.TheVariants.{Lines}
 use Rattle.http_heads.specs.Search.{FindsSame}
 use Rattle.http_heads.proofs.search.end_in_lines.Given as goal
 

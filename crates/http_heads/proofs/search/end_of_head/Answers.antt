@@ -1,4 +1,3 @@
-use Rattle.std.proofs.Common.{◌≡◌}
 use Rattle.http_heads.proofs.SearchLemmas.{HasSearched-ok, HasSearched-none, HasSearched-further}
 use Rattle.http_heads.proofs.search.end_of_head.Goals as goal
 
