@@ -2,8 +2,15 @@
 //! outside, `Source` and `Sink`, with an object in memory and one over std's readers and writers for each.
 #![tactic(auto)]
 
+mod buffer;
+mod read;
+mod reply;
 mod sink;
 mod source;
 
+pub use buffer::Buffer;
+pub use http_heads::{HeadFault, MAX_BODY, MAX_FIELDS, MAX_HEAD, Request};
+pub use read::{Got, read_request};
+pub use reply::{Printed, no_memory_reply, reply_bytes};
 pub use sink::{ByteSink, Sink, SinkFailed, WriterSink};
 pub use source::{ByteSource, ReaderSource, Source, SourceFailed};
