@@ -50,6 +50,14 @@ got_of (stop.Malformed fault) = got.Malformed fault
 got_of stop.ReadFault = got.ReadFault
 got_of stop.NoMemory = got.NoMemory
 
+-- the stops of a read
+abbrev pub IsReadStop : Stop → Type 0
+IsReadStop stop.End = ⊥
+IsReadStop (stop.Cut n) = ⊥
+IsReadStop (stop.Malformed fault) = ⊥
+IsReadStop stop.ReadFault = Unit {0}
+IsReadStop stop.NoMemory = Unit {0}
+
 -- what is held where no request is read, and what the source says then
 abbrev pub Stops : List ℕ → Bool → Option (List ℕ) → Stop → Type 0
 Stops held ended left stop.End = IsBlank held × IsOver ended left

@@ -1,10 +1,11 @@
-ghost use Rattle.std.specs.Prelude.{◌≡◌, ℕ, ◌+◌, ◌<◌, ◌≤◌, Some, None, true, length, take, IfOk, IfErr, OnOk, IfSome};
+ghost use Rattle.std.specs.Prelude.{◌≡◌, ℕ, ◌+◌, ◌<◌, ◌≤◌, Some, None, true, false, length, take, IfOk, IfErr, OnOk, IfSome};
 ghost use Rattle.std.specs.Io.KnownBytes.{prepend_known};
 ghost use Rattle.size_values.specs.Causes.{Rose};
 ghost use Rattle.http_heads.specs.Heads.{head_len};
 ghost use Rattle.http_heads.specs.Messages.{IsBlank, IsCut};
+ghost use Rattle.http_heads.specs.Search.{HasSearched};
 ghost use Rattle.http_front.specs.Reading.{ReadsNext, OnReadFault, OnEnd};
-ghost use Rattle.http_front.specs.Held.{TakesIn, IsOver, Stops, StopsBefore, OnFault, Takes, read_stop, head_stop, got_of, EndsWith};
+ghost use Rattle.http_front.specs.Held.{TakesIn, IsOver, Stops, StopsBefore, OnFault, Takes, IsReadStop, read_stop, head_stop, got_of, EndsWith};
 
 use crate::buffer::{Buffer, PIECE};
 use crate::source::{Source, SourceFailed};
@@ -40,7 +41,9 @@ enum Stop {
 }
 
 impl From<NoMemory> for Stop {
-    ghost from_gives = { λ _ s. s ≡ Stop.NoMemory };
+    ghost use Rattle.http_front.specs.declared.read.Stop.TheVariants.{NoMemory as no_memory};
+
+    ghost from_gives = { λ _ s. s ≡ no_memory };
 
     fn from(_: NoMemory) -> Self {
         Stop::NoMemory
@@ -129,17 +132,45 @@ fn await_head<S: Source>(buffer: &mut Buffer, source: &mut S) -> Result<usize, S
 {
     let mut search = Search::Blank(0);
     loop {
-        match end_of_head(front_of(buffer.view()), search) {
+        match head_in(buffer.view(), search) {
             Ok(len) => return Ok(len),
             Err(reached) => search = reached,
         }
         if buffer.view().len() >= MAX_HEAD {
             return Err(Stop::Malformed(HeadFault::H2));
         }
-        if buffer.fill(source)? == 0 {
+        if !read_more(buffer, source)? {
             return Err(stop_at_end(buffer.view()));
         }
     }
+}
+
+/// Reads once, and answers whether bytes came.
+fn read_more<S: Source>(buffer: &mut Buffer, source: &mut S) -> Result<bool, Stop>
+    requires { length buffer.old < MAX_HEAD + MAX_BODY }
+    ensures takes { TakesIn buffer.old buffer.new (S.left source.old) (S.left source.new) }
+    ensures more { IfOk result (λ came. came ≡ true → length buffer.old < length buffer.new) }
+    ensures over { IfOk result (λ came. came ≡ false → IsOver (S.ended source.new) (S.left source.new)) }
+    ensures none { IfOk result (λ came. came ≡ false → buffer.new ≡ buffer.old) }
+    ensures err { IfErr result (λ stop. IsReadStop stop × (buffer.new ≡ buffer.old)) }
+    ensures later { S.failures source.old ≤ S.failures source.new }
+    ensures fault { OnFault result (Rose (S.failures source.old) (S.failures source.new)) }
+{
+    match buffer.fill(source) {
+        Ok(count) => Ok(count > 0),
+        Err(fault) => Err(Stop::from(fault)),
+    }
+}
+
+/// Goes on with the search for the end of a head in the bytes in which it must end.
+#[tactic(auto, unfolding(http_heads::specs::Heads::head_len))]
+fn head_in(bytes: &[u8], search: Search) -> Result<usize, Search>
+    requires { HasSearched search (take MAX_HEAD bytes.now) }
+    ensures ok { IfOk result (λ len. head_len bytes.now ≡ Some len) }
+    ensures none { IfErr result (λ reached. head_len bytes.now ≡ None) }
+    ensures reached { IfErr result (λ reached. HasSearched reached (take MAX_HEAD bytes.now)) }
+{
+    end_of_head(front_of(bytes), search)
 }
 
 /// The bytes in which a head must end.
@@ -172,7 +203,7 @@ fn await_body<S: Source>(buffer: &mut Buffer, source: &mut S, end: usize) -> Res
     ensures fault { OnFault result (Rose (S.failures source.old) (S.failures source.new)) }
 {
     while buffer.view().len() < end {
-        if buffer.fill(source)? == 0 {
+        if !read_more(buffer, source)? {
             return Err(Stop::Cut(buffer.view().len() as u64));
         }
     }
