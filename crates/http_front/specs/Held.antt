@@ -1,5 +1,5 @@
 -- What a buffer keeps of its parts, and what reading does to what it holds.
-use Rattle.std.specs.Prelude.{◌≡◌, ℕ, ◌+◌, ◌<◌, ◌≤◌, ◌⊎◌, Bool, true, List, [], ◌++◌, length, Option, Some, IfSome, Result, Ok, Err}
+use Rattle.std.specs.Prelude.{◌≡◌, ℕ, ◌+◌, ◌<◌, ◌≤◌, Bool, true, List, [], ◌++◌, length, Option, IfSome, Result, Ok, Err}
 use Rattle.std.specs.Io.KnownBytes.{prepend_known}
 use Rattle.http_heads.specs.declared.request.TheConstants.{MAX_HEAD, MAX_BODY}
 use Rattle.size_values.specs.declared.memory.Or.{Or}

@@ -1,8 +1,9 @@
-ghost use Rattle.std.specs.Prelude.{◌≡◌, ℕ, ◌+◌, ◌<◌, ◌≤◌, Some, None, true, false, length, take, IfOk, IfErr, OnOk, IfSome};
+ghost use Rattle.std.specs.Prelude.{◌≡◌, ℕ, ◌+◌, ◌<◌, ◌≤◌, Some, None, true, false, length, take, IfOk, IfErr, OnOk, OnErr, IfSome};
 ghost use Rattle.std.specs.Io.KnownBytes.{prepend_known};
 ghost use Rattle.size_values.specs.Causes.{Rose};
-ghost use Rattle.http_heads.specs.Heads.{head_len};
-ghost use Rattle.http_heads.specs.Messages.{IsBlank, IsCut};
+ghost use Rattle.http_heads.specs.Heads.{head_len, head_bytes};
+ghost use Rattle.http_heads.specs.Messages.{IsMessage};
+ghost use Rattle.http_heads.specs.Readings.{Says};
 ghost use Rattle.http_heads.specs.Search.{HasSearched};
 ghost use Rattle.http_front.specs.Reading.{ReadsNext, OnReadFault, OnEnd};
 ghost use Rattle.http_front.specs.Held.{TakesIn, IsOver, Stops, StopsBefore, OnFault, Takes, IsReadStop, read_stop, head_stop, got_of, EndsWith};
@@ -10,7 +11,8 @@ ghost use Rattle.http_front.specs.Held.{TakesIn, IsOver, Stops, StopsBefore, OnF
 use crate::buffer::{Buffer, PIECE};
 use crate::source::{Source, SourceFailed};
 use http_heads::{
-    HeadFault, MAX_BODY, MAX_HEAD, Request, Search, end_of_head, leading_line_bytes, read_head,
+    Head, HeadFault, MAX_BODY, MAX_HEAD, Request, Search, end_of_head, leading_line_bytes,
+    read_head,
 };
 use size_values::{NoMemory, Or, Seq};
 use std::alloc::Global;
@@ -101,7 +103,11 @@ pub fn read_request<S: Source>(alloc: Global, buffer: &mut Buffer, source: &mut 
     }
 }
 
-fn next_request<S: Source>(alloc: Global, buffer: &mut Buffer, source: &mut S) -> Result<Request, Stop>
+fn next_request<S: Source>(
+    alloc: Global,
+    buffer: &mut Buffer,
+    source: &mut S,
+) -> Result<Request, Stop>
     ensures ok { IfOk result (Takes buffer.old buffer.new (S.left source.old) (S.left source.new)) }
     ensures held { IfErr result (λ stop. TakesIn buffer.old buffer.new (S.left source.old) (S.left source.new)) }
     ensures err { IfErr result (Stops buffer.new (S.ended source.new) (S.left source.new)) }
@@ -110,9 +116,26 @@ fn next_request<S: Source>(alloc: Global, buffer: &mut Buffer, source: &mut S) -
 {
     let len = await_head(buffer, source)?;
     let head = read_head(alloc, &buffer.view()[..len])?;
+    await_body(buffer, source, len + head.body)?;
+    Ok(take_request(alloc, buffer, len, head)?)
+}
+
+/// Takes the request with this head, of `len` bytes, out of the buffer, which holds all of it.
+fn take_request(
+    alloc: Global,
+    buffer: &mut Buffer,
+    len: usize,
+    head: Head,
+) -> Result<Request, NoMemory>
+    requires ends { head_len buffer.old ≡ Some len }
+    requires says { Says (head_bytes len buffer.old) head }
+    requires whole { len + head.body ≤ length buffer.old }
+    ensures ok { IfOk result (λ m. IsMessage buffer.old m buffer.new) }
+    ensures err { OnErr result (buffer.new ≡ buffer.old) }
+{
+    let held = buffer.view();
     let end = len + head.body;
-    await_body(buffer, source, end)?;
-    let body = Seq::of_bytes(alloc, &buffer.view()[len..end])?;
+    let body = Seq::of_bytes(alloc, &held[len..end])?;
     buffer.consume(end);
     Ok(Request {
         method: head.method,
@@ -126,6 +149,8 @@ fn next_request<S: Source>(alloc: Global, buffer: &mut Buffer, source: &mut S) -
 fn await_head<S: Source>(buffer: &mut Buffer, source: &mut S) -> Result<usize, Stop>
     ensures takes { TakesIn buffer.old buffer.new (S.left source.old) (S.left source.new) }
     ensures ok { IfOk result (λ len. head_len buffer.new ≡ Some len) }
+    ensures within { IfOk result (λ len. len ≤ length buffer.new) }
+    ensures few { IfOk result (λ len. len ≤ MAX_HEAD) }
     ensures err { IfErr result (Stops buffer.new (S.ended source.new) (S.left source.new)) }
     ensures later { S.failures source.old ≤ S.failures source.new }
     ensures fault { OnFault result (Rose (S.failures source.old) (S.failures source.new)) }
@@ -167,6 +192,8 @@ fn read_more<S: Source>(buffer: &mut Buffer, source: &mut S) -> Result<bool, Sto
 fn head_in(bytes: &[u8], search: Search) -> Result<usize, Search>
     requires { HasSearched search (take MAX_HEAD bytes.now) }
     ensures ok { IfOk result (λ len. head_len bytes.now ≡ Some len) }
+    ensures within { IfOk result (λ len. len ≤ length bytes.now) }
+    ensures few { IfOk result (λ len. len ≤ MAX_HEAD) }
     ensures none { IfErr result (λ reached. head_len bytes.now ≡ None) }
     ensures reached { IfErr result (λ reached. HasSearched reached (take MAX_HEAD bytes.now)) }
 {

@@ -21,9 +21,5 @@ pub fn reply_bytes(alloc: Global, printed: &Printed) -> Result<Seq<u8>, NoMemory
 
 /// The reply where there is no memory for another one.
 pub fn no_memory_reply(last: bool) -> &'static [u8] {
-    if last {
-        b""
-    } else {
-        b""
-    }
+    if last { b"" } else { b"" }
 }

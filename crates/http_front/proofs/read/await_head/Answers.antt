@@ -1,10 +1,9 @@
-use Rattle.std.proofs.Common.{◌≡◌, ◌<◌, ◌≤◌, ◌⊎◌, length, sym, ap, ◌∙◌, subst, arith, None}
+use Rattle.std.proofs.Common.{◌<◌, ◌≤◌, length, ap, arith}
 use Rattle.std.proofs.lemmas.Result.{err_from_is_err_and}
-use Rattle.http_heads.specs.Heads.{head_len}
 use Rattle.http_heads.proofs.MessageLemmas.{IsUnfinished-of_none}
 use Rattle.http_heads.specs.declared.request.TheConstants.{MAX_HEAD}
 use Rattle.http_front.specs.Reading.{IsUnfinished}
-use Rattle.http_front.proofs.ReadLemmas.{TakesIn-further, IsReadStop-stops, EndsWith-stops, HasSearched-taken}
+use Rattle.http_front.proofs.ReadLemmas.{TakesIn-further, IsReadStop-stops, HasSearched-taken}
 use Rattle.http_front.proofs.read.await_head.Goals as goal
 
 pub returns-in_err-read_more-clause-takes : goal.returns-in_err-read_more-clause-takes
