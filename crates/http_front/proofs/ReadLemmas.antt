@@ -2,7 +2,7 @@
 use Rattle.std.proofs.Common.{◌≡◌, ℕ, ◌+◌, ◌-◌, ◌<◌, ◌≤◌, Bool, List, [], ◌++◌, length, take, Option, Some, None, IfSome, refl, sym, ap, ◌∙◌, subst, inr, append_assoc, append-nil}
 use Rattle.std.specs.Io.KnownBytes.{prepend_known}
 use Rattle.std.proofs.lemmas.List.{take_all, take-append-le}
-use Rattle.http_heads.specs.declared.request.TheConstants.{MAX_HEAD}
+use Rattle.http_heads.specs.Limits.{max_head}
 use Rattle.http_heads.specs.declared.search.Search.{Search}
 use Rattle.http_heads.specs.Search.{HasSearched}
 use Rattle.http_heads.proofs.SearchLemmas.{HasSearched-append}
@@ -44,11 +44,11 @@ TakesIn-further {a} {n} h k = record {
 }
 
 -- the search goes on where more bytes have come
-pub HasSearched-front : {s : Search} (bytes more : List ℕ) → length bytes ≤ MAX_HEAD → HasSearched s (take MAX_HEAD bytes)
-    → HasSearched s (take MAX_HEAD (bytes ++ more))
+pub HasSearched-front : {s : Search} (bytes more : List ℕ) → length bytes ≤ max_head → HasSearched s (take max_head bytes)
+    → HasSearched s (take max_head (bytes ++ more))
 HasSearched-front {s} bytes more short h =
-    let all : HasSearched s bytes = subst (HasSearched s) (take_all MAX_HEAD bytes short) h in
-    subst (HasSearched s) (sym (take-append MAX_HEAD bytes more short)) (HasSearched-append s bytes (take (MAX_HEAD - length bytes) more) all)
+    let all : HasSearched s bytes = subst (HasSearched s) (take_all max_head bytes short) h in
+    subst (HasSearched s) (sym (take-append max_head bytes more short)) (HasSearched-append s bytes (take (max_head - length bytes) more) all)
 
 -- a read that failed leaves what was held, in which no message is whole
 pub IsReadStop-stops : (held : List ℕ) (has_ended : Bool) (left : Option (List ℕ)) (s : Stop) → IsReadStop s → IsUnfinished held → Stops held has_ended left s
@@ -67,10 +67,10 @@ EndsWith-stops held has_ended left stop.ReadFault h over = absurd h
 EndsWith-stops held has_ended left stop.NoMemory h over = absurd h
 
 -- the search goes on in what the buffer has taken in
-pub HasSearched-taken : {s : Search} {old new : List ℕ} {l m : Option (List ℕ)} → TakesIn old new l m → length old ≤ MAX_HEAD
-    → HasSearched s (take MAX_HEAD old) → HasSearched s (take MAX_HEAD new)
+pub HasSearched-taken : {s : Search} {old new : List ℕ} {l m : Option (List ℕ)} → TakesIn old new l m → length old ≤ max_head
+    → HasSearched s (take max_head old) → HasSearched s (take max_head new)
 HasSearched-taken {s} {old} h short searched =
-    subst (λ b. HasSearched s (take MAX_HEAD b)) (sym h.grown) (HasSearched-front old h.more short searched)
+    subst (λ b. HasSearched s (take max_head b)) (sym h.grown) (HasSearched-front old h.more short searched)
 
 -- ---- a whole head, while its body comes
 

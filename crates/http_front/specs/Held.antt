@@ -1,7 +1,7 @@
 -- What a buffer keeps of its parts, and what reading does to what it holds.
 use Rattle.std.specs.Prelude.{◌≡◌, ℕ, ◌+◌, ◌<◌, ◌≤◌, Bool, true, List, [], ◌++◌, length, Option, IfSome, Result, Ok, Err}
 use Rattle.std.specs.Io.KnownBytes.{prepend_known}
-use Rattle.http_heads.specs.declared.request.TheConstants.{MAX_HEAD, MAX_BODY}
+use Rattle.http_heads.specs.Limits.{max_head, max_body}
 use Rattle.size_values.specs.declared.memory.Or.{Or}
 use Rattle.size_values.specs.declared.memory.Or.TheVariants as or
 use Rattle.http_heads.specs.declared.request.Request.{Request}
@@ -20,7 +20,7 @@ use Rattle.http_front.specs.Reading.{IsUnfinished}
 pub record IsBuffer (len start piece : ℕ) : Type 0 where
   pub used : start ≤ len
   pub whole : piece ≡ PIECE
-  pub few : len ≤ MAX_HEAD + MAX_BODY + PIECE
+  pub few : len ≤ max_head + max_body + PIECE
 
 -- the buffer took some bytes in behind those that it held, and the source lost them
 pub record TakesIn (old new : List ℕ) (left left' : Option (List ℕ)) : Type 0 where

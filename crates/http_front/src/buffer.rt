@@ -1,10 +1,11 @@
 ghost use Rattle.std.specs.Prelude.{◌≡◌, ◌+◌, ◌<◌, ◌≤◌, [], length, drop, vec_len, vec_capacity, IfOk, IfSome, OnErr};
 ghost use Rattle.size_values.specs.Causes.{HasCauseOrMemory};
+ghost use Rattle.http_heads.specs.Limits.{max_head, max_body};
 ghost use Rattle.http_front.specs.Streams.{Ends};
 ghost use Rattle.http_front.specs.Held.{TakesIn};
 
 use crate::source::{Source, SourceFailed};
-use http_heads::{MAX_BODY, MAX_HEAD};
+
 use size_values::{NoMemory, Or};
 use std::alloc::Global;
 use std::marker::Model;
@@ -49,7 +50,7 @@ impl Buffer {
     /// The bytes held: at most one head, one body and one piece.
     pub fn view(&self) -> &[u8]
         ensures bytes { result.now ≡ self.now }
-        ensures few { length self.now ≤ MAX_HEAD + MAX_BODY + PIECE }
+        ensures few { length self.now ≤ max_head + max_body + PIECE }
     {
         &self.bytes[self.start..]
     }
@@ -64,7 +65,7 @@ impl Buffer {
 
     /// Takes in what one read of the source gives, and answers how many bytes it is.
     pub(crate) fn fill<S: Source>(&mut self, source: &mut S) -> Result<usize, Or<SourceFailed>>
-        requires { length self.old < MAX_HEAD + MAX_BODY }
+        requires { length self.old < max_head + max_body }
         ensures takes { TakesIn self.old self.new (S.left source.old) (S.left source.new) }
         ensures count { IfOk result (λ n. length self.new ≡ length self.old + n) }
         ensures err { OnErr result (self.new ≡ self.old) }

@@ -2,16 +2,17 @@ ghost use Rattle.std.specs.Prelude.{◌≡◌, ℕ, ◌+◌, ◌<◌, ◌≤◌,
 ghost use Rattle.std.specs.Io.KnownBytes.{prepend_known};
 ghost use Rattle.size_values.specs.Causes.{Rose};
 ghost use Rattle.http_heads.specs.Heads.{head_len, head_bytes};
+ghost use Rattle.http_heads.specs.Limits.{max_head, max_body};
 ghost use Rattle.http_heads.specs.Messages.{IsMessage};
 ghost use Rattle.http_heads.specs.Readings.{Says};
 ghost use Rattle.http_heads.specs.Search.{HasSearched};
 ghost use Rattle.http_front.specs.Reading.{ReadsNext, OnReadFault, OnEnd};
 ghost use Rattle.http_front.specs.Held.{TakesIn, IsOver, Stops, StopsBefore, OnFault, Takes, IsReadStop, read_stop, head_stop, got_of, EndsWith};
 
-use crate::buffer::{Buffer, PIECE};
+use crate::buffer::Buffer;
 use crate::source::{Source, SourceFailed};
 use http_heads::{
-    Head, HeadFault, MAX_BODY, MAX_HEAD, Request, Search, end_of_head, leading_line_bytes,
+    Head, HeadFault, MAX_HEAD, Request, Search, end_of_head, leading_line_bytes,
     read_head,
 };
 use size_values::{NoMemory, Or, Seq};
@@ -150,7 +151,7 @@ fn await_head<S: Source>(buffer: &mut Buffer, source: &mut S) -> Result<usize, S
     ensures takes { TakesIn buffer.old buffer.new (S.left source.old) (S.left source.new) }
     ensures ok { IfOk result (λ len. head_len buffer.new ≡ Some len) }
     ensures within { IfOk result (λ len. len ≤ length buffer.new) }
-    ensures few { IfOk result (λ len. len ≤ MAX_HEAD) }
+    ensures few { IfOk result (λ len. len ≤ max_head) }
     ensures err { IfErr result (Stops buffer.new (S.ended source.new) (S.left source.new)) }
     ensures later { S.failures source.old ≤ S.failures source.new }
     ensures fault { OnFault result (Rose (S.failures source.old) (S.failures source.new)) }
@@ -172,7 +173,7 @@ fn await_head<S: Source>(buffer: &mut Buffer, source: &mut S) -> Result<usize, S
 
 /// Reads once, and answers whether bytes came.
 fn read_more<S: Source>(buffer: &mut Buffer, source: &mut S) -> Result<bool, Stop>
-    requires { length buffer.old < MAX_HEAD + MAX_BODY }
+    requires { length buffer.old < max_head + max_body }
     ensures takes { TakesIn buffer.old buffer.new (S.left source.old) (S.left source.new) }
     ensures more { IfOk result (λ came. came ≡ true → length buffer.old < length buffer.new) }
     ensures over { IfOk result (λ came. came ≡ false → IsOver (S.ended source.new) (S.left source.new)) }
@@ -190,19 +191,19 @@ fn read_more<S: Source>(buffer: &mut Buffer, source: &mut S) -> Result<bool, Sto
 /// Goes on with the search for the end of a head in the bytes in which it must end.
 #[tactic(auto, unfolding(http_heads::specs::Heads::head_len))]
 fn head_in(bytes: &[u8], search: Search) -> Result<usize, Search>
-    requires { HasSearched search (take MAX_HEAD bytes.now) }
+    requires { HasSearched search (take max_head bytes.now) }
     ensures ok { IfOk result (λ len. head_len bytes.now ≡ Some len) }
     ensures within { IfOk result (λ len. len ≤ length bytes.now) }
-    ensures few { IfOk result (λ len. len ≤ MAX_HEAD) }
+    ensures few { IfOk result (λ len. len ≤ max_head) }
     ensures none { IfErr result (λ reached. head_len bytes.now ≡ None) }
-    ensures reached { IfErr result (λ reached. HasSearched reached (take MAX_HEAD bytes.now)) }
+    ensures reached { IfErr result (λ reached. HasSearched reached (take max_head bytes.now)) }
 {
     end_of_head(front_of(bytes), search)
 }
 
 /// The bytes in which a head must end.
 fn front_of(bytes: &[u8]) -> &[u8]
-    ensures { result.now ≡ take MAX_HEAD bytes.now }
+    ensures { result.now ≡ take max_head bytes.now }
 {
     &bytes[..bytes.len().min(MAX_HEAD)]
 }
@@ -210,7 +211,7 @@ fn front_of(bytes: &[u8]) -> &[u8]
 /// What the end of the source means where no head is whole.
 fn stop_at_end(bytes: &[u8]) -> Stop
     requires none { head_len bytes.now ≡ None }
-    requires short { length bytes.now < MAX_HEAD }
+    requires short { length bytes.now < max_head }
     ensures { EndsWith bytes.now result }
 {
     if leading_line_bytes(bytes) == bytes.len() {
@@ -222,7 +223,7 @@ fn stop_at_end(bytes: &[u8]) -> Stop
 
 /// Reads until the bytes before `end` are held.
 fn await_body<S: Source>(buffer: &mut Buffer, source: &mut S, end: usize) -> Result<(), Stop>
-    requires { end ≤ MAX_HEAD + MAX_BODY }
+    requires { end ≤ max_head + max_body }
     ensures takes { TakesIn buffer.old buffer.new (S.left source.old) (S.left source.new) }
     ensures ok { OnOk result (end ≤ length buffer.new) }
     ensures err { IfErr result (StopsBefore end buffer.new (S.ended source.new) (S.left source.new)) }

@@ -9,7 +9,7 @@ use Rattle.std.proofs.lemmas.Bool.Decides.{nat_tests}
 use Rattle.httparse.specs.Grammar.{is_token_byte, IsToken}
 use Rattle.http_heads.specs.declared.request.HeadFault.{HeadFault}
 use Rattle.http_heads.specs.declared.request.HeadFault.TheVariants.{H1, H2, H3, H4}
-use Rattle.http_heads.specs.declared.request.TheConstants.{MAX_BODY}
+use Rattle.http_heads.specs.Limits.{max_body}
 use Rattle.http_heads.specs.Fields.{values_of, is_length, length_in, length_of, framing, fields_of}
 use Rattle.http_heads.specs.Readings.{IsHeadWith, HasFault}
 
@@ -22,7 +22,7 @@ IsOfFields H4 = Unit {0}
 
 length_in-fault : (text : List ℕ) → IfErr (length_in text) IsOfFields
 unfolding length_in
-length_in-fault text = by_tests (is_length text) (nat_le (digits_value 10 text) MAX_BODY)
+length_in-fault text = by_tests (is_length text) (nat_le (digits_value 10 text) max_body)
   where
     by_tests : (a b : Bool) → IfErr (cond a (cond b (Ok (digits_value 10 text)) (Err H4)) (Err H3)) IsOfFields
     by_tests true true = tt

@@ -5,7 +5,7 @@ use Rattle.std.proofs.lemmas.Option.{same_Some}
 use Rattle.std.proofs.lemmas.Bool.{cases_lt}
 use Rattle.std.proofs.lemmas.List.{take-append-le, take_all, drop_all}
 use Rattle.std.proofs.Math.Seq.{take-append-add}
-use Rattle.http_heads.specs.declared.request.TheConstants.{MAX_HEAD}
+use Rattle.http_heads.specs.Limits.{max_head}
 use Rattle.http_heads.specs.Heads.{is_line_byte, blank_len, line_end, empty_line_end, head_end, head_len}
 use Rattle.http_heads.proofs.SearchLemmas.{head_end-blank, head_end-begins, end_behind}
 
@@ -146,27 +146,27 @@ blank_len-le (b ∷ bytes) = by_test (is_line_byte b) (blank_len-le bytes)
 
 -- ---- within the first 16,384 bytes
 
-pub head_len-short : (bytes : List ℕ) → length bytes ≤ MAX_HEAD → head_len bytes ≡ head_end bytes
+pub head_len-short : (bytes : List ℕ) → length bytes ≤ max_head → head_len bytes ≡ head_end bytes
 unfolding head_len
-head_len-short bytes h = ap head_end (take_all MAX_HEAD bytes h)
+head_len-short bytes h = ap head_end (take_all max_head bytes h)
 
 -- the bytes behind the first 16,384 do not count
-pub head_len-long : (bytes more : List ℕ) → MAX_HEAD ≤ length bytes → head_len (bytes ++ more) ≡ head_len bytes
+pub head_len-long : (bytes more : List ℕ) → max_head ≤ length bytes → head_len (bytes ++ more) ≡ head_len bytes
 unfolding head_len
-head_len-long bytes more h = ap head_end (take-append-le MAX_HEAD bytes more h)
+head_len-long bytes more h = ap head_end (take-append-le max_head bytes more h)
 
 pub head_len-append : (bytes more : List ℕ) (n : ℕ) → head_len bytes ≡ Some n → head_len (bytes ++ more) ≡ Some n
 unfolding head_len
-head_len-append bytes more n e = by_length (cases_lt MAX_HEAD (length bytes))
+head_len-append bytes more n e = by_length (cases_lt max_head (length bytes))
   where
-    by_length : (MAX_HEAD < length bytes) ⊎ (length bytes ≤ MAX_HEAD) → head_len (bytes ++ more) ≡ Some n
+    by_length : (max_head < length bytes) ⊎ (length bytes ≤ max_head) → head_len (bytes ++ more) ≡ Some n
     by_length (inl long) = head_len-long bytes more (omega arith) ∙ e
     by_length (inr short) =
-        ap head_end (take-append MAX_HEAD bytes more short)
-        ∙ head_end-append bytes (take (MAX_HEAD - length bytes) more) n (ap head_end (sym (take_all MAX_HEAD bytes short)) ∙ e)
+        ap head_end (take-append max_head bytes more short)
+        ∙ head_end-append bytes (take (max_head - length bytes) more) n (ap head_end (sym (take_all max_head bytes short)) ∙ e)
 
-pub head_len-le : (bytes : List ℕ) (n : ℕ) → head_len bytes ≡ Some n → (n ≤ MAX_HEAD) × (n ≤ length bytes)
+pub head_len-le : (bytes : List ℕ) (n : ℕ) → head_len bytes ≡ Some n → (n ≤ max_head) × (n ≤ length bytes)
 unfolding head_len
 head_len-le bytes n e =
-    let few : n ≤ length (take MAX_HEAD bytes) = head_end-le (take MAX_HEAD bytes) n e in
-    let len = length-take MAX_HEAD bytes in (omega arith, omega arith)
+    let few : n ≤ length (take max_head bytes) = head_end-le (take max_head bytes) n e in
+    let len = length-take max_head bytes in (omega arith, omega arith)

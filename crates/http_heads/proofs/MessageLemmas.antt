@@ -5,7 +5,7 @@ use Rattle.std.proofs.lemmas.Bool.{cases_eq}
 use Rattle.std.proofs.lemmas.List.{take-append-le, drop-append-le}
 use Rattle.httparse.specs.Grammar.{RequestHead}
 use Rattle.httparse.proofs.GrammarLemmas.{request_unique}
-use Rattle.http_heads.specs.declared.request.TheConstants.{MAX_HEAD}
+use Rattle.http_heads.specs.Limits.{max_head}
 use Rattle.http_heads.specs.declared.request.Request.{Request}
 use Rattle.http_heads.specs.declared.request.HeadFault.{HeadFault}
 use Rattle.http_heads.specs.declared.request.HeadFault.TheVariants.{H1, H2, H3, H4}
@@ -81,7 +81,7 @@ same_framing h k = ap (λ x. framing (fields_of x)) (HasHead-unique h k).1
 -- ---- where no head is whole
 
 -- only CR and LF stand there, or a head has begun
-pub IsUnfinished-of_none : (bytes : List ℕ) → head_len bytes ≡ None → length bytes < MAX_HEAD → IsBlank bytes ⊎ IsCut bytes
+pub IsUnfinished-of_none : (bytes : List ℕ) → head_len bytes ≡ None → length bytes < max_head → IsBlank bytes ⊎ IsCut bytes
 IsUnfinished-of_none bytes none short = by_case (cases_eq (blank_len bytes) (length bytes))
   where
     by_case : (blank_len bytes ≡ length bytes) ⊎ (blank_len bytes ≡ length bytes → ⊥) → IsBlank bytes ⊎ IsCut bytes

@@ -6,7 +6,7 @@ use Rattle.std.specs.Str.{str_eq_ignore_ascii_case}
 use Rattle.std.specs.Str.Parse.{digits_value}
 use Rattle.httparse.specs.Grammar.{RequestHead, trim_ows}
 use Rattle.httparse.specs.Spans.{name_and_value}
-use Rattle.http_heads.specs.declared.request.TheConstants.{MAX_BODY}
+use Rattle.http_heads.specs.Limits.{max_body}
 use Rattle.http_heads.specs.declared.request.HeadFault.{HeadFault}
 use Rattle.http_heads.specs.declared.request.HeadFault.TheVariants.{H3, H4}
 
@@ -25,7 +25,7 @@ is_length text = nat_lt 0 (length text) && nat_le (length text) 19 && list_all i
 -- the length that a text gives
 unfoldable pub length_in : List ℕ → Result ℕ HeadFault
 length_in text =
-    if is_length text then (if nat_le (digits_value 10 text) MAX_BODY then Ok (digits_value 10 text) else Err H4) else Err H3
+    if is_length text then (if nat_le (digits_value 10 text) max_body then Ok (digits_value 10 text) else Err H4) else Err H3
 
 -- the length that the values of Content-Length give: 0 where there is none, and at most one may be there
 abbrev pub length_of : List (List ℕ) → Result ℕ HeadFault

@@ -1,7 +1,7 @@
 -- Where a head ends, as a function of the bytes.
 use Rattle.std.specs.Prelude.{ℕ, ◌+◌, suc, Bool, ◌||◌, ◌==◌, if◌then◌else◌, List, [], ◌∷◌, take, drop, Option, Some, None}
 use Rattle.std.specs.Option.{option_map, option_or}
-use Rattle.http_heads.specs.declared.request.TheConstants.{MAX_HEAD}
+use Rattle.http_heads.specs.Limits.{max_head}
 
 -- CR and LF
 abbrev pub is_line_byte : ℕ → Bool
@@ -29,7 +29,7 @@ head_end bytes = let blank = blank_len bytes in option_map (λ n. blank + n) (em
 
 -- the length of the head that a text begins with, the CR and LF bytes before it counted; it lies in the first 16,384 bytes
 unfoldable pub head_len : List ℕ → Option ℕ
-head_len bytes = head_end (take MAX_HEAD bytes)
+head_len bytes = head_end (take max_head bytes)
 
 -- the bytes from the first that is neither CR nor LF
 abbrev pub behind_blank : List ℕ → List ℕ

@@ -1,7 +1,7 @@
 -- The messages of a text, and what stands at their end.
 use Rattle.std.specs.Prelude.{◌≡◌, ℕ, ◌+◌, ◌<◌, ◌≤◌, ◌⊎◌, List, [], ◌∷◌, length, take, drop, Some, None, Ok, Err}
 use Rattle.httparse.specs.Grammar.{RequestHead, ReadsRequest}
-use Rattle.http_heads.specs.declared.request.TheConstants.{MAX_HEAD, MAX_FIELDS}
+use Rattle.http_heads.specs.Limits.{max_head, max_fields}
 use Rattle.http_heads.specs.declared.request.Request.{Request}
 use Rattle.http_heads.specs.declared.request.HeadFault.{HeadFault}
 use Rattle.http_heads.specs.declared.request.HeadFault.TheVariants.{H1, H2, H3, H4}
@@ -11,7 +11,7 @@ use Rattle.http_heads.specs.Fields.{fields_of, framing, is_last}
 -- these bytes are a request head (RFC 9112) of at most 64 headers
 pub record IsHead (bytes : List ℕ) (head : RequestHead) : Type 0 where
   pub reads : ReadsRequest bytes head []
-  pub few : length head.fields ≤ MAX_FIELDS
+  pub few : length head.fields ≤ max_fields
 
 -- the text begins with a whole head, of this length and with these parts
 pub record HasHead (bytes : List ℕ) (len : ℕ) (head : RequestHead) : Type 0 where
@@ -35,13 +35,13 @@ pub record IsMessage (bytes : List ℕ) (m : Request) (rest : List ℕ) : Type 0
 -- only CR and LF stand here, too few to be a head that is too long
 pub record IsBlank (bytes : List ℕ) : Type 0 where
   pub all : blank_len bytes ≡ length bytes
-  pub short : length bytes < MAX_HEAD
+  pub short : length bytes < max_head
 
 -- a head has begun, and may yet end
 pub record IsOpenHead (bytes : List ℕ) : Type 0 where
   pub none : head_len bytes ≡ None
   pub begun : blank_len bytes < length bytes
-  pub short : length bytes < MAX_HEAD
+  pub short : length bytes < max_head
 
 -- the head is whole, and its body is not
 pub record IsShortBody (bytes : List ℕ) : Type 0 where
@@ -65,7 +65,7 @@ pub record IsNoHead (bytes : List ℕ) : Type 0 where
 -- 16,384 bytes have no empty line that ends a head
 pub record IsTooLong (bytes : List ℕ) : Type 0 where
   pub none : head_len bytes ≡ None
-  pub long : MAX_HEAD ≤ length bytes
+  pub long : max_head ≤ length bytes
 
 -- the head is whole, and what it says of its body is this fault
 pub record IsFramedBadly (bytes : List ℕ) (fault : HeadFault) : Type 0 where

@@ -3,6 +3,7 @@ ghost use Rattle.std.specs.Option.{option_map};
 ghost use Rattle.std.specs.Str.{str_eq_ignore_ascii_case};
 ghost use Rattle.httparse.specs.Grammar.{skip_ows, trim_ows};
 ghost use Rattle.httparse.specs.Spans.{IsWithin, IsHeaderWithin, span_bytes, header_bytes};
+ghost use Rattle.http_heads.specs.Limits.{max_body};
 ghost use Rattle.http_heads.specs.Fields.{values_of, length_in, framing, lists, some_lists};
 
 use crate::request::{HeadFault, MAX_BODY};
@@ -13,7 +14,7 @@ use httparse::spans::{HeaderSpan, Span};
 pub(crate) fn framing(bytes: &[u8], headers: &[HeaderSpan]) -> Result<usize, HeadFault>
     requires { All (IsHeaderWithin (length bytes.now)) headers.now }
     ensures value { result ≡ framing (map (header_bytes bytes.now) headers.now) }
-    ensures small { IfOk result (λ length. length ≤ MAX_BODY) }
+    ensures small { IfOk result (λ length. length ≤ max_body) }
 {
     if single_value(bytes, headers, b"transfer-encoding")?.is_some() {
         return Err(HeadFault::H3);
@@ -60,7 +61,7 @@ fn is_named(bytes: &[u8], span: Span, name: &[u8]) -> bool
 #[tactic(auto, unfolding(crate::specs::Fields::length_in))]
 fn length_in(text: &[u8]) -> Result<usize, HeadFault>
     ensures value { result ≡ length_in text.now }
-    ensures small { IfOk result (λ length. length ≤ MAX_BODY) }
+    ensures small { IfOk result (λ length. length ≤ max_body) }
 {
     if text.is_empty() || text.len() > 19 {
         return Err(HeadFault::H3);

@@ -1,11 +1,12 @@
 ghost use Rattle.std.specs.Prelude.{◌≡◌, ◌≤◌, ℕ, length, take, IfOk, IfErr, IfSome, IfNone, IsUtf8};
 ghost use Rattle.httparse.specs.Grammar.{RequestHead};
 ghost use Rattle.http_heads.specs.Heads.{behind_blank};
+ghost use Rattle.http_heads.specs.Limits.{max_body, max_fields};
 ghost use Rattle.http_heads.specs.Messages.{IsHead};
 ghost use Rattle.http_heads.specs.Readings.{Says, HasReason, AreParts};
 
 use crate::fields::{framing, some_lists};
-use crate::request::{HeadFault, MAX_BODY, MAX_FIELDS};
+use crate::request::{HeadFault, MAX_FIELDS};
 use crate::search::leading_line_bytes;
 use httparse::Status;
 use httparse::spans::{EMPTY_HEADER_SPAN, HeaderSpan, RequestSpans, parse_request};
@@ -24,7 +25,7 @@ pub struct Head {
 /// Reads a whole head, with the CR and LF bytes before it. A fault is H1, H3 or H4, the first that stands.
 pub fn read_head(alloc: Global, bytes: &[u8]) -> Result<Head, Or<HeadFault>>
     ensures ok { IfOk result (Says (behind_blank bytes.now)) }
-    ensures small { IfOk result (λ head. head.body ≤ MAX_BODY) }
+    ensures small { IfOk result (λ head. head.body ≤ max_body) }
     ensures err { IfErr result (HasReason (behind_blank bytes.now)) }
 {
     let text = &bytes[leading_line_bytes(bytes)..];
@@ -37,9 +38,9 @@ pub fn read_head(alloc: Global, bytes: &[u8]) -> Result<Head, Or<HeadFault>>
 
 /// Where the parts of a text are, if all of it is one head.
 fn spans_of(text: &[u8], headers: &mut [HeaderSpan]) -> Option<RequestSpans>
-    requires { length headers.old ≡ MAX_FIELDS }
+    requires { length headers.old ≡ max_fields }
     ensures some { IfSome result (λ spans. AreParts text.now (take spans.headers headers.new) spans) }
-    ensures few { IfSome result (λ spans. spans.headers ≤ MAX_FIELDS) }
+    ensures few { IfSome result (λ spans. spans.headers ≤ max_fields) }
     ensures none { IfNone result ((head : RequestHead) → ¬ (IsHead text.now head)) }
 {
     match parse_request(text, headers) {
@@ -64,7 +65,7 @@ fn head_of(
 ) -> Result<Head, Or<HeadFault>>
     requires { AreParts text.now headers.now spans.now }
     ensures ok { IfOk result (Says text.now) }
-    ensures small { IfOk result (λ head. head.body ≤ MAX_BODY) }
+    ensures small { IfOk result (λ head. head.body ≤ max_body) }
     ensures err { IfErr result (HasReason text.now) }
 {
     let body = match framing(text, headers) {
