@@ -10,17 +10,23 @@ use Rattle.http_front.specs.declared.source.SourceFailed.{SourceFailed}
 use Rattle.http_front.specs.declared.read.Got.{Got}
 use Rattle.http_front.specs.declared.read.Got.TheVariants as got
 use Rattle.http_heads.specs.Messages.{IsMessage, IsBlank, IsCut, IsMalformed}
-use Rattle.http_front.specs.declared.buffer.TheConstants.{PIECE}
 use Rattle.http_front.specs.declared.read.Stop.{Stop}
 use Rattle.http_front.specs.declared.read.Stop.TheVariants as stop
 use Rattle.http_front.specs.Reading.{IsUnfinished}
 
--- Of len bytes those before start were used; the piece has its length, and there are no more bytes than one message
--- and one piece can have.
+-- the most bytes of one read
+abbrev pub max_piece : ℕ
+max_piece = 65536
+
+-- the most bytes that a buffer holds: a head, a body, and what one read gives
+abbrev pub most_held : ℕ
+most_held = max_head + max_body + max_piece
+
+-- Of len bytes those before start were used; the piece has its length, and there are no more bytes than that.
 pub record IsBuffer (len start piece : ℕ) : Type 0 where
   pub used : start ≤ len
-  pub whole : piece ≡ PIECE
-  pub few : len ≤ max_head + max_body + PIECE
+  pub whole : piece ≡ max_piece
+  pub few : len ≤ most_held
 
 -- the buffer took some bytes in behind those that it held, and the source lost them
 pub record TakesIn (old new : List ℕ) (left left' : Option (List ℕ)) : Type 0 where

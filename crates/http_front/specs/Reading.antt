@@ -1,6 +1,7 @@
 -- What one call of `read_request` answers, told of the bytes that were to come.
-use Rattle.std.specs.Prelude.{◌≡◌, ℕ, ◌⊎◌, List, length, Option, Some}
-use Rattle.http_heads.specs.Messages.{IsMessage, IsBlank, IsCut, IsMalformed}
+use Rattle.std.specs.Prelude.{◌≡◌, ℕ, ◌⊎◌, List, [], ◌∷◌, length, Option, Some}
+use Rattle.http_heads.specs.declared.request.Request.{Request}
+use Rattle.http_heads.specs.Messages.{IsMessage, IsBlank, IsCut, IsMalformed, Ending, ended, cut, malformed}
 use Rattle.http_front.specs.declared.read.Got.{Got}
 use Rattle.http_front.specs.declared.read.Got.TheVariants as got
 
@@ -34,3 +35,15 @@ OnEnd (got.Request m) P = Unit {0}
 OnEnd (got.Malformed fault) P = Unit {0}
 OnEnd got.ReadFault P = Unit {0}
 OnEnd got.NoMemory P = Unit {0}
+
+-- the answer that tells of this ending
+abbrev pub answer_of : Ending → Got
+answer_of ended = got.End
+answer_of (cut n) = got.Cut n
+answer_of (malformed fault) = got.Malformed fault
+
+-- calls of `read_request`, one behind the other, answer these messages of the bytes to come, and then this ending
+abbrev pub Answers : List ℕ → List Request → Ending → Type 0
+Answers bytes [] ending = (new : Option (List ℕ)) × (held : List ℕ) × ReadsNext bytes new held (answer_of ending)
+Answers bytes (m ∷ messages) ending =
+    (rest : List ℕ) × (held : List ℕ) × ReadsNext bytes (Some rest) held (got.Request m) × Answers rest messages ending

@@ -1,5 +1,5 @@
 -- The bytes of a reply.
-use Rattle.std.specs.Prelude.{◌≡◌, ℕ, ◌==◌, Bool, ◌||◌, if◌then◌else◌, List, [], ◌++◌, length, unwrap_or, codes, decimal}
+use Rattle.std.specs.Prelude.{ℕ, ◌==◌, Bool, ◌||◌, if◌then◌else◌, List, [], ◌++◌, length, unwrap_or, codes, decimal}
 use Rattle.http.specs.StatusCode.{reason_phrase}
 use Rattle.http_front.specs.declared.reply.Printed.{Printed}
 

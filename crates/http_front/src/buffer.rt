@@ -2,16 +2,15 @@ ghost use Rattle.std.specs.Prelude.{◌≡◌, ◌+◌, ◌<◌, ◌≤◌, [], 
 ghost use Rattle.size_values.specs.Causes.{HasCauseOrMemory};
 ghost use Rattle.http_heads.specs.Limits.{max_head, max_body};
 ghost use Rattle.http_front.specs.Streams.{Ends};
-ghost use Rattle.http_front.specs.Held.{TakesIn};
+ghost use Rattle.http_front.specs.Held.{TakesIn, max_piece, most_held};
 
 use crate::source::{Source, SourceFailed};
-
 use size_values::{NoMemory, Or};
 use std::alloc::Global;
 use std::marker::Model;
 
 /// The most bytes that one read asks for.
-pub const PIECE: usize = 65_536;
+const PIECE: usize = 65_536;
 
 /// The bytes that a source gave and that no message has used yet. Contracts see it as the list of these bytes.
 #[derive(Debug, Drop)]
@@ -50,7 +49,7 @@ impl Buffer {
     /// The bytes held: at most one head, one body and one piece.
     pub fn view(&self) -> &[u8]
         ensures bytes { result.now ≡ self.now }
-        ensures few { length self.now ≤ max_head + max_body + PIECE }
+        ensures few { length self.now ≤ most_held }
     {
         &self.bytes[self.start..]
     }
@@ -99,13 +98,13 @@ fn read_piece<S: Source>(
     piece: &mut Vec<u8>,
     source: &mut S,
 ) -> Result<usize, Or<SourceFailed>>
-    requires piece { vec_len piece.old ≡ PIECE }
-    requires room { vec_len bytes.old + PIECE ≤ vec_capacity bytes.old }
+    requires piece { vec_len piece.old ≡ max_piece }
+    requires room { vec_len bytes.old + max_piece ≤ vec_capacity bytes.old }
     ensures takes { TakesIn bytes.old.items bytes.new.items (S.left source.old) (S.left source.new) }
     ensures count { IfOk result (λ n. vec_len bytes.new ≡ vec_len bytes.old + n) }
-    ensures few { IfOk result (λ n. n ≤ PIECE) }
+    ensures few { IfOk result (λ n. n ≤ max_piece) }
     ensures err { OnErr result (bytes.new ≡ bytes.old) }
-    ensures piece { vec_len piece.new ≡ PIECE }
+    ensures piece { vec_len piece.new ≡ max_piece }
     ensures end { Ends (S.ended source.old) (S.ended source.new) result }
     ensures rest { IfOk result (λ n. n ≡ 0 → IfSome (S.left source.new) (λ xs. xs ≡ [])) }
     ensures cause { HasCauseOrMemory (S.failures source.old) (S.failures source.new) result }

@@ -3,6 +3,7 @@
 #![tactic(auto)]
 
 mod buffer;
+mod laws;
 mod read;
 mod reply;
 mod sink;
@@ -10,6 +11,7 @@ mod source;
 
 pub use buffer::Buffer;
 pub use http_heads::{HeadFault, MAX_BODY, MAX_FIELDS, MAX_HEAD, Request};
+pub use laws::{pieces_agree, steps_split};
 pub use read::{Got, read_request};
 pub use reply::{Printed, no_memory_reply, reply_bytes};
 pub use sink::{ByteSink, Sink, SinkFailed, WriterSink};

@@ -12,8 +12,7 @@ ghost use Rattle.http_front.specs.Held.{TakesIn, IsOver, Stops, StopsBefore, OnF
 use crate::buffer::Buffer;
 use crate::source::{Source, SourceFailed};
 use http_heads::{
-    Head, HeadFault, MAX_HEAD, Request, Search, end_of_head, leading_line_bytes,
-    read_head,
+    Head, HeadFault, MAX_HEAD, Request, Search, end_of_head, leading_line_bytes, read_head,
 };
 use size_values::{NoMemory, Or, Seq};
 use std::alloc::Global;

@@ -109,6 +109,8 @@ pub fn no_memory_reply(last: bool) -> &'static [u8]
     if last { NO_MEMORY_LAST } else { NO_MEMORY }
 }
 
-const NO_MEMORY: &[u8] = b"HTTP/1.1 500 Internal Server Error\r\nContent-Type: application/json\r\nContent-Length: 78\r\n\r\n{\"error\":\"no memory\",\"error_code\":500,\"metadata\":{\"rule\":\"M1\"},\"type\":\"error\"}";
+const NO_MEMORY: &[u8] =
+    b"HTTP/1.1 500 Internal Server Error\r\nContent-Type: application/json\r\nContent-Length: 78\r\n\r\n{\"error\":\"no memory\",\"error_code\":500,\"metadata\":{\"rule\":\"M1\"},\"type\":\"error\"}";
 
-const NO_MEMORY_LAST: &[u8] = b"HTTP/1.1 500 Internal Server Error\r\nContent-Type: application/json\r\nContent-Length: 78\r\nConnection: close\r\n\r\n{\"error\":\"no memory\",\"error_code\":500,\"metadata\":{\"rule\":\"M1\"},\"type\":\"error\"}";
+const NO_MEMORY_LAST: &[u8] =
+    b"HTTP/1.1 500 Internal Server Error\r\nContent-Type: application/json\r\nContent-Length: 78\r\nConnection: close\r\n\r\n{\"error\":\"no memory\",\"error_code\":500,\"metadata\":{\"rule\":\"M1\"},\"type\":\"error\"}";

@@ -1,5 +1,5 @@
 use Rattle.std.proofs.Common.{◌≡◌, List, ℕ, [], ◌++◌, length, ap, ◌∙◌, codes}
-use Rattle.http_front.specs.Replies.{line, status_line, length_line, location_line, last_line}
+use Rattle.http_front.specs.Replies.{line, length_line, location_line, last_line}
 use Rattle.http_front.proofs.reply.head_text.Goals as goal
 
 -- what was written so far, and one more part

@@ -1,4 +1,4 @@
-use Rattle.std.proofs.Common.{◌≡◌, refl}
+use Rattle.std.proofs.Common.{refl}
 use Rattle.std.specs.Fmt.{digits}
 use Rattle.http_front.specs.Replies.{reply_text}
 use Rattle.http_front.proofs.reply.no_memory_reply.Goals as goal
