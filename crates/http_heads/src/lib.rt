@@ -1,0 +1,4 @@
+//! STUB
+#![tactic(auto)]
+mod request;
+pub use request::{HeadFault, MAX_BODY, MAX_FIELDS, MAX_HEAD, Request};

@@ -1,0 +1,4 @@
+pub mod Calls
+pub mod Entries
+pub mod MapKeeper
+pub mod Places
