@@ -1,5 +1,7 @@
-ghost use Rattle.std.specs.Prelude.{◌≡◌};
+ghost use Rattle.std.specs.Prelude.{◌≡◌, ◌≤◌};
+ghost use Rattle.std.specs.Bool.{OnTrue};
 ghost use Rattle.size_values.specs.Calls.{is_next_failing, after_call, no_calls};
+ghost use Rattle.size_values.specs.Causes.{Rose};
 
 use crate::seq::Seq;
 use std::marker::Model;
@@ -37,6 +39,8 @@ impl FailingCalls {
     pub fn next(&mut self) -> bool
         ensures fails { result ≡ is_next_failing self.old }
         ensures counted { self.new ≡ after_call self.old }
+        ensures later { self.old.failed ≤ self.new.failed }
+        ensures rose { OnTrue result (Rose self.old.failed self.new.failed) }
     {
         if self.made == u64::MAX {
             return false;

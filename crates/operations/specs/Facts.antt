@@ -1,0 +1,29 @@
+use Rattle.std.specs.Prelude.{◌≡◌, ℕ, ◌<◌, ◌≤◌, true, false, List, [], ◌∷◌, ◌++◌, length}
+use Rattle.plain_lists.specs.Members.{Each, Distinct}
+use Rattle.operations.specs.declared.limits.TheConstants.{MOMENT_LIMIT, LIVE_LIMIT, ENDED_LIMIT, NUMBER_LIMIT}
+use Rattle.operations.specs.declared.operation.Operation.{Operation}
+use Rattle.operations.specs.Statuses.{is_live}
+use Rattle.operations.specs.Kept.{Kept}
+
+-- the operations stand in the order of their numbers
+abbrev pub AreInOrder : {W : Type 0} → List (Operation W) → Type 0
+AreInOrder [] = Unit {0}
+AreInOrder (o ∷ os) = Each (λ later. o.number < later.number) os × AreInOrder os
+
+-- the operations have numbers of their own from 1 on, all below the next one, and their moments are moments
+pub record AreNumbered {W : Type 0} (os : List (Operation W)) (next : ℕ) : Type 0 where
+  pub distinct : Distinct (λ (o : Operation W). o.number) os
+  pub from_one : Each (λ (o : Operation W). 1 ≤ o.number) os
+  pub below_next : Each (λ (o : Operation W). o.number < next) os
+  pub moments : Each (λ (o : Operation W). (o.created < MOMENT_LIMIT) × (o.updated < MOMENT_LIMIT)) os
+
+-- what is true of the kept operations at all times
+pub record AreKept {W : Type 0} (k : Kept W) : Type 0 where
+  pub all_live : Each (λ (o : Operation W). is_live o.status ≡ true) k.live
+  pub all_ended : Each (λ (o : Operation W). is_live o.status ≡ false) k.ended
+  pub in_order : AreInOrder k.live
+  pub numbered : AreNumbered (k.live ++ k.ended) k.next
+  pub next_from_one : 1 ≤ k.next
+  pub next_limit : k.next ≤ NUMBER_LIMIT
+  pub few_live : length k.live ≤ LIVE_LIMIT
+  pub few_ended : length k.ended ≤ ENDED_LIMIT

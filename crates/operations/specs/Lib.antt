@@ -1,0 +1,4 @@
+pub mod Statuses
+pub mod Kept
+pub mod Facts
+pub mod Inside

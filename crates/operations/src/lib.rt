@@ -1,0 +1,15 @@
+//! The slots of background operations: which are live, which ended last, and which number comes next. Room for
+//! all of them is taken once, so no later call takes memory.
+#![tactic(auto)]
+
+mod faults;
+mod limits;
+mod operation;
+mod slots;
+mod status;
+
+pub use faults::{CancelFault, EnterFault};
+pub use limits::{ENDED_LIMIT, LIVE_LIMIT, MOMENT_LIMIT, NUMBER_LIMIT};
+pub use operation::{OpFault, Operation};
+pub use slots::Slots;
+pub use status::Status;

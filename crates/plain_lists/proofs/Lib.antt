@@ -1,0 +1,9 @@
+pub mod Elements
+pub mod Keys
+pub mod PutsLemmas
+pub mod Searches
+pub mod Readings
+pub mod FirstLemmas
+pub mod RingLemmas
+pub mod EditLemmas
+pub mod Places
