@@ -3,13 +3,13 @@
 #![tactic(auto)]
 
 mod buffer;
-mod got;
+mod read;
 mod reply;
 mod sink;
 mod source;
 
-pub use buffer::{Buffer, read_request};
-pub use got::Got;
+pub use buffer::Buffer;
+pub use read::{Got, read_request};
 pub use http_heads::{HeadFault, Request};
 pub use reply::{Printed, reply_bytes, no_memory_reply};
 pub use sink::{ByteSink, Sink, SinkFailed, WriterSink};

@@ -1,5 +1,5 @@
 -- Where a head ends, as a function of the bytes.
-use Rattle.std.specs.Prelude.{◌≡◌, ℕ, ◌+◌, ◌≤◌, suc, Bool, ◌||◌, ◌==◌, if◌then◌else◌, List, [], ◌∷◌, ◌++◌, length, take, drop, Option, Some, None}
+use Rattle.std.specs.Prelude.{ℕ, ◌+◌, suc, Bool, ◌||◌, ◌==◌, if◌then◌else◌, List, [], ◌∷◌, take, drop, Option, Some, None}
 use Rattle.std.specs.Option.{option_map, option_or}
 use Rattle.http_heads.specs.declared.request.TheConstants.{MAX_HEAD}
 
@@ -31,6 +31,10 @@ head_end bytes = let blank = blank_len bytes in option_map (λ n. blank + n) (em
 unfoldable pub head_len : List ℕ → Option ℕ
 head_len bytes = head_end (take MAX_HEAD bytes)
 
--- what the head of this length says: its bytes from the first that is neither CR nor LF
+-- the bytes from the first that is neither CR nor LF
+abbrev pub behind_blank : List ℕ → List ℕ
+behind_blank bytes = drop (blank_len bytes) bytes
+
+-- what the head of this length says, without the CR and LF bytes before it
 abbrev pub head_bytes : ℕ → List ℕ → List ℕ
-head_bytes len bytes = drop (blank_len bytes) (take len bytes)
+head_bytes len bytes = behind_blank (take len bytes)

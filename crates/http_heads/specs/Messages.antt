@@ -1,5 +1,5 @@
 -- The messages of a text, and what stands at their end.
-use Rattle.std.specs.Prelude.{◌≡◌, ℕ, ◌+◌, ◌<◌, ◌≤◌, ◌⊎◌, List, [], ◌∷◌, length, take, drop, Option, Some, None, Result, Ok, Err}
+use Rattle.std.specs.Prelude.{◌≡◌, ℕ, ◌+◌, ◌<◌, ◌≤◌, ◌⊎◌, List, [], ◌∷◌, length, take, drop, Some, None, Ok, Err}
 use Rattle.httparse.specs.Grammar.{RequestHead, ReadsRequest}
 use Rattle.http_heads.specs.declared.request.TheConstants.{MAX_HEAD, MAX_FIELDS}
 use Rattle.http_heads.specs.declared.request.Request.{Request}
@@ -33,12 +33,15 @@ pub record IsMessage (bytes : List ℕ) (m : Request) (rest : List ℕ) : Type 0
   pub rest_is : rest ≡ drop (len + body) bytes
 
 -- only CR and LF stand here, too few to be a head that is too long
-abbrev pub IsBlank : List ℕ → Type 0
-IsBlank bytes = (blank_len bytes ≡ length bytes) × (length bytes < MAX_HEAD)
+pub record IsBlank (bytes : List ℕ) : Type 0 where
+  pub all : blank_len bytes ≡ length bytes
+  pub short : length bytes < MAX_HEAD
 
 -- a head has begun, and may yet end
-abbrev pub IsOpenHead : List ℕ → Type 0
-IsOpenHead bytes = (head_len bytes ≡ None) × (blank_len bytes < length bytes) × (length bytes < MAX_HEAD)
+pub record IsOpenHead (bytes : List ℕ) : Type 0 where
+  pub none : head_len bytes ≡ None
+  pub begun : blank_len bytes < length bytes
+  pub short : length bytes < MAX_HEAD
 
 -- the head is whole, and its body is not
 pub record IsShortBody (bytes : List ℕ) : Type 0 where
@@ -53,6 +56,17 @@ pub record IsShortBody (bytes : List ℕ) : Type 0 where
 abbrev pub IsCut : List ℕ → Type 0
 IsCut bytes = IsOpenHead bytes ⊎ IsShortBody bytes
 
+-- the bytes up to the first empty line are no head
+pub record IsNoHead (bytes : List ℕ) : Type 0 where
+  pub len : ℕ
+  pub ends : head_len bytes ≡ Some len
+  pub refuted : (head : RequestHead) → ¬ (IsHead (head_bytes len bytes) head)
+
+-- 16,384 bytes have no empty line that ends a head
+pub record IsTooLong (bytes : List ℕ) : Type 0 where
+  pub none : head_len bytes ≡ None
+  pub long : MAX_HEAD ≤ length bytes
+
 -- the head is whole, and what it says of its body is this fault
 pub record IsFramedBadly (bytes : List ℕ) (fault : HeadFault) : Type 0 where
   pub len : ℕ
@@ -62,8 +76,8 @@ pub record IsFramedBadly (bytes : List ℕ) (fault : HeadFault) : Type 0 where
 
 -- no message can begin here, whatever follows
 abbrev pub IsMalformed : List ℕ → HeadFault → Type 0
-IsMalformed bytes H1 = (len : ℕ) × (head_len bytes ≡ Some len) × ((head : RequestHead) → ¬ (IsHead (head_bytes len bytes) head))
-IsMalformed bytes H2 = (head_len bytes ≡ None) × (MAX_HEAD ≤ length bytes)
+IsMalformed bytes H1 = IsNoHead bytes
+IsMalformed bytes H2 = IsTooLong bytes
 IsMalformed bytes H3 = IsFramedBadly bytes H3
 IsMalformed bytes H4 = IsFramedBadly bytes H4
 

@@ -45,11 +45,11 @@ only_final_append [] y first last = last
 only_final_append (x ∷ []) y first last = (first.0, last)
 only_final_append (x ∷ z ∷ xs) y first last = (first.0, only_final_append (z ∷ xs) y first.1 last)
 
-append_twice : (known : Option (List ℕ)) (a b : List ℕ) → append_known (append_known known a) b ≡ append_known known (a ++ b)
+pub append_twice : (known : Option (List ℕ)) (a b : List ℕ) → append_known (append_known known a) b ≡ append_known known (a ++ b)
 append_twice None a b = refl
 append_twice (Some xs) a b = ap Some (append_assoc xs a b)
 
-append_nothing : (known : Option (List ℕ)) → known ≡ append_known known []
+pub append_nothing : (known : Option (List ℕ)) → known ≡ append_known known []
 append_nothing None = refl
 append_nothing (Some xs) = ap Some (sym (append-nil xs))
 

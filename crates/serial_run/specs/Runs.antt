@@ -10,8 +10,8 @@ use Rattle.project_requests.specs.Machine.{Projects, Asked, entries_of}
 use Rattle.project_requests.specs.Opening.{first_projects}
 use Rattle.project_requests.specs.declared.opening.OpenFault.{OpenFault}
 use Rattle.project_requests.specs.declared.opening.OpenFault.TheVariants as fault
-use Rattle.serial_run.specs.declared.run.StartFault.{StartFault}
-use Rattle.serial_run.specs.declared.run.StartFault.TheVariants as start
+use Rattle.serial_run.specs.declared.running.StartFault.{StartFault}
+use Rattle.serial_run.specs.declared.running.StartFault.TheVariants as start
 use Rattle.serial_run.specs.declared.session.TheConstants.{MOST_REQUESTS}
 use Rattle.serial_run.specs.declared.session.SessionEnd.{SessionEnd}
 use Rattle.serial_run.specs.declared.session.SessionEnd.TheVariants as end
@@ -45,16 +45,17 @@ start_status start.HasEntries = 13
 abbrev pub opened : World → ℕ → World
 opened w faults = record w { kept = option_map (λ _. entries_of first_projects) w.kept; projects = first_projects; keeper_faults = faults }
 
--- The run opened the projects of a keeper without entries and had one session. `closing` is the world at its end, but for the
--- bytes then still to come and the projects, which nobody sees.
-pub record Ran (w : World) (closing : Option (List ℕ) → Projects → World) (status : ℕ) : Type 0 where
+-- The words were read, the projects of a keeper without entries were opened, and there was one session. At its end some bytes may
+-- still be to come, and there are projects; nobody outside sees either.
+pub record Ran (words : List (List ℕ)) (w w' : World) (status : ℕ) : Type 0 where
+  pub read : are_run words ≡ true
   pub empty : IfSome w.kept (λ entries. entries ≡ [])
   pub faults : ℕ
   pub later : w.keeper_faults ≤ faults
   pub input : Option (List ℕ)
   pub projects : Projects
   pub ends : SessionEnd
-  pub session : Session (opened w faults) (closing input projects) ends
+  pub session : Session (opened w faults) (record w' { input = input; projects = projects }) ends
   pub status_is : status ≡ status_of ends
 
 -- why there was no session

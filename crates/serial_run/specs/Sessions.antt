@@ -4,7 +4,7 @@ use Rattle.std.specs.Io.KnownBytes.{prepend_known, append_known}
 use Rattle.size_values.specs.Causes.{Rose}
 use Rattle.http_heads.specs.Messages.{IsBlank, IsCut, IsMalformed}
 use Rattle.http_heads.specs.declared.request.HeadFault.{HeadFault}
-use Rattle.http_front.specs.Next.{IsUnfinished}
+use Rattle.http_front.specs.Reading.{IsUnfinished}
 use Rattle.project_requests.specs.Machine.{Asked, printed_replies}
 use Rattle.project_requests.specs.Replies.{printed}
 use Rattle.project_requests.specs.declared.reply.Refusal.TheVariants as refusal

@@ -1,10 +1,10 @@
 //! A session without threads.
 #![tactic(auto)]
 
-mod run;
+mod running;
 mod serving;
 mod session;
 mod turn;
 
-pub use run::StartFault;
+pub use running::{StartFault, run_main};
 pub use session::{MOST_REQUESTS, SessionEnd, Turn};

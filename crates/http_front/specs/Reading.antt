@@ -1,13 +1,15 @@
-use Rattle.std.specs.Prelude.{◌≡◌, ◌⊎◌, ℕ, List, Bool, true, length, Option, Some}
+-- What one call of `read_request` answers, told of the bytes that were to come.
+use Rattle.std.specs.Prelude.{◌≡◌, ℕ, ◌⊎◌, List, length, Option, Some, Bool, true}
 use Rattle.http_heads.specs.declared.request.Request.{Request}
-use Rattle.http_heads.specs.declared.request.HeadFault.{HeadFault}
 use Rattle.http_heads.specs.Messages.{IsMessage, IsBlank, IsCut, IsMalformed}
-use Rattle.http_front.specs.declared.got.Got.{Got}
-use Rattle.http_front.specs.declared.got.Got.TheVariants as got
+use Rattle.http_front.specs.declared.read.Got.{Got}
+use Rattle.http_front.specs.declared.read.Got.TheVariants as got
 
+-- no message is whole here yet, and none is malformed
 abbrev pub IsUnfinished : List ℕ → Type 0
-IsUnfinished held = IsBlank held ⊎ IsCut held
+IsUnfinished bytes = IsBlank bytes ⊎ IsCut bytes
 
+-- What was answered of the bytes to come, which of them are still to come, and which of these are held.
 abbrev pub ReadsNext : List ℕ → Option (List ℕ) → List ℕ → Got → Type 0
 ReadsNext old new held (got.Request m) = (rest : List ℕ) × IsMessage old m rest × (new ≡ Some rest)
 ReadsNext old new held got.End = IsBlank old × (new ≡ Some old) × (held ≡ old)
@@ -16,6 +18,7 @@ ReadsNext old new held (got.Malformed fault) = IsMalformed old fault × (new ≡
 ReadsNext old new held got.ReadFault = IsUnfinished held × (new ≡ Some old)
 ReadsNext old new held got.NoMemory = new ≡ Some old
 
+-- the fact, where a read failed
 abbrev pub OnReadFault : Got → Type 0 → Type 0
 OnReadFault got.ReadFault P = P
 OnReadFault (got.Request m) P = Unit {0}
@@ -24,10 +27,11 @@ OnReadFault (got.Cut n) P = Unit {0}
 OnReadFault (got.Malformed fault) P = Unit {0}
 OnReadFault got.NoMemory P = Unit {0}
 
-abbrev pub EndsWith : Bool → Got → Type 0
-EndsWith ended got.ReadFault = Unit {0}
-EndsWith ended (got.Request m) = Unit {0}
-EndsWith ended got.End = ended ≡ true
-EndsWith ended (got.Cut n) = ended ≡ true
-EndsWith ended (got.Malformed fault) = Unit {0}
-EndsWith ended got.NoMemory = Unit {0}
+-- the fact, where the answer is that of a source that has ended
+abbrev pub OnEnd : Got → Type 0 → Type 0
+OnEnd got.End P = P
+OnEnd (got.Cut n) P = P
+OnEnd (got.Request m) P = Unit {0}
+OnEnd (got.Malformed fault) P = Unit {0}
+OnEnd got.ReadFault P = Unit {0}
+OnEnd got.NoMemory P = Unit {0}
