@@ -5,9 +5,8 @@ use http_front::{ReaderSource, WriterSink};
 use record_keeper::MapKeeper;
 use serial_run::run_main;
 use size_values::Seq;
-use std::env;
-use std::io;
 use std::process::ExitCode;
+use std::{env, io};
 
 /// The exit status of a run that found no memory for its words.
 const NO_MEMORY: u8 = 9;

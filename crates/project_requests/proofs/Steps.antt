@@ -32,9 +32,9 @@ free projects request name asks isnt = rw asks (rw isnt refl)
 
 -- a creation that was committed is answered as the machine answers it
 pub answers_created : (projects : Projects) (request : Request) (name : List ℕ) (told told' : Option (List Entry)) (faults faults' : ℕ) (text : List ℕ)
-  → creation_of request ≡ Some name → list_any (bytes_eq name) projects ≡ false
-  → told' ≡ option_map (after_changes (change.Put (entry_of (project_of name)) ∷ [])) told → faults ≤ faults' → text ≡ printed reply.Created request.last
-  → Answers projects (projects ++ name ∷ []) told told' faults faults' request (Ok text)
+    → creation_of request ≡ Some name → list_any (bytes_eq name) projects ≡ false
+    → told' ≡ option_map (after_changes (change.Put (entry_of (project_of name)) ∷ [])) told → faults ≤ faults' → text ≡ printed reply.Created request.last
+    → Answers projects (projects ++ name ∷ []) told told' faults faults' request (Ok text)
 answers_created projects request name told told' faults faults' text asks isnt committed later print = record {
   outcome = well;
   text = print ∙ ap (λ r. printed (reply_by well r) request.last) (sym (free projects request name asks isnt));

@@ -10,6 +10,7 @@ use crate::creation::creation_of;
 use crate::reply::{Refusal, print_created, print_refused};
 use crate::row::entry_of;
 use http_front::Request;
+use plain_lists::push_reserved;
 use record_keeper::Keeper;
 use size_values::{EntryChange, NoMemory, Or, Seq, Text};
 use std::alloc::Global;
@@ -30,17 +31,14 @@ pub(crate) fn change_of(alloc: Global, name: &Text) -> Result<Seq<EntryChange>, 
     Ok(changes)
 }
 
-fn push_reserved(projects: &mut Vec<Text>, name: Text)
-    requires { vec_len projects.old < vec_capacity projects.old }
-    ensures { projects.new.items ≡ projects.old.items ++ name ∷ [] }
-{
-    if projects.push(name).is_err() {
-        unreachable!();
-    }
-}
-
 /// Makes a project: takes all memory, commits its entry, and then has it.
-fn create<R: Keeper>(alloc: Global, projects: &mut Vec<Text>, keeper: &mut R, request: &Request, name: Text) -> Result<Seq<u8>, NoMemory>
+fn create<R: Keeper>(
+    alloc: Global,
+    projects: &mut Vec<Text>,
+    keeper: &mut R,
+    request: &Request,
+    name: Text,
+) -> Result<Seq<u8>, NoMemory>
     requires { creation_of request.now ≡ Some name }
     ensures { Answers projects.old.items projects.new.items (R.told keeper.old) (R.told keeper.new) (R.failures keeper.old) (R.failures keeper.new) request.now result }
 {
@@ -62,7 +60,12 @@ fn create<R: Keeper>(alloc: Global, projects: &mut Vec<Text>, keeper: &mut R, re
 
 /// Answers one request: the bytes of its reply, or want of memory, which is answered by the reply that takes none.
 /// The projects and the keeper's entries change only where the reply says that the project was made.
-pub fn answer<R: Keeper>(alloc: Global, projects: &mut Vec<Text>, keeper: &mut R, request: &Request) -> Result<Seq<u8>, NoMemory>
+pub fn answer<R: Keeper>(
+    alloc: Global,
+    projects: &mut Vec<Text>,
+    keeper: &mut R,
+    request: &Request,
+) -> Result<Seq<u8>, NoMemory>
     ensures { Answers projects.old.items projects.new.items (R.told keeper.old) (R.told keeper.new) (R.failures keeper.old) (R.failures keeper.new) request.now result }
 {
     match creation_of(alloc, request) {

@@ -14,3 +14,6 @@ pub use creation::creation_of;
 pub use opening::{OpenFault, open};
 pub use reply::{Refusal, Reply, print_created, print_refused};
 pub use row::entry_of;
+
+#[cfg(test)]
+mod tests;

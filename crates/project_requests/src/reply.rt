@@ -1,4 +1,5 @@
 ghost use Rattle.std.specs.Prelude.{◌≡◌, IfOk, false};
+ghost use Rattle.http.specs.StatusCode.{IsStatusCode};
 ghost use Rattle.serde_json.specs.Data.{object};
 ghost use Rattle.serde_json.specs.View.{view};
 ghost use Rattle.serde_json.specs.Written.{has_float};
@@ -37,7 +38,8 @@ pub enum Reply {
 impl Refusal {
     /// The HTTP status code.
     pub fn code(&self) -> u16
-        ensures { result ≡ refusal_code self.now }
+        ensures code { result ≡ refusal_code self.now }
+        ensures status { IsStatusCode result }
     {
         match self {
             Refusal::Head(_) => 400,
@@ -86,12 +88,21 @@ impl Refusal {
 }
 
 fn print(alloc: Global, code: u16, body: &Value, last: bool) -> Result<Seq<u8>, NoMemory>
+    requires { IsStatusCode code }
     ensures { IfOk result (λ b. has_float (view body.now) ≡ false → b ≡ reply_with code (view body.now) last) }
 {
     let text = body.to_string(alloc)?;
     let body = Seq::of_bytes(alloc, text.as_bytes())?;
     let location = Text::new(alloc);
-    reply_bytes(alloc, &Printed { code, body, location, last })
+    reply_bytes(
+        alloc,
+        &Printed {
+            code,
+            body,
+            location,
+            last,
+        },
+    )
 }
 
 /// The reply to a request that was carried out.

@@ -9,7 +9,13 @@ use std::alloc::Global;
 /// The project that exists from the start. Other projects may use its objects.
 pub const DEFAULT: &str = "default";
 
-const FOUR: [&str; 4] = ["features.images", "features.profiles", "features.storage.buckets", "features.storage.volumes"];
+const FOUR: [&str; 4] = [
+    "features.images",
+    "features.profiles",
+    "features.storage.buckets",
+    "features.storage.volumes",
+];
+
 const FIVE: [&str; 5] = [
     "features.images",
     "features.networks",
@@ -65,5 +71,9 @@ pub fn entry_of(alloc: Global, name: &Text) -> Result<Entry, NoMemory>
     push_text(&mut body, "")?;
     push_features(&mut body, features(name.view()))?;
     let key = name.copy(alloc)?;
-    Ok(Entry { kind: 1, key, body: Seq::from_vec(body) })
+    Ok(Entry {
+        kind: 1,
+        key,
+        body: Seq::from_vec(body),
+    })
 }

@@ -94,7 +94,7 @@ pub serves_more : (a b c : World) (xs ys : List Asked) → Serves a b xs → Ser
 serves_more a b c xs ys first then = record {
   read = reads_append a b xs ys (λ rest. c.input ≡ Some rest) first.read then.read;
   written = then.written ∙ ap (λ known. append_known known (printed_replies b.projects ys)) first.written ∙ append_twice a.output (printed_replies a.projects xs) (printed_replies b.projects ys)
-    ∙ ap (λ ps. append_known a.output (printed_replies a.projects xs ++ printed_replies ps ys)) first.changes.projects ∙ sym (ap (append_known a.output) (printed_replies_append a.projects xs ys));
+      ∙ ap (λ ps. append_known a.output (printed_replies a.projects xs ++ printed_replies ps ys)) first.changes.projects ∙ sym (ap (append_known a.output) (printed_replies_append a.projects xs ys));
   changes = changes_append a b c xs ys first.changes then.changes;
   later = later_both a b c first.later then.later;
 }
@@ -128,6 +128,7 @@ session_stops a b c count ends far few stops = record {
 } where
   enough : length far.asked < MOST_REQUESTS
   enough = subst (λ n. n < MOST_REQUESTS) (sym far.counted) few
+
   by : (ends : SessionEnd) → (ends ≢ end.Spent) → CountsAt ends (length far.asked)
   by end.Ended isnt = enough
   by end.Cut isnt = enough
@@ -142,12 +143,16 @@ pub session_final : (a b c : World) (count : ℕ) (ends : SessionEnd) → Serves
 session_final a b c count ends far few next is = subst (λ e. Session a c e) (sym is) (by (count + 1 == MOST_REQUESTS) refl) where
   all : List Asked
   all = far.asked ++ next.0 ∷ []
+
   all_served : Serves a c all
   all_served = serves_more a b c far.asked (next.0 ∷ []) far.serves next.1
+
   length_all : length all ≡ count + 1
   length_all = length-append far.asked (next.0 ∷ []) ∙ ap (λ n. n + 1) far.counted
+
   only : OnlyFinalEnds all
   only = only_final_append far.asked next.0 far.going next.2
+
   by : (full : Bool) → (count + 1 == MOST_REQUESTS) ≡ full → Session a c (end_behind count)
   by true is = rw is (record { asked = all; behind = c; serves = all_served; counted = length_all ∙ eqb-true _ _ is; stops = inr (only, tt, refl) })
   by false is = rw is (record { asked = all; behind = c; serves = all_served; counted = subst (λ n. n < MOST_REQUESTS) (sym length_all) (below is); stops = inr (only, tt, refl) }) where

@@ -61,23 +61,24 @@ session_quietly w w' ends s settled = by s.stops where
 
 -- a settled session over a known text, from the first projects on, does what the text asks
 session_text : (w w' : World) (ends : SessionEnd) (told : Option (List Entry)) (text : List ℕ) (messages : List Request) (ending : Ending) → Session w w' ends → w.projects ≡ first_projects → IsKept told first_projects w.kept
-  → w.input ≡ Some text → Splits text messages ending → IsSettled ends → RunsText messages ending (status_of ends) w.output w'.output told w'.kept
+    → w.input ≡ Some text → Splits text messages ending → IsSettled ends → RunsText messages ending (status_of ends) w.output w'.output told w'.kept
 session_text w w' ends told text messages ending s first kept input splits settled = record {
   asked = s.asked;
   requests_are = due.requests_are;
   status_is = sym (ap (λ e. e.status) due.end_is);
   written = quiet.written ∙ ap (λ known. append_known known (text_at ends)) s.serves.written ∙ append_twice w.output (printed_replies w.projects s.asked) (text_at ends)
-    ∙ ap (λ ps. append_known w.output (printed_replies ps s.asked ++ text_at ends)) first ∙ ap (λ t. append_known w.output (printed_replies first_projects s.asked ++ t)) (sym (ap (λ e. e.text) due.end_is));
+      ∙ ap (λ ps. append_known w.output (printed_replies ps s.asked ++ text_at ends)) first ∙ ap (λ t. append_known w.output (printed_replies first_projects s.asked ++ t)) (sym (ap (λ e. e.text) due.end_is));
   kept = quiet.kept told (s.serves.changes.kept told (subst (λ ps. IsKept told ps w.kept) (sym first) kept)) ∙ ap (λ ps. option_map (λ _. entries_of ps) told) (quiet.projects ∙ s.serves.changes.projects ∙ ap (λ ps. projects_after ps s.asked) first);
 } where
   due : IsDue messages ending ends s.asked
   due = session_due w w' ends text messages ending s input splits settled
+
   quiet : StopsQuietly ends s.behind w'
   quiet = session_quietly w w' ends s settled
 
 -- a run with a session ends with a fault, or does what its text asks
 ran_text : (words : List (List ℕ)) (w w' : World) (status : ℕ) (r : Ran words w w' status) (text : List ℕ) (messages : List Request) (ending : Ending) → w.input ≡ Some text → Splits text messages ending
-  → (is_fault status ≡ true) ⊎ RunsText messages ending status w.output w'.output w.kept w'.kept
+    → (is_fault status ≡ true) ⊎ RunsText messages ending status w.output w'.output w.kept w'.kept
 ran_text words w w' status r text messages ending input splits = subst (λ n. (is_fault n ≡ true) ⊎ RunsText messages ending n w.output w'.output w.kept w'.kept) (sym r.status_is) (by r.ends r.session) where
   by : (ends : SessionEnd) → Session (opened w r.faults) (record w' { input = r.input; projects = r.projects }) ends → (is_fault (status_of ends) ≡ true) ⊎ RunsText messages ending (status_of ends) w.output w'.output w.kept w'.kept
   by end.Ended s = inr (session_text _ _ end.Ended w.kept text messages ending s refl refl input splits tt)
@@ -99,7 +100,7 @@ Done words w w' status = Ran words w w' status ⊎ Refused words w w' status
 
 -- a run over a known text ends with a fault, or does what the text asks
 pub top_text : (words : List (List ℕ)) (w w' : World) (status : ℕ) (known : Option (List ℕ)) → Done words w w' status → w.input ≡ known
-  → IfSome known (λ text. (messages : List Request) (ending : Ending) → Splits text messages ending → (is_fault status ≡ true) ⊎ RunsText messages ending status w.output w'.output w.kept w'.kept)
+    → IfSome known (λ text. (messages : List Request) (ending : Ending) → Splits text messages ending → (is_fault status ≡ true) ⊎ RunsText messages ending status w.output w'.output w.kept w'.kept)
 top_text words w w' status None done is = tt
 top_text words w w' status (Some text) (inl ran) is = λ messages ending splits. ran_text words w w' status ran text messages ending is splits
 top_text words w w' status (Some text) (inr refused) is = λ messages ending splits. inl (ap is_fault refused.status_is ∙ start_fault_is refused.why)
@@ -119,16 +120,18 @@ due_whole : (messages : List Request) → length messages < MOST_REQUESTS → (e
 due_whole messages few = by (has_last (answered messages)) refl where
   fewer : length (answered messages) < MOST_REQUESTS
   fewer = omega (arith, few, through_last_few messages, length-take MOST_REQUESTS (through_last messages))
+
   by : (last : Bool) → has_last (answered messages) ≡ last → (end_due messages ended).status ≡ 0
   by true is = rw (not_full (length (answered messages)) fewer, is) refl
   by false is = rw (not_full (length (answered messages)) fewer, is) refl
 
 -- a run over whole messages, in which nothing failed, answered all of them or was refused memory
 ran_complete : (words : List (List ℕ)) (w w' : World) (status : ℕ) (r : Ran words w w' status) (text : List ℕ) (messages : List Request) → w.input ≡ Some text → Splits text messages ended → length messages < MOST_REQUESTS
-  → ¬ (Rose w.read_faults w'.read_faults) → ¬ (Rose w.write_faults w'.write_faults) → (status ≡ 0) ⊎ (status ≡ 9)
+    → ¬ (Rose w.read_faults w'.read_faults) → ¬ (Rose w.write_faults w'.write_faults) → (status ≡ 0) ⊎ (status ≡ 9)
 ran_complete words w w' status r text messages input splits few reads writes = subst (λ n. (n ≡ 0) ⊎ (n ≡ 9)) (sym r.status_is) (by r.ends r.session) where
   settled : (ends : SessionEnd) → Session (opened w r.faults) (record w' { input = r.input; projects = r.projects }) ends → IsSettled ends → (status_of ends ≡ 0) ⊎ (status_of ends ≡ 9)
   settled ends s is = inl ((session_text _ _ ends w.kept text messages ended s refl refl input splits is).status_is ∙ due_whole messages few)
+
   by : (ends : SessionEnd) → Session (opened w r.faults) (record w' { input = r.input; projects = r.projects }) ends → (status_of ends ≡ 0) ⊎ (status_of ends ≡ 9)
   by end.Ended s = inl refl
   by end.Cut s = settled end.Cut s tt
@@ -146,7 +149,7 @@ ran_complete words w w' status r text messages input splits few reads writes = s
 
 -- the same of any run
 pub top_complete : (words : List (List ℕ)) (w w' : World) (status : ℕ) (known : Option (List ℕ)) → Done words w w' status → w.input ≡ known
-  → IfSome known (λ text. (messages : List Request) → Splits text messages ended → length messages < MOST_REQUESTS → are_run words ≡ true → w.kept ≡ Some []
+    → IfSome known (λ text. (messages : List Request) → Splits text messages ended → length messages < MOST_REQUESTS → are_run words ≡ true → w.kept ≡ Some []
     → ¬ (Rose w.read_faults w'.read_faults) → ¬ (Rose w.write_faults w'.write_faults) → ¬ (Rose w.keeper_faults w'.keeper_faults) → (status ≡ 0) ⊎ (status ≡ 9))
 top_complete words w w' status None done is = tt
 top_complete words w w' status (Some text) (inl ran) is = λ messages splits few read none reads writes keeps. ran_complete words w w' status ran text messages is splits few reads writes

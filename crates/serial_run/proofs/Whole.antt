@@ -27,7 +27,7 @@ splits_behind text rest (m ∷ begun) [] ending begins splits = absurd (ending_m
 splits_behind text rest (m ∷ begun) (n ∷ messages) ending begins splits =
     let same : (m ≡ n) × (begins.0 ≡ splits.begins.0) = message_unique begins.1 splits.begins.1 in
     let far : GoesOn rest begun messages ending = splits_behind begins.0 rest begun messages ending begins.2
-      (record { rest = splits.rest; begins = subst (λ bytes. Begins bytes messages splits.rest) (sym same.1) splits.begins.2; ends = splits.ends }) in
+    (record { rest = splits.rest; begins = subst (λ bytes. Begins bytes messages splits.rest) (sym same.1) splits.begins.2; ends = splits.ends }) in
     record { more = far.more; messages_are = ap (λ x. x ∷ messages) (sym same.0) ∙ ap (λ xs. m ∷ xs) far.messages_are; rest_splits = far.rest_splits }
 
 -- where a rest ends so, there are no more messages
@@ -120,7 +120,7 @@ due_by messages ending ends asked are due = record { requests_are = sym are; end
 
 -- where the rest behind the requests ends as the session stopped
 due_at_end : (rest : List ℕ) (asked : List Asked) (messages : List Request) (ending other : Ending) (ends : SessionEnd) → GoesOn rest (requests_of asked) messages ending → EndsAs rest other → end_at other ≡ record { status = status_of ends; text = text_at ends }
-  → AllGoOn asked → length asked < MOST_REQUESTS → IsDue messages ending ends asked
+    → AllGoOn asked → length asked < MOST_REQUESTS → IsDue messages ending ends asked
 due_at_end rest asked messages ending other ends far stands is going few =
     let none : (far.more ≡ []) × (ending ≡ other) = none_more rest far.more ending other far.rest_splits stands in
     due_by messages ending ends asked (answered_going asked messages far.more far.messages_are none.0 going few) (due_going asked ending going few ∙ ap end_at none.1 ∙ is)
@@ -130,10 +130,13 @@ pub session_due : (w w' : World) (ends : SessionEnd) (text : List ℕ) (messages
 session_due w w' ends text messages ending s input splits settled = by ends s.counted s.stops settled where
   taken : (rest : List ℕ) × Begins text (requests_of s.asked) rest × (s.behind.input ≡ Some rest)
   taken = subst (λ known. IfSome known (λ bytes. (rest : List ℕ) × Begins bytes (requests_of s.asked) rest × (s.behind.input ≡ Some rest))) input s.serves.read
+
   far : GoesOn taken.0 (requests_of s.asked) messages ending
   far = splits_behind text taken.0 (requests_of s.asked) messages ending taken.1 splits
+
   at_rest : (P : List ℕ → Type 0) → IfSome s.behind.input P → P taken.0
   at_rest P known = subst (λ input. IfSome input P) taken.2 known
+
   by : (ends : SessionEnd) → CountsAt ends (length s.asked) → (AllGoOn s.asked × Stops ends s.behind w') ⊎ (OnlyFinalEnds s.asked × StopsBehindFinal ends × (w' ≡ s.behind)) → IsSettled ends → IsDue messages ending ends s.asked
   by end.Ended few (inl (going, stops)) settled = due_at_end taken.0 s.asked messages ending ended end.Ended far (at_rest IsBlank stops.1) refl going few
   by end.Ended few (inr (only, tail, same)) settled = due_by messages ending end.Ended s.asked (answered_final s.asked messages far.more far.messages_are only (omega (arith, few))) (due_final s.asked ending only few)

@@ -9,8 +9,8 @@ ghost use Rattle.serial_run.specs.Texts.{RunsText, is_fault};
 ghost use Rattle.serial_run.specs.declared.session.TheConstants.{MOST_REQUESTS};
 ghost use Rattle.serial_run.specs.Worlds.{World};
 
-use crate::session::SessionEnd;
 use crate::serving::serve;
+use crate::session::SessionEnd;
 use http_front::{Buffer, Sink, Source};
 use project_requests::{OpenFault, open};
 use record_keeper::Keeper;
@@ -92,12 +92,28 @@ fn session<S: Source, K: Sink, R: Keeper>(
 ) -> SessionEnd
     requires { buffer ≡ [] }
     ensures { (input : Option (List ℕ)) × (after : Projects) × Session
-        (record { input = S.left source.old; left = S.left source.old; ended = S.ended source.old;
-            output = K.held sink.old; kept = R.told keeper.old; projects = projects.items;
-            read_faults = S.failures source.old; write_faults = K.failures sink.old; keeper_faults = R.failures keeper.old })
-        (record { input = input; left = S.left source.new; ended = S.ended source.new;
-            output = K.held sink.new; kept = R.told keeper.new; projects = after;
-            read_faults = S.failures source.new; write_faults = K.failures sink.new; keeper_faults = R.failures keeper.new })
+        (record {
+          input = S.left source.old;
+          left = S.left source.old;
+          ended = S.ended source.old;
+          output = K.held sink.old;
+          kept = R.told keeper.old;
+          projects = projects.items;
+          read_faults = S.failures source.old;
+          write_faults = K.failures sink.old;
+          keeper_faults = R.failures keeper.old;
+        })
+        (record {
+          input = input;
+          left = S.left source.new;
+          ended = S.ended source.new;
+          output = K.held sink.new;
+          kept = R.told keeper.new;
+          projects = after;
+          read_faults = S.failures source.new;
+          write_faults = K.failures sink.new;
+          keeper_faults = R.failures keeper.new;
+        })
         result }
 {
     serve(alloc, &mut buffer, source, sink, keeper, &mut projects)
@@ -111,23 +127,54 @@ fn run<S: Source, K: Sink, R: Keeper>(
     sink: &mut K,
     mut keeper: R,
 ) -> (u8, R)
-    ensures {
-        Ran (map (λ w. string_bytes w) words.now)
-          (record { input = S.left source.old; left = S.left source.old; ended = S.ended source.old;
-            output = K.held sink.old; kept = R.told keeper; projects = [];
-            read_faults = S.failures source.old; write_faults = K.failures sink.old; keeper_faults = R.failures keeper })
-          (record { input = S.left source.new; left = S.left source.new; ended = S.ended source.new;
-            output = K.held sink.new; kept = R.told result.1; projects = [];
-            read_faults = S.failures source.new; write_faults = K.failures sink.new; keeper_faults = R.failures result.1 })
-          result.0
+    ensures { Ran (map (λ w. string_bytes w) words.now)
+        (record {
+          input = S.left source.old;
+          left = S.left source.old;
+          ended = S.ended source.old;
+          output = K.held sink.old;
+          kept = R.told keeper;
+          projects = [];
+          read_faults = S.failures source.old;
+          write_faults = K.failures sink.old;
+          keeper_faults = R.failures keeper;
+        })
+        (record {
+          input = S.left source.new;
+          left = S.left source.new;
+          ended = S.ended source.new;
+          output = K.held sink.new;
+          kept = R.told result.1;
+          projects = [];
+          read_faults = S.failures source.new;
+          write_faults = K.failures sink.new;
+          keeper_faults = R.failures result.1;
+        })
+        result.0
         ⊎ Refused (map (λ w. string_bytes w) words.now)
-          (record { input = S.left source.old; left = S.left source.old; ended = S.ended source.old;
-            output = K.held sink.old; kept = R.told keeper; projects = [];
-            read_faults = S.failures source.old; write_faults = K.failures sink.old; keeper_faults = R.failures keeper })
-          (record { input = S.left source.new; left = S.left source.new; ended = S.ended source.new;
-            output = K.held sink.new; kept = R.told result.1; projects = [];
-            read_faults = S.failures source.new; write_faults = K.failures sink.new; keeper_faults = R.failures result.1 })
-          result.0 }
+        (record {
+          input = S.left source.old;
+          left = S.left source.old;
+          ended = S.ended source.old;
+          output = K.held sink.old;
+          kept = R.told keeper;
+          projects = [];
+          read_faults = S.failures source.old;
+          write_faults = K.failures sink.old;
+          keeper_faults = R.failures keeper;
+        })
+        (record {
+          input = S.left source.new;
+          left = S.left source.new;
+          ended = S.ended source.new;
+          output = K.held sink.new;
+          kept = R.told result.1;
+          projects = [];
+          read_faults = S.failures source.new;
+          write_faults = K.failures sink.new;
+          keeper_faults = R.failures result.1;
+        })
+        result.0 }
 {
     if !are_run(words) {
         return (StartFault::Words.status(), keeper);
@@ -154,23 +201,54 @@ pub fn run_main<S: Source, K: Sink, R: Keeper>(
     keeper: R,
 ) -> (u8, R)
     // There was a session, or there was none.
-    ensures done {
-        Ran (map (λ w. string_bytes w) words.now)
-          (record { input = S.left source.old; left = S.left source.old; ended = S.ended source.old;
-            output = K.held sink.old; kept = R.told keeper; projects = [];
-            read_faults = S.failures source.old; write_faults = K.failures sink.old; keeper_faults = R.failures keeper })
-          (record { input = S.left source.new; left = S.left source.new; ended = S.ended source.new;
-            output = K.held sink.new; kept = R.told result.1; projects = [];
-            read_faults = S.failures source.new; write_faults = K.failures sink.new; keeper_faults = R.failures result.1 })
-          result.0
+    ensures done { Ran (map (λ w. string_bytes w) words.now)
+        (record {
+          input = S.left source.old;
+          left = S.left source.old;
+          ended = S.ended source.old;
+          output = K.held sink.old;
+          kept = R.told keeper;
+          projects = [];
+          read_faults = S.failures source.old;
+          write_faults = K.failures sink.old;
+          keeper_faults = R.failures keeper;
+        })
+        (record {
+          input = S.left source.new;
+          left = S.left source.new;
+          ended = S.ended source.new;
+          output = K.held sink.new;
+          kept = R.told result.1;
+          projects = [];
+          read_faults = S.failures source.new;
+          write_faults = K.failures sink.new;
+          keeper_faults = R.failures result.1;
+        })
+        result.0
         ⊎ Refused (map (λ w. string_bytes w) words.now)
-          (record { input = S.left source.old; left = S.left source.old; ended = S.ended source.old;
-            output = K.held sink.old; kept = R.told keeper; projects = [];
-            read_faults = S.failures source.old; write_faults = K.failures sink.old; keeper_faults = R.failures keeper })
-          (record { input = S.left source.new; left = S.left source.new; ended = S.ended source.new;
-            output = K.held sink.new; kept = R.told result.1; projects = [];
-            read_faults = S.failures source.new; write_faults = K.failures sink.new; keeper_faults = R.failures result.1 })
-          result.0 }
+        (record {
+          input = S.left source.old;
+          left = S.left source.old;
+          ended = S.ended source.old;
+          output = K.held sink.old;
+          kept = R.told keeper;
+          projects = [];
+          read_faults = S.failures source.old;
+          write_faults = K.failures sink.old;
+          keeper_faults = R.failures keeper;
+        })
+        (record {
+          input = S.left source.new;
+          left = S.left source.new;
+          ended = S.ended source.new;
+          output = K.held sink.new;
+          kept = R.told result.1;
+          projects = [];
+          read_faults = S.failures source.new;
+          write_faults = K.failures sink.new;
+          keeper_faults = R.failures result.1;
+        })
+        result.0 }
 
     // Over a source that tells its bytes: a fault, or what these bytes ask.
     ensures text { IfSome (S.left source.old) (λ text. (messages : List Request) (ending : Ending) → Splits text messages ending →

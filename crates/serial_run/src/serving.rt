@@ -31,12 +31,28 @@ pub(crate) fn serve<S: Source, K: Sink, R: Keeper>(
     projects: &mut Vec<Text>,
 ) -> SessionEnd
     ensures { Session
-        (record { input = prepend_known buffer.old (S.left source.old); left = S.left source.old; ended = S.ended source.old;
-            output = K.held sink.old; kept = R.told keeper.old; projects = projects.old.items;
-            read_faults = S.failures source.old; write_faults = K.failures sink.old; keeper_faults = R.failures keeper.old })
-        (record { input = prepend_known buffer.new (S.left source.new); left = S.left source.new; ended = S.ended source.new;
-            output = K.held sink.new; kept = R.told keeper.new; projects = projects.new.items;
-            read_faults = S.failures source.new; write_faults = K.failures sink.new; keeper_faults = R.failures keeper.new })
+        (record {
+          input = prepend_known buffer.old (S.left source.old);
+          left = S.left source.old;
+          ended = S.ended source.old;
+          output = K.held sink.old;
+          kept = R.told keeper.old;
+          projects = projects.old.items;
+          read_faults = S.failures source.old;
+          write_faults = K.failures sink.old;
+          keeper_faults = R.failures keeper.old;
+        })
+        (record {
+          input = prepend_known buffer.new (S.left source.new);
+          left = S.left source.new;
+          ended = S.ended source.new;
+          output = K.held sink.new;
+          kept = R.told keeper.new;
+          projects = projects.new.items;
+          read_faults = S.failures source.new;
+          write_faults = K.failures sink.new;
+          keeper_faults = R.failures keeper.new;
+        })
         result }
 {
     for done in 0..MOST_REQUESTS {

@@ -1,6 +1,5 @@
 use http_front::HeadFault;
 
-
 /// The most requests that one session answers.
 pub const MOST_REQUESTS: u32 = 1_000_000;
 

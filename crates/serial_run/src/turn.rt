@@ -13,7 +13,11 @@ use size_values::{NoMemory, Seq, Text};
 use std::alloc::Global;
 
 /// Writes a printed reply, or the reply of refused memory, which takes none.
-fn write_reply<K: Sink>(sink: &mut K, reply: &Result<Seq<u8>, NoMemory>, last: bool) -> Result<(), SinkFailed>
+fn write_reply<K: Sink>(
+    sink: &mut K,
+    reply: &Result<Seq<u8>, NoMemory>,
+    last: bool,
+) -> Result<(), SinkFailed>
     ensures written { Writes (K.held sink.old) (K.held sink.new) result (bytes_for reply.now last) }
     ensures cause { HasCause (K.failures sink.old) (K.failures sink.new) result }
 {
@@ -27,13 +31,7 @@ fn turn_after(written: Result<(), SinkFailed>, last: bool) -> Turn
     ensures { result ≡ turn_after written last }
 {
     match written {
-        Ok(()) => {
-            if last {
-                Turn::Final
-            } else {
-                Turn::GoOn
-            }
-        }
+        Ok(()) => { if last { Turn::Final } else { Turn::GoOn } }
         Err(SinkFailed) => Turn::Stop(SessionEnd::WriteFault),
     }
 }
@@ -61,12 +59,28 @@ pub(crate) fn turn<S: Source, K: Sink, R: Keeper>(
     projects: &mut Vec<Text>,
 ) -> Turn
     ensures { Turns result
-        (record { input = prepend_known buffer.old (S.left source.old); left = S.left source.old; ended = S.ended source.old;
-            output = K.held sink.old; kept = R.told keeper.old; projects = projects.old.items;
-            read_faults = S.failures source.old; write_faults = K.failures sink.old; keeper_faults = R.failures keeper.old })
-        (record { input = prepend_known buffer.new (S.left source.new); left = S.left source.new; ended = S.ended source.new;
-            output = K.held sink.new; kept = R.told keeper.new; projects = projects.new.items;
-            read_faults = S.failures source.new; write_faults = K.failures sink.new; keeper_faults = R.failures keeper.new }) }
+        (record {
+          input = prepend_known buffer.old (S.left source.old);
+          left = S.left source.old;
+          ended = S.ended source.old;
+          output = K.held sink.old;
+          kept = R.told keeper.old;
+          projects = projects.old.items;
+          read_faults = S.failures source.old;
+          write_faults = K.failures sink.old;
+          keeper_faults = R.failures keeper.old;
+        })
+        (record {
+          input = prepend_known buffer.new (S.left source.new);
+          left = S.left source.new;
+          ended = S.ended source.new;
+          output = K.held sink.new;
+          kept = R.told keeper.new;
+          projects = projects.new.items;
+          read_faults = S.failures source.new;
+          write_faults = K.failures sink.new;
+          keeper_faults = R.failures keeper.new;
+        }) }
 {
     match read_request(alloc, buffer, source) {
         Got::Request(request) => {
