@@ -1,6 +1,5 @@
 -- What one call of `read_request` answers, told of the bytes that were to come.
-use Rattle.std.specs.Prelude.{◌≡◌, ℕ, ◌⊎◌, List, length, Option, Some, Bool, true}
-use Rattle.http_heads.specs.declared.request.Request.{Request}
+use Rattle.std.specs.Prelude.{◌≡◌, ℕ, ◌⊎◌, List, length, Option, Some}
 use Rattle.http_heads.specs.Messages.{IsMessage, IsBlank, IsCut, IsMalformed}
 use Rattle.http_front.specs.declared.read.Got.{Got}
 use Rattle.http_front.specs.declared.read.Got.TheVariants as got

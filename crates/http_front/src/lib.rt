@@ -9,8 +9,8 @@ mod sink;
 mod source;
 
 pub use buffer::Buffer;
+pub use http_heads::{HeadFault, MAX_BODY, MAX_FIELDS, MAX_HEAD, Request};
 pub use read::{Got, read_request};
-pub use http_heads::{HeadFault, Request};
-pub use reply::{Printed, reply_bytes, no_memory_reply};
+pub use reply::{Printed, no_memory_reply, reply_bytes};
 pub use sink::{ByteSink, Sink, SinkFailed, WriterSink};
 pub use source::{ByteSource, ReaderSource, Source, SourceFailed};

@@ -1,5 +1,5 @@
 -- More bytes behind a whole head change nothing of it.
-use Rattle.std.proofs.Common.{◌≡◌, ℕ, suc, ◌+◌, ◌-◌, ◌<◌, ◌≤◌, ◌==◌, Bool, true, false, cond, List, [], ◌∷◌, ◌++◌, length, take, drop, Option, Some, None, refl, sym, ap, ◌∙◌, ◌⊎◌, inl, inr, arith, length-take}
+use Rattle.std.proofs.Common.{◌≡◌, ℕ, suc, ◌+◌, ◌-◌, ◌<◌, ◌≤◌, ◌==◌, Bool, true, false, cond, List, [], ◌∷◌, ◌++◌, length, take, drop, Option, Some, None, Result, Ok, Err, IfOk, refl, sym, ap, ◌∙◌, ◌⊎◌, inl, inr, arith, length-take}
 use Rattle.std.specs.Option.{option_map, option_or}
 use Rattle.std.proofs.lemmas.Option.{same_Some}
 use Rattle.std.proofs.lemmas.Bool.{cases_lt}
@@ -125,6 +125,10 @@ head_end-le (b ∷ bytes) n e = by_test (is_line_byte b) refl (λ k. head_end-le
     by_test true is later =
         let m = mapped suc (head_end bytes) n (sym (head_end-blank b bytes is) ∙ e) in omega (arith, m.2, later m.0 m.1)
     by_test false is later = empty_line_end-le (b ∷ bytes) n (sym (head_end-begins b bytes is) ∙ e)
+
+pub found_within : {E : Type 0} (bytes : List ℕ) (r : Result ℕ E) → IfOk r (λ n. head_end bytes ≡ Some n) → IfOk r (λ n. n ≤ length bytes)
+found_within bytes (Ok n) e = head_end-le bytes n e
+found_within bytes (Err x) e = tt
 
 -- no head ends where there are only CR and LF bytes
 pub head_end-all_blank : (bytes : List ℕ) → blank_len bytes ≡ length bytes → head_end bytes ≡ None

@@ -12,7 +12,8 @@ use httparse::spans::{HeaderSpan, Span};
 #[tactic(auto, unfolding(crate::specs::Fields::framing))]
 pub(crate) fn framing(bytes: &[u8], headers: &[HeaderSpan]) -> Result<usize, HeadFault>
     requires { All (IsHeaderWithin (length bytes.now)) headers.now }
-    ensures { result ≡ framing (map (header_bytes bytes.now) headers.now) }
+    ensures value { result ≡ framing (map (header_bytes bytes.now) headers.now) }
+    ensures small { IfOk result (λ length. length ≤ MAX_BODY) }
 {
     if single_value(bytes, headers, b"transfer-encoding")?.is_some() {
         return Err(HeadFault::H3);
@@ -58,7 +59,8 @@ fn is_named(bytes: &[u8], span: Span, name: &[u8]) -> bool
 /// The length that a text of 1 to 19 digits gives.
 #[tactic(auto, unfolding(crate::specs::Fields::length_in))]
 fn length_in(text: &[u8]) -> Result<usize, HeadFault>
-    ensures { result ≡ length_in text.now }
+    ensures value { result ≡ length_in text.now }
+    ensures small { IfOk result (λ length. length ≤ MAX_BODY) }
 {
     if text.is_empty() || text.len() > 19 {
         return Err(HeadFault::H3);

@@ -5,7 +5,7 @@ ghost use Rattle.http_heads.specs.Messages.{IsHead};
 ghost use Rattle.http_heads.specs.Readings.{Says, HasReason, AreParts};
 
 use crate::fields::{framing, some_lists};
-use crate::request::{HeadFault, MAX_FIELDS};
+use crate::request::{HeadFault, MAX_BODY, MAX_FIELDS};
 use crate::search::leading_line_bytes;
 use httparse::Status;
 use httparse::spans::{EMPTY_HEADER_SPAN, HeaderSpan, RequestSpans, parse_request};
@@ -24,6 +24,7 @@ pub struct Head {
 /// Reads a whole head, with the CR and LF bytes before it. A fault is H1, H3 or H4, the first that stands.
 pub fn read_head(alloc: Global, bytes: &[u8]) -> Result<Head, Or<HeadFault>>
     ensures ok { IfOk result (Says (behind_blank bytes.now)) }
+    ensures small { IfOk result (λ head. head.body ≤ MAX_BODY) }
     ensures err { IfErr result (HasReason (behind_blank bytes.now)) }
 {
     let text = &bytes[leading_line_bytes(bytes)..];
@@ -63,6 +64,7 @@ fn head_of(
 ) -> Result<Head, Or<HeadFault>>
     requires { AreParts text.now headers.now spans.now }
     ensures ok { IfOk result (Says text.now) }
+    ensures small { IfOk result (λ head. head.body ≤ MAX_BODY) }
     ensures err { IfErr result (HasReason text.now) }
 {
     let body = match framing(text, headers) {

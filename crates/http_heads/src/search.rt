@@ -24,6 +24,7 @@ enum After {
 pub fn end_of_head(bytes: &[u8], search: Search) -> Result<usize, Search>
     requires { HasSearched search bytes.now }
     ensures found { IfOk result (λ len. head_end bytes.now ≡ Some len) }
+    ensures within { IfOk result (λ len. len ≤ length bytes.now) }
     ensures none { IfErr result (λ reached. head_end bytes.now ≡ None) }
     ensures reached { IfErr result (λ reached. HasSearched reached bytes.now) }
 {

@@ -6,7 +6,7 @@ use Rattle.http_heads.proofs.head.head_of.Goals as goal
 pub returns-in-Err-clause-err : goal.returns-in-Err-clause-err
 returns-in-Err-clause-err c =
     HasFault-of_fields c.in-Err.fault
-    (record { head = c.requires.head; is = c.requires.is; framed = ap framing (sym c.requires.fields) ∙ sym c.in-Err.ensures })
+    (record { head = c.requires.head; is = c.requires.is; framed = ap framing (sym c.requires.fields) ∙ sym c.in-Err.ensures.value })
 
 pub text_of-requires : goal.text_of-requires
 text_of-requires c =
