@@ -1,4 +1,0 @@
-pub mod SearchLemmas
-pub mod HeadLemmas
-pub mod LengthLemmas
-pub mod MessageLemmas
