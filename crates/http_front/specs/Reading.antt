@@ -1,0 +1,36 @@
+-- What one call of `read_request` answers, told of the bytes that were to come.
+use Rattle.std.specs.Prelude.{◌≡◌, ℕ, ◌⊎◌, List, length, Option, Some}
+use Rattle.http_heads.specs.Messages.{IsMessage, IsBlank, IsCut, IsMalformed}
+use Rattle.http_front.specs.declared.read.Got.{Got}
+use Rattle.http_front.specs.declared.read.Got.TheVariants as got
+
+-- no message is whole here yet, and none is malformed
+abbrev pub IsUnfinished : List ℕ → Type 0
+IsUnfinished bytes = IsBlank bytes ⊎ IsCut bytes
+
+-- What was answered of the bytes to come, which of them are still to come, and which of these are held.
+abbrev pub ReadsNext : List ℕ → Option (List ℕ) → List ℕ → Got → Type 0
+ReadsNext old new held (got.Request m) = (rest : List ℕ) × IsMessage old m rest × (new ≡ Some rest)
+ReadsNext old new held got.End = IsBlank old × (new ≡ Some old) × (held ≡ old)
+ReadsNext old new held (got.Cut n) = IsCut old × (new ≡ Some old) × (held ≡ old) × (n ≡ length old)
+ReadsNext old new held (got.Malformed fault) = IsMalformed old fault × (new ≡ Some old)
+ReadsNext old new held got.ReadFault = IsUnfinished held × (new ≡ Some old)
+ReadsNext old new held got.NoMemory = new ≡ Some old
+
+-- the fact, where a read failed
+abbrev pub OnReadFault : Got → Type 0 → Type 0
+OnReadFault got.ReadFault P = P
+OnReadFault (got.Request m) P = Unit {0}
+OnReadFault got.End P = Unit {0}
+OnReadFault (got.Cut n) P = Unit {0}
+OnReadFault (got.Malformed fault) P = Unit {0}
+OnReadFault got.NoMemory P = Unit {0}
+
+-- the fact, where the answer is that of a source that has ended
+abbrev pub OnEnd : Got → Type 0 → Type 0
+OnEnd got.End P = P
+OnEnd (got.Cut n) P = P
+OnEnd (got.Request m) P = Unit {0}
+OnEnd (got.Malformed fault) P = Unit {0}
+OnEnd got.ReadFault P = Unit {0}
+OnEnd got.NoMemory P = Unit {0}
