@@ -2,10 +2,9 @@ use Rattle.std.specs.Prelude.{◌≡◌, ◌≤◌, ℕ, List, [], Option, optio
 use Rattle.size_values.specs.Causes.{RoseBy}
 use Rattle.size_values.specs.declared.entry.Entry.{Entry}
 use Rattle.size_values.specs.declared.memory.NoMemory.{NoMemory}
-use Rattle.http_front.specs.Replies.{no_memory_text}
 use Rattle.http_heads.specs.declared.request.Request.{Request}
 use Rattle.project_requests.specs.Machine.{Projects, Outcome, Asked, reply_to, after, entries_of, unavailable}
-use Rattle.project_requests.specs.Replies.{printed}
+use Rattle.project_requests.specs.Replies.{no_memory_text, printed}
 
 -- the bytes that are written for a printed reply; where memory was refused, those of the reply that takes none
 abbrev pub bytes_for : Result (List ℕ) NoMemory → Bool → List ℕ

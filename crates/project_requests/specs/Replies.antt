@@ -3,7 +3,7 @@ use Rattle.serde_json.specs.Data.{Data, Members}
 use Rattle.serde_json.specs.Written.{compact_text}
 use Rattle.http_heads.specs.declared.request.HeadFault.{HeadFault}
 use Rattle.http_heads.specs.declared.request.HeadFault.TheVariants.{H1, H2, H3, H4}
-use Rattle.http_front.specs.Replies.{reply_text, no_memory_text}
+use Rattle.http_front.specs.Replies.{reply_text, no_memory_body}
 use Rattle.project_requests.specs.declared.reply.Refusal.{Refusal}
 use Rattle.project_requests.specs.declared.reply.Refusal.TheVariants.{Head, NotBuilt, NameTaken, Unavailable}
 use Rattle.project_requests.specs.declared.reply.Reply.{Reply}
@@ -43,6 +43,10 @@ refusal_body r = error_body (error_of r) (refusal_code r) (kept_of r)
 -- a body as a reply, with `Connection: close` where it is the last one
 abbrev pub reply_with : ℕ → Data → Bool → List ℕ
 reply_with code body last = reply_text (record { code = code; body = compact_text body; location = []; last = last })
+
+-- the bytes of the reply where memory was refused
+abbrev pub no_memory_text : Bool → List ℕ
+no_memory_text last = reply_text (record { code = 500; body = no_memory_body; location = []; last = last })
 
 -- the bytes of a reply
 abbrev pub printed : Reply → Bool → List ℕ

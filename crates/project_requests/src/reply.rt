@@ -1,5 +1,5 @@
-ghost use Rattle.std.specs.Prelude.{◌≡◌, IfOk, false};
-ghost use Rattle.http.specs.StatusCode.{IsStatusCode};
+ghost use Rattle.std.specs.Prelude.{◌≡◌, IfOk, false, IsTrue};
+ghost use Rattle.http_front.specs.Replies.{is_reply_code};
 ghost use Rattle.serde_json.specs.Data.{object};
 ghost use Rattle.serde_json.specs.View.{view};
 ghost use Rattle.serde_json.specs.Written.{has_float};
@@ -39,7 +39,7 @@ impl Refusal {
     /// The HTTP status code.
     pub fn code(&self) -> u16
         ensures code { result ≡ refusal_code self.now }
-        ensures status { IsStatusCode result }
+        ensures known { IsTrue (is_reply_code result) }
     {
         match self {
             Refusal::Head(_) => 400,
@@ -88,7 +88,7 @@ impl Refusal {
 }
 
 fn print(alloc: Global, code: u16, body: &Value, last: bool) -> Result<Seq<u8>, NoMemory>
-    requires { IsStatusCode code }
+    requires { IsTrue (is_reply_code code) }
     ensures { IfOk result (λ b. has_float (view body.now) ≡ false → b ≡ reply_with code (view body.now) last) }
 {
     let text = body.to_string(alloc)?;

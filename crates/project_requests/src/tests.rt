@@ -160,11 +160,16 @@ fn printed_replies_and_rows(rt: HostRuntime) -> Result<(), Fail> {
         refused
             .view()
             .windows(close.len())
-            .any(|bytes| bytes == close)
+            .any(|bytes| bytes == close.as_slice())
     );
     let made = print_created(alloc, false)?;
     assert!(rt; is_reply(&made, "HTTP/1.1 200 OK\r\n", MADE));
-    assert!(rt; !made.view().windows(close.len()).any(|bytes| bytes == close));
+    assert!(rt;
+        !made
+            .view()
+            .windows(close.len())
+            .any(|bytes| bytes == close.as_slice())
+    );
     for (name, features) in [("default", 5), ("lab", 4)] {
         let entry = entry_of(alloc, &Text::from_text(alloc, name)?)?;
         assert!(rt; entry.kind == 1 && entry.key.view() == name);

@@ -8,3 +8,6 @@ mod turn;
 
 pub use running::{StartFault, run_main};
 pub use session::{MOST_REQUESTS, SessionEnd, Turn};
+
+#[cfg(test)]
+mod tests;
