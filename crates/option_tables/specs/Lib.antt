@@ -1,0 +1,5 @@
+pub mod Checks
+pub mod Faults
+pub mod Forms
+pub mod Names
+pub mod Tables

@@ -1,0 +1,205 @@
+use crate::{
+    DeviceFault, Scope, SettingFault, check_devices, check_instance, check_network, check_pool,
+    check_project, check_volume,
+};
+use config_lists::{Config, Devices};
+use size_values::ValueFault;
+use std::alloc::Global;
+use std::test::Fail;
+
+fn config_of(alloc: Global, settings: &[(&str, &str)]) -> Result<Config, Fail> {
+    let mut config = Config::new(alloc);
+    for (key, value) in settings {
+        if !key.is_empty() && !value.is_empty() {
+            config.set(key, value)?;
+        }
+    }
+    Ok(config)
+}
+
+fn devices_of(alloc: Global, devices: &[(&str, &[(&str, &str)])]) -> Result<Devices, Fail> {
+    let mut list = Devices::new(alloc);
+    for (name, settings) in devices {
+        list.put(name, config_of(alloc, settings)?)?;
+    }
+    Ok(list)
+}
+
+// Each option with a good and a bad value, or no bad one where any text is good, and the instances that it is for.
+const INSTANCE_CASES: &[(&str, &str, &str, &str)] = &[
+    ("environment.A", "x", "", "both"),
+    ("linux.kernel_modules", "x", "", "container"),
+    ("user.a", "x", "", "both"),
+    ("image.os", "x", "", "both"),
+    ("boot.autostart", "true", "maybe", "both"),
+    ("boot.autostart.delay", "1000000", "1000001", "both"),
+    ("boot.autostart.priority", "0", "x", "both"),
+    ("boot.host_shutdown_timeout", "30", "-1", "both"),
+    ("boot.stop.priority", "1", "1000001", "both"),
+    ("cloud-init.network-config", "x", "", "both"),
+    ("cloud-init.user-data", "x", "", "both"),
+    ("cloud-init.vendor-data", "x", "", "both"),
+    ("limits.cpu", "0-3,5", "3-0", "both"),
+    ("limits.cpu.allowance", "50%", "", "container"),
+    ("limits.cpu.priority", "10", "11", "container"),
+    ("limits.memory", "50%", "101%", "both"),
+    ("limits.memory.enforce", "soft", "weak", "container"),
+    ("limits.memory.swap", "x", "", "container"),
+    (
+        "limits.processes",
+        "9223372036854775807",
+        "9223372036854775808",
+        "container",
+    ),
+    ("raw.apparmor", "x", "", "both"),
+    ("raw.idmap", "x", "", "both"),
+    ("raw.lxc", "x", "", "container"),
+    ("raw.qemu", "x", "", "machine"),
+    ("raw.seccomp", "x", "", "container"),
+    ("security.idmap.isolated", "1", "2", "container"),
+    ("security.nesting", "Yes", "y", "container"),
+    ("security.privileged", "off", "of", "container"),
+    ("security.protection.delete", "on", "onn", "both"),
+    ("security.secureboot", "no", "none", "machine"),
+    (
+        "security.syscalls.intercept.mknod",
+        "true",
+        "t",
+        "container",
+    ),
+    (
+        "security.syscalls.intercept.mount",
+        "true",
+        "t",
+        "container",
+    ),
+    (
+        "security.syscalls.intercept.setxattr",
+        "true",
+        "t",
+        "container",
+    ),
+    ("snapshots.expiry", "1d 2H", "1d  2H", "both"),
+    ("snapshots.pattern", "a-%d.b", "%d%d", "both"),
+    ("snapshots.schedule", "@daily", "", "both"),
+    ("snapshots.schedule.stopped", "false", "f", "both"),
+];
+
+const PROJECT_CASES: &[(&str, &str, &str)] = &[
+    ("features.images", "true", "x"),
+    ("features.networks", "true", "x"),
+    ("features.profiles", "true", "x"),
+    ("features.storage.buckets", "true", "x"),
+    ("features.storage.volumes", "true", "x"),
+    ("limits.containers", "1", "x"),
+    ("limits.cpu", "8", "0-3"),
+    ("limits.disk", "1GiB", "1Gib"),
+    ("limits.instances", "0", "x"),
+    ("limits.memory", "8EB", "50%"),
+    ("limits.networks", "1", "x"),
+    ("limits.processes", "1", "x"),
+    ("limits.virtual-machines", "1", "x"),
+    ("restricted", "true", "x"),
+    ("restricted.containers.interception", "full", "managed"),
+    ("restricted.containers.lowlevel", "allow", "full"),
+    ("restricted.containers.nesting", "block", "full"),
+    ("restricted.containers.privilege", "isolated", "block"),
+    ("restricted.devices.disk", "managed", "full"),
+    ("restricted.devices.gpu", "allow", "managed"),
+    ("restricted.devices.nic", "managed", "full"),
+    ("restricted.devices.proxy", "allow", "managed"),
+    ("restricted.devices.unix-block", "allow", "managed"),
+    ("restricted.devices.unix-char", "allow", "managed"),
+    ("restricted.devices.usb", "allow", "managed"),
+    ("restricted.networks.access", "br0,br1", "br0,"),
+    ("restricted.snapshots", "allow", "full"),
+    ("restricted.virtual-machines.lowlevel", "allow", "full"),
+    ("user.a", "x", ""),
+];
+
+const NETWORK_CASES: &[(&str, &str, &str)] = &[
+    ("bridge.mtu", "65535", "0"),
+    ("dns.domain", "x", ""),
+    ("ipv4.address", "10.0.0.1/24", "10.0.0.1/31"),
+    ("ipv4.address", "none", "auto"),
+    ("ipv4.dhcp", "true", "x"),
+    ("ipv4.nat", "true", "x"),
+    ("ipv6.address", "none", "fd00::1/64"),
+    ("user.a", "x", ""),
+];
+
+const POOL_CASES: &[(&str, &str, &str)] = &[
+    ("size", "1GiB", "x"),
+    ("source", "/dev/sdb", ""),
+    ("user.a", "x", ""),
+];
+
+const VOLUME_CASES: &[(&str, &str, &str)] = &[("size", "1GiB", "1 GiB"), ("user.a", "x", "")];
+
+fn is_bad(checked: Result<(), SettingFault>) -> bool {
+    matches!(checked, Err(SettingFault::Bad(0, _)))
+}
+
+#[test]
+fn each_option_of_instances(rt: HostRuntime) -> Result<(), Fail> {
+    let alloc = rt.alloc();
+    for (key, good, bad, kinds) in INSTANCE_CASES {
+        let config = config_of(alloc, &[(*key, *good)])?;
+        let unknown = Err(SettingFault::Unknown(0));
+        let container = if *kinds == "machine" { unknown } else { Ok(()) };
+        let machine = if *kinds == "container" {
+            unknown
+        } else {
+            Ok(())
+        };
+        assert_eq!(rt; check_instance(&config, Scope::Any), Ok(()), "{key} of any");
+        assert_eq!(rt;
+            check_instance(&config, Scope::Container),
+            container,
+            "{key} of a container"
+        );
+        assert_eq!(rt;
+            check_instance(&config, Scope::Machine),
+            machine,
+            "{key} of a machine"
+        );
+        if !bad.is_empty() {
+            let config = config_of(alloc, &[(*key, *bad)])?;
+            assert!(rt;
+                is_bad(check_instance(&config, Scope::Any)),
+                "{key} = {bad}"
+            );
+        }
+    }
+    Ok(())
+}
+
+#[test]
+fn each_option_of_objects(rt: HostRuntime) -> Result<(), Fail> {
+    let alloc = rt.alloc();
+    let tables: [(
+        fn(&Config) -> Result<(), SettingFault>,
+        &[(&str, &str, &str)],
+    ); 4] = [
+        (check_project, PROJECT_CASES),
+        (check_network, NETWORK_CASES),
+        (check_pool, POOL_CASES),
+        (check_volume, VOLUME_CASES),
+    ];
+    for (check, cases) in tables {
+        for (key, good, bad) in cases {
+            assert_eq!(rt;
+                check(&config_of(alloc, &[(*key, *good)])?),
+                Ok(()),
+                "{key} = {good}"
+            );
+            if !bad.is_empty() {
+                assert!(rt;
+                    is_bad(check(&config_of(alloc, &[(*key, *bad)])?)),
+                    "{key} = {bad}"
+                );
+            }
+        }
+    }
+    Ok(())
+}
