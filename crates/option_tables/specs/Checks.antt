@@ -1,6 +1,8 @@
 -- The first fault of settings and of devices, by the tables.
-use Rattle.std.specs.Prelude.{ℕ, ◌+◌, Bool, ◌&&◌, List, [], ◌∷◌, Option, Some, None, if◌then◌else◌, is_some, is_none, codes}
+use Rattle.std.specs.Prelude.{ℕ, Bool, ◌&&◌, List, Option, Some, None, if◌then◌else◌, is_some, is_none, codes}
 use Rattle.std.specs.Option.{option_map, option_or}
+use Rattle.std.specs.List.{enumerate_from}
+use Rattle.plain_lists.specs.Firsts.{first_of}
 use Rattle.config_lists.specs.Settings.{Settings, setting, has_setting}
 use Rattle.config_lists.specs.Devices.{NamedDevices}
 use Rattle.option_tables.specs.declared.form.Form.{Form}
@@ -25,14 +27,9 @@ abbrev pub fault_at : ℕ → Option Form → List ℕ → Option KeyFault
 fault_at place None value = Some (key.Unknown place)
 fault_at place (Some form) value = option_map (key.Bad place) (value_fault form value)
 
--- the first faulty key of settings whose first key has this place
-abbrev pub first_fault : (List ℕ → Option Form) → ℕ → Settings → Option KeyFault
-first_fault form place [] = None
-first_fault form place (s ∷ rest) = option_or (fault_at place (form s.0) s.1) (first_fault form (place + 1) rest)
-
 -- the first faulty key by a table
 unfoldable pub keys_fault : Table → Settings → Option KeyFault
-keys_fault table config = first_fault (form_of table) 0 config
+keys_fault table config = first_of (λ (s : ℕ × (List ℕ × List ℕ)). fault_at s.0 (form_of table s.1.0) s.1.1) (enumerate_from 0 config)
 
 -- the first fault of the settings of an instance or profile, project, network, pool or volume
 unfoldable pub instance_fault : Settings → Scope → Option SettingFault
@@ -81,11 +78,6 @@ named_fault (Some name) settings = typed_fault (device_type name) settings
 unfoldable pub device_fault : List ℕ → Settings → Option DeviceFault
 device_fault name settings = if is_device_name name then named_fault (setting settings (codes "type")) settings else Some BadName
 
--- the first faulty device of those whose first has this place
-abbrev pub first_device_fault : ℕ → NamedDevices → Option SettingFault
-first_device_fault place [] = None
-first_device_fault place (d ∷ rest) = option_or (option_map (told.Device place) (device_fault d.0 d.1)) (first_device_fault (place + 1) rest)
-
 -- the first faulty device
 unfoldable pub devices_fault : NamedDevices → Option SettingFault
-devices_fault devices = first_device_fault 0 devices
+devices_fault devices = first_of (λ (d : ℕ × (List ℕ × Settings)). option_map (told.Device d.0) (device_fault d.1.0 d.1.1)) (enumerate_from 0 devices)

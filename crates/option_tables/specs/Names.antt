@@ -1,6 +1,6 @@
 -- Names and patterns of names.
-use Rattle.std.specs.Prelude.{ℕ, ◌==◌, Bool, ◌&&◌, ◌||◌, List, length, slice_index, drop, nat_le}
-use Rattle.std.specs.List.{list_all, before_first, after_first, slice_split}
+use Rattle.std.specs.Prelude.{ℕ, ◌==◌, Bool, false, ◌&&◌, ◌||◌, List, [], ◌∷◌, length, slice_index, drop, nat_le}
+use Rattle.std.specs.List.{list_all, prefix_len, slice_split}
 use Rattle.std.specs.Char.{is_ascii_alphanumeric}
 use Rattle.std.specs.Str.{byte}
 
@@ -24,15 +24,16 @@ is_network_name name = nat_le 2 (length name) && nat_le (length name) 15 && is_a
 abbrev pub are_network_names : List ℕ → Bool
 are_network_names text = list_all is_network_name (slice_split (λ b. b == byte ",") text)
 
-abbrev pub is_percent : ℕ → Bool
-is_percent b = b == byte "%"
+-- the first byte of a pattern: a letter, a digit, or the sign before its `d`
+abbrev pub may_begin : ℕ → Bool
+may_begin b = is_ascii_alphanumeric b || b == byte "%"
 
--- A pattern of names: 3 to 50 bytes with one `%d`. The bytes round it are those of names, and the first of the
--- pattern is a letter or a digit, unless `%d` comes first.
+-- `%d`, and behind it bytes of names
+abbrev pub is_numbered : List ℕ → Bool
+is_numbered [] = false
+is_numbered (a ∷ []) = false
+is_numbered (a ∷ b ∷ back) = a == byte "%" && b == byte "d" && list_all is_name_byte back
+
+-- a pattern of names: 3 to 50 bytes, in which one `%d` stands between bytes of names
 abbrev pub is_pattern : List ℕ → Bool
-is_pattern text =
-    let front = before_first is_percent text in
-    let number = after_first is_percent text in
-    nat_le 3 (length text) && nat_le (length text) 50
-    && (length front == 0 || is_ascii_alphanumeric (slice_index front 0))
-    && list_all is_name_byte front && slice_index number 0 == byte "d" && list_all is_name_byte (drop 1 number)
+is_pattern text = nat_le 3 (length text) && nat_le (length text) 50 && may_begin (slice_index text 0) && is_numbered (drop (prefix_len is_name_byte text) text)

@@ -1,5 +1,5 @@
 -- The tables, read: which form the values of a key have.
-use Rattle.std.specs.Prelude.{ℕ, ◌-◌, ◌==◌, Bool, true, false, ◌&&◌, List, length, take, slice_index, Option, Some, None, if◌then◌else◌, find, codes, nat_eq, nat_le, nat_lt}
+use Rattle.std.specs.Prelude.{ℕ, ◌-◌, ◌==◌, Bool, true, false, ◌&&◌, List, [], map, length, take, slice_index, Option, Some, None, if◌then◌else◌, find, codes, nat_eq, nat_le, nat_lt}
 use Rattle.std.specs.List.{starts_with}
 use Rattle.std.specs.Option.{option_map}
 use Rattle.std.specs.Str.{bytes_eq, byte}
@@ -31,34 +31,60 @@ is_for scope.Container scope.Machine = false
 is_for scope.Machine scope.Container = false
 is_for checked option = true
 
+-- the form that the first line for a key gives it
+abbrev pub form_in : List (List ℕ × Form) → List ℕ → Option Form
+form_in lines key = option_map (λ line. line.1) (find (λ line. takes line.0 key) lines)
+
+-- the same of lines for some instances
+abbrev pub scoped_form_in : List (List ℕ × Form × Scope) → Scope → List ℕ → Option Form
+scoped_form_in lines checked key = option_map (λ line. line.1) (find (λ line. is_for checked line.2 && takes line.0 key) lines)
+
 -- the form of an option of instances
 unfoldable pub instance_form : Scope → List ℕ → Option Form
-instance_form checked key = option_map (λ line. line.1) (find (λ line. is_for checked line.2 && takes line.0.now key) INSTANCE.now)
+instance_form checked key = scoped_form_in (map (λ line. (line.0.now, line.1, line.2)) INSTANCE.now) checked key
+
+-- the form of an option of projects, networks, pools and volumes
+unfoldable pub project_form : List ℕ → Option Form
+project_form = form_in (map (λ line. (line.0.now, line.1)) PROJECT.now)
+
+unfoldable pub network_form : List ℕ → Option Form
+network_form = form_in (map (λ line. (line.0.now, line.1)) NETWORK.now)
+
+unfoldable pub pool_form : List ℕ → Option Form
+pool_form = form_in (map (λ line. (line.0.now, line.1)) POOL.now)
+
+unfoldable pub volume_form : List ℕ → Option Form
+volume_form = form_in (map (λ line. (line.0.now, line.1)) VOLUME.now)
+
+-- the options of devices of a type
+unfoldable pub device_lines : DeviceType → List (List ℕ × Form)
+device_lines device.None = []
+device_lines device.Disk = map (λ line. (line.0.now, line.1)) DISK.now
+device_lines device.Nic = map (λ line. (line.0.now, line.1)) NIC.now
+device_lines device.Gpu = map (λ line. (line.0.now, line.1)) GPU.now
+device_lines device.Proxy = map (λ line. (line.0.now, line.1)) PROXY.now
+device_lines device.Unix = map (λ line. (line.0.now, line.1)) UNIX.now
+device_lines device.Usb = map (λ line. (line.0.now, line.1)) USB.now
 
 -- the form of an option of devices of a type; each has `type`
 unfoldable pub device_form : DeviceType → List ℕ → Option Form
-device_form kind key = if bytes_eq key (codes "type") then Some form.Text else own_form kind
-  where
-    own_form : DeviceType → Option Form
-    own_form device.None = None
-    own_form device.Disk = option_map (λ line. line.1) (find (λ line. takes line.0.now key) DISK.now)
-    own_form device.Nic = option_map (λ line. line.1) (find (λ line. takes line.0.now key) NIC.now)
-    own_form device.Gpu = option_map (λ line. line.1) (find (λ line. takes line.0.now key) GPU.now)
-    own_form device.Proxy = option_map (λ line. line.1) (find (λ line. takes line.0.now key) PROXY.now)
-    own_form device.Unix = option_map (λ line. line.1) (find (λ line. takes line.0.now key) UNIX.now)
-    own_form device.Usb = option_map (λ line. line.1) (find (λ line. takes line.0.now key) USB.now)
+device_form kind key = if bytes_eq key (codes "type") then Some form.Text else form_in (device_lines kind) key
+
+-- the type that the first line of this name gives
+abbrev pub type_in : List (List ℕ × DeviceType) → List ℕ → Option DeviceType
+type_in types name = option_map (λ row. row.1) (find (λ row. bytes_eq row.0 name) types)
 
 -- the type of a device by its name
 unfoldable pub device_type : List ℕ → Option DeviceType
-device_type name = option_map (λ row. row.1) (find (λ row. bytes_eq row.0.now name) DEVICE_TYPES.now)
+device_type = type_in (map (λ row. (row.0.now, row.1)) DEVICE_TYPES.now)
 
 -- the form of a key of at most 255 bytes in a table
 unfoldable pub listed_form : Table → List ℕ → Option Form
 listed_form (table.Instance checked) key = instance_form checked key
-listed_form table.Project key = option_map (λ line. line.1) (find (λ line. takes line.0.now key) PROJECT.now)
-listed_form table.Network key = option_map (λ line. line.1) (find (λ line. takes line.0.now key) NETWORK.now)
-listed_form table.Pool key = option_map (λ line. line.1) (find (λ line. takes line.0.now key) POOL.now)
-listed_form table.Volume key = option_map (λ line. line.1) (find (λ line. takes line.0.now key) VOLUME.now)
+listed_form table.Project key = project_form key
+listed_form table.Network key = network_form key
+listed_form table.Pool key = pool_form key
+listed_form table.Volume key = volume_form key
 listed_form (table.Device kind) key = device_form kind key
 
 -- the form of a key in a table, if the table takes the key; a longer key than 255 bytes is in none

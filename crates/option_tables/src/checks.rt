@@ -1,6 +1,7 @@
 ghost use Rattle.std.specs.Prelude.{◌≡◌};
 ghost use Rattle.std.specs.Result.{result_err};
-ghost use Rattle.option_tables.specs.Checks.{keys_fault, instance_fault, project_fault, network_fault, pool_fault, volume_fault};
+ghost use Rattle.option_tables.specs.Tables.{form_of};
+ghost use Rattle.option_tables.specs.Checks.{keys_fault, fault_at, instance_fault, project_fault, network_fault, pool_fault, volume_fault};
 
 use crate::faults::{KeyFault, SettingFault};
 use crate::tables::{Scope, Table};
@@ -58,12 +59,19 @@ pub(crate) fn check_keys(table: Table, config: &Config) -> Result<(), KeyFault>
     ensures { result_err result ≡ keys_fault table config.now }
 {
     for place in 0..config.len() {
-        let Some(form) = table.form(config.key_at(place)) else {
-            return Err(KeyFault::Unknown(place));
-        };
-        if let Err(fault) = form.check(config.value_at(place)) {
-            return Err(KeyFault::Bad(place, fault));
+        if let Err(fault) = check_key(table, place, config.key_at(place), config.value_at(place)) {
+            return Err(fault);
         }
     }
     Ok(())
+}
+
+fn check_key(table: Table, place: usize, key: &str, value: &str) -> Result<(), KeyFault>
+    ensures { result_err result ≡ fault_at place (form_of table key.now) value.now }
+{
+    let Some(form) = table.form(key) else {
+        return Err(KeyFault::Unknown(place));
+    };
+    form.check(value)
+        .map_err(|fault| KeyFault::Bad(place, fault))
 }

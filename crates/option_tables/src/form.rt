@@ -1,8 +1,6 @@
 ghost use Rattle.std.specs.Prelude.{◌≡◌, map};
-ghost use Rattle.std.specs.List.{list_any};
-ghost use Rattle.std.specs.Str.{bytes_eq};
 ghost use Rattle.std.specs.Result.{result_err};
-ghost use Rattle.option_tables.specs.Forms.{value_fault, words_of, unless, cidr_fault};
+ghost use Rattle.option_tables.specs.Forms.{value_fault, words_of, is_word, unless, cidr_fault};
 
 use crate::names::{are_network_names, is_pattern};
 use size_values::{
@@ -125,7 +123,12 @@ fn check_cidr(value: &str) -> Result<(), ValueFault>
 }
 
 fn is_one_of(words: &[&str], value: &str) -> bool
-    ensures { result ≡ list_any (λ word. bytes_eq word.now value.now) words.now }
+    ensures { result ≡ is_word (map (λ word. word.now) words.now) value.now }
 {
-    words.iter().any(|word| *word == value)
+    for word in words {
+        if *word == value {
+            return true;
+        }
+    }
+    false
 }

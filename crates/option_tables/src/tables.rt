@@ -1,7 +1,5 @@
-ghost use Rattle.std.specs.Prelude.{◌≡◌, ◌&&◌, find};
-ghost use Rattle.std.specs.Option.{option_map};
-ghost use Rattle.std.specs.Str.{bytes_eq};
-ghost use Rattle.option_tables.specs.Tables.{form_of, listed_form, instance_form, device_form, device_type, takes, is_for};
+ghost use Rattle.std.specs.Prelude.{◌≡◌, map};
+ghost use Rattle.option_tables.specs.Tables.{form_of, instance_form, project_form, network_form, pool_form, volume_form, device_form, device_lines, device_type, form_in, scoped_form_in, type_in, takes, is_for};
 
 use crate::form::{Form, Words};
 
@@ -297,22 +295,12 @@ impl Table {
         }
         match self {
             Table::Instance(scope) => instance_form(scope, key),
-            Table::Project => form_in(PROJECT, key),
-            Table::Network => form_in(NETWORK, key),
-            Table::Pool => form_in(POOL, key),
-            Table::Volume => form_in(VOLUME, key),
+            Table::Project => project_form(key),
+            Table::Network => network_form(key),
+            Table::Pool => pool_form(key),
+            Table::Volume => volume_form(key),
             Table::Device(kind) => device_form(kind, key),
         }
-    }
-}
-
-impl DeviceType {
-    /// The type of this name.
-    #[tactic(auto, unfolding(crate::specs::Tables::device_type))]
-    pub fn named(name: &str) -> Option<DeviceType>
-        ensures { result ≡ device_type name.now }
-    {
-        type_in(DEVICE_TYPES, name)
     }
 }
 
@@ -323,6 +311,34 @@ fn instance_form(scope: Scope, key: &str) -> Option<Form>
     scoped_form_in(INSTANCE, scope, key)
 }
 
+#[tactic(auto, unfolding(crate::specs::Tables::project_form))]
+fn project_form(key: &str) -> Option<Form>
+    ensures { result ≡ project_form key.now }
+{
+    form_in(PROJECT, key)
+}
+
+#[tactic(auto, unfolding(crate::specs::Tables::network_form))]
+fn network_form(key: &str) -> Option<Form>
+    ensures { result ≡ network_form key.now }
+{
+    form_in(NETWORK, key)
+}
+
+#[tactic(auto, unfolding(crate::specs::Tables::pool_form))]
+fn pool_form(key: &str) -> Option<Form>
+    ensures { result ≡ pool_form key.now }
+{
+    form_in(POOL, key)
+}
+
+#[tactic(auto, unfolding(crate::specs::Tables::volume_form))]
+fn volume_form(key: &str) -> Option<Form>
+    ensures { result ≡ volume_form key.now }
+{
+    form_in(VOLUME, key)
+}
+
 #[tactic(auto, unfolding(crate::specs::Tables::device_form))]
 fn device_form(kind: DeviceType, key: &str) -> Option<Form>
     ensures { result ≡ device_form kind key.now }
@@ -330,39 +346,65 @@ fn device_form(kind: DeviceType, key: &str) -> Option<Form>
     if key == "type" {
         return Some(Form::Text);
     }
-    match kind {
-        DeviceType::None => None,
-        DeviceType::Disk => form_in(DISK, key),
-        DeviceType::Nic => form_in(NIC, key),
-        DeviceType::Gpu => form_in(GPU, key),
-        DeviceType::Proxy => form_in(PROXY, key),
-        DeviceType::Unix => form_in(UNIX, key),
-        DeviceType::Usb => form_in(USB, key),
+    form_in(kind.lines(), key)
+}
+
+impl DeviceType {
+    /// The type of this name.
+    #[tactic(auto, unfolding(crate::specs::Tables::device_type))]
+    pub fn named(name: &str) -> Option<DeviceType>
+        ensures { result ≡ device_type name.now }
+    {
+        type_in(DEVICE_TYPES, name)
+    }
+
+    #[tactic(auto, unfolding(crate::specs::Tables::device_lines))]
+    fn lines(self) -> &'static [Line]
+        ensures { map (λ line. (line.0.now, line.1)) result.now ≡ device_lines self }
+    {
+        match self {
+            DeviceType::None => &[],
+            DeviceType::Disk => DISK,
+            DeviceType::Nic => NIC,
+            DeviceType::Gpu => GPU,
+            DeviceType::Proxy => PROXY,
+            DeviceType::Unix => UNIX,
+            DeviceType::Usb => USB,
+        }
     }
 }
 
 fn form_in(lines: &[Line], key: &str) -> Option<Form>
-    ensures { result ≡ option_map (λ line. line.1) (find (λ line. takes line.0.now key.now) lines.now) }
+    ensures { result ≡ form_in (map (λ line. (line.0.now, line.1)) lines.now) key.now }
 {
-    lines
-        .iter()
-        .find(|line| takes(line.0, key))
-        .map(|line| line.1)
+    for line in lines {
+        if takes(line.0, key) {
+            return Some(line.1);
+        }
+    }
+    None
 }
 
 fn scoped_form_in(lines: &[(&str, Form, Scope)], scope: Scope, key: &str) -> Option<Form>
-    ensures { result ≡ option_map (λ line. line.1) (find (λ line. is_for scope line.2 && takes line.0.now key.now) lines.now) }
+    ensures { result ≡ scoped_form_in (map (λ line. (line.0.now, line.1, line.2)) lines.now) scope key.now }
 {
-    lines
-        .iter()
-        .find(|line| scope.takes(line.2) && takes(line.0, key))
-        .map(|line| line.1)
+    for line in lines {
+        if scope.takes(line.2) && takes(line.0, key) {
+            return Some(line.1);
+        }
+    }
+    None
 }
 
 fn type_in(types: &[(&str, DeviceType)], name: &str) -> Option<DeviceType>
-    ensures { result ≡ option_map (λ row. row.1) (find (λ row. bytes_eq row.0.now name.now) types.now) }
+    ensures { result ≡ type_in (map (λ row. (row.0.now, row.1)) types.now) name.now }
 {
-    types.iter().find(|row| row.0 == name).map(|row| row.1)
+    for row in types {
+        if row.0 == name {
+            return Some(row.1);
+        }
+    }
+    None
 }
 
 impl Scope {
