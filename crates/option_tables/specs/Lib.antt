@@ -1,3 +1,4 @@
+pub mod Apart
 pub mod Checks
 pub mod Faults
 pub mod Forms

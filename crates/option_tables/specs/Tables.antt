@@ -39,22 +39,21 @@ form_in lines key = option_map (λ line. line.1) (find (λ line. takes line.0 ke
 abbrev pub scoped_form_in : List (List ℕ × Form × Scope) → Scope → List ℕ → Option Form
 scoped_form_in lines checked key = option_map (λ line. line.1) (find (λ line. is_for checked line.2 && takes line.0 key) lines)
 
--- the form of an option of instances
-unfoldable pub instance_form : Scope → List ℕ → Option Form
-instance_form checked key = scoped_form_in (map (λ line. (line.0.now, line.1, line.2)) INSTANCE.now) checked key
+-- the lines of the tables, with their keys as lists of bytes
+unfoldable pub instance_lines : List (List ℕ × Form × Scope)
+instance_lines = map (λ line. (line.0.now, line.1, line.2)) INSTANCE.now
 
--- the form of an option of projects, networks, pools and volumes
-unfoldable pub project_form : List ℕ → Option Form
-project_form = form_in (map (λ line. (line.0.now, line.1)) PROJECT.now)
+unfoldable pub project_lines : List (List ℕ × Form)
+project_lines = map (λ line. (line.0.now, line.1)) PROJECT.now
 
-unfoldable pub network_form : List ℕ → Option Form
-network_form = form_in (map (λ line. (line.0.now, line.1)) NETWORK.now)
+unfoldable pub network_lines : List (List ℕ × Form)
+network_lines = map (λ line. (line.0.now, line.1)) NETWORK.now
 
-unfoldable pub pool_form : List ℕ → Option Form
-pool_form = form_in (map (λ line. (line.0.now, line.1)) POOL.now)
+unfoldable pub pool_lines : List (List ℕ × Form)
+pool_lines = map (λ line. (line.0.now, line.1)) POOL.now
 
-unfoldable pub volume_form : List ℕ → Option Form
-volume_form = form_in (map (λ line. (line.0.now, line.1)) VOLUME.now)
+unfoldable pub volume_lines : List (List ℕ × Form)
+volume_lines = map (λ line. (line.0.now, line.1)) VOLUME.now
 
 -- the options of devices of a type
 unfoldable pub device_lines : DeviceType → List (List ℕ × Form)
@@ -80,11 +79,11 @@ device_type = type_in (map (λ row. (row.0.now, row.1)) DEVICE_TYPES.now)
 
 -- the form of a key of at most 255 bytes in a table
 unfoldable pub listed_form : Table → List ℕ → Option Form
-listed_form (table.Instance checked) key = instance_form checked key
-listed_form table.Project key = project_form key
-listed_form table.Network key = network_form key
-listed_form table.Pool key = pool_form key
-listed_form table.Volume key = volume_form key
+listed_form (table.Instance checked) key = scoped_form_in instance_lines checked key
+listed_form table.Project key = form_in project_lines key
+listed_form table.Network key = form_in network_lines key
+listed_form table.Pool key = form_in pool_lines key
+listed_form table.Volume key = form_in volume_lines key
 listed_form (table.Device kind) key = device_form kind key
 
 -- the form of a key in a table, if the table takes the key; a longer key than 255 bytes is in none

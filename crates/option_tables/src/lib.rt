@@ -7,6 +7,7 @@ mod checks;
 mod devices;
 mod faults;
 mod form;
+mod laws;
 mod names;
 mod tables;
 #[cfg(test)]
@@ -15,4 +16,5 @@ mod tests;
 pub use checks::{check_instance, check_network, check_pool, check_project, check_volume};
 pub use devices::check_devices;
 pub use faults::{DeviceFault, SettingFault};
+pub use laws::each_line_is_the_rule_of_its_keys;
 pub use tables::Scope;

@@ -1,5 +1,5 @@
 ghost use Rattle.std.specs.Prelude.{◌≡◌, map};
-ghost use Rattle.option_tables.specs.Tables.{form_of, instance_form, project_form, network_form, pool_form, volume_form, device_form, device_lines, device_type, form_in, scoped_form_in, type_in, takes, is_for};
+ghost use Rattle.option_tables.specs.Tables.{form_of, instance_lines, project_lines, network_lines, pool_lines, volume_lines, device_form, device_lines, device_type, form_in, scoped_form_in, type_in, takes, is_for};
 
 use crate::form::{Form, Words};
 
@@ -304,37 +304,37 @@ impl Table {
     }
 }
 
-#[tactic(auto, unfolding(crate::specs::Tables::instance_form))]
+#[tactic(auto, unfolding(crate::specs::Tables::instance_lines))]
 fn instance_form(scope: Scope, key: &str) -> Option<Form>
-    ensures { result ≡ instance_form scope key.now }
+    ensures { result ≡ scoped_form_in instance_lines scope key.now }
 {
     scoped_form_in(INSTANCE, scope, key)
 }
 
-#[tactic(auto, unfolding(crate::specs::Tables::project_form))]
+#[tactic(auto, unfolding(crate::specs::Tables::project_lines))]
 fn project_form(key: &str) -> Option<Form>
-    ensures { result ≡ project_form key.now }
+    ensures { result ≡ form_in project_lines key.now }
 {
     form_in(PROJECT, key)
 }
 
-#[tactic(auto, unfolding(crate::specs::Tables::network_form))]
+#[tactic(auto, unfolding(crate::specs::Tables::network_lines))]
 fn network_form(key: &str) -> Option<Form>
-    ensures { result ≡ network_form key.now }
+    ensures { result ≡ form_in network_lines key.now }
 {
     form_in(NETWORK, key)
 }
 
-#[tactic(auto, unfolding(crate::specs::Tables::pool_form))]
+#[tactic(auto, unfolding(crate::specs::Tables::pool_lines))]
 fn pool_form(key: &str) -> Option<Form>
-    ensures { result ≡ pool_form key.now }
+    ensures { result ≡ form_in pool_lines key.now }
 {
     form_in(POOL, key)
 }
 
-#[tactic(auto, unfolding(crate::specs::Tables::volume_form))]
+#[tactic(auto, unfolding(crate::specs::Tables::volume_lines))]
 fn volume_form(key: &str) -> Option<Form>
-    ensures { result ≡ volume_form key.now }
+    ensures { result ≡ form_in volume_lines key.now }
 {
     form_in(VOLUME, key)
 }
