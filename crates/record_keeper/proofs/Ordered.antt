@@ -22,26 +22,23 @@ pub entry_total : IsTotalOrder entry_order
 entry_total = then_total (on_total (λ (e : Entry). e.kind) nat_cmp_total) (on_total (λ (e : Entry). e.key) nat_list_cmp_total)
 
 -- an order read from the other side
-turned : (a b : Entry) (o : Ordering) → entry_order b a ≡ o → entry_order a b ≡ ordering_reverse o
+pub turned : (a b : Entry) (o : Ordering) → entry_order b a ≡ o → entry_order a b ≡ ordering_reverse o
 turned a b o e = entry_total.antisymm a b ∙ ap ordering_reverse e
 
 module _ (kind : ℕ) (key : List ℕ) where
   -- an entry at the place
-  here : Entry
+  abbrev pub here : Entry
   here = record { kind = kind; key = key; body = [] }
 
   -- what stands below an entry at the place is seen as Less, and what stands above it as Greater
   below-Less : (a b : Entry) → seen_from kind key b ≡ Equal → entry_order a b ≡ Less → seen_from kind key a ≡ Less
-  unfolding here
   below-Less a b at low = sym (alike_right entry_total b here a at) ∙ low
 
-  above-Greater : (a b : Entry) → seen_from kind key a ≡ Equal → entry_order a b ≡ Less → seen_from kind key b ≡ Greater
-  unfolding here
+  pub above-Greater : (a b : Entry) → seen_from kind key a ≡ Equal → entry_order a b ≡ Less → seen_from kind key b ≡ Greater
   above-Greater a b at low = turned b here Less (sym (entry_total.congr a here b at) ∙ low)
 
   -- the order seen from a place never falls along a sorted list
   seen-rises : (es : List Entry) → IsOrderedEntries es → IsNonDecreasingBy (λ e. ordering_index (seen_from kind key e)) es
-  unfolding here
   seen-rises es ordered =
       searchable_from_sorted entry_total (λ (e : Entry). e) es here
       (λ k d low high. ap is_lt (turned (get_or es (k + 1) d) (get_or es k d) Less (Less-from_sorted entry_order es k (k + 1) d ordered (omega arith) high)))

@@ -1,6 +1,6 @@
-use Rattle.std.specs.Prelude.{ℕ, List, [], ◌∷◌, ◌++◌, filter}
+use Rattle.std.specs.Prelude.{ℕ, List, [], ◌∷◌, ◌++◌, filter, find, Option, Bool}
 use Rattle.std.specs.declared.cmp.Ordering.{Ordering}
-use Rattle.std.specs.Ordering.{ordering_then, nat_cmp, is_lt, is_gt}
+use Rattle.std.specs.Ordering.{ordering_then, nat_cmp, is_lt, is_gt, is_eq}
 use Rattle.std.specs.Cmp.Lexicographic.{slice_cmp}
 use Rattle.std.specs.List.Sorted.{IsStrictlySortedBy}
 use Rattle.size_values.specs.declared.entry.Entry.{Entry}
@@ -34,6 +34,14 @@ put_entry e es = entries_before e.kind e.key es ++ e ∷ entries_behind e.kind e
 -- the list without the entry of this kind and key
 unfoldable pub remove_entry : ℕ → List ℕ → List Entry → List Entry
 remove_entry kind key es = entries_before kind key es ++ entries_behind kind key es
+
+-- the entry of this kind and key, if there is one
+abbrev pub entry_at : ℕ → List ℕ → List Entry → Option Entry
+entry_at kind key es = find (λ e. is_eq (seen_from kind key e)) es
+
+-- two kinds and keys name the same place
+abbrev pub is_place : ℕ → List ℕ → ℕ → List ℕ → Bool
+is_place kind key kind' key' = is_eq (ordering_then (nat_cmp kind' kind) (slice_cmp nat_cmp key' key))
 
 -- the list after one change
 abbrev pub after_change : EntryChange → List Entry → List Entry

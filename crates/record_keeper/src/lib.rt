@@ -3,8 +3,10 @@
 #![tactic(auto)]
 
 mod keeper;
+mod laws;
 mod map_keeper;
 mod places;
 
 pub use keeper::{Keeper, KeeperFailed};
+pub use laws::{changes_by_place, order_of_changes};
 pub use map_keeper::MapKeeper;

@@ -1,25 +1,23 @@
 -- The exits of the readers of addresses.
-use Rattle.std.proofs.Common.{◌≡◌, ℕ, ◌+◌, ◌-◌, ◌*◌, ◌<◌, ◌≤◌, Bool, true, false, cond, not, ◌&&◌, ◌||◌, List, [], ◌∷◌, ◌++◌, length, take, drop, get_or, Option, Some, None, Result, Ok, Err, sym, refl, ap, ◌∙◌, subst, inl, inr, ◌⊎◌, arith, length-take, length-drop, get_or-take, get_or-drop, eqb}
-use Rattle.std.proofs.lemmas.Grind.{common_steps}
+use Rattle.std.proofs.Common.{◌≡◌, ℕ, ◌+◌, ◌-◌, ◌<◌, ◌≤◌, Bool, true, false, cond, ◌&&◌, ◌||◌, List, [], ◌∷◌, length, take, drop, get_or, Some, None, Result, Err, sym, refl, ap, ◌∙◌, subst, inl, inr, ◌⊎◌, arith, length-take, length-drop, get_or-take, eqb}
 use Rattle.std.proofs.lemmas.Bool.Decides.{nat_tests}
-use Rattle.std.proofs.lemmas.Bool.{cases_lt}
 use Rattle.std.proofs.lemmas.List.{take_all, get_or_default}
 use Rattle.std.proofs.lemmas.List.Folds.{list_any_none, list_any_at}
 use Rattle.std.proofs.lemmas.List.Sums.{position_or_len_is}
-use Rattle.std.specs.Prelude.{nat_lt, fold, count_by}
+use Rattle.std.specs.Prelude.{nat_lt, count_by}
 use Rattle.std.specs.Option.{option_map, option_zip, ok_or}
 use Rattle.std.specs.Char.{is_ascii_digit}
 use Rattle.std.specs.Str.Parse.{digits_value}
-use Rattle.std.specs.List.{prefix_len, position_or_len, before_first, after_first, take_while, list_any, slice_split}
+use Rattle.std.specs.List.{prefix_len, position_or_len, take_while, list_any}
 use Rattle.size_values.specs.Form.{StandsTo}
 use Rattle.size_values.specs.Reading.{reading, fault_if, stray, last_byte}
 use Rattle.size_values.specs.Address.{is_dot, is_slash, may_follow_in_address, is_whole_address, may_follow_in_cidr, is_whole_cidr, is_unfit, is_address_unfit, address_value, address_of, cidr_of}
-use Rattle.size_values.specs.Quad.{fit_of, IsFrom, Follows, Misses, IsQuad, IsAstray}
+use Rattle.size_values.specs.Quad.{IsFrom, Misses, IsQuad, IsAstray}
 use Rattle.size_values.specs.declared.address.SmallNumber.{SmallNumber}
 use Rattle.size_values.specs.declared.address.Quad.{Quad}
 use Rattle.size_values.specs.declared.fault.ValueFault.{ValueFault}
 use Rattle.size_values.specs.declared.fault.ValueFault.TheVariants.{Empty, BadByte, OutOfRange}
-use Rattle.size_values.proofs.Forms.{reading-here, reading-past, reading-strays, reading-formed, stray-at, stray-end, stray-none, stands-run, stands-more}
+use Rattle.size_values.proofs.Forms.{reading-here, reading-past, reading-strays, reading-formed, stray-at, stray-none, leaves, whole-front, stands-run, stands-more}
 use Rattle.size_values.proofs.Fronts.{passing-inside, run-within, run-digit, run-end}
 
 pub address-empty : (text : List ℕ) → eqb (length text) 0 ≡ true → Err Empty ≡ address_of text
@@ -29,21 +27,6 @@ address-empty text h = reading-here _ _ _ _ h
 pub cidr-empty : (text : List ℕ) → eqb (length text) 0 ≡ true → Err Empty ≡ cidr_of text
 unfolding cidr_of
 cidr-empty text h = reading-here _ _ _ _ h
-
--- where a front stands, the form is left at the next byte or at the end
-leaves : (may_follow : List ℕ → ℕ → Bool) (is_whole : List ℕ → Bool) (text : List ℕ) (n : ℕ) → StandsTo may_follow text n
-  → (n < length text → may_follow (take n text) (get_or text n 0) ≡ false) → (n ≡ length text → is_whole text ≡ false) → stray may_follow is_whole text ≡ Some n
-leaves may_follow is_whole text n stands stops part = by (cases_lt n (length text))
-  where
-    by : (n < length text) ⊎ (length text ≤ n) → stray may_follow is_whole text ≡ Some n
-    by (inl less) = stray-at may_follow is_whole text n stands less (stops less)
-    by (inr more) =
-        let same : n ≡ length text = omega (arith, stands.within) in
-        stray-end may_follow is_whole text (subst (λ (k : ℕ). StandsTo may_follow text k) same stands) (part same) ∙ ap (λ k. Some k) (sym same)
-
--- the front is the whole text where it ends with it
-whole-front : (test : List ℕ → Bool) (text : List ℕ) (n : ℕ) (b : Bool) → length text ≤ n → test (take n text) ≡ b → test text ≡ b
-whole-front test text n b all is = ap test (sym (take_all n text all)) ∙ is
 
 -- behind a whole address stands no fourth dot
 fourth_dot : (front : List ℕ) (c : ℕ) → is_ascii_digit c ≡ false → is_whole_address front ≡ true → may_follow_in_address front c ≡ false
@@ -80,6 +63,7 @@ module _ (text : List ℕ) (filled : eqb (length text) 0 ≡ false) where
       where
         same : quad.end ≡ length text
         same = omega (arith, is.stands.within)
+
         formed : stray may_follow_in_address is_whole_address text ≡ None
         formed = stray-none may_follow_in_address is_whole_address text (subst (λ (k : ℕ). StandsTo may_follow_in_address text k) same is.stands)
             (whole-front is_whole_address text quad.end true all is.whole)
@@ -101,7 +85,7 @@ no_slash text n h k low = list_any_none is_slash (take k text) (λ j d less. at 
 
 -- what may follow in an address may follow before the slash
 before-slash : (front : List ℕ) (c : ℕ) (b : Bool) → list_any is_slash front ≡ false → (may_follow_in_address front c || (is_slash c && is_whole_address front)) ≡ b
-  → may_follow_in_cidr front c ≡ b
+    → may_follow_in_cidr front c ≡ b
 before-slash front c b none is = ap (λ s. cond s (is_ascii_digit c) (may_follow_in_address front c || (is_slash c && is_whole_address front))) none ∙ is
 
 behind-slash : (front : List ℕ) (c : ℕ) (b : Bool) → list_any is_slash front ≡ true → is_ascii_digit c ≡ b → may_follow_in_cidr front c ≡ b
@@ -195,7 +179,7 @@ module _ (text : List ℕ) (filled : eqb (length text) 0 ≡ false) where
 
       -- the form is left where the digits end
       leaves-behind : (n : ℕ) → n ≡ quad.end + 1 + prefix_len is_ascii_digit (drop (quad.end + 1) text) → (n ≡ length text → is_ascii_digit (last_byte text) ≡ false)
-        → Err (BadByte n) ≡ cidr_of text
+          → Err (BadByte n) ≡ cidr_of text
       unfolding cidr_of
       leaves-behind n end part =
           reading-strays _ _ _ _ (leaves may_follow_in_cidr is_whole_cidr text n (subst (λ (k : ℕ). StandsTo may_follow_in_cidr text k) (sym end) digits-stand)
@@ -212,6 +196,7 @@ module _ (text : List ℕ) (filled : eqb (length text) 0 ≡ false) where
         where
           slash-no_digit : (c : ℕ) → is_slash c ≡ true → is_ascii_digit c ≡ false
           slash-no_digit c h = grind (arith, nat_tests)
+
           by : quad.end + 1 ≡ length text → is_ascii_digit (last_byte text) ≡ false
           by e =
               let same : length text - 1 ≡ quad.end = omega arith in
@@ -231,6 +216,7 @@ module _ (text : List ℕ) (filled : eqb (length text) 0 ≡ false) where
             where
               last : is_ascii_digit (last_byte text) ≡ true
               last = run-digit text (quad.end + 1) slash-stands.within (length text - 1) (omega (arith, from.some)) (omega (arith, ends, inside))
+
               by : (a b : Bool) → a ≡ true → b ≡ true → (a && b) ≡ true
               by a b h e = grind arith
 

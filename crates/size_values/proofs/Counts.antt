@@ -1,6 +1,5 @@
 -- The exits of the reader of counts.
-use Rattle.std.proofs.Common.{◌≡◌, ℕ, ◌+◌, ◌-◌, ◌^◌, ◌<◌, ◌≤◌, min, Bool, true, false, not, cond, ◌&&◌, ◌||◌, List, [], ◌∷◌, length, take, get_or, Option, Some, None, Ok, Err, sym, refl, ap, ◌∙◌, subst, arith, eqb}
-use Rattle.std.proofs.lemmas.Grind.{common_steps}
+use Rattle.std.proofs.Common.{◌≡◌, ℕ, ◌-◌, ◌^◌, ◌<◌, ◌≤◌, min, true, false, not, ◌&&◌, ◌||◌, List, ◌∷◌, length, Option, Some, None, Ok, Err, sym, refl, ap, ◌∙◌, arith, eqb}
 use Rattle.std.proofs.lemmas.List.{take_all}
 use Rattle.std.proofs.lemmas.Bool.Decides.{nat_tests}
 use Rattle.std.proofs.lemmas.List.Sums.{prefix_len_passes, prefix_len_stops, prefix_len-le-length}
@@ -26,7 +25,7 @@ digits-stand text n e = record {
 }
 
 digits-stray : (text : List ℕ) → prefix_len is_ascii_digit text < length text
-  → stray (λ front b. is_ascii_digit b) (λ _. true) text ≡ Some (prefix_len is_ascii_digit text)
+    → stray (λ front b. is_ascii_digit b) (λ _. true) text ≡ Some (prefix_len is_ascii_digit text)
 digits-stray text less =
     stray-at (λ front b. is_ascii_digit b) (λ _. true) text (prefix_len is_ascii_digit text) (digits-stand text _ refl) less
     (prefix_len_stops is_ascii_digit text 0 less)
@@ -36,7 +35,7 @@ digits-formed text all = stray-none (λ front b. is_ascii_digit b) (λ _. true) 
 
 -- a number that stops at the last value of 64 bits is too large where the whole number is
 pub too_large-is : (digits : List ℕ) (v : ℕ) → v ≡ min (digits_value 10 digits) (2 ^ 64 - 1)
-  → (nat_lt 20 (length digits) || nat_le (2 ^ 63) v) ≡ is_too_large digits
+    → (nat_lt 20 (length digits) || nat_le (2 ^ 63) v) ≡ is_too_large digits
 too_large-is digits v h = by (length digits) (digits_value 10 digits) h
   where
     by : (len n : ℕ) → v ≡ min n (2 ^ 64 - 1) → (nat_lt 20 len || nat_le (2 ^ 63) v) ≡ (nat_lt 20 len || nat_le (2 ^ 63) n)
@@ -44,7 +43,7 @@ too_large-is digits v h = by (length digits) (digits_value 10 digits) h
 
 -- and is within bounds below that value where the whole number is
 pub outside-is : (least most : ℕ) (digits : List ℕ) (v : ℕ) → v ≡ min (digits_value 10 digits) (2 ^ 64 - 1) → least < 2 ^ 64 → most < 2 ^ 64 - 1
-  → not (nat_le least v && nat_le v most) ≡ is_outside least most digits
+    → not (nat_le least v && nat_le v most) ≡ is_outside least most digits
 outside-is least most digits v h low high = by (digits_value 10 digits) h
   where
     by : (n : ℕ) → v ≡ min n (2 ^ 64 - 1) → not (nat_le least v && nat_le v most) ≡ (nat_lt n least || nat_lt most n)
@@ -81,7 +80,7 @@ module _ (text : List ℕ) (least most : ℕ) (number : Number) (front : number 
 
     -- the faults before too large
     formed : {T : Type 0} (v : T) (faults : List (Option ValueFault)) → reading v faults
-      ≡ reading v (fault_if (eqb (length text) 0) Empty ∷ option_map BadByte (stray (λ front b. is_ascii_digit b) (λ _. true) text) ∷ faults)
+        ≡ reading v (fault_if (eqb (length text) 0) Empty ∷ option_map BadByte (stray (λ front b. is_ascii_digit b) (λ _. true) text) ∷ faults)
     formed v faults = reading-formed _ _ _ (digits-formed text same) ∙ reading-past _ _ _ _ filled
 
     pub count-large : (nat_lt 20 number.len || nat_le (2 ^ 63) number.value) ≡ true → Err TooLarge ≡ count_of text least most

@@ -1,11 +1,11 @@
 -- The front of a text that has been read, and one more run of digits behind it.
-use Rattle.std.proofs.Common.{◌≡◌, ℕ, ◌+◌, ◌-◌, ◌<◌, ◌≤◌, Bool, true, false, cond, List, [], ◌∷◌, ◌++◌, length, take, drop, get_or, sym, refl, ap, ◌∙◌, subst, inl, inr, ◌⊎◌, arith, add-one, length-take, length-drop, get_or-take, get_or-drop}
+use Rattle.std.proofs.Common.{◌≡◌, ℕ, ◌+◌, ◌-◌, ◌<◌, ◌≤◌, Bool, true, false, cond, List, [], ◌∷◌, ◌++◌, length, take, drop, get_or, sym, refl, ap, ◌∙◌, subst, inl, inr, ◌⊎◌, arith, add-one, length-take, length-drop, length-append, get_or-take, get_or-drop}
 use Rattle.std.proofs.lemmas.Bool.{cases_lt, true≢false}
-use Rattle.std.proofs.lemmas.List.{take-append-drop, take-take, drop-take, drop_more, get_or_past}
+use Rattle.std.proofs.lemmas.List.{take-append-drop, take-take, drop-take, drop_more, get_or_at, get_or_past}
 use Rattle.std.proofs.lemmas.List.Splits.{slice_split-cons_yes, slice_split-cons_no, slice_split_none, length-slice_split}
 use Rattle.std.proofs.lemmas.List.Sums.{prefix_len_passes, prefix_len_stops, prefix_len-le-length}
 use Rattle.std.specs.Char.{is_ascii_digit}
-use Rattle.std.specs.List.{prefix_len, take_while, list_any, slice_split, onto_first}
+use Rattle.std.specs.List.{prefix_len, take_while, slice_split, onto_first}
 use Rattle.size_values.specs.Reading.{last_byte}
 
 -- the first m bytes and n more
@@ -31,18 +31,21 @@ last_byte-take text n some within =
     length-front : length (take n text) ≡ n
     length-front = omega (arith, length-take n text)
 
+pub last_byte-push : (xs : List ℕ) (y : ℕ) → last_byte (xs ++ y ∷ []) ≡ y
+last_byte-push xs y = get_or_at xs y [] 0 (length (xs ++ y ∷ []) - 1) (omega (arith, length-append xs (y ∷ [])))
+
 onto_first-append : {X : Type 0} (x : X) (parts more : List (List X)) → 0 < length parts → onto_first x (parts ++ more) ≡ onto_first x parts ++ more
 onto_first-append x [] more some = absurd (omega arith)
 onto_first-append x (part ∷ parts) more some = refl
 
 -- behind a last separator stands one more part
 pub slice_split-snoc : {X : Type 0} (p : X → Bool) (xs : List X) (y : X) (ys : List X) → p y ≡ true → slice_split p ys ≡ ys ∷ []
-  → slice_split p (xs ++ y ∷ ys) ≡ slice_split p xs ++ ys ∷ []
+    → slice_split p (xs ++ y ∷ ys) ≡ slice_split p xs ++ ys ∷ []
 slice_split-snoc p [] y ys cuts one = slice_split-cons_yes p y ys cuts ∙ ap (λ parts. [] ∷ parts) one
 slice_split-snoc {X} p (x ∷ xs) y ys cuts one = at (p x) refl (slice_split-snoc p xs y ys cuts one)
   where
     at : (b : Bool) → p x ≡ b → slice_split p (xs ++ y ∷ ys) ≡ slice_split p xs ++ ys ∷ []
-      → slice_split p (x ∷ (xs ++ y ∷ ys)) ≡ slice_split p (x ∷ xs) ++ ys ∷ []
+        → slice_split p (x ∷ (xs ++ y ∷ ys)) ≡ slice_split p (x ∷ xs) ++ ys ∷ []
     at true e rest =
         slice_split-cons_yes p x (xs ++ y ∷ ys) e ∙ ap (λ parts. [] ∷ parts) rest
         ∙ ap (λ (parts : List (List X)). parts ++ ys ∷ []) (sym (slice_split-cons_yes p x xs e))
@@ -50,6 +53,44 @@ slice_split-snoc {X} p (x ∷ xs) y ys cuts one = at (p x) refl (slice_split-sno
         slice_split-cons_no p x (xs ++ y ∷ ys) e ∙ ap (onto_first x) rest
         ∙ onto_first-append x (slice_split p xs) (ys ∷ []) (omega (arith, length-slice_split p xs))
         ∙ ap (λ (parts : List (List X)). parts ++ ys ∷ []) (sym (slice_split-cons_no p x xs e))
+
+-- bytes without a separator extend the last part
+pub slice_split-extend : (p : ℕ → Bool) (xs ys : List ℕ) (init : List (List ℕ)) (part : List ℕ) → slice_split p ys ≡ ys ∷ []
+    → slice_split p xs ≡ init ++ part ∷ [] → slice_split p (xs ++ ys) ≡ init ++ (part ++ ys) ∷ []
+slice_split-extend p [] ys [] part one h = one ∙ (let e : [] ≡ part = cc in ap (λ (q : List ℕ). (q ++ ys) ∷ []) e)
+slice_split-extend p [] ys (i ∷ is) part one h = absurd (omega (arith, ap (λ (ps : List (List ℕ)). length ps) h, length-append is (part ∷ [])))
+slice_split-extend p (x ∷ xs) ys init part one h =
+    at (p x) refl (slice_split p xs) refl init (sym (split-cons (p x) refl) ∙ h) (λ init' part' h'. slice_split-extend p xs ys init' part' one h')
+  where
+    split-cons : (b : Bool) → p x ≡ b → slice_split p (x ∷ xs) ≡ cond b ([] ∷ slice_split p xs) (onto_first x (slice_split p xs))
+    split-cons b e = ap (λ c. cond c ([] ∷ slice_split p xs) (onto_first x (slice_split p xs))) e
+
+    split-more : (b : Bool) → p x ≡ b → slice_split p (x ∷ (xs ++ ys)) ≡ cond b ([] ∷ slice_split p (xs ++ ys)) (onto_first x (slice_split p (xs ++ ys)))
+    split-more b e = ap (λ c. cond c ([] ∷ slice_split p (xs ++ ys)) (onto_first x (slice_split p (xs ++ ys)))) e
+
+    at : (b : Bool) → p x ≡ b → (ps : List (List ℕ)) → slice_split p xs ≡ ps → (init : List (List ℕ))
+        → cond b ([] ∷ slice_split p xs) (onto_first x (slice_split p xs)) ≡ init ++ part ∷ []
+        → ((init' : List (List ℕ)) (part' : List ℕ) → slice_split p xs ≡ init' ++ part' ∷ [] → slice_split p (xs ++ ys) ≡ init' ++ (part' ++ ys) ∷ [])
+        → slice_split p (x ∷ (xs ++ ys)) ≡ init ++ (part ++ ys) ∷ []
+    at true e ps eps [] f rest =
+        let none : slice_split p xs ≡ [] = cc f in
+        absurd (omega (arith, length-slice_split p xs, ap (λ (qs : List (List ℕ)). length qs) none))
+    at true e ps eps (i ∷ is) f rest =
+        let first : [] ≡ i = cc f in
+        let others : slice_split p xs ≡ is ++ part ∷ [] = cc f in
+        split-more true e ∙ (λ k. first k ∷ rest is part others k)
+    at false e [] eps init f rest = absurd (omega (arith, length-slice_split p xs, ap (λ (qs : List (List ℕ)). length qs) eps))
+    at false e (q ∷ qs) eps [] f rest =
+        let g : (x ∷ q) ∷ qs ≡ part ∷ [] = ap (onto_first x) (sym eps) ∙ f in
+        let first : x ∷ q ≡ part = cc g in
+        let others : qs ≡ [] = cc g in
+        split-more false e ∙ ap (onto_first x) (rest [] q (eps ∙ ap (λ (rs : List (List ℕ)). q ∷ rs) others)) ∙ ap (λ (r : List ℕ). (r ++ ys) ∷ []) first
+    at false e (q ∷ qs) eps (i ∷ is) f rest =
+        let g : (x ∷ q) ∷ qs ≡ i ∷ (is ++ part ∷ []) = ap (onto_first x) (sym eps) ∙ f in
+        let first : x ∷ q ≡ i = cc g in
+        let others : qs ≡ is ++ part ∷ [] = cc g in
+        split-more false e ∙ ap (onto_first x) (rest (q ∷ is) part (eps ∙ ap (λ (rs : List (List ℕ)). q ∷ rs) others))
+        ∙ ap (λ (r : List ℕ). r ∷ (is ++ (part ++ ys) ∷ [])) first
 
 -- a byte that passes a test which 0 fails is in the text
 pub passing-inside : (p : ℕ → Bool) → p 0 ≡ false → (text : List ℕ) (n : ℕ) → p (get_or text n 0) ≡ true → n < length text
@@ -61,7 +102,7 @@ passing-inside p none text n passes = by (cases_lt n (length text))
 
 -- digits are one part where no digit is a separator
 pub run-unsplit : (p : ℕ → Bool) → ((c : ℕ) → is_ascii_digit c ≡ true → p c ≡ false) → (xs : List ℕ)
-  → slice_split p (take_while is_ascii_digit xs) ≡ take_while is_ascii_digit xs ∷ []
+    → slice_split p (take_while is_ascii_digit xs) ≡ take_while is_ascii_digit xs ∷ []
 run-unsplit p none xs = slice_split_none p (take_while is_ascii_digit xs) (λ k d less. by k d (omega (arith, less, length-take (prefix_len is_ascii_digit xs) xs)))
   where
     by : (k d : ℕ) → k < prefix_len is_ascii_digit xs → p (get_or (take_while is_ascii_digit xs) k d) ≡ false
@@ -83,6 +124,6 @@ module _ (text : List ℕ) (at : ℕ) (within : at ≤ length text) where
   run-end = by (cases_lt (prefix_len is_ascii_digit (drop at text)) (length (drop at text)))
     where
       by : (prefix_len is_ascii_digit (drop at text) < length (drop at text)) ⊎ (length (drop at text) ≤ prefix_len is_ascii_digit (drop at text))
-        → is_ascii_digit (get_or text (at + prefix_len is_ascii_digit (drop at text)) 0) ≡ false
+          → is_ascii_digit (get_or text (at + prefix_len is_ascii_digit (drop at text)) 0) ≡ false
       by (inl less) = ap is_ascii_digit (sym (get_or-drop at text (prefix_len is_ascii_digit (drop at text)) 0)) ∙ prefix_len_stops is_ascii_digit (drop at text) 0 less
       by (inr all) = ap is_ascii_digit (get_or_past text (at + prefix_len is_ascii_digit (drop at text)) 0 (omega (arith, length-drop at text)))

@@ -8,3 +8,6 @@ pub mod MemorySizes
 pub mod Fronts
 pub mod Quads
 pub mod Addresses
+pub mod Sets
+pub mod Cpus
+pub mod Expiries

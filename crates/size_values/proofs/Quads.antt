@@ -1,22 +1,16 @@
 -- Four numbers joined by dots, one after the other.
-use Rattle.std.proofs.Common.{◌≡◌, ℕ, ◌+◌, ◌-◌, ◌*◌, ◌<◌, ◌≤◌, Bool, true, false, cond, ◌&&◌, ◌||◌, List, [], ◌∷◌, ◌++◌, length, take, drop, get_or, Option, Some, None, sym, refl, ap, ◌∙◌, subst, inl, inr, ◌⊎◌, arith, length-take, length-append, get_or-take, eqb, lit≤}
-use Rattle.std.proofs.lemmas.Grind.{common_steps}
+use Rattle.std.proofs.Common.{◌≡◌, ℕ, ◌+◌, ◌-◌, ◌*◌, ◌<◌, ◌≤◌, Bool, true, false, cond, ◌&&◌, ◌||◌, List, [], ◌∷◌, ◌++◌, length, take, drop, get_or, Option, Some, None, sym, refl, ap, ◌∙◌, subst, inl, inr, ◌⊎◌, arith, eqb, lit≤}
 use Rattle.std.proofs.lemmas.Bool.Decides.{nat_tests}
-use Rattle.std.proofs.lemmas.Bool.{lt-ltb, eq-eqb, cases_lt, false≢true}
-use Rattle.std.proofs.lemmas.List.{take_all, get_or_past, get_or_default}
-use Rattle.std.proofs.lemmas.List.Splits.{slice_split_none, length-slice_split}
-use Rattle.std.proofs.lemmas.List.Folds.{list_any_none, list_any_at}
-use Rattle.std.proofs.lemmas.List.Sums.{prefix_len-le-length}
+use Rattle.std.proofs.lemmas.List.Splits.{length-slice_split}
 use Rattle.std.specs.Prelude.{nat_lt, fold, count_by}
 use Rattle.std.specs.Char.{is_ascii_digit}
 use Rattle.std.specs.Str.Parse.{digits_value}
 use Rattle.std.specs.List.{prefix_len, take_while, list_any, slice_split}
 use Rattle.size_values.specs.Form.{StandsTo}
 use Rattle.size_values.specs.Reading.{last_byte}
-use Rattle.size_values.specs.Address.{is_dot, is_slash, may_follow_in_address, is_whole_address, is_unfit, is_address_unfit, address_value}
+use Rattle.size_values.specs.Address.{is_dot, may_follow_in_address, is_whole_address, is_unfit}
 use Rattle.size_values.specs.Quad.{fit_of, quad_value, IsFrom, Follows, Misses, IsQuad, IsAstray}
 use Rattle.size_values.specs.declared.address.SmallNumber.{SmallNumber}
-use Rattle.size_values.specs.declared.address.Quad.{Quad}
 use Rattle.size_values.proofs.Forms.{stands-start, stands-run, stands-more}
 use Rattle.size_values.proofs.Fronts.{take-more, last_byte-take, slice_split-snoc, passing-inside, run-unsplit, run-within, run-digit, run-end}
 
@@ -64,8 +58,8 @@ front-first text number h = record {
   last = digits-last text 0 number.end (omega arith) h.end h.some;
   ends = ap (λ n. is_ascii_digit (get_or text n 0)) h.end ∙ run-end text 0 (omega arith);
 } where
-    end : number.end ≡ prefix_len is_ascii_digit text
-    end = omega (arith, h.end)
+  end : number.end ≡ prefix_len is_ascii_digit text
+  end = omega (arith, h.end)
 
 module _ (text : List ℕ) (n : ℕ) (parts : List (List ℕ)) (front : IsFront text n parts) (few : length parts ≤ 3) where
   dots : count_by is_dot (take n text) < 3
@@ -89,6 +83,7 @@ module _ (text : List ℕ) (n : ℕ) (parts : List (List ℕ)) (front : IsFront 
       where
         same : n + 1 - 1 ≡ n
         same = omega arith
+
         no_digit : (c : ℕ) → is_dot c ≡ true → is_ascii_digit c ≡ false
         no_digit c h = grind (arith, nat_tests)
 
@@ -117,7 +112,7 @@ module _ (text : List ℕ) (n : ℕ) (parts : List (List ℕ)) (front : IsFront 
   astray-next place h = by h.misses
     where
       by : ((place ≡ n) × (is_dot (get_or text n 0) ≡ false)) ⊎ ((place ≡ n + 1) × (is_dot (get_or text n 0) ≡ true) × (prefix_len is_ascii_digit (drop place text) ≡ 0))
-        → IsAstray text place
+          → IsAstray text place
       by (inl at) = subst (λ (k : ℕ). IsAstray text k) (sym at.0) (record {
         stands = front.stands;
         stops = λ _. neither-stands (take n text) (get_or text n 0) front.ends at.1;
@@ -140,12 +135,12 @@ astray-first text none = record {
   stops = λ _. no_digit-behind [] (get_or text 0 0) ends refl;
   part = refl;
 } where
-    ends : is_ascii_digit (get_or text 0 0) ≡ false
-    ends = let same : 0 + prefix_len is_ascii_digit text ≡ 0 = omega arith in
-        subst (λ (k : ℕ). is_ascii_digit (get_or text k 0) ≡ false) same (run-end text 0 (omega arith))
+  ends : is_ascii_digit (get_or text 0 0) ≡ false
+  ends = let same : 0 + prefix_len is_ascii_digit text ≡ 0 = omega arith in
+      subst (λ (k : ℕ). is_ascii_digit (get_or text k 0) ≡ false) same (run-end text 0 (omega arith))
 
 four-fit : (p q r s : Bool) (w x y z : ℕ)
-  → quad_value (cond p None (Some w)) (cond q None (Some x)) (cond r None (Some y)) (cond s None (Some z))
+    → quad_value (cond p None (Some w)) (cond q None (Some x)) (cond r None (Some y)) (cond s None (Some z))
     ≡ cond (p || (q || (r || (s || false)))) None (Some ((((0 * 256 + w) * 256 + x) * 256 + y) * 256 + z))
 four-fit true q r s w x y z = refl
 four-fit false true r s w x y z = refl
@@ -157,7 +152,7 @@ four-fit false false false false w x y z =
 
 -- four numbers
 pub quad-is : (text : List ℕ) (n : ℕ) (a b c d : List ℕ) (address : Option ℕ) → IsFront text n (a ∷ b ∷ c ∷ d ∷ [])
-  → address ≡ quad_value (fit_of 0 255 a) (fit_of 0 255 b) (fit_of 0 255 c) (fit_of 0 255 d) → IsQuad text (record { end = n; address = address })
+    → address ≡ quad_value (fit_of 0 255 a) (fit_of 0 255 b) (fit_of 0 255 c) (fit_of 0 255 d) → IsQuad text (record { end = n; address = address })
 quad-is text n a b c d address front is = record {
   stands = front.stands;
   whole = by (count_by is_dot (take n text)) (is_ascii_digit (last_byte (take n text))) dots front.last;
@@ -166,10 +161,11 @@ quad-is text n a b c d address front is = record {
       is ∙ four-fit (is_unfit 0 255 a) (is_unfit 0 255 b) (is_unfit 0 255 c) (is_unfit 0 255 d) (digits_value 10 a) (digits_value 10 b) (digits_value 10 c) (digits_value 10 d)
       ∙ ap (λ (ps : List (List ℕ)). cond (list_any (is_unfit 0 255) ps) None (Some (fold (λ value part. value * 256 + digits_value 10 part) 0 ps))) (sym front.split);
 } where
-    dots : count_by is_dot (take n text) ≡ 3
-    dots = omega (arith, length-slice_split is_dot (take n text), ap (λ (ps : List (List ℕ)). length ps) front.split)
-    by : (k : ℕ) (b : Bool) → k ≡ 3 → b ≡ true → (b && eqb k 3) ≡ true
-    by k b e h = grind (arith, nat_tests)
+  dots : count_by is_dot (take n text) ≡ 3
+  dots = omega (arith, length-slice_split is_dot (take n text), ap (λ (ps : List (List ℕ)). length ps) front.split)
+
+  by : (k : ℕ) (b : Bool) → k ≡ 3 → b ≡ true → (b && eqb k 3) ≡ true
+  by k b e h = grind (arith, nat_tests)
 
 -- the four numbers that are read, each behind those before it
 module _ (text : List ℕ) (first : SmallNumber) (h₁ : IsFrom 0 255 text 0 first) where
@@ -188,14 +184,14 @@ module _ (text : List ℕ) (first : SmallNumber) (h₁ : IsFrom 0 255 text 0 fir
 
     module _ (third : SmallNumber) (h₃ : Follows 46 0 255 text second.end third) where
       front₃ : IsFront text third.end (take_while is_ascii_digit text ∷ take_while is_ascii_digit (drop (first.end + 1) text)
-        ∷ take_while is_ascii_digit (drop (second.end + 1) text) ∷ [])
+          ∷ take_while is_ascii_digit (drop (second.end + 1) text) ∷ [])
       front₃ = front-next text second.end _ front₂ (lit≤ tt) third h₃
 
       pub fourth-astray : (place : ℕ) → Misses 46 text third.end place → IsAstray text place
       fourth-astray place h = astray-next text third.end _ front₃ (lit≤ tt) place h
 
       pub quad-read : (fourth : SmallNumber) → Follows 46 0 255 text third.end fourth → (address : Option ℕ)
-        → address ≡ quad_value first.value second.value third.value fourth.value → IsQuad text (record { end = fourth.end; address = address })
+          → address ≡ quad_value first.value second.value third.value fourth.value → IsQuad text (record { end = fourth.end; address = address })
       quad-read fourth h₄ address is =
           quad-is text fourth.end _ _ _ _ address (front-next text third.end _ front₃ (lit≤ tt) fourth h₄)
           (is ∙ λ i. quad_value (h₁.value i) (h₂.number_is.value i) (h₃.number_is.value i) (h₄.number_is.value i))

@@ -1,7 +1,6 @@
 -- The exits of the reader of sizes.
-use Rattle.std.proofs.Common.{◌≡◌, ℕ, ◌+◌, ◌-◌, ◌*◌, ◌^◌, ◌<◌, ◌≤◌, min, Bool, true, false, not, cond, ◌&&◌, ◌||◌, List, [], ◌∷◌, length, take, drop, get_or, Option, Some, None, Result, Ok, Err, sym, refl, ap, ◌∙◌, subst, arith, eqb, inl, inr, ◌⊎◌, ◌≢◌, length-take, length-drop, get_or-take, get_or-drop}
+use Rattle.std.proofs.Common.{◌≡◌, ℕ, ◌+◌, ◌-◌, ◌*◌, ◌^◌, ◌<◌, ◌≤◌, min, Bool, true, false, cond, ◌&&◌, ◌||◌, List, [], ◌∷◌, length, take, drop, get_or, Option, Some, None, Result, Ok, Err, sym, refl, ap, ◌∙◌, subst, arith, eqb, inl, inr, ◌⊎◌, ◌≢◌, length-take, length-drop, get_or-take, get_or-drop}
 use Rattle.std.proofs.lemmas.List.{get_or_default, take_rest}
-use Rattle.std.proofs.lemmas.Grind.{common_steps}
 use Rattle.std.proofs.lemmas.Bool.{cases_lt}
 use Rattle.std.proofs.Math.Nat.{le-mul_of_pos_right}
 use Rattle.std.proofs.lemmas.Bool.Decides.{nat_tests}
@@ -10,7 +9,7 @@ use Rattle.std.proofs.lemmas.List.Sums.{prefix_len_passes, prefix_len_stops, pre
 use Rattle.std.specs.Prelude.{nat_lt, nat_le, find}
 use Rattle.std.specs.Option.{option_map, unwrap_or, is_none}
 use Rattle.std.specs.Char.{is_ascii_digit, is_ascii_alphabetic}
-use Rattle.std.specs.List.{prefix_len, position_or_len, before_first, take_while, list_any, list_all}
+use Rattle.std.specs.List.{prefix_len, position_or_len, list_any, list_all}
 use Rattle.std.specs.Str.{bytes_eq}
 use Rattle.std.specs.Str.Parse.{digits_value}
 use Rattle.size_values.specs.Reading.{reading, fault_if, stray}
@@ -59,7 +58,7 @@ filled-positive n h = grind (arith, nat_tests)
 
 -- the factor of every suffix is 1 at least
 found-positive : (p : List ℕ × ℕ → Bool) (rows : List (List ℕ × ℕ)) (f : ℕ) → list_all (λ (row : List ℕ × ℕ). nat_le 1 row.1) rows ≡ true
-  → option_map (λ (row : List ℕ × ℕ). row.1) (find p rows) ≡ Some f → 1 ≤ f
+    → option_map (λ (row : List ℕ × ℕ). row.1) (find p rows) ≡ Some f → 1 ≤ f
 found-positive p [] f all h = absurd (cc)
 found-positive p (row ∷ rows) f all h = at (p row) refl (found-positive p rows f (both (nat_le 1 row.1) (list_all (λ (r : List ℕ × ℕ). nat_le 1 r.1) rows) all).1)
   where
@@ -67,8 +66,10 @@ found-positive p (row ∷ rows) f all h = at (p row) refl (found-positive p rows
     both true true e = (refl, refl)
     both true false e = absurd (cc)
     both false b e = absurd (cc)
+
     is : (b : Bool) → p row ≡ b → option_map (λ (r : List ℕ × ℕ). r.1) (cond b (Some row) (find p rows)) ≡ Some f
     is b e = ap (λ c. option_map (λ (r : List ℕ × ℕ). r.1) (cond c (Some row) (find p rows))) (sym e) ∙ h
+
     at : (b : Bool) → p row ≡ b → (option_map (λ (r : List ℕ × ℕ). r.1) (find p rows) ≡ Some f → 1 ≤ f) → 1 ≤ f
     at true e rest =
         let same : row.1 ≡ f = cc (is true e) in
@@ -170,16 +171,20 @@ module _ (text : List ℕ) (number : Number) (front : number ≡ number_at text)
       where
         more : number.len + letters < length text
         more = omega (arith, length-drop number.len text, ap (λ (t : List ℕ). length t) tail)
+
         no_more : is_ascii_alphabetic (get_or text (number.len + letters) 0) ≡ false
         no_more = ap is_ascii_alphabetic (sym (get_or-drop number.len text letters 0))
             ∙ subst (λ (k : ℕ). is_ascii_alphabetic (get_or (drop number.len text) k 0) ≡ false) (sym run) (prefix_len_stops is_ascii_alphabetic (drop number.len text) 0 (omega (arith, run, more, length-drop number.len text)))
+
         has_letter : 0 < letters → list_any is_ascii_alphabetic (take (number.len + letters) text) ≡ true
         has_letter some' = list_any_at is_ascii_alphabetic (take (number.len + letters) text) number.len 0 (omega (arith, in_text, length-take (number.len + letters) text))
             (ap is_ascii_alphabetic (get_or-take (number.len + letters) text number.len 0 (omega arith)) ∙ letter-run number.len (omega arith) (omega arith))
+
         no_digit : letters ≡ 0 → is_ascii_digit (get_or text (number.len + letters) 0) ≡ false
         no_digit none =
             let same : prefix_len is_ascii_digit text ≡ number.len + letters = omega (arith, len) in
             subst (λ (k : ℕ). is_ascii_digit (get_or text k 0) ≡ false) same (prefix_len_stops is_ascii_digit text 0 (omega (arith, more)))
+
         by : (0 < letters) ⊎ (letters ≤ 0) → may_follow_in_size (take (number.len + letters) text) (get_or text (number.len + letters) 0) ≡ false
         by (inl some') = no-digit-behind (take (number.len + letters) text) (get_or text (number.len + letters) 0) (has_letter some') no_more
         by (inr none) = neither-stands (take (number.len + letters) text) (get_or text (number.len + letters) 0) (no_digit (omega arith)) no_more
@@ -233,7 +238,7 @@ module _ (text : List ℕ) (number : Number) (front : number ≡ number_at text)
         too_large = by (digits_value 10 (take number.len text) * factor) value same-len
           where
             by : (n : ℕ) → size.value ≡ min n (2 ^ 64 - 1) → size.len ≡ number.len
-              → (nat_lt 20 size.len || nat_le (2 ^ 63) size.value) ≡ (nat_lt 20 number.len || nat_le (2 ^ 63) n)
+                → (nat_lt 20 size.len || nat_le (2 ^ 63) size.value) ≡ (nat_lt 20 number.len || nat_le (2 ^ 63) n)
             by n e same = grind (arith, nat_tests)
 
         pub size-large : (nat_lt 20 size.len || nat_le (2 ^ 63) size.value) ≡ true → Err TooLarge ≡ size_of text

@@ -1,5 +1,5 @@
 -- The exits of the reader of truths.
-use Rattle.std.proofs.Common.{◌≡◌, ℕ, Bool, true, false, List, [], ◌∷◌, length, Option, Some, None, Ok, Err, refl, ◌∙◌, eqb}
+use Rattle.std.proofs.Common.{◌≡◌, ℕ, Bool, true, false, List, [], ◌∷◌, length, Option, Some, None, Err, refl, ◌∙◌, eqb}
 use Rattle.std.specs.Option.{ok_or, unwrap_or, is_none}
 use Rattle.size_values.specs.Reading.{reading, fault_if}
 use Rattle.size_values.specs.Truth.{truth_of, truth_named}

@@ -34,10 +34,13 @@ is_whole_expiry text = is_unit (last_byte text)
 abbrev pub digits_of_part : List ℕ → List ℕ
 digits_of_part part = take_while is_ascii_digit part
 
--- the number of the part that ends with the letter, or 0 where there is none
+-- the part ends with the letter
+abbrev pub has_letter : ℕ → List ℕ → Bool
+has_letter letter part = last_byte part == letter
+
+-- the number of the part with the letter, or 0 where there is none
 abbrev pub amount_of : ℕ → List (List ℕ) → ℕ
-amount_of letter parts =
-    unwrap_or (option_map (λ part. digits_value 10 (digits_of_part part)) (find (λ part. last_byte part == letter) parts)) 0
+amount_of letter parts = unwrap_or (option_map (λ part. digits_value 10 (digits_of_part part)) (find (has_letter letter) parts)) 0
 
 -- the number of each unit
 abbrev pub amounts_in : List (List ℕ) → Expiry
@@ -50,9 +53,9 @@ amounts_in parts = record {
   years = amount_of (byte "y") parts;
 }
 
--- the letter of some unit comes twice
-abbrev pub repeats_unit : List ℕ → Bool
-repeats_unit text = list_any (λ letter. nat_lt 1 (count_by (λ b. b == letter) text)) unit_letters
+-- two parts have the same letter
+abbrev pub repeats_unit : List (List ℕ) → Bool
+repeats_unit parts = list_any (λ letter. nat_lt 1 (count_by (has_letter letter) parts)) unit_letters
 
 -- The expiry that a text gives, or the first fault: parts of digits and the letter of a unit, joined by one space.
 unfoldable pub expiry_of : List ℕ → Result Expiry ValueFault
@@ -61,5 +64,5 @@ expiry_of text =
     reading (amounts_in parts) (
     fault_if (length text == 0) Empty
     ∷ option_map BadByte (stray may_follow_in_expiry is_whole_expiry text)
-    ∷ fault_if (list_any (λ part. is_outside 1 9999 (digits_of_part part)) parts || repeats_unit text) OutOfRange
+    ∷ fault_if (list_any (λ part. is_outside 1 9999 (digits_of_part part)) parts || repeats_unit parts) OutOfRange
     ∷ [])

@@ -5,6 +5,7 @@ pub mod Causes
 pub mod Count
 pub mod Cpu
 pub mod Expiry
+pub mod ExpiryParts
 pub mod Fault
 pub mod Form
 pub mod MemorySize

@@ -1,10 +1,10 @@
 -- Words for the contracts with which an address is read number by number.
-use Rattle.std.specs.Prelude.{ℕ, ◌≡◌, ◌+◌, ◌*◌, ◌<◌, ◌≤◌, ◌⊎◌, ◌==◌, Bool, true, false, if◌then◌else◌, List, length, take, drop, slice_index, take_while, Option, Some, None}
+use Rattle.std.specs.Prelude.{ℕ, ◌≡◌, ◌+◌, ◌*◌, ◌<◌, ◌≤◌, ◌⊎◌, ◌==◌, true, false, if◌then◌else◌, List, length, take, drop, slice_index, take_while, Option, Some, None}
 use Rattle.std.specs.List.{prefix_len}
 use Rattle.std.specs.Char.{is_ascii_digit}
 use Rattle.std.specs.Str.Parse.{digits_value}
 use Rattle.size_values.specs.Form.{StandsTo}
-use Rattle.size_values.specs.Address.{is_dot, is_unfit, may_follow_in_address, is_whole_address, is_address_unfit, address_value}
+use Rattle.size_values.specs.Address.{is_unfit, may_follow_in_address, is_whole_address, is_address_unfit, address_value}
 use Rattle.size_values.specs.declared.address.SmallNumber.{SmallNumber}
 use Rattle.size_values.specs.declared.address.Quad.{Quad}
 

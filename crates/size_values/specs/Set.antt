@@ -12,14 +12,14 @@ is_sign text front = is_comma (slice_index text front.end) || (is_dash (slice_in
 abbrev pub is_number_large : Number → Bool
 is_number_large number = nat_lt 20 number.len || nat_le (2 ^ 63) number.value
 
--- the front is the first number of the text
-pub record BeginsSet (text : List ℕ) (front : SetFront) : Type 0 where
+-- the front is the first number of a set
+pub record BeginsSet (number : Number) (front : SetFront) : Type 0 where
   pub some : 0 < front.end
-  pub end : front.end ≡ (number_at text).len
-  pub last : front.last ≡ (number_at text).value
+  pub end : front.end ≡ number.len
+  pub last : front.last ≡ number.value
   pub in_range : front.in_range ≡ false
-  pub too_large : front.too_large ≡ is_number_large (number_at text)
-  pub unfit : front.unfit ≡ nat_lt 1000000 (number_at text).value
+  pub too_large : front.too_large ≡ is_number_large number
+  pub unfit : front.unfit ≡ nat_lt 1000000 number.value
 
 -- the new front is the old one with one more sign and number
 pub record ContinuesSet (text : List ℕ) (old new : SetFront) : Type 0 where
@@ -30,11 +30,6 @@ pub record ContinuesSet (text : List ℕ) (old new : SetFront) : Type 0 where
   pub in_range : new.in_range ≡ is_dash (slice_index text old.end)
   pub too_large : new.too_large ≡ (old.too_large || is_number_large (number_at (drop (old.end + 1) text)))
   pub unfit : new.unfit ≡ (old.unfit || nat_lt 1000000 new.last || (new.in_range && nat_lt new.last old.last))
-
--- no number stands at the front
-pub record BreaksAtOnce (text : List ℕ) (place : ℕ) : Type 0 where
-  pub none : (number_at text).len ≡ 0
-  pub first : place ≡ 0
 
 -- no sign that may stand there follows the front, or no number behind it
 abbrev pub BreaksSet : List ℕ → SetFront → ℕ → Type 0

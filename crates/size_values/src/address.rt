@@ -62,9 +62,7 @@ fn cidr_in(text: &[u8]) -> Result<(u32, u8), ValueFault>
     if bits.end < text.len() {
         return Err(ValueFault::BadByte(bits.end as u64));
     }
-    quad.address
-        .zip(bits.value)
-        .ok_or(ValueFault::OutOfRange)
+    quad.address.zip(bits.value).ok_or(ValueFault::OutOfRange)
 }
 
 /// The four numbers at the front, or the place at which the text leaves their form.
@@ -95,7 +93,13 @@ fn address(
 }
 
 /// The number that follows the separator at the place, or the place at which the text leaves that form.
-fn number_behind(text: &[u8], at: usize, separator: u8, least: u64, most: u64) -> Result<SmallNumber, Stray>
+fn number_behind(
+    text: &[u8],
+    at: usize,
+    separator: u8,
+    least: u64,
+    most: u64,
+) -> Result<SmallNumber, Stray>
     requires within { at ≤ length text.now }
     requires separator { 0 < separator }
     requires bounds { (least ≤ most) × (most ≤ 255) }
@@ -145,4 +149,67 @@ fn has_leading_zero(text: &[u8], number: Number) -> bool
     ensures { result ≡ has_leading_zero (take_while is_ascii_digit text.now) }
 {
     number.len > 1 && text[0] == b'0'
+}
+
+#[cfg(test)]
+mod tests {
+    use super::*;
+    use crate::fault::ValueFault::{BadByte, Empty, OutOfRange};
+
+    #[test]
+    fn reads_addresses(rt: HostRuntime) {
+        let rows = [
+            ("0.0.0.0", Ok(0)),
+            ("10.0.255.1", Ok(0x0a00_ff01)),
+            ("255.255.255.255", Ok(0xffff_ffff)),
+            ("", Err(Empty)),
+            ("1", Err(BadByte(1))),
+            (".1.2.3", Err(BadByte(0))),
+            ("a.1.2.3", Err(BadByte(0))),
+            ("1..2.3", Err(BadByte(2))),
+            ("1.2.3", Err(BadByte(5))),
+            ("1.2.3.", Err(BadByte(6))),
+            ("1.2.3.4 ", Err(BadByte(7))),
+            ("1.2.3.4.5", Err(BadByte(7))),
+            ("1.2.3.4/24", Err(BadByte(7))),
+            ("999.2.3.x", Err(BadByte(8))),
+            ("256.2.3.4", Err(OutOfRange)),
+            ("1.2.3.256", Err(OutOfRange)),
+            ("1000.1.1.1", Err(OutOfRange)),
+            ("01.2.3.4", Err(OutOfRange)),
+            ("1.2.3.00", Err(OutOfRange)),
+            ("1.2.3.00000000000000000004", Err(OutOfRange)),
+            ("1.2.3.999999999999999999999", Err(OutOfRange)),
+        ];
+        for (text, want) in rows {
+            assert_eq!(rt; read_address(text), want, "at {text}");
+        }
+    }
+
+    #[test]
+    fn reads_addresses_with_lengths(rt: HostRuntime) {
+        let rows = [
+            ("10.0.0.1/24", Ok((0x0a00_0001, 24))),
+            ("10.0.0.1/8", Ok((0x0a00_0001, 8))),
+            ("255.255.255.255/30", Ok((0xffff_ffff, 30))),
+            ("", Err(Empty)),
+            ("/24", Err(BadByte(0))),
+            ("10.0.0/24", Err(BadByte(6))),
+            ("10.0.0.1", Err(BadByte(8))),
+            ("10.0.0.1.2/24", Err(BadByte(8))),
+            ("10.0.0.1/", Err(BadByte(9))),
+            ("10.0.0.1/x", Err(BadByte(9))),
+            ("10.0.0.1/24/", Err(BadByte(11))),
+            ("10.0.0.1/24.", Err(BadByte(11))),
+            ("256.0.0.1/24x", Err(BadByte(12))),
+            ("10.0.0.1/7", Err(OutOfRange)),
+            ("10.0.0.1/31", Err(OutOfRange)),
+            ("10.0.0.1/08", Err(OutOfRange)),
+            ("10.0.0.256/24", Err(OutOfRange)),
+            ("10.0.00.1/24", Err(OutOfRange)),
+        ];
+        for (text, want) in rows {
+            assert_eq!(rt; read_cidr(text), want, "at {text}");
+        }
+    }
 }

@@ -1,8 +1,9 @@
 ghost use Rattle.std.specs.Prelude.{◌≡◌, ◌<◌, IfOk, IfErr, length};
 ghost use Rattle.size_values.specs.Cpu.{cpu_of, set_of};
-ghost use Rattle.size_values.specs.Set.{BeginsSet, BreaksAtOnce, ContinuesSet, BreaksSet};
+ghost use Rattle.size_values.specs.Number.{number_at};
+ghost use Rattle.size_values.specs.Set.{BeginsSet, ContinuesSet, BreaksSet};
 
-use crate::count::count_in;
+use crate::count::counted;
 use crate::fault::{Stray, ValueFault};
 use crate::number::Number;
 
@@ -44,16 +45,18 @@ fn cpu_in(text: &[u8]) -> Result<Cpu, ValueFault>
 {
     let number = Number::at_front(text);
     if number.len < text.len() {
-        return set_in(text);
+        return set_in(text, number);
     }
-    let count = count_in(text, 1, MOST)?;
+    let count = counted(text, number, 1, MOST)?;
     Ok(Cpu::Count(count as u32))
 }
 
-fn set_in(text: &[u8]) -> Result<Cpu, ValueFault>
+/// A set, and the number at its front.
+fn set_in(text: &[u8], number: Number) -> Result<Cpu, ValueFault>
+    requires { number ≡ number_at text.now }
     ensures { result ≡ set_of text.now }
 {
-    let mut front = SetFront::first(text)?;
+    let mut front = SetFront::first(number)?;
     while front.end < text.len() {
         front = front.next(text)?;
     }
@@ -68,11 +71,10 @@ fn set_in(text: &[u8]) -> Result<Cpu, ValueFault>
 
 impl SetFront {
     /// The first number of a set.
-    fn first(text: &[u8]) -> Result<SetFront, Stray>
-        ensures ok { IfOk result (BeginsSet text.now) }
-        ensures err { IfErr result (λ stray. BreaksAtOnce text.now stray.place) }
+    fn first(number: Number) -> Result<SetFront, Stray>
+        ensures ok { IfOk result (BeginsSet number) }
+        ensures err { IfErr result (λ stray. (number.len ≡ 0) × (stray.place ≡ 0)) }
     {
-        let number = Number::at_front(text);
         if number.len == 0 {
             return Err(Stray { place: 0 });
         }
@@ -108,5 +110,62 @@ impl SetFront {
             too_large: self.too_large || number.is_too_large(),
             unfit: self.unfit || number.value > MOST || in_range && number.value < self.last,
         })
+    }
+}
+
+#[cfg(test)]
+mod tests {
+    use super::*;
+    use crate::fault::ValueFault::{BadByte, Empty, OutOfRange, TooLarge};
+
+    #[test]
+    fn reads_cpu_counts(rt: HostRuntime) {
+        let rows = [
+            ("", Err(Empty)),
+            ("0", Err(OutOfRange)),
+            ("1", Ok(Cpu::Count(1))),
+            ("01", Ok(Cpu::Count(1))),
+            ("1000000", Ok(Cpu::Count(1_000_000))),
+            ("1000001", Err(OutOfRange)),
+            ("00000000000000000001", Ok(Cpu::Count(1))),
+            ("000000000000000000001", Err(TooLarge)),
+        ];
+        for (text, want) in rows {
+            assert_eq!(rt; read_cpu(text), want, "at {text}");
+        }
+    }
+
+    #[test]
+    fn reads_cpu_sets(rt: HostRuntime) {
+        let rows = [
+            ("0-3", Ok(Cpu::Pinned)),
+            ("3-3", Ok(Cpu::Pinned)),
+            ("0,1000000", Ok(Cpu::Pinned)),
+            ("0-3,5,7-9", Ok(Cpu::Pinned)),
+            ("0,00000000000000000001", Ok(Cpu::Pinned)),
+            ("3-0", Err(OutOfRange)),
+            ("1-2,4-3", Err(OutOfRange)),
+            ("0,1000001", Err(OutOfRange)),
+            ("0-1000001", Err(OutOfRange)),
+            ("0,9223372036854775808", Err(TooLarge)),
+            ("0,000000000000000000001", Err(TooLarge)),
+            ("5-1,99999999999999999999", Err(TooLarge)),
+            ("18446744073709551615-18446744073709551614", Err(TooLarge)),
+            ("a", Err(BadByte(0))),
+            (",1", Err(BadByte(0))),
+            ("-1", Err(BadByte(0))),
+            ("1 2", Err(BadByte(1))),
+            ("1,", Err(BadByte(2))),
+            ("1-", Err(BadByte(2))),
+            ("1,,2", Err(BadByte(2))),
+            ("1-,2", Err(BadByte(2))),
+            ("1-2-3", Err(BadByte(3))),
+            ("1,2-3-4", Err(BadByte(5))),
+            ("1,2 ", Err(BadByte(3))),
+            ("5-1,99999999999999999999x", Err(BadByte(24))),
+        ];
+        for (text, want) in rows {
+            assert_eq!(rt; read_cpu(text), want, "at {text}");
+        }
     }
 }

@@ -47,3 +47,22 @@ impl From<Stray> for ValueFault {
         ValueFault::BadByte(stray.place as u64)
     }
 }
+
+#[cfg(test)]
+mod tests {
+    use super::*;
+
+    #[test]
+    fn numbers_faults(rt: HostRuntime) {
+        let rows = [
+            (ValueFault::Empty, 1),
+            (ValueFault::BadByte(7), 2),
+            (ValueFault::UnknownSuffix(7), 3),
+            (ValueFault::TooLarge, 4),
+            (ValueFault::OutOfRange, 5),
+        ];
+        for (fault, want) in rows {
+            assert_eq!(rt; fault.number(), want, "at {fault:?}");
+        }
+    }
+}

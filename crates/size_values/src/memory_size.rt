@@ -32,3 +32,35 @@ fn memory_in(text: &[u8]) -> Result<Memory, ValueFault>
     let bytes = size_in(text)?;
     Ok(Memory::Bytes(bytes))
 }
+
+#[cfg(test)]
+mod tests {
+    use super::*;
+    use crate::fault::ValueFault::{BadByte, Empty, OutOfRange, TooLarge, UnknownSuffix};
+
+    #[test]
+    fn reads_memory(rt: HostRuntime) {
+        let rows = [
+            ("", Err(Empty)),
+            ("%", Err(Empty)),
+            ("0%", Err(OutOfRange)),
+            ("1%", Ok(Memory::Percent(1))),
+            ("0050%", Ok(Memory::Percent(50))),
+            ("100%", Ok(Memory::Percent(100))),
+            ("101%", Err(OutOfRange)),
+            ("00000000000000000050%", Ok(Memory::Percent(50))),
+            ("000000000000000000050%", Err(TooLarge)),
+            ("5x%", Err(BadByte(1))),
+            ("50%%", Err(BadByte(2))),
+            ("%5", Err(BadByte(0))),
+            ("50% ", Err(BadByte(2))),
+            ("512", Ok(Memory::Bytes(512))),
+            ("1GiB", Ok(Memory::Bytes(1_073_741_824))),
+            ("12kb", Err(UnknownSuffix(2))),
+            ("8EiB", Err(TooLarge)),
+        ];
+        for (text, want) in rows {
+            assert_eq!(rt; read_memory(text), want, "at {text}");
+        }
+    }
+}

@@ -84,3 +84,72 @@ fn factor_in(rows: &[(&str, u64)], suffix: &[u8]) -> Option<u64>
         .find(|row| row.0.as_bytes() == suffix)
         .map(|row| row.1)
 }
+
+#[cfg(test)]
+mod tests {
+    use super::*;
+    use crate::fault::ValueFault::{BadByte, Empty, TooLarge, UnknownSuffix};
+
+    #[test]
+    fn reads_sizes(rt: HostRuntime) {
+        let rows = [
+            ("", Err(Empty)),
+            ("0", Ok(0)),
+            ("7", Ok(7)),
+            ("1B", Ok(1)),
+            ("1kB", Ok(1_000)),
+            ("1MB", Ok(1_000_000)),
+            ("1GB", Ok(1_000_000_000)),
+            ("1TB", Ok(1_000_000_000_000)),
+            ("1PB", Ok(1_000_000_000_000_000)),
+            ("1EB", Ok(1_000_000_000_000_000_000)),
+            ("1KiB", Ok(1_024)),
+            ("1MiB", Ok(1_048_576)),
+            ("1GiB", Ok(1_073_741_824)),
+            ("1TiB", Ok(1_099_511_627_776)),
+            ("1PiB", Ok(1_125_899_906_842_624)),
+            ("1EiB", Ok(1_152_921_504_606_846_976)),
+            ("9223372036854775807", Ok(9_223_372_036_854_775_807)),
+            ("9223372036854775808", Err(TooLarge)),
+            ("9007199254740991KiB", Ok(9_223_372_036_854_774_784)),
+            ("9007199254740992KiB", Err(TooLarge)),
+            ("7EiB", Ok(8_070_450_532_247_928_832)),
+            ("8EiB", Err(TooLarge)),
+            ("9EB", Ok(9_000_000_000_000_000_000)),
+            ("10EB", Err(TooLarge)),
+            ("18446744073709551616kB", Err(TooLarge)),
+            ("00000000000000000001", Ok(1)),
+            ("000000000000000000001", Err(TooLarge)),
+            ("99999999999999999999", Err(TooLarge)),
+        ];
+        for (text, want) in rows {
+            assert_eq!(rt; read_size(text), want, "at {text}");
+        }
+    }
+
+    #[test]
+    fn names_the_first_fault_of_a_size(rt: HostRuntime) {
+        let rows = [
+            ("B", BadByte(0)),
+            ("kB", BadByte(0)),
+            (" 1", BadByte(0)),
+            ("-1", BadByte(0)),
+            ("1 GB", BadByte(1)),
+            ("1.5GB", BadByte(1)),
+            ("1\u{e9}", BadByte(1)),
+            ("1G2", BadByte(2)),
+            ("5EB ", BadByte(3)),
+            ("12x%", BadByte(3)),
+            ("999999999999999999999 ", BadByte(21)),
+            ("12kb", UnknownSuffix(2)),
+            ("12KB", UnknownSuffix(2)),
+            ("1b", UnknownSuffix(1)),
+            ("1gib", UnknownSuffix(1)),
+            ("1EiBB", UnknownSuffix(1)),
+            ("99999999999999999999x", UnknownSuffix(20)),
+        ];
+        for (text, want) in rows {
+            assert_eq!(rt; read_size(text), Err(want), "at {text}");
+        }
+    }
+}

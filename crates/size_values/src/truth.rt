@@ -42,3 +42,37 @@ fn truth_in(rows: &[(&str, bool)], text: &str) -> Option<bool>
         .find(|row| row.0.eq_ignore_ascii_case(text))
         .map(|row| row.1)
 }
+
+#[cfg(test)]
+mod tests {
+    use super::*;
+    use crate::fault::ValueFault::{Empty, OutOfRange};
+
+    #[test]
+    fn reads_truths(rt: HostRuntime) {
+        let rows = [
+            ("true", Ok(true)),
+            ("1", Ok(true)),
+            ("yes", Ok(true)),
+            ("on", Ok(true)),
+            ("TRUE", Ok(true)),
+            ("yEs", Ok(true)),
+            ("On", Ok(true)),
+            ("false", Ok(false)),
+            ("0", Ok(false)),
+            ("no", Ok(false)),
+            ("off", Ok(false)),
+            ("False", Ok(false)),
+            ("NO", Ok(false)),
+            ("oFF", Ok(false)),
+            ("", Err(Empty)),
+            ("2", Err(OutOfRange)),
+            ("t", Err(OutOfRange)),
+            ("true ", Err(OutOfRange)),
+            ("01", Err(OutOfRange)),
+        ];
+        for (text, want) in rows {
+            assert_eq!(rt; read_truth(text), want, "at {text}");
+        }
+    }
+}

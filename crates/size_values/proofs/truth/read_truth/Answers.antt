@@ -1,4 +1,4 @@
-use Rattle.std.proofs.Common.{◌≡◌, ℕ, Bool, List, sym, ap, ◌∙◌}
+use Rattle.std.proofs.Common.{sym, ap, ◌∙◌}
 use Rattle.std.specs.Option.{ok_or}
 use Rattle.size_values.specs.declared.fault.ValueFault.TheVariants.{OutOfRange}
 use Rattle.size_values.proofs.Truths.{truth-empty, truth-named}

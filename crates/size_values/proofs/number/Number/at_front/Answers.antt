@@ -1,4 +1,4 @@
-use Rattle.std.proofs.Common.{◌≡◌, ℕ, ◌∙◌, ◌<◌, true, sym, ap, arith, get_or, below_more}
+use Rattle.std.proofs.Common.{◌∙◌, sym, arith, below_more}
 use Rattle.size_values.proofs.Runs.{number-next, number-ends, number-whole}
 use Rattle.size_values.proofs.number.Number.at_front.Goals as goal
 
