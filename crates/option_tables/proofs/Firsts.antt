@@ -1,5 +1,5 @@
 -- The first fault of entries that are seen one after the other.
-use Rattle.std.proofs.Common.{◌≡◌, ℕ, ◌+◌, ◌≤◌, List, [], ◌∷◌, length, drop, slice_get, Option, Some, None, sym, ap, ◌∙◌}
+use Rattle.std.proofs.Common.{◌≡◌, ℕ, ◌+◌, ◌≤◌, List, length, drop, slice_get, Option, Some, None, sym, ap, ◌∙◌}
 use Rattle.std.specs.List.{enumerate_from}
 use Rattle.std.specs.Map.{keys_of, values_of}
 use Rattle.std.specs.Option.{option_or}

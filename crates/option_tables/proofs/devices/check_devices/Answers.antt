@@ -1,4 +1,4 @@
-use Rattle.std.proofs.Common.{ℕ, List, ap, ◌∙◌, Some, arith}
+use Rattle.std.proofs.Common.{ℕ, List, ap, arith}
 use Rattle.std.specs.Option.{option_map}
 use Rattle.config_lists.specs.Settings.{Settings}
 use Rattle.option_tables.specs.declared.faults.SettingFault.TheVariants as told

@@ -3,7 +3,7 @@ use Rattle.std.specs.Option.{option_map}
 use Rattle.plain_lists.specs.Members.{Mem}
 use Rattle.option_tables.specs.declared.form.Form.{Form}
 use Rattle.option_tables.specs.declared.tables.DeviceType.TheVariants as device
-use Rattle.option_tables.specs.Tables.{instance_lines, project_lines, network_lines, pool_lines, volume_lines, device_lines, takes, is_for}
+use Rattle.option_tables.specs.Tables.{instance_lines, project_lines, network_lines, pool_lines, volume_lines, device_lines, is_for}
 use Rattle.option_tables.specs.Apart.{are_apart, plain_tables}
 use Rattle.option_tables.proofs.Alone.{alone}
 use Rattle.option_tables.proofs.laws.each_line_is_the_rule_of_its_keys.Goals as goal
