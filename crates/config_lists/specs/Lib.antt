@@ -1,0 +1,4 @@
+pub mod Changes
+pub mod Devices
+pub mod Entries
+pub mod Settings
