@@ -1,5 +1,5 @@
 -- A walk over devices that looks for one that passes a test.
-use Rattle.std.proofs.Common.{◌≡◌, ℕ, zero, suc, ◌+◌, Bool, true, false, ◌||◌, List, [], ◌∷◌, Option, Some, None, drop, refl, ap, sym, ◌∙◌, subst, arith}
+use Rattle.std.proofs.Common.{◌≡◌, ℕ, zero, suc, ◌+◌, Bool, false, ◌||◌, List, [], ◌∷◌, Some, drop, ap, ◌∙◌, arith}
 use Rattle.std.specs.List.{list_any, slice_get}
 
 -- one more element fails

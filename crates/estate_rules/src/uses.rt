@@ -67,9 +67,12 @@ mod tests {
     use std::alloc::Global;
     use std::test::Fail;
 
-    type Settings = [(&'static str, &'static str)];
-
-    fn put(alloc: Global, devices: &mut Devices, name: &str, settings: &Settings) -> Result<(), NoMemory> {
+    fn put(
+        alloc: Global,
+        devices: &mut Devices,
+        name: &str,
+        settings: &[(&str, &str)],
+    ) -> Result<(), NoMemory> {
         let mut device = Device::new(alloc);
         for (key, value) in settings {
             if !key.is_empty() && !value.is_empty() {
@@ -81,12 +84,52 @@ mod tests {
 
     fn some_devices(alloc: Global) -> Result<Devices, NoMemory> {
         let mut devices = Devices::new(alloc);
-        put(alloc, &mut devices, "eth0", &[("type", "nic"), ("network", "br0")])?;
-        put(alloc, &mut devices, "eth1", &[("type", "nic"), ("nictype", "macvlan"), ("parent", "br1")])?;
-        put(alloc, &mut devices, "root", &[("type", "disk"), ("path", "/"), ("pool", "p0")])?;
-        put(alloc, &mut devices, "data", &[("type", "disk"), ("path", "/srv"), ("pool", "p1"), ("source", "v0")])?;
-        put(alloc, &mut devices, "home", &[("type", "disk"), ("path", "/home"), ("source", "v1")])?;
-        put(alloc, &mut devices, "gone", &[("type", "none"), ("network", "br2"), ("pool", "p2"), ("source", "v2")])?;
+        put(
+            alloc,
+            &mut devices,
+            "eth0",
+            &[("type", "nic"), ("network", "br0")],
+        )?;
+        put(
+            alloc,
+            &mut devices,
+            "eth1",
+            &[("type", "nic"), ("nictype", "macvlan"), ("parent", "br1")],
+        )?;
+        put(
+            alloc,
+            &mut devices,
+            "root",
+            &[("type", "disk"), ("path", "/"), ("pool", "p0")],
+        )?;
+        put(
+            alloc,
+            &mut devices,
+            "data",
+            &[
+                ("type", "disk"),
+                ("path", "/srv"),
+                ("pool", "p1"),
+                ("source", "v0"),
+            ],
+        )?;
+        put(
+            alloc,
+            &mut devices,
+            "home",
+            &[("type", "disk"), ("path", "/home"), ("source", "v1")],
+        )?;
+        put(
+            alloc,
+            &mut devices,
+            "gone",
+            &[
+                ("type", "none"),
+                ("network", "br2"),
+                ("pool", "p2"),
+                ("source", "v2"),
+            ],
+        )?;
         Ok(devices)
     }
 
@@ -106,7 +149,11 @@ mod tests {
             ("p2", "v2", false),
             ("p0", "", false),
         ] {
-            assert_eq!(rt; names_volume(&devices, pool, volume), named, "{pool} {volume}");
+            assert_eq!(rt;
+                names_volume(&devices, pool, volume),
+                named,
+                "{pool} {volume}"
+            );
         }
         Ok(())
     }
