@@ -1,6 +1,7 @@
 use Rattle.std.specs.Prelude.{◌≡◌, ℕ, ◌<◌, ◌≤◌, true, false, List, [], ◌∷◌, ◌++◌, length}
 use Rattle.plain_lists.specs.Members.{Each, Distinct}
-use Rattle.operations.specs.declared.limits.TheConstants.{MOMENT_LIMIT, LIVE_LIMIT, ENDED_LIMIT, NUMBER_LIMIT}
+use Rattle.size_values.specs.declared.moment.TheConstants.{MOMENT_LIMIT}
+use Rattle.operations.specs.declared.limits.TheConstants.{LIVE_LIMIT, ENDED_LIMIT, NUMBER_LIMIT}
 use Rattle.operations.specs.declared.operation.Operation.{Operation}
 use Rattle.operations.specs.Statuses.{is_live}
 use Rattle.operations.specs.Kept.{Kept}

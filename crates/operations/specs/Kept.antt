@@ -98,9 +98,9 @@ ends number now why moment k =
     record k {
       live = dropped (has_number number) k.live;
       ended = option_map_or
-        (λ o. ring_push ENDED_LIMIT (record o { status = now; fault = why; updated = moment }) k.ended)
-        (live_at k number)
-        k.ended;
+          (λ o. ring_push ENDED_LIMIT (record o { status = now; fault = why; updated = moment }) k.ended)
+          (live_at k number)
+          k.ended;
     }
 
 -- what a cancel answers, by the operation of its number

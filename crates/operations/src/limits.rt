@@ -1,6 +1,3 @@
-/// Every moment lies below this number of seconds since 1970: it is the first second of the year 10000.
-pub const MOMENT_LIMIT: u64 = 253_402_300_800;
-
 /// At most this many operations are live.
 pub const LIVE_LIMIT: usize = 1_024;
 

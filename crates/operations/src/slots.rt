@@ -9,11 +9,11 @@ ghost use Rattle.operations.specs.Facts.{AreKept};
 ghost use Rattle.operations.specs.declared.status.Status.TheVariants as status;
 
 use crate::faults::{CancelFault, EnterFault};
-use crate::limits::{ENDED_LIMIT, LIVE_LIMIT, MOMENT_LIMIT, NUMBER_LIMIT};
+use crate::limits::{ENDED_LIMIT, LIVE_LIMIT, NUMBER_LIMIT};
 use crate::operation::{OpFault, Operation};
 use crate::status::Status;
 use plain_lists::push_reserved;
-use size_values::NoMemory;
+use size_values::{MOMENT_LIMIT, NoMemory};
 use std::alloc::Global;
 use std::marker::Model;
 use std::mem;
@@ -195,7 +195,11 @@ impl<W: Drop> Slots<W> {
 }
 
 /// The operation of this number, in one of the lists.
-fn found_in<'x, W>(live: &'x [Operation<W>], ended: &'x [Operation<W>], number: u64) -> Option<&'x Operation<W>>
+fn found_in<'x, W>(
+    live: &'x [Operation<W>],
+    ended: &'x [Operation<W>],
+    number: u64,
+) -> Option<&'x Operation<W>>
     ensures { option_copied result ≡ find (has_number number) (live.now ++ ended.now) }
 {
     live.iter().chain(ended.iter()).find(|o| o.number == number)
@@ -205,7 +209,9 @@ fn found_in<'x, W>(live: &'x [Operation<W>], ended: &'x [Operation<W>], number: 
 fn pending_in<W>(operations: &[Operation<W>]) -> Option<u64>
     ensures { result ≡ option_map (λ (o : Operation W). o.number) (find (λ (o : Operation W). is_pending o.status) operations.now) }
 {
-    let pending = operations.iter().find(|o| matches!(o.status, Status::Pending));
+    let pending = operations
+        .iter()
+        .find(|o| matches!(o.status, Status::Pending));
     pending.map(|o| o.number)
 }
 
@@ -249,9 +255,7 @@ fn known_place<W>(operations: &[Operation<W>], number: u64) -> usize
 fn swap_in<W>(operations: &mut Vec<Operation<W>>, number: u64, work: W) -> W
     requires { IsSome (find (has_number number) operations.old.items) }
     ensures old { option_map (λ (o : Operation W). o.work) (find (has_number number) operations.old.items) ≡ Some result }
-    ensures items {
-        operations.new.items ≡ changed_first (has_number number) (λ (o : Operation W). record o { work = work }) operations.old.items
-    }
+    ensures items { operations.new.items ≡ changed_first (has_number number) (λ (o : Operation W). record o { work = work }) operations.old.items }
     ensures capacity { vec_capacity operations.new ≡ vec_capacity operations.old }
 {
     let place = known_place(operations, number);
@@ -262,10 +266,8 @@ fn swap_in<W>(operations: &mut Vec<Operation<W>>, number: u64, work: W) -> W
 /// Gives the operation of this number another status.
 fn set_status<W>(operations: &mut Vec<Operation<W>>, number: u64, status: Status, moment: u64)
     requires { IsSome (find (has_number number) operations.old.items) }
-    ensures items {
-        operations.new.items ≡
-        changed_first (has_number number) (λ (o : Operation W). record o { status = status; updated = moment }) operations.old.items
-    }
+    ensures items { operations.new.items ≡
+        changed_first (has_number number) (λ (o : Operation W). record o { status = status; updated = moment }) operations.old.items }
     ensures capacity { vec_capacity operations.new ≡ vec_capacity operations.old }
 {
     let place = known_place(operations, number);
@@ -289,9 +291,7 @@ fn take_out<W>(operations: &mut Vec<Operation<W>>, number: u64) -> Operation<W>
 fn drop_oldest<W: Drop>(ended: &mut Vec<Operation<W>>) -> Option<u64>
     requires { length ended.old.items ≤ ENDED_LIMIT }
     ensures rest { ended.new.items ≡ keep_last (ENDED_LIMIT - 1) ended.old.items }
-    ensures number {
-        result ≡ (if length ended.old.items == ENDED_LIMIT then option_map (λ (o : Operation W). o.number) (slice_get ended.old.items 0) else None)
-    }
+    ensures number { result ≡ (if length ended.old.items == ENDED_LIMIT then option_map (λ (o : Operation W). o.number) (slice_get ended.old.items 0) else None) }
     ensures capacity { vec_capacity ended.old ≤ vec_capacity ended.new }
 {
     if ended.len() < ENDED_LIMIT {
@@ -322,4 +322,88 @@ fn place_in(numbers: &[u64], number: u64) -> Option<usize>
     ensures { result ≡ position (λ n. n == number) numbers.now }
 {
     numbers.iter().position(|n| *n == number)
+}
+
+#[cfg(test)]
+mod tests {
+    use super::*;
+    use std::test::Fail;
+
+    fn status_of(slots: &Slots<u64>, number: u64) -> Option<Status>
+        ensures { IfSome result (λ st. is_live st ≡ true → live_status slots.now number ≡ Some st) }
+    {
+        match slots.get(number) {
+            Some(operation) => Some(operation.status),
+            None => None,
+        }
+    }
+
+    fn begin(slots: &mut Slots<u64>, number: u64) {
+        match status_of(slots, number) {
+            Some(Status::Pending) => slots.begin(number, 2_000),
+            _ => {}
+        }
+    }
+
+    fn finish(slots: &mut Slots<u64>, number: u64) {
+        let Some(status) = status_of(slots, number) else {
+            return;
+        };
+        if status.is_live() {
+            slots.end(number, Status::Success, OpFault::None, 3_000);
+        }
+    }
+
+    fn swap(slots: &mut Slots<u64>, number: u64, work: u64) -> Option<u64> {
+        match status_of(slots, number) {
+            Some(Status::Pending) => Some(slots.swap_work(number, work)),
+            _ => None,
+        }
+    }
+
+    #[test]
+    fn fills_cancels_and_ends(rt: HostRuntime) -> Result<(), Fail> {
+        let mut slots: Slots<u64> = Slots::new(rt.alloc())?;
+        for number in 1..=1_024u64 {
+            assert_eq!(rt; slots.enter(number % 2 == 0, number * 10, number)?, number);
+        }
+        assert_eq!(rt; slots.enter(true, 7, 0), Err((7, EnterFault::Full)));
+        assert_eq!(rt; slots.live(), 1_024);
+        assert_eq!(rt; slots.next(), 1_025);
+        assert_eq!(rt; slots.first_pending(), Some(1));
+        begin(&mut slots, 1);
+        begin(&mut slots, 2);
+        assert_eq!(rt; slots.first_pending(), Some(3));
+        for (number, want) in [
+            (1, Err(CancelFault::Fixed)),
+            (9_999, Err(CancelFault::Unknown)),
+            (2, Ok(Status::Cancelling)),
+            (2, Err(CancelFault::Already)),
+            (3, Err(CancelFault::Fixed)),
+            (4, Ok(Status::Cancelled)),
+            (4, Err(CancelFault::Ended(Status::Cancelled))),
+        ] {
+            assert_eq!(rt; slots.mark_cancel(number, 2_500), want, "{number}");
+        }
+        for number in 5..=259 {
+            finish(&mut slots, number);
+        }
+        assert_eq!(rt; status_of(&slots, 4), Some(Status::Cancelled));
+        assert_eq!(rt; slots.kept(), 1_024);
+        finish(&mut slots, 260);
+        assert_eq!(rt; status_of(&slots, 4), None);
+        assert_eq!(rt; status_of(&slots, 5), Some(Status::Success));
+        assert_eq!(rt; slots.kept(), 1_023);
+        assert_eq!(rt; slots.live(), 767);
+        assert_eq!(rt; swap(&mut slots, 300, 1), Some(3_000));
+        assert_eq!(rt; swap(&mut slots, 300, 2), Some(1));
+        let mut last = 0;
+        for place in 0..slots.kept() {
+            let number = slots.at(place).number;
+            assert!(rt; last < number, "{number}");
+            last = number;
+        }
+        assert_eq!(rt; last, 1_024);
+        Ok(())
+    }
 }

@@ -1,4 +1,4 @@
-use Rattle.std.proofs.Common.{◌≡◌, ℕ, Bool, Some, None, eqb, sym, ◌∙◌, ap}
+use Rattle.std.proofs.Common.{ℕ, Bool, eqb, sym, ◌∙◌, ap}
 use Rattle.std.specs.List.{position}
 use Rattle.std.specs.Option.{option_map_or}
 use Rattle.plain_lists.specs.Edits.{dropped}

@@ -1,7 +1,5 @@
-use Rattle.std.proofs.Common.{◌≡◌, ◌<◌, ◌≤◌, ◌+◌, ◌-◌, ℕ, IsSome, Option, Some, None, List, [], ◌∷◌, ◌++◌, length, map, drop, set, get_or, refl, sym, ◌∙◌, ap, subst, arith, rules}
-use Rattle.std.specs.List.{find, position, remove}
-use Rattle.operations.specs.declared.operation.Operation.{Operation}
-use Rattle.operations.specs.Kept.{Kept, has_number, live_at}
+use Rattle.std.proofs.Common.{IsSome, subst}
+use Rattle.operations.specs.Kept.{has_number}
 use Rattle.std.proofs.lemmas.Bool.{false≢true}
 use Rattle.plain_lists.proofs.Places.{none-position}
 use Rattle.operations.proofs.slots.known_place.Goals as goal

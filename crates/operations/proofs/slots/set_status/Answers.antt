@@ -1,6 +1,5 @@
-use Rattle.std.proofs.Common.{◌≡◌, ℕ, Some, None, set, get_or, refl, sym, ◌∙◌, ap, subst}
-use Rattle.std.specs.List.{find, position, remove}
-use Rattle.std.specs.Option.{option_map}
+use Rattle.std.proofs.Common.{set, ◌∙◌, ap}
+use Rattle.std.specs.List.{position}
 use Rattle.operations.specs.declared.operation.Operation.{Operation}
 use Rattle.operations.specs.Kept.{has_number}
 use Rattle.plain_lists.proofs.Places.{changed-at}

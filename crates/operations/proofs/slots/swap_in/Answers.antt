@@ -1,5 +1,5 @@
-use Rattle.std.proofs.Common.{◌≡◌, ℕ, Some, None, set, get_or, refl, sym, ◌∙◌, ap, subst}
-use Rattle.std.specs.List.{find, position, remove}
+use Rattle.std.proofs.Common.{Some, set, sym, ◌∙◌, ap}
+use Rattle.std.specs.List.{position}
 use Rattle.std.specs.Option.{option_map}
 use Rattle.operations.specs.declared.operation.Operation.{Operation}
 use Rattle.operations.specs.Kept.{has_number}
@@ -11,7 +11,7 @@ returns-clause-old g c =
     let items = c.args.operations.now.items in
     let place = c.known_place-place.ensures.place ∙ ap (position (has_number c.args.number)) c.deref.ensures.value in
     ap (option_map (λ (o : Operation g.row.W.Denot). o.work))
-      (find-at (has_number c.args.number) items c.known_place-place.result c.index_mut-operation.result.now place)
+    (find-at (has_number c.args.number) items c.known_place-place.result c.index_mut-operation.result.now place)
     ∙ ap (λ (o : Operation g.row.W.Denot). Some o.work) (sym c.index_mut-operation.ensures.value)
     ∙ ap Some (sym c.replace.ensures.value)
 

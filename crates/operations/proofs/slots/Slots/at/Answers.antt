@@ -1,8 +1,4 @@
-use Rattle.std.proofs.Common.{◌≡◌, ◌<◌, ◌++◌, Option, Some, None, ℕ, length, get_or, sym, ◌∙◌, ap, subst, arith}
-use Rattle.std.specs.List.{slice_get, find}
-use Rattle.std.proofs.lemmas.Option.{slice_get-get_or}
-use Rattle.std.proofs.lemmas.Bool.{false≢true}
-use Rattle.operations.specs.declared.operation.Operation.{Operation}
+use Rattle.std.proofs.Common.{◌≡◌, ◌<◌, ◌++◌, length, get_or, sym, ◌∙◌, ap, subst, arith}
 use Rattle.operations.specs.Kept.{Kept, kept_at}
 use Rattle.operations.specs.Inside.{numbers_of}
 use Rattle.operations.proofs.SlotsLemmas.{length-numbers_of, found-at, there-at}
@@ -12,9 +8,9 @@ pub index-requires : goal.index-requires
 index-requires g c =
     let s = c.self.inside in
     let listed : length s.numbers.items ≡ length (s.live.items ++ s.ended.items) =
-      ap length c.self.invariant.listed ∙ length-numbers_of (s.live.items ++ s.ended.items) in
+    ap length c.self.invariant.listed ∙ length-numbers_of (s.live.items ++ s.ended.items) in
     let within : c.args.place < length (s.live.items ++ s.ended.items) =
-      subst (λ (k : Kept g.row.W.Denot). c.args.place < length (k.live ++ k.ended)) (sym c.self.view_is) c.requires in
+    subst (λ (k : Kept g.row.W.Denot). c.args.place < length (k.live ++ k.ended)) (sym c.self.view_is) c.requires in
     omega arith
 
 pub unreachable-requires : goal.unreachable-requires
@@ -24,8 +20,8 @@ unreachable-requires g c =
     let listed = c.self.invariant.listed ∙ ap (λ (m : Kept g.row.W.Denot). numbers_of (m.live ++ m.ended)) c.self.view_is in
     let number = c.index.ensures ∙ ap (λ ns. get_or ns c.args.place c.index.result.now) listed in
     there-at (k.live ++ k.ended) c.args.place c.requires
-      (c.in-None.ensures.found ∙ ap (kept_at k) number
-        ∙ found-at (k.live ++ k.ended) c.args.place c.index.result.now c.get.ensures.facts.numbered.distinct c.requires)
+    (c.in-None.ensures.found ∙ ap (kept_at k) number
+    ∙ found-at (k.live ++ k.ended) c.args.place c.index.result.now c.get.ensures.facts.numbered.distinct c.requires)
 
 pub returns : goal.returns
 returns g c =
@@ -34,4 +30,4 @@ returns g c =
     let listed = c.self.invariant.listed ∙ ap (λ (m : Kept g.row.W.Denot). numbers_of (m.live ++ m.ended)) c.self.view_is in
     let number = c.index.ensures ∙ ap (λ ns. get_or ns c.args.place c.index.result.now) listed in
     sym (c.in-Some.ensures.found ∙ ap (kept_at k) number
-      ∙ found-at (k.live ++ k.ended) c.args.place c.index.result.now c.get.ensures.facts.numbered.distinct c.requires)
+    ∙ found-at (k.live ++ k.ended) c.args.place c.index.result.now c.get.ensures.facts.numbered.distinct c.requires)

@@ -1,6 +1,6 @@
-use Rattle.std.proofs.Common.{◌≡◌, IsSome, Result, Ok, Option, Some, None, refl, sym, ◌∙◌, ap, subst, arith}
+use Rattle.std.proofs.Common.{◌≡◌, Ok, refl, sym, ◌∙◌, ap, subst, arith}
 use Rattle.operations.specs.declared.operation.Operation.{Operation}
-use Rattle.operations.specs.Kept.{Kept, has_number, live_at, kept_at, cancel_answer}
+use Rattle.operations.specs.Kept.{Kept, kept_at, cancel_answer}
 use Rattle.operations.specs.Facts.{AreKept}
 use Rattle.operations.specs.Inside.{kept_in}
 use Rattle.operations.proofs.KeptLemmas.{AreKept-moved}
@@ -29,5 +29,5 @@ invariant_of-self g c =
     let there = cancel-live (kept_in s) c.args.number now h.kept accepted in
     let live = cancel-moves (kept_at (kept_in s) c.args.number) now accepted c.in_default.not-Cancelled in
     AreSlots-changed c.args.number (λ (o : Operation g.row.W.Denot). record o { status = now; updated = c.args.moment }) s _ h
-      (λ o. refl) c.set_status.ensures.items (omega (arith, c.set_status.ensures.capacity)) refl refl refl
-      (AreKept-moved c.args.number now c.args.moment there live c.requires h.kept)
+    (λ o. refl) c.set_status.ensures.items (omega (arith, c.set_status.ensures.capacity)) refl refl refl
+    (AreKept-moved c.args.number now c.args.moment there live c.requires h.kept)

@@ -1,0 +1,4 @@
+pub mod SearchLemmas
+pub mod HeadLemmas
+pub mod LengthLemmas
+pub mod MessageLemmas

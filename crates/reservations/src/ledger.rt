@@ -1,0 +1,263 @@
+ghost use Rattle.std.specs.Prelude.{◌≡◌, ◌+◌, ◌-◌, ◌<◌, ◌≤◌, ◌^◌, ◌∷◌, ◌++◌, [], Some, IsSome, IfSome, OnOk, length, vec_len, vec_capacity};
+ghost use Rattle.std.specs.List.{find, position};
+ghost use Rattle.std.specs.Option.{option_map};
+ghost use Rattle.plain_lists.specs.Edits.{dropped};
+ghost use Rattle.size_values.specs.declared.amounts.Part.{Part};
+ghost use Rattle.size_values.specs.Amounts.{part};
+ghost use Rattle.reservations.specs.Holdings.{no_books, has_op, share_at, counted, held_part, all_part, granted_more, converted_more, returned_more};
+ghost use Rattle.reservations.specs.Facts.{AreHoldings};
+ghost use Rattle.reservations.specs.declared.books.Hold.{Hold as HoldValue};
+
+use crate::books::{Books, Hold};
+use plain_lists::push_reserved;
+use size_values::{Amounts, NoMemory};
+use std::alloc::Global;
+use std::marker::Model;
+
+/// The shares that live operations hold, and the books. Contracts see the list of what is held, the greatest
+/// operation held so far (0 where none was), the books, and how many more can be held without memory.
+#[derive(Debug, Drop)]
+pub struct Ledger {
+    holds: Vec<Hold>,
+    greatest: u64,
+    books: Books,
+}
+
+impl Model for Ledger {
+    ghost use Rattle.reservations.specs.Holdings.{Holdings};
+
+    ghost Value = { Holdings };
+
+    ghost use Rattle.reservations.specs.Inside.{holdings_in, IsLedger};
+
+    ghost view = { holdings_in };
+
+    ghost invariant = { IsLedger };
+}
+
+impl Ledger {
+    /// Nothing is held, and the books are zero. It takes no memory.
+    pub fn new(alloc: Global) -> Ledger
+        ensures held { result.held ≡ [] }
+        ensures greatest { result.greatest ≡ 0 }
+        ensures books { result.books ≡ no_books }
+    {
+        Ledger {
+            holds: Vec::new(alloc),
+            greatest: 0,
+            books: Books {
+                granted: Amounts::zero(),
+                converted: Amounts::zero(),
+                returned: Amounts::zero(),
+            },
+        }
+    }
+
+    /// Takes memory for one more share at least.
+    pub fn reserve_one(&mut self) -> Result<(), NoMemory>
+        ensures room { OnOk result (1 ≤ self.new.spare) }
+        ensures spare { self.old.spare ≤ self.new.spare }
+        ensures held { self.new.held ≡ self.old.held }
+        ensures greatest { self.new.greatest ≡ self.old.greatest }
+        ensures books { self.new.books ≡ self.old.books }
+    {
+        self.holds.reserve(1)?;
+        Ok(())
+    }
+
+    /// An operation holds this share from now on. Each operation is greater than those before it, so each holds
+    /// at most once.
+    pub fn hold(&mut self, op: u64, project: u32, share: Amounts)
+        requires room { 1 ≤ self.old.spare }
+        requires limit { op < 2 ^ 40 }
+        requires above { self.old.greatest < op }
+        requires small { (k : Part) → part k share < 2 ^ 80 }
+        ensures held { self.new.held ≡ self.old.held ++ record { op = op; project = project; share = share } ∷ [] }
+        ensures greatest { self.new.greatest ≡ op }
+        ensures books { self.new.books ≡ granted_more share self.old.books }
+        ensures spare { self.old.spare ≤ self.new.spare + 1 }
+    {
+        let granted = self.books.granted.plus(&share);
+        push_reserved(&mut self.holds, Hold { op, project, share });
+        self.greatest = op;
+        self.books.granted = granted;
+    }
+
+    /// The share of an operation that succeeded becomes its object's.
+    pub fn convert(&mut self, op: u64)
+        requires { IsSome (share_at self.old op) }
+        ensures held { self.new.held ≡ dropped (has_op op) self.old.held }
+        ensures greatest { self.new.greatest ≡ self.old.greatest }
+        ensures books { IfSome (share_at self.old op) (λ share. self.new.books ≡ converted_more share self.old.books) }
+        ensures spare { self.old.spare ≤ self.new.spare }
+    {
+        let share = take_out(&mut self.holds, op);
+        self.books.converted = self.books.converted.plus(&share);
+    }
+
+    /// The share of an operation that failed or was cancelled goes back whole.
+    pub fn give_back(&mut self, op: u64)
+        requires { IsSome (share_at self.old op) }
+        ensures held { self.new.held ≡ dropped (has_op op) self.old.held }
+        ensures greatest { self.new.greatest ≡ self.old.greatest }
+        ensures books { IfSome (share_at self.old op) (λ share. self.new.books ≡ returned_more share self.old.books) }
+        ensures spare { self.old.spare ≤ self.new.spare }
+    {
+        let share = take_out(&mut self.holds, op);
+        self.books.returned = self.books.returned.plus(&share);
+    }
+
+    /// What the operations of a project hold together.
+    pub fn held(&self, project: u32) -> Amounts
+        ensures sums { (k : Part) → part k result ≡ held_part k project self.now.held }
+        ensures facts { AreHoldings self.now }
+    {
+        held_of(&self.holds, project)
+    }
+
+    /// The share that an operation holds.
+    pub fn share_of(&self, op: u64) -> Option<Amounts>
+        ensures share { result ≡ share_at self.now op }
+        ensures facts { AreHoldings self.now }
+    {
+        share_in(&self.holds, op)
+    }
+
+    /// The books.
+    pub fn books(&self) -> Books
+        ensures books { result ≡ self.now.books }
+        ensures facts { AreHoldings self.now }
+    {
+        self.books
+    }
+}
+
+/// Takes the share of an operation out of the list.
+fn take_out(holds: &mut Vec<Hold>, op: u64) -> Amounts
+    requires { IsSome (option_map (λ (h : HoldValue). h.share) (find (has_op op) holds.old.items)) }
+    ensures share { option_map (λ (h : HoldValue). h.share) (find (has_op op) holds.old.items) ≡ Some result }
+    ensures rest { holds.new.items ≡ dropped (has_op op) holds.old.items }
+    ensures room { vec_capacity holds.old - vec_len holds.old ≤ vec_capacity holds.new - vec_len holds.new }
+{
+    let place = place_of(holds, op);
+    let hold = holds.remove(place);
+    hold.share
+}
+
+/// The place of the share of an operation, which is there.
+fn place_of(holds: &[Hold], op: u64) -> usize
+    requires { IsSome (find (has_op op) holds.now) }
+    ensures place { Some result ≡ position (has_op op) holds.now }
+    ensures within { result < length holds.now }
+{
+    match place_in(holds, op) {
+        Some(place) => place,
+        None => unreachable!(),
+    }
+}
+
+/// The place of the share of an operation.
+fn place_in(holds: &[Hold], op: u64) -> Option<usize>
+    ensures { result ≡ position (has_op op) holds.now }
+{
+    holds.iter().position(|hold| hold.op == op)
+}
+
+/// The share of an operation.
+fn share_in(holds: &[Hold], op: u64) -> Option<Amounts>
+    ensures { result ≡ option_map (λ (h : HoldValue). h.share) (find (has_op op) holds.now) }
+{
+    let hold = holds.iter().find(|hold| hold.op == op);
+    hold.map(|hold| hold.share)
+}
+
+/// The sum of the shares of a project.
+fn held_of(holds: &[Hold], project: u32) -> Amounts
+    requires { (k : Part) → all_part k holds.now < 2 ^ 128 }
+    ensures { (k : Part) → part k result ≡ held_part k project holds.now }
+{
+    let mut total = Amounts::zero();
+    for hold in holds {
+        total = with_hold(total, hold, project);
+    }
+    total
+}
+
+/// The sum with one more share, where it is of the project.
+fn with_hold(total: Amounts, hold: &Hold, project: u32) -> Amounts
+    requires { (k : Part) → part k total + part k hold.now.share < 2 ^ 128 }
+    ensures { (k : Part) → part k result ≡ part k total + counted k project hold.now }
+{
+    if hold.project == project {
+        total.plus(&hold.share)
+    } else {
+        total
+    }
+}
+
+#[cfg(test)]
+mod tests {
+    use super::*;
+    use std::test::Fail;
+
+    fn share(cpu: u32, disk: u64) -> Amounts
+        ensures { (k : Part) → part k result < 2 ^ 80 }
+    {
+        Amounts {
+            instances: 1,
+            containers: 1,
+            machines: 0,
+            cpu: cpu as u128,
+            memory: 1_073_741_824,
+            processes: 100,
+            disk: disk as u128,
+        }
+    }
+
+    fn convert(ledger: &mut Ledger, op: u64) {
+        match ledger.share_of(op) {
+            Some(_) => ledger.convert(op),
+            None => {}
+        }
+    }
+
+    fn give_back(ledger: &mut Ledger, op: u64) {
+        match ledger.share_of(op) {
+            Some(_) => ledger.give_back(op),
+            None => {}
+        }
+    }
+
+    #[test]
+    fn books_every_share(rt: HostRuntime) -> Result<(), Fail> {
+        let (small, large) = (share(2, 10), share(4, 20));
+        let mut ledger = Ledger::new(rt.alloc());
+        ledger.reserve_one()?;
+        ledger.hold(3, 0, small);
+        ledger.reserve_one()?;
+        ledger.hold(5, 1, large);
+        ledger.reserve_one()?;
+        ledger.hold(9, 0, large);
+        assert_eq!(rt; ledger.share_of(5), Some(large));
+        assert_eq!(rt; ledger.share_of(4), None);
+        assert_eq!(rt; (ledger.held(0).cpu, ledger.held(0).disk), (6, 30));
+        assert_eq!(rt; (ledger.held(1).cpu, ledger.held(1).disk), (4, 20));
+        assert_eq!(rt; ledger.held(2), Amounts::zero());
+        convert(&mut ledger, 9);
+        give_back(&mut ledger, 3);
+        assert_eq!(rt; ledger.held(0), Amounts::zero());
+        assert_eq!(rt; ledger.share_of(9), None);
+        let books = ledger.books();
+        assert_eq!(rt;
+            (
+                books.granted.instances,
+                books.granted.cpu,
+                books.granted.disk
+            ),
+            (3, 10, 50)
+        );
+        assert_eq!(rt; books.converted, large);
+        assert_eq!(rt; books.returned, small);
+        Ok(())
+    }
+}
