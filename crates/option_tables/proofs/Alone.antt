@@ -47,13 +47,16 @@ meets a b key by_a by_b = cases (has_star a) (has_star b) refl refl
   where
     both : Bool
     both = starts_with nat_eq (front_of a) (front_of b) || starts_with nat_eq (front_of b) (front_of a)
+
     one : Bool
     one = takes a b || takes b a
+
     fronts : has_star a ≡ true → has_star b ≡ true → both ≡ true
     fronts is_a is_b = elim (cases_lt (length (front_of a)) (length (front_of b))) [
       | inl less ↦ either_right (starts_with nat_eq (front_of a) (front_of b)) (starts_with nat_eq (front_of b) (front_of a)) (begins key (front_of a) (front_of b) (omega arith) (star a key is_a by_a) (star b key is_b by_b))
       | inr more ↦ either_left (starts_with nat_eq (front_of a) (front_of b)) (starts_with nat_eq (front_of b) (front_of a)) (begins key (front_of b) (front_of a) more (star b key is_b by_b) (star a key is_a by_a))
     ]
+
     cases : (s t : Bool) → has_star a ≡ s → has_star b ≡ t → meet a b ≡ true
     cases true true is_a is_b = ap (λ x. cond (x && has_star b) both one) is_a ∙ ap (λ x. cond x both one) is_b ∙ fronts is_a is_b
     cases true false is_a is_b =
@@ -91,6 +94,7 @@ alone name test key (l ∷ ls) (suc i) line all is fits taken =
   where
     off : takes (name l) key ≡ false
     off = apart (name l) (name line) key (at_place (λ m. not (meet (name l) m)) (map name ls) i (name line) (both_left (list_all (λ m. not (meet (name l) m)) (map name ls)) (are_apart (map name ls)) all) (slice_get-map name ls i ∙ ap (option_map name) is)) taken
+
     none : (b : Bool) → (b && false) ≡ false
     none true = refl
     none false = refl

@@ -11,5 +11,4 @@ pub fn each_line_is_the_rule_of_its_keys()
     ensures instance { (place : ℕ) (line : List ℕ × Form × Scope) (checked : Scope) (key : List ℕ) → slice_get instance_lines place ≡ Some line → is_for checked line.2 ≡ true → takes line.0 key ≡ true
         → scoped_form_in instance_lines checked key ≡ Some line.1 }
     ensures others { (lines : List (List ℕ × Form)) → Mem lines plain_tables → (place : ℕ) (line : List ℕ × Form) (key : List ℕ) → slice_get lines place ≡ Some line → takes line.0 key ≡ true → form_in lines key ≡ Some line.1 }
-{
-}
+{}
