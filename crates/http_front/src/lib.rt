@@ -8,6 +8,8 @@ mod read;
 mod reply;
 mod sink;
 mod source;
+#[cfg(test)]
+mod tests;
 
 pub use buffer::Buffer;
 pub use http_heads::{HeadFault, MAX_BODY, MAX_FIELDS, MAX_HEAD, Request};
