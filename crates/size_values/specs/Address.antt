@@ -8,11 +8,9 @@ use Rattle.size_values.specs.Reading.{reading, fault_if, stray, last_byte, is_ou
 use Rattle.size_values.specs.declared.fault.ValueFault.{ValueFault}
 use Rattle.size_values.specs.declared.fault.ValueFault.TheVariants.{Empty, BadByte, OutOfRange}
 
--- the sign between the numbers of an address
 abbrev pub is_dot : ℕ → Bool
 is_dot b = b == byte "."
 
--- the sign between an address and a length
 abbrev pub is_slash : ℕ → Bool
 is_slash b = b == byte "/"
 

@@ -12,11 +12,9 @@ use Rattle.size_values.specs.declared.fault.ValueFault.TheVariants.{BadByte, Too
 use Rattle.size_values.specs.declared.cpu.Cpu.{Cpu}
 use Rattle.size_values.specs.declared.cpu.Cpu.TheVariants.{Count, Pinned}
 
--- the sign between the parts of a set
 abbrev pub is_comma : ℕ → Bool
 is_comma b = b == byte ","
 
--- the sign between the two numbers of a range
 abbrev pub is_dash : ℕ → Bool
 is_dash b = b == byte "-"
 

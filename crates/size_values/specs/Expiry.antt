@@ -13,11 +13,9 @@ use Rattle.size_values.specs.declared.expiry.Expiry.{Expiry}
 abbrev pub unit_letters : List ℕ
 unit_letters = codes "MHdwmy"
 
--- the letter of a unit
 abbrev pub is_unit : ℕ → Bool
 is_unit b = list_any (λ letter. letter == b) unit_letters
 
--- the sign between the parts of an expiry
 abbrev pub is_space : ℕ → Bool
 is_space b = b == byte " "
 

@@ -8,7 +8,6 @@ use Rattle.size_values.specs.declared.expiry.Part.{Part}
 use Rattle.size_values.specs.declared.expiry.Unit.{Unit}
 use Rattle.size_values.specs.declared.expiry.Unit.TheVariants.{Minutes, Hours, Days, Weeks, Months, Years}
 
--- the letter of each unit
 abbrev pub letter_of : Unit → ℕ
 letter_of Minutes = byte "M"
 letter_of Hours = byte "H"

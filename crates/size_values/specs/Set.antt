@@ -9,7 +9,6 @@ use Rattle.size_values.specs.declared.number.Number.{Number}
 abbrev pub is_sign : List ℕ → SetFront → Bool
 is_sign text front = is_comma (slice_index text front.end) || (is_dash (slice_index text front.end) && not front.in_range)
 
--- a number is too large, seen from its length and its value as far as 64 bits hold it
 abbrev pub is_number_large : Number → Bool
 is_number_large number = nat_lt 20 number.len || nat_le (2 ^ 63) number.value
 

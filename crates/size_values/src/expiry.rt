@@ -20,7 +20,6 @@ pub struct Expiry {
     pub years: u32,
 }
 
-/// The units of an expiry.
 #[derive(Clone, Copy)]
 pub enum Unit {
     Minutes,

@@ -36,7 +36,7 @@ impl Number {
         }
     }
 
-    /// So many times the number; the value stops there too.
+    /// So many times the number.
     pub fn times(&self, factor: u64) -> Number
         ensures { result ≡ record self.now { value = min (self.now.value * factor) (2 ^ 64 - 1) } }
     {
@@ -46,14 +46,12 @@ impl Number {
         }
     }
 
-    /// Whether it is too large for a count or a size.
     pub fn is_too_large(&self) -> bool
         ensures { result ≡ (nat_lt 20 self.now.len || nat_le (2 ^ 63) self.now.value) }
     {
         self.len > MOST_DIGITS || self.value >= TOO_LARGE
     }
 
-    /// Whether it is from the least to the most.
     pub fn is_within(&self, least: u64, most: u64) -> bool
         ensures { result ≡ (nat_le least self.now.value && nat_le self.now.value most) }
     {

@@ -17,8 +17,8 @@ const TRUTHS: [(&str, bool); 8] = [
     ("off", false),
 ];
 
-/// Reads a truth, the value of an option of type bool in the Incus documentation: `true`, `1`, `yes` and `on` are true,
-/// `false`, `0`, `no` and `off` are false, in any ASCII case.
+/// Reads a truth: `true`, `1`, `yes` or `on`, and `false`, `0`, `no` or `off`, in any ASCII case, as the Incus
+/// documentation lists them for options of type bool.
 pub fn read_truth(text: &str) -> Result<bool, ValueFault>
     ensures { result ≡ truth_of text.now }
 {
