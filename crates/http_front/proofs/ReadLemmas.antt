@@ -1,5 +1,5 @@
 -- What a buffer takes in, and what one call of `read_request` answers of it.
-use Rattle.std.proofs.Common.{◌≡◌, ℕ, ◌+◌, ◌-◌, ◌<◌, ◌≤◌, Bool, List, [], ◌++◌, length, take, Option, Some, None, IfSome, refl, sym, ap, ◌∙◌, subst, inr, append_assoc, append-nil}
+use Rattle.std.proofs.Common.{◌≡◌, ℕ, ◌+◌, ◌-◌, ◌<◌, ◌≤◌, Bool, List, ◌++◌, length, take, Option, Some, None, IfSome, refl, sym, ap, ◌∙◌, subst, inr, append_assoc, append-nil}
 use Rattle.std.specs.Io.KnownBytes.{prepend_known}
 use Rattle.std.proofs.lemmas.List.{take_all, take-append-le}
 use Rattle.http_heads.specs.Limits.{max_head}
@@ -12,30 +12,19 @@ use Rattle.http_front.specs.declared.read.Stop.TheVariants as stop
 use Rattle.http_heads.proofs.MessageLemmas.{IsMessage-append, IsMalformed-append}
 use Rattle.http_front.specs.declared.read.Got.TheVariants as got
 use Rattle.http_front.specs.Reading.{IsUnfinished, ReadsNext}
-use Rattle.size_values.specs.declared.memory.Or.{Or}
-use Rattle.size_values.specs.declared.memory.Or.TheVariants as or
 use Rattle.http_heads.specs.declared.head.Head.{Head}
 use Rattle.http_heads.specs.declared.request.Request.{Request}
-use Rattle.http_heads.specs.declared.request.HeadFault.{HeadFault}
-use Rattle.http_heads.specs.declared.request.HeadFault.TheVariants.{H1, H2, H3, H4}
 use Rattle.http_heads.specs.Heads.{head_len, behind_blank, head_bytes}
-use Rattle.http_heads.specs.Messages.{HasHead, IsMessage, IsBlank, IsCut, IsFramedBadly, IsMalformed}
-use Rattle.http_heads.specs.Readings.{Says, IsHeadWith, HasFault, HasReason}
+use Rattle.http_heads.specs.Messages.{HasHead, IsMessage, IsBlank, IsCut, IsMalformed}
+use Rattle.http_heads.specs.Readings.{Says}
 use Rattle.http_heads.proofs.LengthLemmas.{head_len-append}
-use Rattle.http_front.specs.Held.{TakesIn, IsOver, IsReadStop, Stops, StopsBefore, EndsWith, Takes, head_stop, got_of}
+use Rattle.http_front.specs.Held.{TakesIn, IsReadStop, Stops, StopsBefore, Takes, got_of}
 
 prepend_known-append : (xs ys : List ℕ) (o : Option (List ℕ)) → prepend_known xs (prepend_known ys o) ≡ prepend_known (xs ++ ys) o
 prepend_known-append xs ys None = refl
 prepend_known-append xs ys (Some zs) = ap Some (sym (append_assoc xs ys zs))
 
-prepend_known-nil : (o : Option (List ℕ)) → o ≡ prepend_known [] o
-prepend_known-nil None = refl
-prepend_known-nil (Some xs) = refl
-
--- nothing was taken in
-pub TakesIn-none : {old : List ℕ} {left : Option (List ℕ)} → TakesIn old old left left
-TakesIn-none {old} {left} = record { more = []; grown = sym (append-nil old); from = prepend_known-nil left }
-
+-- taking in, and then taking in more
 pub TakesIn-further : {a b c : List ℕ} {l m n : Option (List ℕ)} → TakesIn a b l m → TakesIn b c m n → TakesIn a c l n
 TakesIn-further {a} {n} h k = record {
   more = h.more ++ k.more;
@@ -57,14 +46,6 @@ IsReadStop-stops held has_ended left (stop.Cut n) h unfinished = absurd h
 IsReadStop-stops held has_ended left (stop.Malformed fault) h unfinished = absurd h
 IsReadStop-stops held has_ended left stop.ReadFault h unfinished = unfinished
 IsReadStop-stops held has_ended left stop.NoMemory h unfinished = tt
-
--- what the end of the source means for what is held
-pub EndsWith-stops : (held : List ℕ) (has_ended : Bool) (left : Option (List ℕ)) (s : Stop) → EndsWith held s → IsOver has_ended left → Stops held has_ended left s
-EndsWith-stops held has_ended left stop.End h over = (h, over)
-EndsWith-stops held has_ended left (stop.Cut n) h over = (h.0, h.1, over)
-EndsWith-stops held has_ended left (stop.Malformed fault) h over = absurd h
-EndsWith-stops held has_ended left stop.ReadFault h over = absurd h
-EndsWith-stops held has_ended left stop.NoMemory h over = absurd h
 
 -- the search goes on in what the buffer has taken in
 pub HasSearched-taken : {s : Search} {old new : List ℕ} {l m : Option (List ℕ)} → TakesIn old new l m → length old ≤ max_head
@@ -99,21 +80,6 @@ StopsBefore-stops end held has_ended left (stop.Cut n) h is_cut = (is_cut h.0, h
 StopsBefore-stops end held has_ended left (stop.Malformed fault) h is_cut = absurd h
 StopsBefore-stops end held has_ended left stop.ReadFault h is_cut = inr (is_cut h)
 StopsBefore-stops end held has_ended left stop.NoMemory h is_cut = tt
-
-IsFramedBadly-with : {bytes : List ℕ} {fault : HeadFault} (len : ℕ) → head_len bytes ≡ Some len → IsHeadWith (head_bytes len bytes) fault → IsFramedBadly bytes fault
-IsFramedBadly-with len ends h = record { len = len; head = h.head; has = record { ends = ends; is = h.is }; framed = h.framed }
-
-IsMalformed-fault : (bytes : List ℕ) (len : ℕ) (fault : HeadFault) → head_len bytes ≡ Some len → HasFault (head_bytes len bytes) fault → IsMalformed bytes fault
-IsMalformed-fault bytes len H1 ends h = record { len = len; ends = ends; refuted = h }
-IsMalformed-fault bytes len H2 ends h = absurd h
-IsMalformed-fault bytes len H3 ends h = IsFramedBadly-with len ends h
-IsMalformed-fault bytes len H4 ends h = IsFramedBadly-with len ends h
-
--- a whole head with a fault, or want of memory
-pub HasReason-stops : (held : List ℕ) (has_ended : Bool) (left : Option (List ℕ)) (len : ℕ) (reason : Or HeadFault) → head_len held ≡ Some len
-    → HasReason (head_bytes len held) reason → Stops held has_ended left (head_stop reason)
-HasReason-stops held has_ended left len or.NoMemory ends h = tt
-HasReason-stops held has_ended left len (or.Why fault) ends h = IsMalformed-fault held len fault ends h
 
 -- a request that is taken out of what was held and taken in
 pub Takes-taken : {old middle new : List ℕ} {l m : Option (List ℕ)} {request : Request} → TakesIn old middle l m → IsMessage middle request new

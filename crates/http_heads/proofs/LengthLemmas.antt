@@ -16,7 +16,7 @@ take-append n bytes more h =
     ap (λ k. take k (bytes ++ more)) e ∙ take-append-add bytes more (n - length bytes)
 
 -- what an option that is mapped to a value is
-mapped : (f : ℕ → ℕ) (o : Option ℕ) (n : ℕ) → option_map f o ≡ Some n → (k : ℕ) × (o ≡ Some k) × (f k ≡ n)
+pub mapped : (f : ℕ → ℕ) (o : Option ℕ) (n : ℕ) → option_map f o ≡ Some n → (k : ℕ) × (o ≡ Some k) × (f k ≡ n)
 mapped f None n e = cc
 mapped f (Some k) n e = (k, refl, cc)
 

@@ -12,6 +12,7 @@ use Rattle.http_heads.specs.declared.request.HeadFault.TheVariants.{H1, H2, H3, 
 use Rattle.http_heads.specs.Heads.{blank_len, head_len, behind_blank, head_bytes}
 use Rattle.http_heads.specs.Fields.{fields_of, framing, is_last}
 use Rattle.http_heads.specs.Messages.{IsHead, HasHead, IsMessage, IsBlank, IsCut, IsNoHead, IsTooLong, IsFramedBadly, IsMalformed, Ending, ended, cut, malformed, EndsAs, Begins, Splits}
+use Rattle.http_heads.specs.Readings.{IsHeadWith, HasFault}
 use Rattle.http_heads.proofs.LengthLemmas.{head_end-all_blank, head_len-short, head_len-long, head_len-append, head_len-le, blank_len-le}
 
 -- ---- more bytes
@@ -90,6 +91,17 @@ IsUnfinished-of_none bytes none short = by_case (cases_eq (blank_len bytes) (len
 
 pub IsBlank-none : {bytes : List ℕ} → IsBlank bytes → head_len bytes ≡ None
 IsBlank-none {bytes} h = head_len-short bytes (omega (arith, h.short)) ∙ head_end-all_blank bytes h.all
+
+-- ---- a fault of a whole head
+
+IsFramedBadly-with : {bytes : List ℕ} {fault : HeadFault} (len : ℕ) → head_len bytes ≡ Some len → IsHeadWith (head_bytes len bytes) fault → IsFramedBadly bytes fault
+IsFramedBadly-with len ends h = record { len = len; head = h.head; has = record { ends = ends; is = h.is }; framed = h.framed }
+
+pub IsMalformed-fault : (bytes : List ℕ) (len : ℕ) (fault : HeadFault) → head_len bytes ≡ Some len → HasFault (head_bytes len bytes) fault → IsMalformed bytes fault
+IsMalformed-fault bytes len H1 ends h = record { len = len; ends = ends; refuted = h }
+IsMalformed-fault bytes len H2 ends h = absurd h
+IsMalformed-fault bytes len H3 ends h = IsFramedBadly-with len ends h
+IsMalformed-fault bytes len H4 ends h = IsFramedBadly-with len ends h
 
 -- ---- one thing
 

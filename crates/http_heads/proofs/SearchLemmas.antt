@@ -1,8 +1,7 @@
 -- Steps of the search for the end of a head.
-use Rattle.std.proofs.Common.{◌≡◌, ℕ, suc, ◌+◌, ◌-◌, ◌<◌, ◌≤◌, ◌==◌, ◌≢◌, true, false, cond, List, [], ◌∷◌, ◌++◌, length, take, drop, get_or, Option, Some, None, Result, Ok, Err, IfOk, IfErr, refl, sym, ap, ◌∙◌, subst, arith, append-nil, append_assoc, length-append, length-drop}
+use Rattle.std.proofs.Common.{◌≡◌, ℕ, suc, ◌+◌, ◌-◌, ◌<◌, ◌≤◌, ◌==◌, true, false, cond, List, [], ◌∷◌, ◌++◌, length, take, drop, get_or, Option, Some, None, Result, Ok, Err, IfOk, IfErr, refl, sym, ap, ◌∙◌, subst, arith, append-nil, append_assoc, length-append, length-drop}
 use Rattle.std.specs.Option.{option_map, option_or}
 use Rattle.std.proofs.lemmas.List.{drop_more, drop_all, drop-append-le, get_or_append_left}
-use Rattle.std.proofs.lemmas.Bool.Decides.{nat_tests}
 use Rattle.std.proofs.Math.Seq.{take-length}
 use Rattle.http_heads.specs.Heads.{is_line_byte, blank_len, line_end, empty_line_end, head_end}
 use Rattle.http_heads.specs.declared.search.Search.{Search}
@@ -41,13 +40,6 @@ head_end-blank b bytes is = rw is (suc_before (blank_len bytes) (empty_line_end 
 -- the first byte of a head
 pub head_end-begins : (b : ℕ) (bytes : List ℕ) → is_line_byte b ≡ false → head_end (b ∷ bytes) ≡ empty_line_end (b ∷ bytes)
 head_end-begins b bytes is = rw is (zero_after (empty_line_end (b ∷ bytes)))
-
-pub blank_step : (n b : ℕ) (bytes : List ℕ) → drop n bytes ≡ b ∷ drop (n + 1) bytes → is_line_byte b ≡ true
-    → resumed (Blank n) bytes ≡ resumed (Blank (n + 1)) bytes
-blank_step n b bytes at is =
-    ap (λ l. option_map (λ k. n + k) (head_end l)) at
-    ∙ ap (option_map (λ k. n + k)) (head_end-blank b (drop (n + 1) bytes) is)
-    ∙ suc_after n (head_end (drop (n + 1) bytes))
 
 pub begin_step : (n b : ℕ) (bytes : List ℕ) → drop n bytes ≡ b ∷ drop (n + 1) bytes → is_line_byte b ≡ false
     → resumed (Blank n) bytes ≡ resumed (Lines n) bytes
@@ -98,10 +90,6 @@ pub GoesOn-further : {s t : Search} {bytes : List ℕ} (r : Result ℕ Search) �
 GoesOn-further (Ok len) same found = same_here same ∙ found
 GoesOn-further (Err reached) same none = (same_here same ∙ none.0, none.1, same_further same none.2)
 
--- a search that has not begun
-pub head_end-resumed : (bytes : List ℕ) → head_end bytes ≡ resumed (Blank 0) bytes
-head_end-resumed bytes = sym (zero_after (head_end bytes))
-
 HasSearched-here : {s : Search} {bytes : List ℕ} → HasSearched s bytes → head_end bytes ≡ resumed s bytes
 HasSearched-here {s} {bytes} h = subst (λ l. head_end l ≡ resumed s l) (append-nil bytes) (h.same [])
 
@@ -110,15 +98,6 @@ pub HasSearched-append : (s : Search) (bytes more : List ℕ) → HasSearched s 
 HasSearched-append s bytes more h = record {
   within = omega (arith, h.within, length-append bytes more);
   same = λ ys. subst (λ l. head_end l ≡ resumed s l) (sym (append_assoc bytes more ys)) (h.same (more ++ ys));
-}
-
-not_lf : (b : ℕ) (bytes : List ℕ) → b ≢ 10 → end_behind b bytes ≡ None
-not_lf b bytes other = grind (arith, nat_tests)
-
--- no LF stands at the place
-pub StandsAt-other : (bytes : List ℕ) (at : ℕ) → at < length bytes → get_or bytes at 0 ≢ 10 → StandsAt bytes at Other
-StandsAt-other bytes at h other = record {
-  with = λ more. line_step at (get_or bytes at 0) (bytes ++ more) (drop_front at bytes more h) (not_lf (get_or bytes at 0) (drop (at + 1) (bytes ++ more)) other);
 }
 
 -- an LF stands at the place, and what follows it was looked at

@@ -24,6 +24,11 @@ pub fn one_reading()
         Splits text messages ending → Splits text others other → (messages ≡ others) × (ending ≡ other) }
 {}
 
+/// Every text has such a reading.
+pub fn some_reading()
+    ensures { (text : List ℕ) → (messages : List Request) × (ending : Ending) × Splits text messages ending }
+{}
+
 /// Bytes that follow a message, or a place at which none can begin, change nothing of it.
 pub fn later_bytes()
     ensures message { (bytes : List ℕ) (m : Request) (rest : List ℕ) (more : List ℕ) →
