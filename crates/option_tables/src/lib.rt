@@ -17,4 +17,4 @@ pub use checks::{check_instance, check_network, check_pool, check_project, check
 pub use devices::check_devices;
 pub use faults::{DeviceFault, SettingFault};
 pub use laws::each_line_is_the_rule_of_its_keys;
-pub use tables::Scope;
+pub use tables::{Scope, takes_key};

@@ -378,7 +378,7 @@ fn form_in(lines: &[Line], key: &str) -> Option<Form>
     ensures { result ≡ form_in (map (λ line. (line.0.now, line.1)) lines.now) key.now }
 {
     for line in lines {
-        if takes(line.0, key) {
+        if takes_key(line.0, key) {
             return Some(line.1);
         }
     }
@@ -389,7 +389,7 @@ fn scoped_form_in(lines: &[(&str, Form, Scope)], scope: Scope, key: &str) -> Opt
     ensures { result ≡ scoped_form_in (map (λ line. (line.0.now, line.1, line.2)) lines.now) scope key.now }
 {
     for line in lines {
-        if scope.takes(line.2) && takes(line.0, key) {
+        if scope.takes(line.2) && takes_key(line.0, key) {
             return Some(line.1);
         }
     }
@@ -421,7 +421,7 @@ impl Scope {
 
 /// Whether a key of a table stands for this key: it is the same, or it ends in `*` and this one is longer and
 /// begins alike.
-fn takes(line: &str, key: &str) -> bool
+pub fn takes_key(line: &str, key: &str) -> bool
     ensures { result ≡ takes line.now key.now }
 {
     match line.as_bytes() {
