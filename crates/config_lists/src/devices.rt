@@ -107,8 +107,9 @@ impl Devices {
         ensures rising { KeysRise by.now }
     {
         for place in 0..by.len() {
+            let name = by.name_at(place);
             let device = by.device_at(place).copy()?;
-            self.put(by.name_at(place), device)?;
+            self.put(name, device)?;
         }
         Ok(())
     }

@@ -19,4 +19,4 @@ pub use laws::{
     look_ups_tell_entries, setting_after_patch, setting_after_settling, value_after_put,
     value_after_removal, value_after_replacement,
 };
-pub use root::Root;
+pub use root::{Root, is_root_disk};

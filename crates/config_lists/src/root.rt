@@ -27,7 +27,7 @@ impl Root {
 
 /// Whether a device is a root disk: a disk at `/` with a pool and without a source.
 #[tactic(auto, unfolding(crate::specs::Devices::is_root_disk))]
-pub(crate) fn is_root_disk(device: &Device) -> bool
+pub fn is_root_disk(device: &Device) -> bool
     ensures { result ≡ is_root_disk device.now }
 {
     device.has("type", "disk")

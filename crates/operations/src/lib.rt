@@ -11,6 +11,6 @@ mod status;
 pub use faults::{CancelFault, EnterFault};
 pub use limits::{ENDED_LIMIT, LIVE_LIMIT, NUMBER_LIMIT};
 pub use operation::{OpFault, Operation};
-pub use slots::Slots;
 pub use size_values::MOMENT_LIMIT;
+pub use slots::Slots;
 pub use status::Status;

@@ -1,3 +1,17 @@
+pub mod Address
 pub mod Amounts
 pub mod Calls
 pub mod Causes
+pub mod Count
+pub mod Cpu
+pub mod Expiry
+pub mod ExpiryParts
+pub mod Fault
+pub mod Form
+pub mod MemorySize
+pub mod Number
+pub mod Quad
+pub mod Reading
+pub mod Set
+pub mod Size
+pub mod Truth

@@ -1,6 +1,6 @@
-ghost use Rattle.std.specs.Prelude.{◌≡◌, ◌+◌, ◌<◌, ◌^◌, ◌≤◌, ◌↔◌, IsTrue};
+ghost use Rattle.std.specs.Prelude.{◌≡◌, ◌+◌, ◌<◌, ◌^◌, ◌≤◌};
 ghost use Rattle.size_values.specs.declared.amounts.Part.{Part};
-ghost use Rattle.size_values.specs.Amounts.{nothing, part};
+ghost use Rattle.size_values.specs.Amounts.{nothing, part, plus_of, minus_of, excess_of, fits_in};
 
 /// What a project has or is asked for, part by part: numbers of instances, containers and virtual machines,
 /// processors, bytes of memory, processes, and bytes of disk.
@@ -40,6 +40,130 @@ impl Amounts {
             memory: 0,
             processes: 0,
             disk: 0,
+        }
+    }
+
+    /// Both together, part by part.
+    #[tactic(auto, unfolding(crate::specs::Amounts::plus_of))]
+    pub fn plus(&self, other: &Amounts) -> Amounts
+        requires { (k : Part) → part k self.now + part k other.now < 2 ^ 128 }
+        ensures { result ≡ plus_of self.now other.now }
+    {
+        Amounts {
+            instances: self.instances + other.instances,
+            containers: self.containers + other.containers,
+            machines: self.machines + other.machines,
+            cpu: self.cpu + other.cpu,
+            memory: self.memory + other.memory,
+            processes: self.processes + other.processes,
+            disk: self.disk + other.disk,
+        }
+    }
+
+    /// What is left without the other, part by part.
+    #[tactic(auto, unfolding(crate::specs::Amounts::minus_of))]
+    pub fn minus(&self, other: &Amounts) -> Amounts
+        requires { (k : Part) → part k other.now ≤ part k self.now }
+        ensures { result ≡ minus_of self.now other.now }
+    {
+        Amounts {
+            instances: self.instances - other.instances,
+            containers: self.containers - other.containers,
+            machines: self.machines - other.machines,
+            cpu: self.cpu - other.cpu,
+            memory: self.memory - other.memory,
+            processes: self.processes - other.processes,
+            disk: self.disk - other.disk,
+        }
+    }
+
+    /// By how much each part is above that of the other, and 0 where it is not.
+    #[tactic(auto, unfolding(crate::specs::Amounts::excess_of))]
+    pub fn excess(&self, above: &Amounts) -> Amounts
+        ensures { result ≡ excess_of self.now above.now }
+    {
+        Amounts {
+            instances: self.instances.saturating_sub(above.instances),
+            containers: self.containers.saturating_sub(above.containers),
+            machines: self.machines.saturating_sub(above.machines),
+            cpu: self.cpu.saturating_sub(above.cpu),
+            memory: self.memory.saturating_sub(above.memory),
+            processes: self.processes.saturating_sub(above.processes),
+            disk: self.disk.saturating_sub(above.disk),
+        }
+    }
+
+    /// Whether no part is greater than that of `most`.
+    #[tactic(auto, unfolding(crate::specs::Amounts::fits_in))]
+    pub fn fits(&self, most: &Amounts) -> bool
+        ensures { result ≡ fits_in self.now most.now }
+    {
+        self.instances <= most.instances
+            && self.containers <= most.containers
+            && self.machines <= most.machines
+            && self.cpu <= most.cpu
+            && self.memory <= most.memory
+            && self.processes <= most.processes
+            && self.disk <= most.disk
+    }
+}
+
+#[cfg(test)]
+mod tests {
+    use super::*;
+
+    fn amounts(parts: [u128; 7]) -> Amounts {
+        let [
+            instances,
+            containers,
+            machines,
+            cpu,
+            memory,
+            processes,
+            disk,
+        ] = parts;
+        Amounts {
+            instances,
+            containers,
+            machines,
+            cpu,
+            memory,
+            processes,
+            disk,
+        }
+    }
+
+    #[test]
+    fn computes_part_by_part(rt: HostRuntime) {
+        assert_eq!(rt; Amounts::zero(), amounts([0; 7]));
+        let small = Amounts {
+            cpu: 3,
+            disk: 1 << 70,
+            ..Amounts::zero()
+        };
+        let large = Amounts {
+            cpu: 4,
+            disk: 1 << 71,
+            memory: 5,
+            ..Amounts::zero()
+        };
+        assert_eq!(rt; small.plus(&large), amounts([0, 0, 0, 7, 5, 0, 3 << 70]));
+        assert_eq!(rt; large.minus(&small), amounts([0, 0, 0, 1, 5, 0, 1 << 70]));
+    }
+
+    #[test]
+    fn compares_each_part(rt: HostRuntime) {
+        let most = amounts([2; 7]);
+        assert!(rt; most.fits(&most));
+        assert_eq!(rt; most.excess(&most), Amounts::zero());
+        for part in 0..7_usize {
+            let mut parts = [2; 7];
+            parts[part] = 5;
+            let mut above = [0; 7];
+            above[part] = 3;
+            assert!(rt; !amounts(parts).fits(&most), "for {part}");
+            assert_eq!(rt; amounts(parts).excess(&most), amounts(above), "for {part}");
+            assert_eq!(rt; most.excess(&amounts(parts)), Amounts::zero(), "for {part}");
         }
     }
 }

@@ -1,23 +1,43 @@
 //! The small values that every other crate speaks of: texts and lists seen as their contents, want of
-//! memory, rises of fault counts, entries of the store, kinds of objects, and the amounts of a project.
+//! memory, rises of fault counts, entries of the store, kinds of objects, the readers of option values,
+//! and the amounts of a project.
 #![tactic(auto)]
 
+mod address;
 mod amounts;
 mod calls;
+mod count;
+mod cpu;
 mod entry;
+mod expiry;
+mod fault;
 mod kinds;
 mod memory;
+mod memory_size;
 mod moment;
+mod number;
 mod rise;
 mod seq;
+mod size;
+#[cfg(test)]
+mod tests;
 mod text;
+mod truth;
 
+pub use address::{read_address, read_cidr};
 pub use amounts::{Amounts, Part};
 pub use calls::FailingCalls;
+pub use count::read_count;
+pub use cpu::{Cpu, read_cpu};
 pub use entry::{Entry, EntryChange};
+pub use expiry::{Expiry, read_expiry};
+pub use fault::ValueFault;
 pub use kinds::{Action, Deed, Kind, ObjectKind, Power};
 pub use memory::{NoMemory, Or};
+pub use memory_size::{Memory, read_memory};
 pub use moment::MOMENT_LIMIT;
 pub use rise::Rise;
 pub use seq::Seq;
+pub use size::read_size;
 pub use text::Text;
+pub use truth::read_truth;

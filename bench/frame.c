@@ -1,0 +1,53 @@
+/* Frames the HTTP/1.1 requests on standard input and prints how many there are: the least work that any reader of
+   them has to do. A head ends with the first empty line, and its Content-Length says how long the body is.
+   It answers nothing, and takes no care of faults. */
+#include <stdio.h>
+#include <stdlib.h>
+#include <string.h>
+#include <strings.h>
+#include <unistd.h>
+
+static char buffer[1 << 21];
+
+/* The length of the head that begins at p, or 0 where it is not whole. */
+static size_t head_len(const char *p, const char *end) {
+    const char *at = p;
+    while (at < end && (at = memchr(at, '\n', end - at))) {
+        if (at + 1 < end && at[1] == '\n') return at + 2 - p;
+        if (at + 2 < end && at[1] == '\r' && at[2] == '\n') return at + 3 - p;
+        at++;
+    }
+    return 0;
+}
+
+static size_t body_len(const char *p, size_t len) {
+    static const char name[] = "content-length:";
+    const char *end = p + len;
+    for (const char *line = p; line && line < end; line = memchr(line, '\n', end - line), line = line ? line + 1 : NULL)
+        if ((size_t)(end - line) > sizeof name && !strncasecmp(line, name, sizeof name - 1))
+            return strtoul(line + sizeof name - 1, NULL, 10);
+    return 0;
+}
+
+int main(void) {
+    size_t held = 0, used = 0;
+    unsigned long count = 0, bodies = 0;
+    for (;;) {
+        size_t head = head_len(buffer + used, buffer + held);
+        size_t body = head ? body_len(buffer + used, head) : 0;
+        if (head && used + head + body <= held) {
+            used += head + body;
+            bodies += body;
+            count++;
+            continue;
+        }
+        memmove(buffer, buffer + used, held - used);
+        held -= used;
+        used = 0;
+        ssize_t got = read(0, buffer + held, held + 65536 <= sizeof buffer ? 65536 : sizeof buffer - held);
+        if (got <= 0) break;
+        held += got;
+    }
+    printf("%lu requests, %lu bytes of bodies, %lu bytes left\n", count, bodies, (unsigned long)held);
+    return 0;
+}

@@ -1,0 +1,120 @@
+ghost use Rattle.std.specs.Prelude.{◌≡◌, ◌+◌, ◌<◌, ◌≤◌, [], length, drop, vec_len, vec_capacity, IfOk, IfSome, OnErr};
+ghost use Rattle.size_values.specs.Causes.{HasCauseOrMemory};
+ghost use Rattle.http_heads.specs.Limits.{max_head, max_body};
+ghost use Rattle.http_front.specs.Streams.{Ends};
+ghost use Rattle.http_front.specs.Held.{TakesIn, max_piece, most_held};
+
+use crate::source::{Source, SourceFailed};
+use size_values::{NoMemory, Or};
+use std::alloc::Global;
+use std::marker::Model;
+
+/// The most bytes that one read asks for.
+const PIECE: usize = 65_536;
+
+/// The bytes that a source gave and that no message has used yet. Contracts see it as the list of these bytes.
+#[derive(Debug, Drop)]
+pub struct Buffer {
+    /// The bytes from `start` on are held; those before it were used.
+    bytes: Vec<u8>,
+    start: usize,
+    /// Where a read puts its bytes.
+    piece: Vec<u8>,
+}
+
+impl Model for Buffer {
+    ghost use Rattle.std.specs.Prelude.{List, ℕ, drop, vec_len};
+    ghost use Rattle.http_front.specs.Held.{IsBuffer};
+
+    ghost Value = { List ℕ };
+
+    ghost view = { λ b. drop b.start b.bytes.items };
+
+    ghost invariant = { λ b. IsBuffer (vec_len b.bytes) b.start (vec_len b.piece) };
+}
+
+impl Buffer {
+    /// A buffer that holds nothing.
+    pub fn new(alloc: Global) -> Result<Buffer, NoMemory>
+        ensures { IfOk result (λ b. b ≡ []) }
+    {
+        let piece = vec![in alloc; 0u8; PIECE]?;
+        Ok(Buffer {
+            bytes: Vec::new(alloc),
+            start: 0,
+            piece,
+        })
+    }
+
+    /// The bytes held: at most one head, one body and one piece.
+    pub fn view(&self) -> &[u8]
+        ensures bytes { result.now ≡ self.now }
+        ensures few { length self.now ≤ most_held }
+    {
+        &self.bytes[self.start..]
+    }
+
+    /// Lets go of the first bytes, which a message has used.
+    pub(crate) fn consume(&mut self, count: usize)
+        requires { count ≤ length self.old }
+        ensures { self.new ≡ drop count self.old }
+    {
+        self.start += count;
+    }
+
+    /// Takes in what one read of the source gives, and answers how many bytes it is.
+    pub(crate) fn fill<S: Source>(&mut self, source: &mut S) -> Result<usize, Or<SourceFailed>>
+        requires { length self.old < max_head + max_body }
+        ensures takes { TakesIn self.old self.new (S.left source.old) (S.left source.new) }
+        ensures count { IfOk result (λ n. length self.new ≡ length self.old + n) }
+        ensures err { OnErr result (self.new ≡ self.old) }
+        ensures end { Ends (S.ended source.old) (S.ended source.new) result }
+        ensures rest { IfOk result (λ n. n ≡ 0 → IfSome (S.left source.new) (λ xs. xs ≡ [])) }
+        ensures cause { HasCauseOrMemory (S.failures source.old) (S.failures source.new) result }
+    {
+        keep_from(&mut self.bytes, self.start);
+        self.start = 0;
+        self.bytes.reserve(PIECE)?;
+        read_piece(&mut self.bytes, &mut self.piece, source)
+    }
+}
+
+/// Lets go of the bytes before `start`.
+fn keep_from(bytes: &mut Vec<u8>, start: usize)
+    requires { start ≤ vec_len bytes.old }
+    ensures items { bytes.new.items ≡ drop start bytes.old.items }
+    ensures len { vec_len bytes.new + start ≡ vec_len bytes.old }
+{
+    if start > 0 {
+        let len = bytes.len() - start;
+        bytes.copy_within(start.., 0);
+        bytes.truncate(len);
+    }
+}
+
+/// Reads once, and appends what comes to the bytes.
+fn read_piece<S: Source>(
+    bytes: &mut Vec<u8>,
+    piece: &mut Vec<u8>,
+    source: &mut S,
+) -> Result<usize, Or<SourceFailed>>
+    requires piece { vec_len piece.old ≡ max_piece }
+    requires room { vec_len bytes.old + max_piece ≤ vec_capacity bytes.old }
+    ensures takes { TakesIn bytes.old.items bytes.new.items (S.left source.old) (S.left source.new) }
+    ensures count { IfOk result (λ n. vec_len bytes.new ≡ vec_len bytes.old + n) }
+    ensures few { IfOk result (λ n. n ≤ max_piece) }
+    ensures err { OnErr result (bytes.new ≡ bytes.old) }
+    ensures piece { vec_len piece.new ≡ max_piece }
+    ensures end { Ends (S.ended source.old) (S.ended source.new) result }
+    ensures rest { IfOk result (λ n. n ≡ 0 → IfSome (S.left source.new) (λ xs. xs ≡ [])) }
+    ensures cause { HasCauseOrMemory (S.failures source.old) (S.failures source.new) result }
+{
+    let count = match source.read(piece.as_mut_slice()) {
+        Ok(count) => count,
+        Err(fault) => return Err(Or::Why(fault)),
+    };
+    match bytes.extend_from_slice(&piece[..count]) {
+        Ok(()) => Ok(count),
+        Err(_) => unreachable!(),
+    }
+}

@@ -1,0 +1,20 @@
+//! Requests from the bytes of a source, in whatever pieces they come, and the bytes of replies. The traits of the
+//! outside, `Source` and `Sink`, with an object in memory and one over std's readers and writers for each.
+#![tactic(auto)]
+
+mod buffer;
+mod laws;
+mod read;
+mod reply;
+mod sink;
+mod source;
+#[cfg(test)]
+mod tests;
+
+pub use buffer::Buffer;
+pub use http_heads::{HeadFault, MAX_BODY, MAX_FIELDS, MAX_HEAD, Request};
+pub use laws::{pieces_agree, steps_split};
+pub use read::{Got, read_request};
+pub use reply::{Printed, no_memory_reply, reply_bytes};
+pub use sink::{ByteSink, Sink, SinkFailed, WriterSink};
+pub use source::{ByteSource, ReaderSource, Source, SourceFailed};

@@ -1,0 +1,52 @@
+-- What the headers of a request say of its body, and whether they end the connection.
+use Rattle.std.specs.Prelude.{ℕ, ◌==◌, Bool, ◌||◌, ◌&&◌, nat_lt, nat_le, if◌then◌else◌, List, [], ◌∷◌, length, map, filter, Result, Ok, Err, codes}
+use Rattle.std.specs.List.{list_all, list_any, slice_split}
+use Rattle.std.specs.Char.{is_ascii_digit}
+use Rattle.std.specs.Str.{str_eq_ignore_ascii_case}
+use Rattle.std.specs.Str.Parse.{digits_value}
+use Rattle.httparse.specs.Grammar.{RequestHead, trim_ows}
+use Rattle.httparse.specs.Spans.{name_and_value}
+use Rattle.http_heads.specs.Limits.{max_body}
+use Rattle.http_heads.specs.declared.request.HeadFault.{HeadFault}
+use Rattle.http_heads.specs.declared.request.HeadFault.TheVariants.{H3, H4}
+
+-- the names and the values of a head's headers; a value has no blanks or tabs at its ends
+abbrev pub fields_of : RequestHead → List (List ℕ × List ℕ)
+fields_of head = map name_and_value head.fields
+
+-- the values of the headers of this name, in any ASCII case
+abbrev pub values_of : List ℕ → List (List ℕ × List ℕ) → List (List ℕ)
+values_of name fields = map (λ f. f.1) (filter (λ f. str_eq_ignore_ascii_case f.0 name) fields)
+
+-- 1 to 19 digits
+abbrev pub is_length : List ℕ → Bool
+is_length text = nat_lt 0 (length text) && nat_le (length text) 19 && list_all is_ascii_digit text
+
+-- the length that a text gives
+unfoldable pub length_in : List ℕ → Result ℕ HeadFault
+length_in text =
+    if is_length text then (if nat_le (digits_value 10 text) max_body then Ok (digits_value 10 text) else Err H4) else Err H3
+
+-- the length that the values of Content-Length give: 0 where there is none, and at most one may be there
+abbrev pub length_of : List (List ℕ) → Result ℕ HeadFault
+length_of [] = Ok 0
+length_of (text ∷ []) = length_in text
+length_of (text ∷ other ∷ more) = Err H3
+
+-- the length of the body that the headers give; a Transfer-Encoding is a fault
+unfoldable pub framing : List (List ℕ × List ℕ) → Result ℕ HeadFault
+framing fields =
+    if length (values_of (codes "transfer-encoding") fields) == 0 then length_of (values_of (codes "content-length") fields)
+    else Err H3
+
+-- one of the parts between commas is the word, in any ASCII case and without the blanks and tabs at its ends
+unfoldable pub lists : List ℕ → List ℕ → Bool
+lists word value = list_any (λ part. str_eq_ignore_ascii_case (trim_ows part) word) (slice_split (λ b. b == 44) value)
+
+-- some header of this name lists the word
+abbrev pub some_lists : List ℕ → List ℕ → List (List ℕ × List ℕ) → Bool
+some_lists name word fields = list_any (lists word) (values_of name fields)
+
+-- the connection ends behind this request: it is of HTTP/1.0, or a Connection header lists `close`
+abbrev pub is_last : RequestHead → Bool
+is_last head = head.minor == 0 || some_lists (codes "connection") (codes "close") (fields_of head)

@@ -1,0 +1,6 @@
+pub mod Fields
+pub mod Heads
+pub mod Limits
+pub mod Messages
+pub mod Readings
+pub mod Search

@@ -1,0 +1,105 @@
+-- The messages of a text, and what stands at their end.
+use Rattle.std.specs.Prelude.{◌≡◌, ℕ, ◌+◌, ◌<◌, ◌≤◌, ◌⊎◌, List, [], ◌∷◌, length, take, drop, Some, None, Ok, Err}
+use Rattle.httparse.specs.Grammar.{RequestHead, ReadsRequest}
+use Rattle.http_heads.specs.Limits.{max_head, max_fields}
+use Rattle.http_heads.specs.declared.request.Request.{Request}
+use Rattle.http_heads.specs.declared.request.HeadFault.{HeadFault}
+use Rattle.http_heads.specs.declared.request.HeadFault.TheVariants.{H1, H2, H3, H4}
+use Rattle.http_heads.specs.Heads.{blank_len, head_len, head_bytes}
+use Rattle.http_heads.specs.Fields.{fields_of, framing, is_last}
+
+-- these bytes are a request head (RFC 9112) of at most 64 headers
+pub record IsHead (bytes : List ℕ) (head : RequestHead) : Type 0 where
+  pub reads : ReadsRequest bytes head []
+  pub few : length head.fields ≤ max_fields
+
+-- the text begins with a whole head, of this length and with these parts
+pub record HasHead (bytes : List ℕ) (len : ℕ) (head : RequestHead) : Type 0 where
+  pub ends : head_len bytes ≡ Some len
+  pub is : IsHead (head_bytes len bytes) head
+
+-- the text begins with this message, and then has the rest
+pub record IsMessage (bytes : List ℕ) (m : Request) (rest : List ℕ) : Type 0 where
+  pub len : ℕ
+  pub head : RequestHead
+  pub body : ℕ
+  pub has : HasHead bytes len head
+  pub framed : framing (fields_of head) ≡ Ok body
+  pub whole : len + body ≤ length bytes
+  pub method_is : m.method ≡ head.method
+  pub target_is : m.target ≡ head.target
+  pub body_is : m.body ≡ take body (drop len bytes)
+  pub last_is : m.last ≡ is_last head
+  pub rest_is : rest ≡ drop (len + body) bytes
+
+-- only CR and LF stand here, too few to be a head that is too long
+pub record IsBlank (bytes : List ℕ) : Type 0 where
+  pub all : blank_len bytes ≡ length bytes
+  pub short : length bytes < max_head
+
+-- a head has begun, and may yet end
+pub record IsOpenHead (bytes : List ℕ) : Type 0 where
+  pub none : head_len bytes ≡ None
+  pub begun : blank_len bytes < length bytes
+  pub short : length bytes < max_head
+
+-- the head is whole, and its body is not
+pub record IsShortBody (bytes : List ℕ) : Type 0 where
+  pub len : ℕ
+  pub head : RequestHead
+  pub body : ℕ
+  pub has : HasHead bytes len head
+  pub framed : framing (fields_of head) ≡ Ok body
+  pub short : length bytes < len + body
+
+-- a message has begun, and is not whole
+abbrev pub IsCut : List ℕ → Type 0
+IsCut bytes = IsOpenHead bytes ⊎ IsShortBody bytes
+
+-- the bytes up to the first empty line are no head
+pub record IsNoHead (bytes : List ℕ) : Type 0 where
+  pub len : ℕ
+  pub ends : head_len bytes ≡ Some len
+  pub refuted : (head : RequestHead) → ¬ (IsHead (head_bytes len bytes) head)
+
+-- 16,384 bytes have no empty line that ends a head
+pub record IsTooLong (bytes : List ℕ) : Type 0 where
+  pub none : head_len bytes ≡ None
+  pub long : max_head ≤ length bytes
+
+-- the head is whole, and what it says of its body is this fault
+pub record IsFramedBadly (bytes : List ℕ) (fault : HeadFault) : Type 0 where
+  pub len : ℕ
+  pub head : RequestHead
+  pub has : HasHead bytes len head
+  pub framed : framing (fields_of head) ≡ Err fault
+
+-- no message can begin here, whatever follows
+abbrev pub IsMalformed : List ℕ → HeadFault → Type 0
+IsMalformed bytes H1 = IsNoHead bytes
+IsMalformed bytes H2 = IsTooLong bytes
+IsMalformed bytes H3 = IsFramedBadly bytes H3
+IsMalformed bytes H4 = IsFramedBadly bytes H4
+
+-- where the messages of a text end
+pub data Ending : Type 0 where
+  ended : Ending
+  cut : ℕ → Ending
+  malformed : HeadFault → Ending
+
+-- what is left behind the last message ends so; Cut carries the number of bytes left
+abbrev pub EndsAs : List ℕ → Ending → Type 0
+EndsAs bytes ended = IsBlank bytes
+EndsAs bytes (cut n) = IsCut bytes × (n ≡ length bytes)
+EndsAs bytes (malformed fault) = IsMalformed bytes fault
+
+-- the text begins with these messages, one behind the other, and then has the rest
+abbrev pub Begins : List ℕ → List Request → List ℕ → Type 0
+Begins bytes [] rest = rest ≡ bytes
+Begins bytes (m ∷ messages) rest = (middle : List ℕ) × IsMessage bytes m middle × Begins middle messages rest
+
+-- the text is these messages, and ends so
+pub record Splits (text : List ℕ) (messages : List Request) (ending : Ending) : Type 0 where
+  pub rest : List ℕ
+  pub begins : Begins text messages rest
+  pub ends : EndsAs rest ending

@@ -1,0 +1,94 @@
+ghost use Rattle.std.specs.Prelude.{◌≡◌, ◌≤◌, ℕ, length, take, IfOk, IfErr, IfSome, IfNone, IsUtf8};
+ghost use Rattle.httparse.specs.Grammar.{RequestHead};
+ghost use Rattle.http_heads.specs.Heads.{behind_blank};
+ghost use Rattle.http_heads.specs.Limits.{max_body, max_fields};
+ghost use Rattle.http_heads.specs.Messages.{IsHead};
+ghost use Rattle.http_heads.specs.Readings.{Says, HasReason, AreParts};
+
+use crate::fields::{framing, some_lists};
+use crate::request::{HeadFault, MAX_FIELDS};
+use crate::search::leading_line_bytes;
+use httparse::Status;
+use httparse::spans::{EMPTY_HEADER_SPAN, HeaderSpan, RequestSpans, parse_request};
+use size_values::{NoMemory, Or, Text};
+use std::alloc::Global;
+
+/// What a head says: the method, the target, the length of the body, and whether the connection ends behind it.
+#[derive(Debug, Drop)]
+pub struct Head {
+    pub method: Text,
+    pub target: Text,
+    pub body: usize,
+    pub last: bool,
+}
+
+/// Reads a whole head, with the CR and LF bytes before it. A fault is H1, H3 or H4, the first that stands.
+pub fn read_head(alloc: Global, bytes: &[u8]) -> Result<Head, Or<HeadFault>>
+    ensures ok { IfOk result (Says (behind_blank bytes.now)) }
+    ensures small { IfOk result (λ head. head.body ≤ max_body) }
+    ensures err { IfErr result (HasReason (behind_blank bytes.now)) }
+{
+    let text = &bytes[leading_line_bytes(bytes)..];
+    let mut headers = [EMPTY_HEADER_SPAN; MAX_FIELDS];
+    match spans_of(text, &mut headers) {
+        Some(spans) => head_of(alloc, text, &headers[..spans.headers], &spans),
+        None => Err(Or::Why(HeadFault::H1)),
+    }
+}
+
+/// Where the parts of a text are, if all of it is one head.
+fn spans_of(text: &[u8], headers: &mut [HeaderSpan]) -> Option<RequestSpans>
+    requires { length headers.old ≡ max_fields }
+    ensures some { IfSome result (λ spans. AreParts text.now (take spans.headers headers.new) spans) }
+    ensures few { IfSome result (λ spans. spans.headers ≤ max_fields) }
+    ensures none { IfNone result ((head : RequestHead) → ¬ (IsHead text.now head)) }
+{
+    match parse_request(text, headers) {
+        Ok(Status::Complete(spans)) => {
+            if spans.len == text.len() {
+                Some(spans)
+            } else {
+                None
+            }
+        }
+        Ok(Status::Partial) => None,
+        Err(_) => None,
+    }
+}
+
+/// What the parts of a head say.
+fn head_of(
+    alloc: Global,
+    text: &[u8],
+    headers: &[HeaderSpan],
+    spans: &RequestSpans,
+) -> Result<Head, Or<HeadFault>>
+    requires { AreParts text.now headers.now spans.now }
+    ensures ok { IfOk result (Says text.now) }
+    ensures small { IfOk result (λ head. head.body ≤ max_body) }
+    ensures err { IfErr result (HasReason text.now) }
+{
+    let body = match framing(text, headers) {
+        Ok(body) => body,
+        Err(fault) => return Err(Or::Why(fault)),
+    };
+    let last = spans.version == 0 || some_lists(text, headers, b"connection", b"close");
+    let method = text_of(alloc, spans.method.of(text))?;
+    let target = text_of(alloc, spans.path.of(text))?;
+    Ok(Head {
+        method,
+        target,
+        body,
+        last,
+    })
+}
+
+fn text_of(alloc: Global, bytes: &[u8]) -> Result<Text, NoMemory>
+    requires { IsUtf8 bytes.now }
+    ensures { IfOk result (λ text. text ≡ bytes.now) }
+{
+    match std::str::from_utf8(bytes) {
+        Ok(text) => Text::from_text(alloc, text),
+        Err(_) => unreachable!(),
+    }
+}

@@ -1,0 +1,34 @@
+use size_values::{Seq, Text};
+
+/// The most bytes that a head has, with the CR and LF bytes before it.
+pub const MAX_HEAD: usize = 16_384;
+
+/// The most bytes that a body has.
+pub const MAX_BODY: usize = 1_048_576;
+
+/// The most headers that a head has.
+pub const MAX_FIELDS: usize = 64;
+
+/// One request: the method and the target of its request line (RFC 9112, section 3), and its body of
+/// Content-Length bytes. `last` says that the connection ends behind its reply: it is of HTTP/1.0, or a
+/// Connection header lists `close`.
+#[derive(Debug, Drop)]
+pub struct Request {
+    pub method: Text,
+    pub target: Text,
+    pub body: Seq<u8>,
+    pub last: bool,
+}
+
+/// What is wrong with the bytes in a request's place.
+#[derive(Clone, Copy, Debug, PartialEq, Eq)]
+pub enum HeadFault {
+    /// The bytes up to the first empty line are no head of at most 64 headers.
+    H1,
+    /// 16,384 bytes have no empty line that ends a head.
+    H2,
+    /// There is a Transfer-Encoding header, more than one Content-Length, or one that is not 1 to 19 digits.
+    H3,
+    /// The Content-Length is above 1,048,576.
+    H4,
+}

@@ -1,0 +1,3 @@
+pub mod Forbids
+pub mod Policies
+pub mod Words

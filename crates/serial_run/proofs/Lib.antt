@@ -1,0 +1,4 @@
+pub mod Served
+pub mod Tops
+pub mod Turning
+pub mod Whole

@@ -1,0 +1,4 @@
+pub mod Runs
+pub mod Sessions
+pub mod Texts
+pub mod Worlds

@@ -1,0 +1,62 @@
+-- What a run comes to, told of its whole input: the requests that are answered, the exit status, and what the outside sees.
+use Rattle.std.specs.Prelude.{◌≡◌, ◌++◌, ◌==◌, ℕ, List, [], ◌∷◌, Bool, length, take, map, Option, option_map, if◌then◌else◌}
+use Rattle.std.specs.List.{list_any}
+use Rattle.std.specs.Io.KnownBytes.{append_known}
+use Rattle.size_values.specs.declared.entry.Entry.{Entry}
+use Rattle.http_heads.specs.Messages.{Ending, ended, cut, malformed}
+use Rattle.http_heads.specs.declared.request.Request.{Request}
+use Rattle.project_requests.specs.Machine.{Asked, entries_of, printed_replies, projects_after}
+use Rattle.project_requests.specs.Opening.{first_projects}
+use Rattle.serial_run.specs.declared.session.TheConstants.{MOST_REQUESTS}
+use Rattle.serial_run.specs.Sessions.{place_reply}
+use Rattle.serial_run.specs.Worlds.{requests_of}
+
+-- the requests up to and with the first that is the last on its connection
+abbrev pub through_last : List Request → List Request
+through_last [] = []
+through_last (m ∷ more) = m ∷ (if m.last then [] else through_last more)
+
+-- the requests of a text that are answered: these, and at most as many as a session may answer
+abbrev pub answered : List Request → List Request
+answered messages = take MOST_REQUESTS (through_last messages)
+
+-- one of the requests is the last on its connection
+abbrev pub has_last : List Request → Bool
+has_last messages = list_any (λ m. m.last) messages
+
+-- how a run ends: its exit status, and the text that is written behind the replies
+pub record End : Type 0 where
+  pub status : ℕ
+  pub text : List ℕ
+
+-- the end of a run that has answered all messages of its input
+abbrev pub end_at : Ending → End
+end_at ended = record { status = 0; text = [] }
+end_at (cut held) = record { status = 2; text = [] }
+end_at (malformed fault) = record { status = 3; text = place_reply fault }
+
+-- The end of a run that has answered these requests of an input that ends so: the most requests that a session may answer go
+-- before a last request, and that goes before the end of the input.
+abbrev pub end_behind_all : List Request → Ending → End
+end_behind_all requests ending =
+    if length requests == MOST_REQUESTS then record { status = 10; text = [] }
+    else if has_last requests then record { status = 0; text = [] }
+    else end_at ending
+
+-- the end of a run over an input with these messages and this ending, where nothing fails
+abbrev pub end_due : List Request → Ending → End
+end_due messages ending = end_behind_all (answered messages) ending
+
+-- The run did what its input asks, and nothing else: each request that is answered had its outcome, the exit status is the one that
+-- is due, the sink holds the replies in their order, and the keeper has the entries of the projects that they leave.
+pub record RunsText (messages : List Request) (ending : Ending) (status : ℕ) (held held' : Option (List ℕ)) (told told' : Option (List Entry)) : Type 0 where
+  pub asked : List Asked
+  pub requests_are : requests_of asked ≡ answered messages
+  pub status_is : status ≡ (end_due messages ending).status
+  pub written : held' ≡ append_known held (printed_replies first_projects asked ++ (end_due messages ending).text)
+  pub kept : told' ≡ option_map (λ _. entries_of (projects_after first_projects asked)) told
+
+-- whether an exit status is that of a fault of the outside, of words that are not read, of entries that are there already, or of
+-- refused memory
+abbrev pub is_fault : ℕ → Bool
+is_fault status = list_any (λ s. s == status) (4 ∷ 5 ∷ 6 ∷ 8 ∷ 9 ∷ 13 ∷ [])

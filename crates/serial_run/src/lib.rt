@@ -1,0 +1,13 @@
+//! A session without threads.
+#![tactic(auto)]
+
+mod running;
+mod serving;
+mod session;
+mod turn;
+
+pub use running::{StartFault, run_main};
+pub use session::{MOST_REQUESTS, SessionEnd, Turn};
+
+#[cfg(test)]
+mod tests;

@@ -1,0 +1,272 @@
+ghost use Rattle.std.specs.Prelude.{◌≡◌, ◌≢◌, ◌<◌, ◌⊎◌, ◌↔◌, ℕ, List, [], true, false, length, Option, Some, IfSome, map, string_bytes};
+ghost use Rattle.size_values.specs.Causes.{Rose};
+ghost use Rattle.http_heads.specs.Messages.{Ending, ended, Splits};
+ghost use Rattle.http_heads.specs.declared.request.Request.{Request};
+ghost use Rattle.project_requests.specs.Machine.{Projects};
+ghost use Rattle.serial_run.specs.Runs.{Ran, Refused, are_run, start_fault, start_status, status_of};
+ghost use Rattle.serial_run.specs.Sessions.{Session};
+ghost use Rattle.serial_run.specs.Texts.{RunsText, is_fault};
+ghost use Rattle.serial_run.specs.declared.session.TheConstants.{MOST_REQUESTS};
+ghost use Rattle.serial_run.specs.Worlds.{World};
+
+use crate::serving::serve;
+use crate::session::SessionEnd;
+use http_front::{Buffer, Sink, Source};
+use project_requests::{OpenFault, open};
+use record_keeper::Keeper;
+use size_values::Text;
+use std::alloc::Global;
+
+/// Why a run has no session.
+#[derive(Clone, Copy, Debug, PartialEq, Eq)]
+pub enum StartFault {
+    /// The words of the command line are not read.
+    Words,
+    KeeperFailed,
+    /// The keeper has entries already; rows of an earlier run are not read yet.
+    HasEntries,
+    NoMemory,
+}
+
+impl StartFault {
+    /// The exit status.
+    pub fn status(self) -> u8
+        ensures { result ≡ start_status self }
+    {
+        match self {
+            StartFault::KeeperFailed => 6,
+            StartFault::Words => 8,
+            StartFault::NoMemory => 9,
+            StartFault::HasEntries => 13,
+        }
+    }
+}
+
+impl SessionEnd {
+    /// The exit status.
+    pub fn status(self) -> u8
+        ensures { result ≡ status_of self }
+    {
+        match self {
+            SessionEnd::Ended => 0,
+            SessionEnd::Cut => 2,
+            SessionEnd::Malformed(_) => 3,
+            SessionEnd::ReadFault => 4,
+            SessionEnd::WriteFault => 5,
+            SessionEnd::NoMemory => 9,
+            SessionEnd::Spent => 10,
+        }
+    }
+}
+
+/// Whether the words are the one word `run`.
+fn are_run(words: &[String]) -> bool
+    ensures { result ≡ are_run (map (λ w. string_bytes w) words.now) }
+{
+    if words.len() != 1 {
+        return false;
+    }
+    words[0].as_str() == "run"
+}
+
+impl StartFault {
+    fn of(fault: OpenFault) -> StartFault
+        ensures { result ≡ start_fault fault }
+    {
+        match fault {
+            OpenFault::KeeperFailed => StartFault::KeeperFailed,
+            OpenFault::HasEntries => StartFault::HasEntries,
+            OpenFault::NoMemory => StartFault::NoMemory,
+        }
+    }
+}
+
+/// One session, from an empty buffer on.
+fn session<S: Source, K: Sink, R: Keeper>(
+    alloc: Global,
+    source: &mut S,
+    sink: &mut K,
+    keeper: &mut R,
+    mut buffer: Buffer,
+    mut projects: Vec<Text>,
+) -> SessionEnd
+    requires { buffer ≡ [] }
+    ensures { (input : Option (List ℕ)) × (after : Projects) × Session
+        (record {
+          input = S.left source.old;
+          left = S.left source.old;
+          ended = S.ended source.old;
+          output = K.held sink.old;
+          kept = R.told keeper.old;
+          projects = projects.items;
+          read_faults = S.failures source.old;
+          write_faults = K.failures sink.old;
+          keeper_faults = R.failures keeper.old;
+        })
+        (record {
+          input = input;
+          left = S.left source.new;
+          ended = S.ended source.new;
+          output = K.held sink.new;
+          kept = R.told keeper.new;
+          projects = after;
+          read_faults = S.failures source.new;
+          write_faults = K.failures sink.new;
+          keeper_faults = R.failures keeper.new;
+        })
+        result }
+{
+    serve(alloc, &mut buffer, source, sink, keeper, &mut projects)
+}
+
+/// A run of the program.
+fn run<S: Source, K: Sink, R: Keeper>(
+    alloc: Global,
+    words: &[String],
+    source: &mut S,
+    sink: &mut K,
+    mut keeper: R,
+) -> (u8, R)
+    ensures { Ran (map (λ w. string_bytes w) words.now)
+        (record {
+          input = S.left source.old;
+          left = S.left source.old;
+          ended = S.ended source.old;
+          output = K.held sink.old;
+          kept = R.told keeper;
+          projects = [];
+          read_faults = S.failures source.old;
+          write_faults = K.failures sink.old;
+          keeper_faults = R.failures keeper;
+        })
+        (record {
+          input = S.left source.new;
+          left = S.left source.new;
+          ended = S.ended source.new;
+          output = K.held sink.new;
+          kept = R.told result.1;
+          projects = [];
+          read_faults = S.failures source.new;
+          write_faults = K.failures sink.new;
+          keeper_faults = R.failures result.1;
+        })
+        result.0
+        ⊎ Refused (map (λ w. string_bytes w) words.now)
+        (record {
+          input = S.left source.old;
+          left = S.left source.old;
+          ended = S.ended source.old;
+          output = K.held sink.old;
+          kept = R.told keeper;
+          projects = [];
+          read_faults = S.failures source.old;
+          write_faults = K.failures sink.old;
+          keeper_faults = R.failures keeper;
+        })
+        (record {
+          input = S.left source.new;
+          left = S.left source.new;
+          ended = S.ended source.new;
+          output = K.held sink.new;
+          kept = R.told result.1;
+          projects = [];
+          read_faults = S.failures source.new;
+          write_faults = K.failures sink.new;
+          keeper_faults = R.failures result.1;
+        })
+        result.0 }
+{
+    if !are_run(words) {
+        return (StartFault::Words.status(), keeper);
+    }
+    let Ok(buffer) = Buffer::new(alloc) else {
+        return (StartFault::NoMemory.status(), keeper);
+    };
+    match open(alloc, &mut keeper) {
+        Ok(projects) => {
+            let ends = session(alloc, source, sink, &mut keeper, buffer, projects);
+            (ends.status(), keeper)
+        }
+        Err(fault) => (StartFault::of(fault).status(), keeper),
+    }
+}
+
+/// All that the program does: one session over the source and the sink, with the words of the command line. It gives the exit
+/// status, and the keeper back.
+pub fn run_main<S: Source, K: Sink, R: Keeper>(
+    alloc: Global,
+    words: &[String],
+    source: &mut S,
+    sink: &mut K,
+    keeper: R,
+) -> (u8, R)
+    // There was a session, or there was none.
+    ensures done { Ran (map (λ w. string_bytes w) words.now)
+        (record {
+          input = S.left source.old;
+          left = S.left source.old;
+          ended = S.ended source.old;
+          output = K.held sink.old;
+          kept = R.told keeper;
+          projects = [];
+          read_faults = S.failures source.old;
+          write_faults = K.failures sink.old;
+          keeper_faults = R.failures keeper;
+        })
+        (record {
+          input = S.left source.new;
+          left = S.left source.new;
+          ended = S.ended source.new;
+          output = K.held sink.new;
+          kept = R.told result.1;
+          projects = [];
+          read_faults = S.failures source.new;
+          write_faults = K.failures sink.new;
+          keeper_faults = R.failures result.1;
+        })
+        result.0
+        ⊎ Refused (map (λ w. string_bytes w) words.now)
+        (record {
+          input = S.left source.old;
+          left = S.left source.old;
+          ended = S.ended source.old;
+          output = K.held sink.old;
+          kept = R.told keeper;
+          projects = [];
+          read_faults = S.failures source.old;
+          write_faults = K.failures sink.old;
+          keeper_faults = R.failures keeper;
+        })
+        (record {
+          input = S.left source.new;
+          left = S.left source.new;
+          ended = S.ended source.new;
+          output = K.held sink.new;
+          kept = R.told result.1;
+          projects = [];
+          read_faults = S.failures source.new;
+          write_faults = K.failures sink.new;
+          keeper_faults = R.failures result.1;
+        })
+        result.0 }
+
+    // Over a source that tells its bytes: a fault, or what these bytes ask.
+    ensures text { IfSome (S.left source.old) (λ text. (messages : List Request) (ending : Ending) → Splits text messages ending →
+        (is_fault result.0 ≡ true) ⊎ RunsText messages ending result.0 (K.held sink.old) (K.held sink.new) (R.told keeper) (R.told result.1)) }
+
+    // Whole messages and no fault: all of them are answered, or memory was refused.
+    ensures complete { IfSome (S.left source.old) (λ text. (messages : List Request) → Splits text messages ended → length messages < MOST_REQUESTS →
+        are_run (map (λ w. string_bytes w) words.now) ≡ true → R.told keeper ≡ Some [] →
+        ¬ (Rose (S.failures source.old) (S.failures source.new)) → ¬ (Rose (K.failures sink.old) (K.failures sink.new)) → ¬ (Rose (R.failures keeper) (R.failures result.1)) →
+        (result.0 ≡ 0) ⊎ (result.0 ≡ 9)) }
+
+    ensures cut { result.0 ≡ 2 → S.ended source.new ≡ true }
+    ensures read_fault { result.0 ≡ 4 → Rose (S.failures source.old) (S.failures source.new) }
+    ensures write_fault { result.0 ≡ 5 → Rose (K.failures sink.old) (K.failures sink.new) }
+    ensures keeper_fault { result.0 ≡ 6 → Rose (R.failures keeper) (R.failures result.1) }
+    ensures words { (result.0 ≡ 8) ↔ (are_run (map (λ w. string_bytes w) words.now) ≡ false) }
+    ensures has_entries { result.0 ≡ 13 → IfSome (R.told keeper) (λ entries. entries ≢ []) }
+    ensures entries { IfSome (R.told keeper) (λ entries. entries ≢ [] → (is_fault result.0 ≡ true) × (K.held sink.new ≡ K.held sink.old)) }
+{
+    run(alloc, words, source, sink, keeper)
+}

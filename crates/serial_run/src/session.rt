@@ -1,0 +1,34 @@
+use http_front::HeadFault;
+
+/// The most requests that one session answers.
+pub const MOST_REQUESTS: u32 = 1_000_000;
+
+/// Where a session stops.
+#[derive(Clone, Copy, Debug, PartialEq, Eq)]
+pub enum SessionEnd {
+    /// The source has ended between two requests, or a request was answered behind which the connection ends.
+    Ended,
+    /// The source has ended within a request.
+    Cut,
+    /// No request begins here. It was answered by its rule, and the connection ends.
+    Malformed(HeadFault),
+    /// A read failed.
+    ReadFault,
+    /// A write failed.
+    WriteFault,
+    /// The most requests that a session answers were answered.
+    Spent,
+    /// Memory was refused outside a request.
+    NoMemory,
+}
+
+/// What one turn of a session comes to.
+#[derive(Clone, Copy, Debug, PartialEq, Eq)]
+pub enum Turn {
+    /// A request was answered, and the next one may come.
+    GoOn,
+    /// A request was answered, and its connection ends.
+    Final,
+    /// The session stops.
+    Stop(SessionEnd),
+}

@@ -1,0 +1,13 @@
+pub mod AmountParts
+pub mod Forms
+pub mod Runs
+pub mod Counts
+pub mod Truths
+pub mod Sizes
+pub mod MemorySizes
+pub mod Fronts
+pub mod Quads
+pub mod Addresses
+pub mod Sets
+pub mod Cpus
+pub mod Expiries

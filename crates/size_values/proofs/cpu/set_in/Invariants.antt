@@ -1,0 +1,9 @@
+use Rattle.std.proofs.Common.{◌-◌, length}
+use Rattle.size_values.proofs.Sets.{IsSetFront}
+use Rattle.size_values.proofs.cpu.set_in.Given as goal
+
+abbrev pub invariant-loop-front : goal.invariant-loop-front
+invariant-loop-front l = IsSetFront l.text l.front
+
+abbrev pub decreases-loop-front : goal.decreases-loop-front
+decreases-loop-front l = length l.text - l.front.end

@@ -1,0 +1,81 @@
+ghost use Rattle.std.specs.Prelude.{◌≡◌, ◌≤◌, IfOk};
+ghost use Rattle.size_values.specs.Count.{count_of};
+ghost use Rattle.size_values.specs.Number.{number_at};
+
+use crate::fault::ValueFault;
+use crate::number::Number;
+
+/// Reads a count: decimal digits alone, at most twenty, whose number is from `least` to `most` and below 2^63.
+pub fn read_count(text: &str, least: u64, most: u64) -> Result<u64, ValueFault>
+    ensures { result ≡ count_of text.now least most }
+{
+    count_in(text.as_bytes(), least, most)
+}
+
+/// The same of the bytes of a text.
+pub fn count_in(text: &[u8], least: u64, most: u64) -> Result<u64, ValueFault>
+    ensures count { result ≡ count_of text.now least most }
+    ensures within { IfOk result (λ n. (least ≤ n) × (n ≤ most)) }
+{
+    counted(text, Number::at_front(text), least, most)
+}
+
+/// The same of the bytes of a text and of the number at their front.
+pub fn counted(text: &[u8], number: Number, least: u64, most: u64) -> Result<u64, ValueFault>
+    requires { number ≡ number_at text.now }
+    ensures count { result ≡ count_of text.now least most }
+    ensures within { IfOk result (λ n. (least ≤ n) × (n ≤ most)) }
+{
+    if text.is_empty() {
+        return Err(ValueFault::Empty);
+    }
+    if number.len < text.len() {
+        return Err(ValueFault::BadByte(number.len as u64));
+    }
+    if number.is_too_large() {
+        return Err(ValueFault::TooLarge);
+    }
+    if !number.is_within(least, most) {
+        return Err(ValueFault::OutOfRange);
+    }
+    Ok(number.value)
+}
+
+#[cfg(test)]
+mod tests {
+    use super::*;
+    use crate::fault::ValueFault::{BadByte, Empty, OutOfRange, TooLarge};
+
+    const ROWS: [(&str, Result<u64, ValueFault>); 15] = [
+        ("", Err(Empty)),
+        ("0", Err(OutOfRange)),
+        ("1", Ok(1)),
+        ("007", Ok(7)),
+        ("100", Ok(100)),
+        ("101", Err(OutOfRange)),
+        ("a", Err(BadByte(0))),
+        ("+1", Err(BadByte(0))),
+        ("1x", Err(BadByte(1))),
+        ("1 ", Err(BadByte(1))),
+        ("00000000000000000100", Ok(100)),
+        ("000000000000000000100", Err(TooLarge)),
+        ("9223372036854775807", Err(OutOfRange)),
+        ("9223372036854775808", Err(TooLarge)),
+        ("99999999999999999999x", Err(BadByte(20))),
+    ];
+
+    #[test]
+    fn reads_counts(rt: HostRuntime) {
+        for (text, want) in &ROWS {
+            assert!(rt; read_count(text, 1, 100) == *want, "for {text}");
+        }
+        assert_eq!(rt;
+            read_count("9223372036854775807", 0, u64::MAX),
+            Ok(9_223_372_036_854_775_807)
+        );
+        assert_eq!(rt;
+            read_count("9223372036854775808", 0, u64::MAX),
+            Err(TooLarge)
+        );
+    }
+}

@@ -1,0 +1,79 @@
+ghost use Rattle.std.specs.Prelude.{◌≡◌, find};
+ghost use Rattle.std.specs.Option.{option_map};
+ghost use Rattle.std.specs.Str.{str_eq_ignore_ascii_case};
+ghost use Rattle.size_values.specs.Truth.{truth_of, truth_named};
+
+use crate::fault::ValueFault;
+
+/// The words for true and false.
+const TRUTHS: [(&str, bool); 8] = [
+    ("true", true),
+    ("1", true),
+    ("yes", true),
+    ("on", true),
+    ("false", false),
+    ("0", false),
+    ("no", false),
+    ("off", false),
+];
+
+/// Reads a truth: `true`, `1`, `yes` or `on`, and `false`, `0`, `no` or `off`, in any ASCII case, as the Incus
+/// documentation lists them for options of type bool.
+pub fn read_truth(text: &str) -> Result<bool, ValueFault>
+    ensures { result ≡ truth_of text.now }
+{
+    if text.is_empty() {
+        return Err(ValueFault::Empty);
+    }
+    truth(text).ok_or(ValueFault::OutOfRange)
+}
+
+/// The truth that the text names, if it names one.
+fn truth(text: &str) -> Option<bool>
+    ensures { result ≡ truth_named text.now }
+{
+    truth_in(&TRUTHS, text)
+}
+
+fn truth_in(rows: &[(&str, bool)], text: &str) -> Option<bool>
+    ensures { result ≡ option_map (λ row. row.1) (find (λ row. str_eq_ignore_ascii_case row.0.now text.now) rows.now) }
+{
+    rows.iter()
+        .find(|row| row.0.eq_ignore_ascii_case(text))
+        .map(|row| row.1)
+}
+
+#[cfg(test)]
+mod tests {
+    use super::*;
+    use crate::fault::ValueFault::{Empty, OutOfRange};
+
+    const ROWS: [(&str, Result<bool, ValueFault>); 19] = [
+        ("true", Ok(true)),
+        ("1", Ok(true)),
+        ("yes", Ok(true)),
+        ("on", Ok(true)),
+        ("TRUE", Ok(true)),
+        ("yEs", Ok(true)),
+        ("On", Ok(true)),
+        ("false", Ok(false)),
+        ("0", Ok(false)),
+        ("no", Ok(false)),
+        ("off", Ok(false)),
+        ("False", Ok(false)),
+        ("NO", Ok(false)),
+        ("oFF", Ok(false)),
+        ("", Err(Empty)),
+        ("2", Err(OutOfRange)),
+        ("t", Err(OutOfRange)),
+        ("true ", Err(OutOfRange)),
+        ("01", Err(OutOfRange)),
+    ];
+
+    #[test]
+    fn reads_truths(rt: HostRuntime) {
+        for (text, want) in &ROWS {
+            assert!(rt; read_truth(text) == *want, "for {text}");
+        }
+    }
+}
