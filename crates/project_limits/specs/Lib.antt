@@ -1,0 +1,4 @@
+pub mod Admission
+pub mod Countable
+pub mod Instance
+pub mod Limits
