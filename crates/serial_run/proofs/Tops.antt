@@ -160,3 +160,15 @@ top_complete words w w' status (Some text) (inr refused) is = λ messages splits
   by start.HasEntries cause is read none keeps =
       let some : [] ≢ [] = subst (λ known. IfSome known (λ entries. entries ≢ [])) none cause.1 in absurd (some refl)
   by start.NoMemory cause is read none keeps = inr is
+
+-- a run over a keeper that has entries ends with the status that says so, or is refused memory, and writes nothing
+pub top_entries : (words : List (List ℕ)) (w w' : World) (status : ℕ) (known : Option (List Entry)) → Done words w w' status → w.kept ≡ known
+  → IfSome known (λ entries. entries ≢ [] → are_run words ≡ true → ¬ (Rose w.keeper_faults w'.keeper_faults) → (w'.output ≡ w.output) × ((status ≡ 13) ⊎ (status ≡ 9)))
+top_entries words w w' status None done is = tt
+top_entries words w w' status (Some entries) (inl ran) is = λ some read keeps. absurd (some (subst (λ known. IfSome known (λ es. es ≡ [])) is ran.empty))
+top_entries words w w' status (Some entries) (inr refused) is = λ some read keeps. (refused.output, by refused.why refused.cause refused.status_is read keeps) where
+  by : (why : StartFault) → HasCauseToRefuse why words w w' → status ≡ start_status why → are_run words ≡ true → ¬ (Rose w.keeper_faults w'.keeper_faults) → (status ≡ 13) ⊎ (status ≡ 9)
+  by start.Words cause is read keeps = absurd (false≢true (sym cause ∙ read))
+  by start.KeeperFailed cause is read keeps = absurd (keeps cause.1)
+  by start.HasEntries cause is read keeps = inl is
+  by start.NoMemory cause is read keeps = inr is

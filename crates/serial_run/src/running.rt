@@ -266,7 +266,8 @@ pub fn run_main<S: Source, K: Sink, R: Keeper>(
     ensures keeper_fault { result.0 ≡ 6 → Rose (R.failures keeper) (R.failures result.1) }
     ensures words { (result.0 ≡ 8) ↔ (are_run (map (λ w. string_bytes w) words.now) ≡ false) }
     ensures has_entries { result.0 ≡ 13 → IfSome (R.told keeper) (λ entries. entries ≢ []) }
-    ensures entries { IfSome (R.told keeper) (λ entries. entries ≢ [] → (is_fault result.0 ≡ true) × (K.held sink.new ≡ K.held sink.old)) }
+    ensures entries { IfSome (R.told keeper) (λ entries. entries ≢ [] → are_run (map (λ w. string_bytes w) words.now) ≡ true →
+        ¬ (Rose (R.failures keeper) (R.failures result.1)) → (K.held sink.new ≡ K.held sink.old) × ((result.0 ≡ 13) ⊎ (result.0 ≡ 9))) }
 {
     run(alloc, words, source, sink, keeper)
 }
