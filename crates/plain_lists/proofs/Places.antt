@@ -1,4 +1,4 @@
-use Rattle.std.proofs.Common.{◌≡◌, ℕ, zero, suc, ◌+◌, ◌<◌, Bool, true, false, cond, not, ◌||◌, Some, None, List, [], ◌∷◌, ◌++◌, length, get_or, set, refl, sym, ◌∙◌, ap, arith}
+use Rattle.std.proofs.Common.{◌≡◌, ℕ, zero, suc, ◌+◌, ◌<◌, Bool, true, false, cond, not, ◌||◌, Some, None, List, [], ◌∷◌, length, get_or, set, refl, sym, ◌∙◌, ap, arith}
 use Rattle.std.proofs.Math.Numerals.{one-add}
 use Rattle.std.specs.List.{find, list_any, position, position_from, position_or_len, insert, remove}
 use Rattle.std.proofs.lemmas.Iterator.Adapters.{position_from-zero}
@@ -74,14 +74,6 @@ none-position p xs e = none-find p xs (any-none p xs (any-position p xs e))
 pub replaced-new : {X : Type 0} (p before : X → Bool) (x : X) (xs : List X)
     → None ≡ position p xs → inserted before x xs ≡ replaced p before x xs
 replaced-new p before x xs e = sym (ap (λ b. cond b (changed_first p (λ _. x) xs) (inserted before x xs)) (any-position p xs e))
-
-inserted-end : {X : Type 0} (x : X) (xs : List X) → inserted (λ _. false) x xs ≡ xs ++ x ∷ []
-inserted-end x [] = refl
-inserted-end x (y ∷ ys) = ap (λ zs. y ∷ zs) (inserted-end x ys)
-
--- where there is no order, what is new stands at the end
-pub replaced-end : {X : Type 0} (p : X → Bool) (x : X) (xs : List X) → None ≡ position p xs → xs ++ x ∷ [] ≡ replaced p (λ _. false) x xs
-replaced-end p x xs e = sym (inserted-end x xs) ∙ replaced-new p (λ _. false) x xs e
 
 pub dropped-nothing : {X : Type 0} (p : X → Bool) (xs : List X) → None ≡ position p xs → xs ≡ dropped p xs
 dropped-nothing p xs e = sym (dropped-none p xs (any-position p xs e))

@@ -1,6 +1,7 @@
 use Rattle.std.proofs.Common.{◌≡◌, false, ◌∙◌, ap}
 use Rattle.std.specs.List.{position}
-use Rattle.plain_lists.proofs.Places.{replaced-at, replaced-end}
+use Rattle.host_model.proofs.AtEnd.{replaced-end}
+use Rattle.plain_lists.proofs.Places.{replaced-at}
 use Rattle.host_model.specs.Roots.{is_at}
 use Rattle.host_model.proofs.effects.put_reserved.Goals as goal
 
