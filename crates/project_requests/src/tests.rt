@@ -34,52 +34,53 @@ fn numbers(alloc: Global, numbers: &[u64]) -> Result<Seq<u64>, Fail> {
     Ok(Seq::from_vec(Vec::from_slice(alloc, numbers)?))
 }
 
+/// Whether this is the name that was found, or none was found and the name is empty.
+fn is_named(found: &Option<Text>, name: &str) -> bool {
+    match found {
+        Some(found) => found.view() == name,
+        None => name.is_empty(),
+    }
+}
+
 #[test]
 fn what_requests_ask(rt: HostRuntime) -> Result<(), Fail> {
     let cases = [
-        ("POST", "/1.0/projects", "{\"name\":\"lab\"}", Some("lab")),
+        ("POST", "/1.0/projects", "{\"name\":\"lab\"}", "lab"),
         (
             "POST",
             "/1.0/projects",
             " { \"name\" : \"a.b-c\" } ",
-            Some("a.b-c"),
+            "a.b-c",
         ),
         (
             "POST",
             "/1.0/projects",
             "{\"name\":\"x\",\"name\":\"y\"}",
-            Some("y"),
+            "y",
         ),
-        ("POST", "/1.0/projects", "{\"name\":\"-lab\"}", None),
-        ("POST", "/1.0/projects", "{\"name\":\"\"}", None),
-        ("POST", "/1.0/projects", "{\"name\":7}", None),
+        ("POST", "/1.0/projects", "{\"name\":\"-lab\"}", ""),
+        ("POST", "/1.0/projects", "{\"name\":\"\"}", ""),
+        ("POST", "/1.0/projects", "{\"name\":7}", ""),
         (
             "POST",
             "/1.0/projects",
             "{\"name\":\"lab\",\"config\":{}}",
-            None,
+            "",
         ),
-        ("POST", "/1.0/projects", "{}", None),
-        ("POST", "/1.0/projects", "[\"name\"]", None),
-        ("POST", "/1.0/projects", "{\"name\":\"lab\"", None),
-        ("POST", "/1.0/projects", "", None),
-        (
-            "POST",
-            "/1.0/projects?project=x",
-            "{\"name\":\"lab\"}",
-            None,
-        ),
-        ("POST", "/1.0/projects/", "{\"name\":\"lab\"}", None),
-        ("post", "/1.0/projects", "{\"name\":\"lab\"}", None),
-        ("GET", "/1.0/projects", "{\"name\":\"lab\"}", None),
-        ("GET", "/", "", None),
+        ("POST", "/1.0/projects", "{}", ""),
+        ("POST", "/1.0/projects", "[\"name\"]", ""),
+        ("POST", "/1.0/projects", "{\"name\":\"lab\"", ""),
+        ("POST", "/1.0/projects", "", ""),
+        ("POST", "/1.0/projects?project=x", "{\"name\":\"lab\"}", ""),
+        ("POST", "/1.0/projects/", "{\"name\":\"lab\"}", ""),
+        ("post", "/1.0/projects", "{\"name\":\"lab\"}", ""),
+        ("GET", "/1.0/projects", "{\"name\":\"lab\"}", ""),
+        ("GET", "/", "", ""),
     ];
     for (method, target, body, name) in cases {
         let asked = request(rt.alloc(), method, target, body)?;
-        match creation_of(rt.alloc(), &asked)? {
-            Some(found) => assert!(rt; name.is_some_and(|name| name == found.view()), "{body}"),
-            None => assert!(rt; name.is_none(), "{body}"),
-        }
+        let found = creation_of(rt.alloc(), &asked)?;
+        assert!(rt; is_named(&found, name), "{body}");
     }
     Ok(())
 }

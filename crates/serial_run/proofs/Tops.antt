@@ -163,7 +163,7 @@ top_complete words w w' status (Some text) (inr refused) is = λ messages splits
 
 -- a run over a keeper that has entries ends with the status that says so, or is refused memory, and writes nothing
 pub top_entries : (words : List (List ℕ)) (w w' : World) (status : ℕ) (known : Option (List Entry)) → Done words w w' status → w.kept ≡ known
-  → IfSome known (λ entries. entries ≢ [] → are_run words ≡ true → ¬ (Rose w.keeper_faults w'.keeper_faults) → (w'.output ≡ w.output) × ((status ≡ 13) ⊎ (status ≡ 9)))
+    → IfSome known (λ entries. entries ≢ [] → are_run words ≡ true → ¬ (Rose w.keeper_faults w'.keeper_faults) → (w'.output ≡ w.output) × ((status ≡ 13) ⊎ (status ≡ 9)))
 top_entries words w w' status None done is = tt
 top_entries words w w' status (Some entries) (inl ran) is = λ some read keeps. absurd (some (subst (λ known. IfSome known (λ es. es ≡ [])) is ran.empty))
 top_entries words w w' status (Some entries) (inr refused) is = λ some read keeps. (refused.output, by refused.why refused.cause refused.status_is read keeps) where
