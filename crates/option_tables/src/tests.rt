@@ -17,14 +17,6 @@ fn config_of(alloc: Global, settings: &[(&str, &str)]) -> Result<Config, Fail> {
     Ok(config)
 }
 
-fn devices_of(alloc: Global, devices: &[(&str, &[(&str, &str)])]) -> Result<Devices, Fail> {
-    let mut list = Devices::new(alloc);
-    for (name, settings) in devices {
-        list.put(name, config_of(alloc, settings)?)?;
-    }
-    Ok(list)
-}
-
 // Each option with a good and a bad value, or no bad one where any text is good, and the instances that it is for.
 const INSTANCE_CASES: &[(&str, &str, &str, &str)] = &[
     ("environment.A", "x", "", "both"),
