@@ -17,6 +17,14 @@ fn config_of(alloc: Global, settings: &[(&str, &str)]) -> Result<Config, Fail> {
     Ok(config)
 }
 
+fn devices_of(alloc: Global, devices: &[(&str, &[(&str, &str)])]) -> Result<Devices, Fail> {
+    let mut list = Devices::new(alloc);
+    for (name, settings) in devices {
+        list.put(name, config_of(alloc, settings)?)?;
+    }
+    Ok(list)
+}
+
 // Each option with a good and a bad value, or no bad one where any text is good, and the instances that it is for.
 const INSTANCE_CASES: &[(&str, &str, &str, &str)] = &[
     ("environment.A", "x", "", "both"),
@@ -192,6 +200,48 @@ fn each_option_of_objects(rt: HostRuntime) -> Result<(), Fail> {
                 );
             }
         }
+    }
+    Ok(())
+}
+
+#[test]
+fn keys_that_no_line_takes(rt: HostRuntime) -> Result<(), Fail> {
+    let alloc = rt.alloc();
+    let mut long = String::from_str(alloc, "user.")?;
+    for _ in 0..250 {
+        long.push_str("x")?;
+    }
+    assert_eq!(rt;
+        check_instance(&config_of(alloc, &[(long.as_str(), "x")])?, Scope::Any),
+        Ok(())
+    );
+    assert_eq!(rt;
+        check_volume(&config_of(alloc, &[(long.as_str(), "x")])?),
+        Ok(())
+    );
+    long.push_str("x")?;
+    for key in [
+        long.as_str(),
+        "user.",
+        "user",
+        "environment.",
+        "image.",
+        "limits",
+        "limits.cpu.",
+        "limits.cpux",
+        "type",
+    ] {
+        let config = config_of(alloc, &[(key, "x")])?;
+        let unknown = Err(SettingFault::Unknown(0));
+        assert_eq!(rt;
+            check_instance(&config, Scope::Any),
+            unknown,
+            "{key} of an instance"
+        );
+        assert_eq!(rt; check_project(&config), unknown, "{key} of a project");
+        assert_eq!(rt; check_network(&config), unknown, "{key} of a network");
+        assert_eq!(rt; check_pool(&config), unknown, "{key} of a pool");
+        assert_eq!(rt; check_volume(&config), unknown, "{key} of a volume");
     }
     Ok(())
 }
@@ -385,6 +435,105 @@ fn each_option_of_devices(rt: HostRuntime) -> Result<(), Fail> {
             "a foreign key of {kind}"
         );
     }
+    Ok(())
+}
+
+#[test]
+fn each_fault_of_devices(rt: HostRuntime) -> Result<(), Fail> {
+    let alloc = rt.alloc();
+    let long = "0123456789012345678901234567890123456789012345678901234567890123";
+    let cases: [(&str, &[(&str, &str)], Option<DeviceFault>); 23] = [
+        (
+            "root",
+            &[("type", "disk"), ("path", "/"), ("pool", "p0")],
+            None,
+        ),
+        (
+            "root",
+            &[("type", "disk"), ("path", "/")],
+            Some(DeviceFault::DiskShape),
+        ),
+        (
+            "root",
+            &[
+                ("type", "disk"),
+                ("path", "/"),
+                ("pool", "p0"),
+                ("source", "v"),
+            ],
+            Some(DeviceFault::DiskShape),
+        ),
+        (
+            "data",
+            &[
+                ("type", "disk"),
+                ("path", "/srv"),
+                ("pool", "p0"),
+                ("source", "v"),
+            ],
+            None,
+        ),
+        (
+            "data",
+            &[("type", "disk"), ("path", "/srv"), ("pool", "p0")],
+            Some(DeviceFault::DiskShape),
+        ),
+        ("data", &[("type", "disk"), ("source", "v")], None),
+        ("data", &[("type", "disk")], Some(DeviceFault::DiskShape)),
+        ("eth0", &[("type", "nic"), ("network", "br0")], None),
+        ("eth0", &[("type", "nic"), ("nictype", "bridged")], None),
+        (
+            "eth0",
+            &[("type", "nic"), ("nictype", "bridged"), ("network", "br0")],
+            Some(DeviceFault::NicSource),
+        ),
+        ("eth0", &[("type", "nic")], Some(DeviceFault::NicSource)),
+        ("eth0", &[("type", "none")], None),
+        (
+            "eth0",
+            &[("type", "none"), ("network", "br0")],
+            Some(DeviceFault::UnknownKey(0)),
+        ),
+        ("eth0", &[("network", "br0")], Some(DeviceFault::NoType)),
+        ("eth0", &[], Some(DeviceFault::NoType)),
+        ("eth0", &[("type", "tpm")], Some(DeviceFault::UnknownType)),
+        (
+            "eth0",
+            &[("type", "nic"), ("mtu", "0"), ("zzz", "x")],
+            Some(DeviceFault::BadValue(0, ValueFault::OutOfRange)),
+        ),
+        (
+            "eth0",
+            &[("type", "nic"), ("mtu", "0"), ("a", "x")],
+            Some(DeviceFault::UnknownKey(0)),
+        ),
+        ("", &[("type", "tpm")], Some(DeviceFault::BadName)),
+        ("a b", &[("type", "gpu")], Some(DeviceFault::BadName)),
+        (long, &[("type", "gpu")], None),
+        (
+            "0123456789012345678901234567890123456789012345678901234567890123x",
+            &[("type", "gpu")],
+            Some(DeviceFault::BadName),
+        ),
+        ("a-B_9.:/", &[("type", "gpu")], None),
+    ];
+    for (name, settings, fault) in cases {
+        let devices = devices_of(alloc, &[(name, settings)])?;
+        let answer = fault.map_or(Ok(()), |fault| Err(SettingFault::Device(0, fault)));
+        assert_eq!(rt; check_devices(&devices), answer, "device {name}");
+    }
+    let two = devices_of(
+        alloc,
+        &[
+            ("a", &[("type", "gpu")]),
+            ("b", &[("type", "nic")]),
+            ("c", &[]),
+        ],
+    )?;
+    assert_eq!(rt;
+        check_devices(&two),
+        Err(SettingFault::Device(1, DeviceFault::NicSource))
+    );
     Ok(())
 }
 
