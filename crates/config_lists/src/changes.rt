@@ -43,7 +43,7 @@ impl Changes {
         ensures ok { OnOk result (self.new ≡ put self.old key.now value.now) }
         ensures err { OnErr result (self.new ≡ self.old) }
     {
-        let value = Text::from_text(self.changes.allocator(), value)?;
+        let value = self.changes.own_text(value)?;
         self.changes.put(key, value)
     }
 
@@ -51,7 +51,7 @@ impl Changes {
     pub fn settled(&self) -> Result<Config, NoMemory>
         ensures { IfOk result (λ c. c ≡ settled self.now) }
     {
-        let mut config = Config::new(self.changes.allocator());
+        let mut config = Config::empty_like(&self.changes);
         for place in 0..self.len() {
             let key = self.key_at(place);
             let value = self.value_at(place);

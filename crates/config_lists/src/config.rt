@@ -43,6 +43,15 @@ impl Config {
         }
     }
 
+    /// No settings, with memory from where this list takes its own.
+    pub(crate) fn empty_like(list: &Sorted<Text>) -> Config
+        ensures { result ≡ [] }
+    {
+        Config {
+            settings: list.empty_like(),
+        }
+    }
+
     /// The value of a key.
     pub fn get(&self, key: &str) -> Option<&str>
         ensures { option_copied result ≡ setting self.now key.now }
@@ -71,7 +80,7 @@ impl Config {
         ensures ok { OnOk result (self.new ≡ put self.old key.now value.now) }
         ensures err { OnErr result (self.new ≡ self.old) }
     {
-        let value = Text::from_text(self.settings.allocator(), value)?;
+        let value = self.settings.own_text(value)?;
         self.settings.put(key, value)
     }
 
@@ -111,7 +120,7 @@ impl Config {
     pub fn copy(&self) -> Result<Config, NoMemory>
         ensures { IfOk result (λ c. c ≡ self.now) }
     {
-        let mut copy = Config::new(self.settings.allocator());
+        let mut copy = Config::empty_like(&self.settings);
         for place in 0..self.len() {
             copy.set(self.key_at(place), self.value_at(place))?;
         }

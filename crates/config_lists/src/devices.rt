@@ -84,11 +84,20 @@ impl Devices {
         self.devices.value_at(place)
     }
 
+    /// No devices, with memory from where these take theirs.
+    fn empty_like(&self) -> Devices
+        ensures { result ≡ [] }
+    {
+        Devices {
+            devices: self.devices.empty_like(),
+        }
+    }
+
     /// Devices of its own with the same names and settings.
     pub fn copy(&self) -> Result<Devices, NoMemory>
         ensures { IfOk result (λ d. d ≡ self.now) }
     {
-        let mut copy = Devices::new(self.devices.allocator());
+        let mut copy = self.empty_like();
         copy.put_each(self)?;
         Ok(copy)
     }

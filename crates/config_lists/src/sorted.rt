@@ -35,8 +35,18 @@ impl<V> Sorted<V> {
         }
     }
 
-    pub fn allocator(&self) -> Global {
-        *self.entries.allocator()
+    /// A list without entries that takes its memory where this one does.
+    pub fn empty_like(&self) -> Sorted<V>
+        ensures { result ≡ [] }
+    {
+        Sorted::new(*self.entries.allocator())
+    }
+
+    /// A text of its own, in the memory of this list.
+    pub fn own_text(&self, text: &str) -> Result<Text, NoMemory>
+        ensures { IfOk result (λ t. t ≡ text.now) }
+    {
+        Text::from_text(*self.entries.allocator(), text)
     }
 
     pub fn len(&self) -> usize
@@ -100,7 +110,7 @@ impl<V: Drop> Sorted<V> {
         ensures ok { OnOk result (self.new ≡ put self.old key.now value) }
         ensures err { OnErr result (self.new ≡ self.old) }
     {
-        let key = Text::from_text(self.allocator(), key)?;
+        let key = self.own_text(key)?;
         self.entries.insert(place, (key, value))?;
         Ok(())
     }

@@ -5,4 +5,4 @@ use Rattle.config_lists.proofs.devices.Devices.copy.Goals as goal
 
 pub returns : goal.returns
 returns c =
-    c.in_ok-put_each.ensures.after ∙ ap (λ es. replaced es c.args.self.now) c.new-copy.ensures ∙ replaced-nil c.args.self.now c.put_each.ensures.rising
+    c.in_ok-put_each.ensures.after ∙ ap (λ es. replaced es c.args.self.now) c.empty_like-copy.ensures ∙ replaced-nil c.args.self.now c.put_each.ensures.rising
