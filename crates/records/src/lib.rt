@@ -1,0 +1,19 @@
+//! The objects of the server as plain data: the rows that are kept, the commands that ask for changes of them,
+//! the rules and refusals, the replies, and the notices of events. Every crate of the core, of the routes and of
+//! the store speaks of them.
+#![tactic(auto)]
+
+mod commands;
+mod notices;
+mod refusals;
+mod replies;
+mod rows;
+mod texts;
+
+pub use commands::{Body, Command, Origin, Target, What};
+pub use config_lists::{Changes, Config, Device, Devices};
+pub use notices::{Filter, Life, Notice, Told, Untold};
+pub use operations::{OpFault, Status};
+pub use refusals::{Kept, Refusal, Rule};
+pub use replies::{LimitKeyName, OpView, Reply, UsageLine, View};
+pub use rows::{Driver, Instance, Network, Pool, Profile, Project, Row, Snapshot, Volume};

@@ -1,0 +1,105 @@
+ghost use Rattle.std.specs.Prelude.{◌≡◌, IfOk};
+
+use crate::replies::OpView;
+use size_values::{NoMemory, Text};
+use std::alloc::Global;
+
+/// What an event tells: an action of a lifecycle event with the link of its object, or an operation as it is
+/// after a change of its status.
+#[derive(Debug, Drop)]
+pub enum Told {
+    Life { action: Life, source: Text },
+    Op(OpView),
+}
+
+/// The actions of lifecycle events. Those of pools and volumes are written `storage-pool-` and
+/// `storage-volume-`, and those of snapshots `instance-snapshot-`.
+#[derive(Clone, Copy, Debug, PartialEq, Eq)]
+pub enum Life {
+    ProjectCreated,
+    ProjectUpdated,
+    ProjectRenamed,
+    ProjectDeleted,
+    ProfileCreated,
+    ProfileUpdated,
+    ProfileRenamed,
+    ProfileDeleted,
+    NetworkCreated,
+    NetworkUpdated,
+    NetworkRenamed,
+    NetworkDeleted,
+    PoolCreated,
+    PoolUpdated,
+    PoolDeleted,
+    VolumeCreated,
+    VolumeUpdated,
+    VolumeRenamed,
+    VolumeDeleted,
+    InstanceCreated,
+    InstanceUpdated,
+    InstanceDeleted,
+    InstanceRenamed,
+    InstanceStarted,
+    InstanceStopped,
+    InstanceRestarted,
+    InstancePaused,
+    InstanceResumed,
+    InstanceRestored,
+    SnapshotCreated,
+    SnapshotDeleted,
+}
+
+/// An event of `GET /1.0/events`, numbered from 1, with the project that it belongs to. `moment` is in seconds
+/// since 1970.
+#[derive(Debug, Drop)]
+pub struct Notice {
+    pub number: u64,
+    pub moment: u64,
+    pub project: Text,
+    pub told: Told,
+}
+
+/// Which events a listener takes: those of one project, of the types `lifecycle` and `operation` that it wants.
+#[derive(Debug, Drop)]
+pub struct Filter {
+    pub life: bool,
+    pub op: bool,
+    pub project: Text,
+}
+
+/// An event that has no number yet.
+#[derive(Debug, Drop)]
+pub struct Untold {
+    pub moment: u64,
+    pub project: Text,
+    pub told: Told,
+}
+
+impl Told {
+    /// The same, of its own.
+    pub fn copy(&self, alloc: Global) -> Result<Told, NoMemory>
+        ensures { IfOk result (λ t. t ≡ self.now) }
+    {
+        match self {
+            Told::Life { action, source } => Ok(Told::Life {
+                action: *action,
+                source: source.copy(alloc)?,
+            }),
+            Told::Op(view) => Ok(Told::Op(view.copy(alloc)?)),
+        }
+    }
+}
+
+impl Notice {
+    /// A notice of its own with the same parts.
+    pub fn copy(&self, alloc: Global) -> Result<Notice, NoMemory>
+        ensures { IfOk result (λ n. n ≡ self.now) }
+    {
+        Ok(Notice {
+            number: self.number,
+            moment: self.moment,
+            project: self.project.copy(alloc)?,
+            told: self.told.copy(alloc)?,
+        })
+    }
+}

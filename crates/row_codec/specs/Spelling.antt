@@ -1,0 +1,139 @@
+-- The one spelling of each row as an entry: its kind, its key and its body of version 1.
+use Rattle.std.specs.Prelude.{ℕ, Bool, true, false, List, [], ◌∷◌, ◌++◌, length}
+use Rattle.std.specs.List.{flat_map}
+use Rattle.std.specs.Int.{w32, w64, to_be_bytes}
+use Rattle.size_values.specs.declared.kinds.Kind.{Kind}
+use Rattle.size_values.specs.declared.kinds.Kind.TheVariants as kind
+use Rattle.size_values.specs.declared.entry.Entry.{Entry}
+use Rattle.config_lists.specs.Settings.{Settings}
+use Rattle.config_lists.specs.Devices.{NamedDevices}
+use Rattle.records.specs.declared.rows.Driver.{Driver}
+use Rattle.records.specs.declared.rows.Driver.TheVariants as driver
+use Rattle.records.specs.declared.rows.Project.{Project}
+use Rattle.records.specs.declared.rows.Profile.{Profile}
+use Rattle.records.specs.declared.rows.Network.{Network}
+use Rattle.records.specs.declared.rows.Pool.{Pool}
+use Rattle.records.specs.declared.rows.Volume.{Volume}
+use Rattle.records.specs.declared.rows.Instance.{Instance}
+use Rattle.records.specs.declared.rows.Snapshot.{Snapshot}
+use Rattle.records.specs.declared.rows.Row.{Row}
+use Rattle.records.specs.declared.rows.Row.TheVariants as row
+
+-- ---- parts
+
+-- its length as four bytes, highest first, and the text
+unfoldable pub text_bytes : List ℕ → List ℕ
+text_bytes text = to_be_bytes w32 (length text) ++ text
+
+-- eight bytes, highest first
+unfoldable pub number_bytes : ℕ → List ℕ
+number_bytes number = to_be_bytes w64 number
+
+-- a count as four bytes, and the items
+unfoldable pub list_bytes : {X : Type 0} → (X → List ℕ) → List X → List ℕ
+list_bytes item items = to_be_bytes w32 (length items) ++ flat_map item items
+
+abbrev pub truth_byte : Bool → ℕ
+truth_byte false = 0
+truth_byte true = 1
+
+abbrev pub kind_byte : Kind → ℕ
+kind_byte kind.Container = 0
+kind_byte kind.Machine = 1
+
+abbrev pub driver_byte : Driver → ℕ
+driver_byte driver.Dir = 0
+driver_byte driver.Btrfs = 1
+driver_byte driver.Lvm = 2
+driver_byte driver.Zfs = 3
+
+-- a key and its value
+abbrev pub setting_bytes : List ℕ × List ℕ → List ℕ
+setting_bytes setting = text_bytes setting.0 ++ text_bytes setting.1
+
+abbrev pub settings_bytes : Settings → List ℕ
+settings_bytes settings = list_bytes setting_bytes settings
+
+-- a name and the settings of its device
+abbrev pub device_bytes : List ℕ × Settings → List ℕ
+device_bytes device = text_bytes device.0 ++ settings_bytes device.1
+
+abbrev pub devices_bytes : NamedDevices → List ℕ
+devices_bytes devices = list_bytes device_bytes devices
+
+abbrev pub texts_bytes : List (List ℕ) → List ℕ
+texts_bytes texts = list_bytes text_bytes texts
+
+-- ---- bodies: the version, and the parts
+
+abbrev pub project_bytes : Project → List ℕ
+project_bytes r = (1 ∷ text_bytes r.description) ++ settings_bytes r.config
+
+abbrev pub profile_bytes : Profile → List ℕ
+profile_bytes r = (1 ∷ text_bytes r.description) ++ settings_bytes r.config ++ devices_bytes r.devices
+
+abbrev pub network_bytes : Network → List ℕ
+network_bytes r = (1 ∷ text_bytes r.description) ++ settings_bytes r.config
+
+abbrev pub pool_bytes : Pool → List ℕ
+pool_bytes r = (1 ∷ driver_byte r.driver ∷ text_bytes r.description) ++ settings_bytes r.config
+
+abbrev pub volume_bytes : Volume → List ℕ
+volume_bytes r = (1 ∷ text_bytes r.description) ++ settings_bytes r.config ++ number_bytes r.created
+
+abbrev pub instance_bytes : Instance → List ℕ
+instance_bytes r =
+    (1 ∷ kind_byte r.kind ∷ truth_byte r.ephemeral ∷ text_bytes r.description)
+    ++ text_bytes r.origin
+    ++ number_bytes r.created
+    ++ texts_bytes r.profiles
+    ++ settings_bytes r.config
+    ++ devices_bytes r.devices
+
+abbrev pub snapshot_bytes : Snapshot → List ℕ
+snapshot_bytes r =
+    (1 ∷ number_bytes r.created)
+    ++ number_bytes r.expires
+    ++ texts_bytes r.profiles
+    ++ settings_bytes r.config
+    ++ devices_bytes r.devices
+
+abbrev pub body_of : Row → List ℕ
+body_of (row.Project r) = project_bytes r
+body_of (row.Profile r) = profile_bytes r
+body_of (row.Network r) = network_bytes r
+body_of (row.Pool r) = pool_bytes r
+body_of (row.Volume r) = volume_bytes r
+body_of (row.Instance r) = instance_bytes r
+body_of (row.Snapshot r) = snapshot_bytes r
+
+-- ---- kinds and keys
+
+abbrev pub kind_of : Row → ℕ
+kind_of (row.Project r) = 1
+kind_of (row.Profile r) = 2
+kind_of (row.Network r) = 3
+kind_of (row.Pool r) = 4
+kind_of (row.Volume r) = 5
+kind_of (row.Instance r) = 6
+kind_of (row.Snapshot r) = 7
+
+-- two names, or three, with a slash between
+abbrev pub two_names : List ℕ → List ℕ → List ℕ
+two_names first second = first ++ 47 ∷ second
+
+abbrev pub three_names : List ℕ → List ℕ → List ℕ → List ℕ
+three_names first second third = two_names first (two_names second third)
+
+abbrev pub key_of : Row → List ℕ
+key_of (row.Project r) = r.name
+key_of (row.Profile r) = two_names r.project r.name
+key_of (row.Network r) = two_names r.project r.name
+key_of (row.Pool r) = r.name
+key_of (row.Volume r) = three_names r.project r.pool r.name
+key_of (row.Instance r) = two_names r.project r.name
+key_of (row.Snapshot r) = three_names r.project r.instance r.name
+
+-- the entry that a row is kept as
+abbrev pub entry_of : Row → Entry
+entry_of r = record { kind = kind_of r; key = key_of r; body = body_of r }

@@ -1,0 +1,295 @@
+//! Rows, read from their entries.
+ghost use Rattle.std.specs.Prelude.{◌≡◌, length, IfOk, IfErr};
+ghost use Rattle.records.specs.declared.rows.Row.{Row};
+ghost use Rattle.row_codec.specs.Rows.{Spells};
+ghost use Rattle.row_codec.specs.Reading.{Gives, project_in, profile_in, network_in, pool_in, volume_in, instance_in, snapshot_in, project_of, profile_of, network_of, pool_of, volume_of, instance_of, snapshot_of, row_at, row_of, damage_of};
+
+use crate::damage::{Damaged, Unreadable};
+use crate::keys::{three_names_in, two_names_in};
+use crate::lists::{devices_at, settings_at, shape_at};
+use crate::parts::{driver_at, ended, kind_at, moment_at, text_at, truth_at, version_at};
+use estate_rules::good_name;
+use records::{Instance, Network, Pool, Profile, Project, Row, Snapshot, Volume};
+use size_values::{Entry, ObjectKind, Or, Text};
+use std::alloc::Global;
+
+/// The damage of a body in which a part cannot be read.
+fn damage_of(body: &[u8], why: Or<Unreadable>) -> Or<Damaged>
+    ensures { result ≡ damage_of (length body.now) why }
+{
+    match why {
+        Or::NoMemory => Or::NoMemory,
+        Or::Why(unreadable) => Or::Why(Damaged::Body(
+            body.len().saturating_sub(unreadable.left) as u64,
+        )),
+    }
+}
+
+/// What was read, or the damage of the body in which a part cannot be read.
+fn placed<T>(body: &[u8], read: Result<T, Or<Unreadable>>) -> Result<T, Or<Damaged>>
+    ensures ok { IfOk read (λ x. result ≡ Ok x) }
+    ensures err { IfErr read (λ why. result ≡ Err (damage_of (length body.now) why)) }
+{
+    match read {
+        Ok(row) => Ok(row),
+        Err(why) => Err(damage_of(body, why)),
+    }
+}
+
+#[tactic(auto, unfolding(crate::specs::Reading::project_in))]
+fn project_in(alloc: Global, name: &str, body: &[u8]) -> Result<Project, Or<Unreadable>>
+    ensures { Gives (λ x. x) result (project_in name.now body.now) }
+{
+    let rest = version_at(body)?;
+    let (description, rest) = text_at(alloc, rest)?;
+    let (config, rest) = settings_at(alloc, rest)?;
+    ended(rest)?;
+    Ok(Project {
+        name: Text::from_text(alloc, name)?,
+        description,
+        config,
+    })
+}
+
+#[tactic(auto, unfolding(crate::specs::Reading::profile_in))]
+fn profile_in(
+    alloc: Global,
+    project: &str,
+    name: &str,
+    body: &[u8],
+) -> Result<Profile, Or<Unreadable>>
+    ensures { Gives (λ x. x) result (profile_in project.now name.now body.now) }
+{
+    let rest = version_at(body)?;
+    let (description, rest) = text_at(alloc, rest)?;
+    let (config, rest) = settings_at(alloc, rest)?;
+    let (devices, rest) = devices_at(alloc, rest)?;
+    ended(rest)?;
+    Ok(Profile {
+        project: Text::from_text(alloc, project)?,
+        name: Text::from_text(alloc, name)?,
+        description,
+        config,
+        devices,
+    })
+}
+
+#[tactic(auto, unfolding(crate::specs::Reading::network_in))]
+fn network_in(
+    alloc: Global,
+    project: &str,
+    name: &str,
+    body: &[u8],
+) -> Result<Network, Or<Unreadable>>
+    ensures { Gives (λ x. x) result (network_in project.now name.now body.now) }
+{
+    let rest = version_at(body)?;
+    let (description, rest) = text_at(alloc, rest)?;
+    let (config, rest) = settings_at(alloc, rest)?;
+    ended(rest)?;
+    Ok(Network {
+        project: Text::from_text(alloc, project)?,
+        name: Text::from_text(alloc, name)?,
+        description,
+        config,
+    })
+}
+
+#[tactic(auto, unfolding(crate::specs::Reading::pool_in))]
+fn pool_in(alloc: Global, name: &str, body: &[u8]) -> Result<Pool, Or<Unreadable>>
+    ensures { Gives (λ x. x) result (pool_in name.now body.now) }
+{
+    let rest = version_at(body)?;
+    let (driver, rest) = driver_at(rest)?;
+    let (description, rest) = text_at(alloc, rest)?;
+    let (config, rest) = settings_at(alloc, rest)?;
+    ended(rest)?;
+    Ok(Pool {
+        name: Text::from_text(alloc, name)?,
+        driver,
+        description,
+        config,
+    })
+}
+
+#[tactic(auto, unfolding(crate::specs::Reading::volume_in))]
+fn volume_in(
+    alloc: Global,
+    project: &str,
+    pool: &str,
+    name: &str,
+    body: &[u8],
+) -> Result<Volume, Or<Unreadable>>
+    ensures { Gives (λ x. x) result (volume_in project.now pool.now name.now body.now) }
+{
+    let rest = version_at(body)?;
+    let (description, rest) = text_at(alloc, rest)?;
+    let (config, rest) = settings_at(alloc, rest)?;
+    let (created, rest) = moment_at(rest)?;
+    ended(rest)?;
+    Ok(Volume {
+        project: Text::from_text(alloc, project)?,
+        pool: Text::from_text(alloc, pool)?,
+        name: Text::from_text(alloc, name)?,
+        description,
+        config,
+        created,
+    })
+}
+
+#[tactic(auto, unfolding(crate::specs::Reading::instance_in))]
+fn instance_in(
+    alloc: Global,
+    project: &str,
+    name: &str,
+    body: &[u8],
+) -> Result<Instance, Or<Unreadable>>
+    ensures { Gives (λ x. x) result (instance_in project.now name.now body.now) }
+{
+    let rest = version_at(body)?;
+    let (kind, rest) = kind_at(rest)?;
+    let (ephemeral, rest) = truth_at(rest)?;
+    let (description, rest) = text_at(alloc, rest)?;
+    let (origin, rest) = text_at(alloc, rest)?;
+    let (created, rest) = moment_at(rest)?;
+    let (shape, rest) = shape_at(alloc, rest)?;
+    ended(rest)?;
+    Ok(Instance {
+        project: Text::from_text(alloc, project)?,
+        name: Text::from_text(alloc, name)?,
+        kind,
+        ephemeral,
+        description,
+        origin,
+        created,
+        profiles: shape.profiles,
+        config: shape.config,
+        devices: shape.devices,
+    })
+}
+
+#[tactic(auto, unfolding(crate::specs::Reading::snapshot_in))]
+fn snapshot_in(
+    alloc: Global,
+    project: &str,
+    instance: &str,
+    name: &str,
+    body: &[u8],
+) -> Result<Snapshot, Or<Unreadable>>
+    ensures { Gives (λ x. x) result (snapshot_in project.now instance.now name.now body.now) }
+{
+    let rest = version_at(body)?;
+    let (created, rest) = moment_at(rest)?;
+    let (expires, rest) = moment_at(rest)?;
+    let (shape, rest) = shape_at(alloc, rest)?;
+    ended(rest)?;
+    Ok(Snapshot {
+        project: Text::from_text(alloc, project)?,
+        instance: Text::from_text(alloc, instance)?,
+        name: Text::from_text(alloc, name)?,
+        created,
+        expires,
+        profiles: shape.profiles,
+        config: shape.config,
+        devices: shape.devices,
+    })
+}
+
+#[tactic(auto, unfolding(crate::specs::Reading::project_of))]
+fn project_of(alloc: Global, key: &str, body: &[u8]) -> Result<Project, Or<Damaged>>
+    ensures { Gives (λ x. x) result (project_of key.now body.now) }
+{
+    if !good_name(ObjectKind::Project, key) {
+        return Err(Or::Why(Damaged::Key));
+    }
+    placed(body, project_in(alloc, key, body))
+}
+
+#[tactic(auto, unfolding(crate::specs::Reading::profile_of))]
+fn profile_of(alloc: Global, key: &str, body: &[u8]) -> Result<Profile, Or<Damaged>>
+    ensures { Gives (λ x. x) result (profile_of key.now body.now) }
+{
+    let (project, name) = two_names_in(ObjectKind::Project, ObjectKind::Profile, key)?;
+    placed(body, profile_in(alloc, project, name, body))
+}
+
+#[tactic(auto, unfolding(crate::specs::Reading::network_of))]
+fn network_of(alloc: Global, key: &str, body: &[u8]) -> Result<Network, Or<Damaged>>
+    ensures { Gives (λ x. x) result (network_of key.now body.now) }
+{
+    let (project, name) = two_names_in(ObjectKind::Project, ObjectKind::Network, key)?;
+    placed(body, network_in(alloc, project, name, body))
+}
+
+#[tactic(auto, unfolding(crate::specs::Reading::pool_of))]
+fn pool_of(alloc: Global, key: &str, body: &[u8]) -> Result<Pool, Or<Damaged>>
+    ensures { Gives (λ x. x) result (pool_of key.now body.now) }
+{
+    if !good_name(ObjectKind::Pool, key) {
+        return Err(Or::Why(Damaged::Key));
+    }
+    placed(body, pool_in(alloc, key, body))
+}
+
+#[tactic(auto, unfolding(crate::specs::Reading::volume_of))]
+fn volume_of(alloc: Global, key: &str, body: &[u8]) -> Result<Volume, Or<Damaged>>
+    ensures { Gives (λ x. x) result (volume_of key.now body.now) }
+{
+    let (project, pool, name) = three_names_in(
+        ObjectKind::Project,
+        ObjectKind::Pool,
+        ObjectKind::Volume,
+        key,
+    )?;
+    placed(body, volume_in(alloc, project, pool, name, body))
+}
+
+#[tactic(auto, unfolding(crate::specs::Reading::instance_of))]
+fn instance_of(alloc: Global, key: &str, body: &[u8]) -> Result<Instance, Or<Damaged>>
+    ensures { Gives (λ x. x) result (instance_of key.now body.now) }
+{
+    let (project, name) = two_names_in(ObjectKind::Project, ObjectKind::Instance, key)?;
+    placed(body, instance_in(alloc, project, name, body))
+}
+
+#[tactic(auto, unfolding(crate::specs::Reading::snapshot_of))]
+fn snapshot_of(alloc: Global, key: &str, body: &[u8]) -> Result<Snapshot, Or<Damaged>>
+    ensures { Gives (λ x. x) result (snapshot_of key.now body.now) }
+{
+    let (project, instance, name) = three_names_in(
+        ObjectKind::Project,
+        ObjectKind::Instance,
+        ObjectKind::Snapshot,
+        key,
+    )?;
+    placed(body, snapshot_in(alloc, project, instance, name, body))
+}
+
+#[tactic(auto, unfolding(crate::specs::Reading::row_at))]
+fn row_at(alloc: Global, kind: u8, key: &str, body: &[u8]) -> Result<Row, Or<Damaged>>
+    ensures { Gives (λ x. x) result (row_at kind key.now body.now) }
+{
+    match kind {
+        1 => Ok(Row::Project(project_of(alloc, key, body)?)),
+        2 => Ok(Row::Profile(profile_of(alloc, key, body)?)),
+        3 => Ok(Row::Network(network_of(alloc, key, body)?)),
+        4 => Ok(Row::Pool(pool_of(alloc, key, body)?)),
+        5 => Ok(Row::Volume(volume_of(alloc, key, body)?)),
+        6 => Ok(Row::Instance(instance_of(alloc, key, body)?)),
+        7 => Ok(Row::Snapshot(snapshot_of(alloc, key, body)?)),
+        _ => Err(Or::Why(Damaged::Kind)),
+    }
+}
+
+/// The row that the entry spells, or its first damage.
+pub fn decode(alloc: Global, entry: &Entry) -> Result<Row, Or<Damaged>>
+    // What is read is spelled so.
+    ensures found { IfOk result (λ row. Spells row entry.now) }
+    // What is spelled so is read, unless memory runs out.
+    ensures only { (row : Row) → Spells row entry.now → Gives (λ r. r) result (Ok row) }
+    // Which damage it is, and at which place.
+    ensures damage { Gives (λ r. r) result (row_of entry.now) }
+{
+    let body = entry.body.view();
+    row_at(alloc, entry.kind, entry.key.view(), body)
+}

@@ -1,0 +1,271 @@
+//! Rows, written as entries.
+ghost use Rattle.std.specs.Prelude.{◌≡◌, ◌++◌, length, IfOk, OnOk};
+ghost use Rattle.std.specs.Str.{IsUtf8};
+ghost use Rattle.records.specs.declared.rows.Row.{Row};
+ghost use Rattle.records.specs.declared.rows.Row.TheVariants as row;
+ghost use Rattle.row_codec.specs.Rows.{IsShort, AreShortTexts, AreShortSettings, AreShortDevices, AreUtf8, AreTypedSettings, AreTypedDevices, HasGoodKey, HasMoments, HasShortParts, HasTypedParts, Spells};
+ghost use Rattle.row_codec.specs.Spelling.{text_bytes, number_bytes, texts_bytes, setting_bytes, settings_bytes, device_bytes, devices_bytes, truth_byte, kind_byte, driver_byte, project_bytes, profile_bytes, network_bytes, pool_bytes, volume_bytes, instance_bytes, snapshot_bytes, body_of, kind_of, key_of, two_names, three_names};
+
+use config_lists::{Config, Devices};
+use records::{Driver, Instance, Network, Pool, Profile, Project, Row, Snapshot, Volume};
+use size_values::{Entry, Kind, NoMemory, Seq, Text};
+use std::alloc::Global;
+
+#[tactic(auto, unfolding(crate::specs::Spelling::text_bytes))]
+fn put_text(out: &mut Vec<u8>, text: &str) -> Result<(), NoMemory>
+    requires { IsShort text.now }
+    ensures bytes { OnOk result (out.new.items ≡ out.old.items ++ text_bytes text.now) }
+    ensures utf8 { IsUtf8 text.now }
+{
+    out.extend_from_slice(&(text.len() as u32).to_be_bytes())?;
+    out.extend_from_slice(text.as_bytes())?;
+    Ok(())
+}
+
+#[tactic(auto, unfolding(crate::specs::Spelling::number_bytes))]
+fn put_number(out: &mut Vec<u8>, number: u64) -> Result<(), NoMemory>
+    ensures { OnOk result (out.new.items ≡ out.old.items ++ number_bytes number) }
+{
+    out.extend_from_slice(&number.to_be_bytes())?;
+    Ok(())
+}
+
+fn put_texts(out: &mut Vec<u8>, texts: &Seq<Text>) -> Result<(), NoMemory>
+    requires { AreShortTexts texts.now }
+    ensures bytes { OnOk result (out.new.items ≡ out.old.items ++ texts_bytes texts.now) }
+    ensures typed { OnOk result (AreUtf8 texts.now) }
+{
+    out.extend_from_slice(&(texts.len() as u32).to_be_bytes())?;
+    for text in texts.view() {
+        put_text(out, text.view())?;
+    }
+    Ok(())
+}
+
+fn put_settings(out: &mut Vec<u8>, config: &Config) -> Result<(), NoMemory>
+    requires { AreShortSettings config.now }
+    ensures bytes { OnOk result (out.new.items ≡ out.old.items ++ settings_bytes config.now) }
+    ensures typed { OnOk result (AreTypedSettings config.now) }
+{
+    let count = config.len();
+    out.extend_from_slice(&(count as u32).to_be_bytes())?;
+    for place in 0..count {
+        put_text(out, config.key_at(place))?;
+        put_text(out, config.value_at(place))?;
+    }
+    Ok(())
+}
+
+fn put_devices(out: &mut Vec<u8>, devices: &Devices) -> Result<(), NoMemory>
+    requires { AreShortDevices devices.now }
+    ensures bytes { OnOk result (out.new.items ≡ out.old.items ++ devices_bytes devices.now) }
+    ensures typed { OnOk result (AreTypedDevices devices.now) }
+{
+    let count = devices.len();
+    out.extend_from_slice(&(count as u32).to_be_bytes())?;
+    for place in 0..count {
+        put_text(out, devices.name_at(place))?;
+        put_settings(out, devices.device_at(place))?;
+    }
+    Ok(())
+}
+
+fn truth_byte(truth: bool) -> u8
+    ensures { result ≡ truth_byte truth }
+{
+    if truth { 1 } else { 0 }
+}
+
+fn kind_byte(kind: Kind) -> u8
+    ensures { result ≡ kind_byte kind }
+{
+    match kind {
+        Kind::Container => 0,
+        Kind::Machine => 1,
+    }
+}
+
+fn driver_byte(driver: Driver) -> u8
+    ensures { result ≡ driver_byte driver }
+{
+    match driver {
+        Driver::Dir => 0,
+        Driver::Btrfs => 1,
+        Driver::Lvm => 2,
+        Driver::Zfs => 3,
+    }
+}
+
+fn put_project(out: &mut Vec<u8>, project: &Project) -> Result<(), NoMemory>
+    requires { HasShortParts (row.Project project.now) }
+    ensures bytes { OnOk result (out.new.items ≡ out.old.items ++ project_bytes project.now) }
+    ensures typed { OnOk result (HasTypedParts (row.Project project.now)) }
+{
+    out.push(1)?;
+    put_text(out, project.description.view())?;
+    put_settings(out, &project.config)?;
+    Ok(())
+}
+
+fn put_profile(out: &mut Vec<u8>, profile: &Profile) -> Result<(), NoMemory>
+    requires { HasShortParts (row.Profile profile.now) }
+    ensures bytes { OnOk result (out.new.items ≡ out.old.items ++ profile_bytes profile.now) }
+    ensures typed { OnOk result (HasTypedParts (row.Profile profile.now)) }
+{
+    out.push(1)?;
+    put_text(out, profile.description.view())?;
+    put_settings(out, &profile.config)?;
+    put_devices(out, &profile.devices)?;
+    Ok(())
+}
+
+fn put_network(out: &mut Vec<u8>, network: &Network) -> Result<(), NoMemory>
+    requires { HasShortParts (row.Network network.now) }
+    ensures bytes { OnOk result (out.new.items ≡ out.old.items ++ network_bytes network.now) }
+    ensures typed { OnOk result (HasTypedParts (row.Network network.now)) }
+{
+    out.push(1)?;
+    put_text(out, network.description.view())?;
+    put_settings(out, &network.config)?;
+    Ok(())
+}
+
+fn put_pool(out: &mut Vec<u8>, pool: &Pool) -> Result<(), NoMemory>
+    requires { HasShortParts (row.Pool pool.now) }
+    ensures bytes { OnOk result (out.new.items ≡ out.old.items ++ pool_bytes pool.now) }
+    ensures typed { OnOk result (HasTypedParts (row.Pool pool.now)) }
+{
+    out.push(1)?;
+    out.push(driver_byte(pool.driver))?;
+    put_text(out, pool.description.view())?;
+    put_settings(out, &pool.config)?;
+    Ok(())
+}
+
+fn put_volume(out: &mut Vec<u8>, volume: &Volume) -> Result<(), NoMemory>
+    requires { HasShortParts (row.Volume volume.now) }
+    ensures bytes { OnOk result (out.new.items ≡ out.old.items ++ volume_bytes volume.now) }
+    ensures typed { OnOk result (HasTypedParts (row.Volume volume.now)) }
+{
+    out.push(1)?;
+    put_text(out, volume.description.view())?;
+    put_settings(out, &volume.config)?;
+    put_number(out, volume.created)?;
+    Ok(())
+}
+
+fn put_instance(out: &mut Vec<u8>, instance: &Instance) -> Result<(), NoMemory>
+    requires { HasShortParts (row.Instance instance.now) }
+    ensures bytes { OnOk result (out.new.items ≡ out.old.items ++ instance_bytes instance.now) }
+    ensures typed { OnOk result (HasTypedParts (row.Instance instance.now)) }
+{
+    out.push(1)?;
+    out.push(kind_byte(instance.kind))?;
+    out.push(truth_byte(instance.ephemeral))?;
+    put_text(out, instance.description.view())?;
+    put_text(out, instance.origin.view())?;
+    put_number(out, instance.created)?;
+    put_texts(out, &instance.profiles)?;
+    put_settings(out, &instance.config)?;
+    put_devices(out, &instance.devices)?;
+    Ok(())
+}
+
+fn put_snapshot(out: &mut Vec<u8>, snapshot: &Snapshot) -> Result<(), NoMemory>
+    requires { HasShortParts (row.Snapshot snapshot.now) }
+    ensures bytes { OnOk result (out.new.items ≡ out.old.items ++ snapshot_bytes snapshot.now) }
+    ensures typed { OnOk result (HasTypedParts (row.Snapshot snapshot.now)) }
+{
+    out.push(1)?;
+    put_number(out, snapshot.created)?;
+    put_number(out, snapshot.expires)?;
+    put_texts(out, &snapshot.profiles)?;
+    put_settings(out, &snapshot.config)?;
+    put_devices(out, &snapshot.devices)?;
+    Ok(())
+}
+
+fn put_body(out: &mut Vec<u8>, row: &Row) -> Result<(), NoMemory>
+    requires { HasShortParts row.now }
+    ensures bytes { OnOk result (out.new.items ≡ out.old.items ++ body_of row.now) }
+    ensures typed { OnOk result (HasTypedParts row.now) }
+{
+    match row {
+        Row::Project(project) => put_project(out, project),
+        Row::Profile(profile) => put_profile(out, profile),
+        Row::Network(network) => put_network(out, network),
+        Row::Pool(pool) => put_pool(out, pool),
+        Row::Volume(volume) => put_volume(out, volume),
+        Row::Instance(instance) => put_instance(out, instance),
+        Row::Snapshot(snapshot) => put_snapshot(out, snapshot),
+    }
+}
+
+fn two_names(alloc: Global, first: &Text, second: &Text) -> Result<Text, NoMemory>
+    ensures { IfOk result (λ key. key ≡ two_names first.now second.now) }
+{
+    let mut key = String::from_str(alloc, first.view())?;
+    key.push_str("/")?;
+    key.push_str(second.view())?;
+    Ok(Text::from_string(key))
+}
+
+fn three_names(alloc: Global, first: &Text, second: &Text, third: &Text) -> Result<Text, NoMemory>
+    ensures { IfOk result (λ key. key ≡ three_names first.now second.now third.now) }
+{
+    let behind = two_names(alloc, second, third)?;
+    two_names(alloc, first, &behind)
+}
+
+/// The key of the entry that a row is kept as: its project's name where it has one, that of its pool or
+/// instance where it stands in one, and its own, with slashes between.
+pub fn key_of(alloc: Global, row: &Row) -> Result<Text, NoMemory>
+    ensures { IfOk result (λ key. key ≡ key_of row.now) }
+{
+    match row {
+        Row::Project(project) => project.name.copy(alloc),
+        Row::Profile(profile) => two_names(alloc, &profile.project, &profile.name),
+        Row::Network(network) => two_names(alloc, &network.project, &network.name),
+        Row::Pool(pool) => pool.name.copy(alloc),
+        Row::Volume(volume) => three_names(alloc, &volume.project, &volume.pool, &volume.name),
+        Row::Instance(instance) => two_names(alloc, &instance.project, &instance.name),
+        Row::Snapshot(snapshot) => three_names(
+            alloc,
+            &snapshot.project,
+            &snapshot.instance,
+            &snapshot.name,
+        ),
+    }
+}
+
+/// The kind of the entry that a row is kept as, from 1 for a project to 7 for a snapshot.
+pub fn kind_of(row: &Row) -> u8
+    ensures { result ≡ kind_of row.now }
+{
+    match row {
+        Row::Project(_) => 1,
+        Row::Profile(_) => 2,
+        Row::Network(_) => 3,
+        Row::Pool(_) => 4,
+        Row::Volume(_) => 5,
+        Row::Instance(_) => 6,
+        Row::Snapshot(_) => 7,
+    }
+}
+
+/// The entry that spells the row, of which there is one. The names of its key are good names, each text and
+/// each list is shorter than 2^32, and each moment lies below the bound.
+pub fn encode(alloc: Global, row: &Row) -> Result<Entry, NoMemory>
+    requires keyed { HasGoodKey row.now }
+    requires timely { HasMoments row.now }
+    requires short { HasShortParts row.now }
+    ensures { IfOk result (λ entry. Spells row.now entry) }
+{
+    let mut body = Vec::new(alloc);
+    put_body(&mut body, row)?;
+    Ok(Entry {
+        kind: kind_of(row),
+        key: key_of(alloc, row)?,
+        body: Seq::from_vec(body),
+    })
+}
