@@ -1,105 +1,10 @@
 use crate::{Damaged, decode, encode, key_of, kind_of};
-use records::{Driver, Row};
-use size_values::{Entry, Kind, Or, Seq, Text};
+use records::{Driver, Instance, Pool, Row, Snapshot};
+use size_values::{Entry, Kind, NoMemory, Or, Seq, Text};
 use std::alloc::Global;
 use std::test::Fail;
 
-fn bytes_of(alloc: Global, pieces: &[&[u8]]) -> Result<Vec<u8>, Fail> {
-    let mut bytes = Vec::new(alloc);
-    for piece in pieces {
-        bytes.extend_from_slice(piece)?;
-    }
-    Ok(bytes)
-}
-
-fn entry_of(alloc: Global, kind: u8, key: &str, body: &[u8]) -> Result<Entry, Fail> {
-    let key = Text::from_text(alloc, key)?;
-    let body = Seq::of_bytes(alloc, body)?;
-    Ok(Entry { kind, key, body })
-}
-
-fn decoded(alloc: Global, kind: u8, key: &str, body: &[u8]) -> Result<Row, Or<Damaged>> {
-    let Ok(entry) = entry_of(alloc, kind, key, body) else {
-        return Err(Or::NoMemory);
-    };
-    decode(alloc, &entry)
-}
-
-/// The damage of these bytes, or none where they are a spelling.
-fn damage_of(alloc: Global, kind: u8, key: &str, body: &[u8]) -> Option<Damaged> {
-    match decoded(alloc, kind, key, body) {
-        Err(Or::Why(damaged)) => Some(damaged),
-        _ => None,
-    }
-}
-
-/// Cut before each of its bytes, a body is damaged where the cut piece begins.
-fn is_damaged_at_each_cut(
-    alloc: Global,
-    kind: u8,
-    key: &str,
-    pieces: &[&[u8]],
-    body: &[u8],
-) -> bool {
-    let mut start = 0usize;
-    for piece in pieces {
-        for within in 0..piece.len() {
-            let cut = start.saturating_add(within).min(body.len());
-            if damage_of(alloc, kind, key, &body[..cut]) != Some(Damaged::Body(start as u64)) {
-                return false;
-            }
-        }
-        start = start.saturating_add(piece.len());
-    }
-    true
-}
-
-fn encoded(alloc: Global, entry: &Entry) -> Option<Entry> {
-    let Ok(row) = decode(alloc, entry) else {
-        return None;
-    };
-    encode(alloc, &row).ok()
-}
-
-/// The bytes are read as a row, which is written as the same bytes.
-fn is_written_again(alloc: Global, kind: u8, key: &str, body: &[u8]) -> bool {
-    let Ok(entry) = entry_of(alloc, kind, key, body) else {
-        return false;
-    };
-    let Some(again) = encoded(alloc, &entry) else {
-        return false;
-    };
-    again.kind == kind && again.key.view() == key && again.body.view() == body
-}
-
-fn is_spelling(alloc: Global, kind: u8, key: &str, pieces: &[&[u8]]) -> Result<bool, Fail> {
-    let body = bytes_of(alloc, pieces)?;
-    let longer = bytes_of(alloc, &[&body, b"\x00"])?;
-    Ok(
-        is_written_again(alloc, kind, key, &body)
-            && is_damaged_at_each_cut(alloc, kind, key, pieces, &body)
-            && damage_of(alloc, kind, key, &longer) == Some(Damaged::Body(body.len() as u64)),
-    )
-}
-
-#[test]
-fn a_project_and_its_damages(rt: HostRuntime) -> Result<(), Fail> {
-    let alloc = rt.alloc();
-    let body = b"\x01\x00\x00\x00\x00\x00\x00\x00\x01\x00\x00\x00\x06user.a\x00\x00\x00\x011";
-    assert_eq!(rt; body.len(), 24);
-    assert!(rt; is_written_again(alloc, 1, "lab", body));
-    let longer = bytes_of(alloc, &[body, b"\x00"])?;
-    assert_eq!(rt;
-        damage_of(alloc, 1, "lab", &longer),
-        Some(Damaged::Body(24))
-    );
-    let newer = bytes_of(alloc, &[b"\x02", &body[1..]])?;
-    assert_eq!(rt; damage_of(alloc, 1, "lab", &newer), Some(Damaged::Body(0)));
-    assert_eq!(rt; damage_of(alloc, 9, "lab", body), Some(Damaged::Kind));
-    assert_eq!(rt; damage_of(alloc, 1, "a/b", body), Some(Damaged::Key));
-    Ok(())
-}
-
+// The pieces of which bodies are made: each is one byte, number, text or count.
 const VERSION: &[u8] = b"\x01";
 
 const NONE: &[u8] = b"\x00\x00\x00\x00";
@@ -110,13 +15,13 @@ const TWO: &[u8] = b"\x00\x00\x00\x02";
 
 const FIRST_SECOND: &[u8] = b"\x00\x00\x00\x00\x00\x00\x00\x00";
 
+const LATER: &[u8] = b"\x00\x00\x00\x00\x65\x53\xf1\x00";
+
 const LAST_SECOND: &[u8] = b"\x00\x00\x00\x3a\xff\xf4\x41\x7f";
 
 const BEHIND_LAST: &[u8] = b"\x00\x00\x00\x3a\xff\xf4\x41\x80";
 
-const LATER: &[u8] = b"\x00\x00\x00\x00\x65\x53\xf1\x00";
-
-const TEXT: &[u8] = b"\x00\x00\x00\x05caf\xc3\xa9";
+const CAFE: &[u8] = b"\x00\x00\x00\x05caf\xc3\xa9";
 
 const KEY: &[u8] = b"\x00\x00\x00\x06user.a";
 
@@ -128,264 +33,369 @@ const ETH0: &[u8] = b"\x00\x00\x00\x04eth0";
 
 const ROOT: &[u8] = b"\x00\x00\x00\x04root";
 
-#[test]
-fn rows_with_all_parts_filled(rt: HostRuntime) -> Result<(), Fail> {
-    let rows: [(u8, &str, &[&[u8]]); 7] = [
-        (1, "lab", &[VERSION, TEXT, TWO, KEY, VALUE, NEXT_KEY, TEXT]),
-        (
-            2,
-            "lab/web",
-            &[
-                VERSION, TEXT, ONE, KEY, VALUE, TWO, ETH0, ONE, KEY, VALUE, ROOT, TWO, KEY, VALUE,
-                NEXT_KEY, VALUE,
-            ],
-        ),
-        (
-            3,
-            "lab/br0",
-            &[VERSION, TEXT, TWO, KEY, VALUE, NEXT_KEY, TEXT],
-        ),
-        (
-            4,
-            "p0",
-            &[VERSION, b"\x03", TEXT, TWO, KEY, VALUE, NEXT_KEY, TEXT],
-        ),
-        (
-            5,
-            "lab/p0/v",
-            &[VERSION, TEXT, ONE, KEY, VALUE, LAST_SECOND],
-        ),
-        (
-            6,
-            "lab/c1",
-            &[
-                VERSION, b"\x01", b"\x01", TEXT, TEXT, LATER, TWO, ROOT, ETH0, ONE, KEY, VALUE,
-                ONE, ROOT, ONE, KEY, VALUE,
-            ],
-        ),
-        (
-            7,
-            "lab/c1/s0",
-            &[
-                VERSION,
-                LATER,
-                LAST_SECOND,
-                ONE,
-                TEXT,
-                ONE,
-                KEY,
-                VALUE,
-                ONE,
-                ROOT,
-                ONE,
-                KEY,
-                VALUE,
-            ],
-        ),
-    ];
-    for (kind, key, pieces) in rows {
-        assert!(rt; is_spelling(rt.alloc(), kind, key, pieces)?);
-    }
-    Ok(())
-}
+/// A kind and a key, and the pieces of a body.
+type Line = (u8, &'static str, &'static [&'static [u8]]);
 
-#[test]
-fn rows_with_all_parts_empty(rt: HostRuntime) -> Result<(), Fail> {
-    let rows: [(u8, &str, &[&[u8]]); 8] = [
-        (1, "0", &[VERSION, NONE, NONE]),
-        (2, "0/0", &[VERSION, NONE, NONE, NONE]),
-        (2, "0/1", &[VERSION, NONE, NONE, ONE, NONE, NONE]),
-        (3, "0/00", &[VERSION, NONE, NONE]),
-        (4, "0", &[VERSION, b"\x00", NONE, NONE]),
-        (5, "0/0/0", &[VERSION, NONE, NONE, FIRST_SECOND]),
-        (
-            6,
-            "0/a",
-            &[
-                VERSION,
-                b"\x00",
-                b"\x00",
-                NONE,
-                NONE,
-                FIRST_SECOND,
-                NONE,
-                NONE,
-                NONE,
-            ],
-        ),
-        (
-            7,
-            "0/a/0",
-            &[VERSION, FIRST_SECOND, FIRST_SECOND, NONE, NONE, NONE],
-        ),
-    ];
-    for (kind, key, pieces) in rows {
-        assert!(rt; is_spelling(rt.alloc(), kind, key, pieces)?);
-    }
-    Ok(())
-}
-
-fn is_the_volume(row: &Row) -> bool {
-    let Row::Volume(volume) = row else {
-        return false;
-    };
-    volume.project.view() == "lab"
-        && volume.pool.view() == "p0"
-        && volume.name.view() == "v"
-        && volume.description.view() == "caf\u{e9}"
-        && volume.created == 1_700_000_000
-}
-
-fn is_the_pool(row: &Row) -> bool {
-    let Row::Pool(pool) = row else {
-        return false;
-    };
-    pool.name.view() == "p0" && pool.driver == Driver::Lvm && pool.config.get("user.a") == Some("1")
-}
-
-fn is_the_snapshot(row: &Row) -> bool {
-    let Row::Snapshot(snapshot) = row else {
-        return false;
-    };
-    snapshot.project.view() == "lab"
-        && snapshot.instance.view() == "c1"
-        && snapshot.name.view() == "s0"
-        && snapshot.created == 1_700_000_000
-        && snapshot.expires == 253_402_300_799
-        && snapshot.devices.get("eth0").is_some()
-}
-
-fn is_the_instance(row: &Row) -> bool {
-    let Row::Instance(instance) = row else {
-        return false;
-    };
-    instance.kind == Kind::Machine
-        && !instance.ephemeral
-        && instance.description.view() == "caf\u{e9}"
-        && instance.origin.view() == "root"
-        && instance.profiles.len() == 2
-        && instance.config.get("user.a") == Some("1")
-}
-
-#[test]
-fn parts_go_to_their_fields(rt: HostRuntime) -> Result<(), Fail> {
-    let alloc = rt.alloc();
-    let volume = bytes_of(alloc, &[VERSION, TEXT, NONE, LATER])?;
-    let pool = bytes_of(alloc, &[VERSION, b"\x02", TEXT, ONE, KEY, VALUE])?;
-    let snapshot = bytes_of(
-        alloc,
-        &[VERSION, LATER, LAST_SECOND, NONE, NONE, ONE, ETH0, NONE],
-    )?;
-    let instance = bytes_of(
-        alloc,
+/// Rows of each kind, with all parts filled and with all parts empty.
+static SPELLINGS: [Line; 15] = [
+    (1, "lab", &[VERSION, CAFE, TWO, KEY, VALUE, NEXT_KEY, CAFE]),
+    (
+        2,
+        "lab/web",
         &[
-            VERSION, b"\x01", b"\x00", TEXT, ROOT, LATER, TWO, ETH0, ROOT, ONE, KEY, VALUE, NONE,
+            VERSION, CAFE, ONE, KEY, VALUE, TWO, ETH0, ONE, KEY, VALUE, ROOT, TWO, KEY, VALUE,
+            NEXT_KEY, VALUE,
         ],
-    )?;
-    assert!(rt; decoded(alloc, 5, "lab/p0/v", &volume).is_ok_and(|row| is_the_volume(&row)));
-    assert!(rt; decoded(alloc, 4, "p0", &pool).is_ok_and(|row| is_the_pool(&row)));
-    assert!(rt; decoded(alloc, 7, "lab/c1/s0", &snapshot).is_ok_and(|row| is_the_snapshot(&row)));
-    assert!(rt; decoded(alloc, 6, "lab/c1", &instance).is_ok_and(|row| is_the_instance(&row)));
-    Ok(())
+    ),
+    (
+        3,
+        "lab/br0",
+        &[VERSION, CAFE, TWO, KEY, VALUE, NEXT_KEY, CAFE],
+    ),
+    (
+        4,
+        "p0",
+        &[VERSION, b"\x03", CAFE, TWO, KEY, VALUE, NEXT_KEY, CAFE],
+    ),
+    (
+        5,
+        "lab/p0/v",
+        &[VERSION, CAFE, ONE, KEY, VALUE, LAST_SECOND],
+    ),
+    (
+        6,
+        "lab/c1",
+        &[
+            VERSION, b"\x01", b"\x01", CAFE, CAFE, LATER, TWO, ROOT, ETH0, ONE, KEY, VALUE, ONE,
+            ROOT, ONE, KEY, VALUE,
+        ],
+    ),
+    (
+        7,
+        "lab/c1/s0",
+        &[
+            VERSION,
+            LATER,
+            LAST_SECOND,
+            ONE,
+            CAFE,
+            ONE,
+            KEY,
+            VALUE,
+            ONE,
+            ROOT,
+            ONE,
+            KEY,
+            VALUE,
+        ],
+    ),
+    (1, "0", &[VERSION, NONE, NONE]),
+    (2, "0/0", &[VERSION, NONE, NONE, NONE]),
+    (2, "0/1", &[VERSION, NONE, NONE, ONE, NONE, NONE]),
+    (3, "0/00", &[VERSION, NONE, NONE]),
+    (4, "0", &[VERSION, b"\x00", NONE, NONE]),
+    (5, "0/0/0", &[VERSION, NONE, NONE, FIRST_SECOND]),
+    (
+        6,
+        "0/a",
+        &[
+            VERSION,
+            b"\x00",
+            b"\x00",
+            NONE,
+            NONE,
+            FIRST_SECOND,
+            NONE,
+            NONE,
+            NONE,
+        ],
+    ),
+    (
+        7,
+        "0/a/0",
+        &[VERSION, FIRST_SECOND, FIRST_SECOND, NONE, NONE, NONE],
+    ),
+];
+
+fn bytes_of(alloc: Global, pieces: &[&[u8]]) -> Result<Vec<u8>, NoMemory> {
+    let mut bytes = Vec::new(alloc);
+    for piece in pieces {
+        bytes.extend_from_slice(piece)?;
+    }
+    Ok(bytes)
+}
+
+fn entry_of(alloc: Global, kind: u8, key: &str, body: &[u8]) -> Result<Entry, NoMemory> {
+    Ok(Entry {
+        kind,
+        key: Text::from_text(alloc, key)?,
+        body: Seq::of_bytes(alloc, body)?,
+    })
+}
+
+/// The damage of an entry, or none where it is read as a row.
+fn damage_of(alloc: Global, kind: u8, key: &str, body: &[u8]) -> Result<Option<Damaged>, NoMemory> {
+    let entry = entry_of(alloc, kind, key, body)?;
+    match decode(alloc, &entry) {
+        Ok(_) => Ok(None),
+        Err(Or::Why(damaged)) => Ok(Some(damaged)),
+        Err(Or::NoMemory) => Err(NoMemory),
+    }
+}
+
+/// Cut before each of its bytes, a body is damaged where the cut piece begins.
+fn is_damaged_at_each_cut(
+    alloc: Global,
+    kind: u8,
+    key: &str,
+    pieces: &[&[u8]],
+) -> Result<bool, NoMemory> {
+    let mut whole = Vec::new(alloc);
+    for piece in pieces {
+        let place = whole.len() as u64;
+        for within in 0..piece.len() {
+            let cut = bytes_of(alloc, &[&whole, &piece[..within]])?;
+            if damage_of(alloc, kind, key, &cut)? != Some(Damaged::Body(place)) {
+                return Ok(false);
+            }
+        }
+        whole.extend_from_slice(piece)?;
+    }
+    Ok(true)
+}
+
+/// What is written of the row that an entry is read as, or of a copy of that row.
+fn written_again(alloc: Global, entry: &Entry) -> Result<Entry, Or<Damaged>> {
+    let row = decode(alloc, entry)?.copy(alloc)?;
+    Ok(encode(alloc, &row)?)
+}
+
+fn is_written_again(alloc: Global, kind: u8, key: &str, body: &[u8]) -> Result<bool, NoMemory> {
+    let entry = entry_of(alloc, kind, key, body)?;
+    match written_again(alloc, &entry) {
+        Ok(again) => Ok(again.kind == kind && again.key.view() == key && again.body.view() == body),
+        Err(Or::Why(_)) => Ok(false),
+        Err(Or::NoMemory) => Err(NoMemory),
+    }
 }
 
 #[test]
-fn bodies_out_of_order(rt: HostRuntime) -> Result<(), Fail> {
-    let bodies: [(u8, &str, &[&[u8]], u64); 22] = [
-        (1, "lab", &[], 0),
-        (1, "lab", &[b"\x00", NONE, NONE], 0),
-        (1, "lab", &[VERSION, b"\x00\x00\x00\x01\xff", NONE], 1),
-        (1, "lab", &[VERSION, b"\xff\xff\xff\xffabc"], 1),
-        (
-            1,
-            "lab",
-            &[VERSION, NONE, TWO, NEXT_KEY, VALUE, KEY, VALUE],
-            24,
-        ),
-        (1, "lab", &[VERSION, NONE, TWO, KEY, VALUE, KEY, VALUE], 24),
-        (1, "lab", &[VERSION, NONE, ONE, NONE, VALUE], 9),
-        (1, "lab", &[VERSION, NONE, ONE, KEY, NONE], 19),
-        (
-            1,
-            "lab",
-            &[VERSION, NONE, ONE, KEY, b"\x00\x00\x00\x01\x80"],
-            19,
-        ),
-        (1, "lab", &[VERSION, NONE, TWO, KEY, VALUE], 24),
-        (1, "lab", &[VERSION, NONE, NONE, KEY], 9),
-        (
-            2,
-            "lab/web",
-            &[VERSION, NONE, NONE, TWO, ROOT, NONE, ETH0, NONE],
-            25,
-        ),
-        (
-            2,
-            "lab/web",
-            &[VERSION, NONE, NONE, TWO, ROOT, NONE, ROOT, NONE],
-            25,
-        ),
-        (
-            2,
-            "lab/web",
-            &[VERSION, NONE, NONE, ONE, ROOT, ONE, NONE, VALUE],
-            25,
-        ),
-        (4, "p0", &[VERSION, b"\x04", NONE, NONE], 1),
-        (5, "lab/p0/v", &[VERSION, NONE, NONE, BEHIND_LAST], 9),
-        (6, "lab/c1", &[VERSION, b"\x02", b"\x00"], 1),
-        (6, "lab/c1", &[VERSION, b"\x00", b"\x02"], 2),
-        (
-            6,
-            "lab/c1",
-            &[VERSION, b"\x00", b"\x00", NONE, NONE, BEHIND_LAST],
-            11,
-        ),
-        (7, "lab/c1/s0", &[VERSION, BEHIND_LAST], 1),
-        (7, "lab/c1/s0", &[VERSION, LATER, BEHIND_LAST], 9),
-        (
-            7,
-            "lab/c1/s0",
-            &[VERSION, LATER, LATER, ONE, b"\x00\x00\x00\x01\xc3"],
-            21,
-        ),
-    ];
-    for (kind, key, pieces, place) in bodies {
-        let body = bytes_of(rt.alloc(), pieces)?;
+fn a_project_and_its_damages(rt: HostRuntime) -> Result<(), Fail> {
+    let alloc = rt.alloc();
+    let body = b"\x01\x00\x00\x00\x00\x00\x00\x00\x01\x00\x00\x00\x06user.a\x00\x00\x00\x011";
+    assert_eq!(rt; body.len(), 24);
+    assert!(rt; is_written_again(alloc, 1, "lab", body)?);
+    let longer = bytes_of(alloc, &[body, b"\x00"])?;
+    let newer = bytes_of(alloc, &[b"\x02", &body[1..]])?;
+    for (kind, key, body, damaged) in [
+        (1, "lab", longer.as_slice(), Damaged::Body(24)),
+        (1, "lab", newer.as_slice(), Damaged::Body(0)),
+        (9, "lab", body, Damaged::Kind),
+        (1, "a/b", body, Damaged::Key),
+    ] {
         assert_eq!(rt;
-            damage_of(rt.alloc(), kind, key, &body),
-            Some(Damaged::Body(place))
+            damage_of(alloc, kind, key, body)?,
+            Some(damaged),
+            "{damaged:?}"
         );
     }
     Ok(())
 }
 
 #[test]
-fn kinds_and_keys(rt: HostRuntime) -> Result<(), Fail> {
-    let damaged: [(u8, &str, Damaged); 20] = [
-        (0, "lab", Damaged::Kind),
-        (8, "lab", Damaged::Kind),
-        (255, "", Damaged::Kind),
-        (1, "", Damaged::Key),
-        (1, "-lab", Damaged::Key),
-        (1, "lab/", Damaged::Key),
-        (2, "lab", Damaged::Key),
-        (2, "lab/", Damaged::Key),
-        (2, "/web", Damaged::Key),
-        (2, "lab/web/x", Damaged::Key),
-        (2, "a_b/web", Damaged::Key),
-        (3, "lab/b", Damaged::Key),
-        (4, "p0/", Damaged::Key),
-        (5, "lab/p0", Damaged::Key),
-        (5, "lab/p0/", Damaged::Key),
-        (5, "lab/p0/v/w", Damaged::Key),
-        (6, "lab/7a", Damaged::Key),
-        (6, "lab/c1/", Damaged::Key),
-        (7, "lab/c1", Damaged::Key),
-        (7, "lab/7a/s0", Damaged::Key),
-    ];
-    for (kind, key, want) in damaged {
-        assert_eq!(rt; damage_of(rt.alloc(), kind, key, &[]), Some(want));
+fn rows_of_each_kind(rt: HostRuntime) -> Result<(), Fail> {
+    let alloc = rt.alloc();
+    for (kind, key, pieces) in &SPELLINGS {
+        let body = bytes_of(alloc, pieces)?;
+        let longer = bytes_of(alloc, &[&body, b"\x00"])?;
+        let end = Damaged::Body(body.len() as u64);
+        assert!(rt; is_written_again(alloc, *kind, key, &body)?, "{key}");
+        assert!(rt; is_damaged_at_each_cut(alloc, *kind, key, pieces)?, "{key}");
+        assert_eq!(rt; damage_of(alloc, *kind, key, &longer)?, Some(end), "{key}");
+    }
+    Ok(())
+}
+
+/// Bodies that no row has, and the place of the first damage.
+static DAMAGED: [(Line, u64); 22] = [
+    ((1, "lab", &[]), 0),
+    ((1, "lab", &[b"\x00", NONE, NONE]), 0),
+    ((1, "lab", &[VERSION, b"\x00\x00\x00\x01\xff", NONE]), 1),
+    ((1, "lab", &[VERSION, b"\xff\xff\xff\xffabc"]), 1),
+    (
+        (1, "lab", &[VERSION, NONE, TWO, NEXT_KEY, VALUE, KEY, VALUE]),
+        24,
+    ),
+    (
+        (1, "lab", &[VERSION, NONE, TWO, KEY, VALUE, KEY, VALUE]),
+        24,
+    ),
+    ((1, "lab", &[VERSION, NONE, ONE, NONE, VALUE]), 9),
+    ((1, "lab", &[VERSION, NONE, ONE, KEY, NONE]), 19),
+    (
+        (
+            1,
+            "lab",
+            &[VERSION, NONE, ONE, KEY, b"\x00\x00\x00\x01\x80"],
+        ),
+        19,
+    ),
+    ((1, "lab", &[VERSION, NONE, TWO, KEY, VALUE]), 24),
+    ((1, "lab", &[VERSION, NONE, NONE, KEY]), 9),
+    (
+        (
+            2,
+            "lab/web",
+            &[VERSION, NONE, NONE, TWO, ROOT, NONE, ETH0, NONE],
+        ),
+        25,
+    ),
+    (
+        (
+            2,
+            "lab/web",
+            &[VERSION, NONE, NONE, TWO, ROOT, NONE, ROOT, NONE],
+        ),
+        25,
+    ),
+    (
+        (
+            2,
+            "lab/web",
+            &[VERSION, NONE, NONE, ONE, ROOT, ONE, NONE, VALUE],
+        ),
+        25,
+    ),
+    ((4, "p0", &[VERSION, b"\x04", NONE, NONE]), 1),
+    ((5, "lab/p0/v", &[VERSION, NONE, NONE, BEHIND_LAST]), 9),
+    ((6, "lab/c1", &[VERSION, b"\x02", b"\x00"]), 1),
+    ((6, "lab/c1", &[VERSION, b"\x00", b"\x02"]), 2),
+    (
+        (
+            6,
+            "lab/c1",
+            &[VERSION, b"\x00", b"\x00", NONE, NONE, BEHIND_LAST],
+        ),
+        11,
+    ),
+    ((7, "lab/c1/s0", &[VERSION, BEHIND_LAST]), 1),
+    ((7, "lab/c1/s0", &[VERSION, LATER, BEHIND_LAST]), 9),
+    (
+        (
+            7,
+            "lab/c1/s0",
+            &[VERSION, LATER, LATER, ONE, b"\x00\x00\x00\x01\xc3"],
+        ),
+        21,
+    ),
+];
+
+#[test]
+fn damaged_bodies(rt: HostRuntime) -> Result<(), Fail> {
+    let alloc = rt.alloc();
+    for ((kind, key, pieces), place) in &DAMAGED {
+        let body = bytes_of(alloc, pieces)?;
+        let damage = Damaged::Body(*place);
+        assert_eq!(rt;
+            damage_of(alloc, *kind, key, &body)?,
+            Some(damage),
+            "{key} at {place}"
+        );
+    }
+    Ok(())
+}
+
+/// Kinds and keys of no row. The kind is judged before the key, and the key before the body.
+static MISNAMED: [(u8, &str, Damaged); 20] = [
+    (0, "lab", Damaged::Kind),
+    (8, "lab", Damaged::Kind),
+    (255, "", Damaged::Kind),
+    (1, "", Damaged::Key),
+    (1, "-lab", Damaged::Key),
+    (1, "lab/", Damaged::Key),
+    (2, "lab", Damaged::Key),
+    (2, "lab/", Damaged::Key),
+    (2, "/web", Damaged::Key),
+    (2, "lab/web/x", Damaged::Key),
+    (2, "a_b/web", Damaged::Key),
+    (3, "lab/b", Damaged::Key),
+    (4, "p0/", Damaged::Key),
+    (5, "lab/p0", Damaged::Key),
+    (5, "lab/p0/", Damaged::Key),
+    (5, "lab/p0/v/w", Damaged::Key),
+    (6, "lab/7a", Damaged::Key),
+    (6, "lab/c1/", Damaged::Key),
+    (7, "lab/c1", Damaged::Key),
+    (7, "lab/7a/s0", Damaged::Key),
+];
+
+#[test]
+fn kinds_and_keys_of_no_row(rt: HostRuntime) -> Result<(), Fail> {
+    for (kind, key, damaged) in &MISNAMED {
+        assert_eq!(rt;
+            damage_of(rt.alloc(), *kind, key, &[])?,
+            Some(*damaged),
+            "{kind} {key}"
+        );
+    }
+    Ok(())
+}
+
+fn is_the_pool(pool: &Pool) -> bool {
+    pool.name.view() == "p0" && pool.driver == Driver::Lvm && pool.config.has("user.a", "1")
+}
+
+fn is_the_instance(instance: &Instance) -> bool {
+    instance.kind == Kind::Machine
+        && !instance.ephemeral
+        && instance.description.view() == "caf\u{e9}"
+        && instance.origin.view() == "root"
+        && instance.profiles.len() == 2
+}
+
+fn is_the_snapshot(snapshot: &Snapshot) -> bool {
+    snapshot.instance.view() == "c1"
+        && snapshot.name.view() == "s0"
+        && snapshot.created == 1_700_000_000
+        && snapshot.expires == 253_402_300_799
+        && snapshot.devices.get("eth0").is_some()
+}
+
+fn has_its_fields(row: &Row) -> bool {
+    match row {
+        Row::Pool(pool) => is_the_pool(pool),
+        Row::Instance(instance) => is_the_instance(instance),
+        Row::Snapshot(snapshot) => is_the_snapshot(snapshot),
+        _ => false,
+    }
+}
+
+/// Bodies of a pool, an instance and a snapshot whose fields are looked at.
+static WITH_FIELDS: [Line; 3] = [
+    (4, "p0", &[VERSION, b"\x02", CAFE, ONE, KEY, VALUE]),
+    (
+        6,
+        "lab/c1",
+        &[
+            VERSION, b"\x01", b"\x00", CAFE, ROOT, LATER, TWO, ETH0, ROOT, NONE, NONE,
+        ],
+    ),
+    (
+        7,
+        "lab/c1/s0",
+        &[VERSION, LATER, LAST_SECOND, NONE, NONE, ONE, ETH0, NONE],
+    ),
+];
+
+#[test]
+fn parts_go_to_their_fields(rt: HostRuntime) -> Result<(), Fail> {
+    let alloc = rt.alloc();
+    for (kind, key, pieces) in &WITH_FIELDS {
+        let body = bytes_of(alloc, pieces)?;
+        let row = decode(alloc, &entry_of(alloc, *kind, key, &body)?)?;
+        assert!(rt; has_its_fields(&row), "{key}");
+        assert_eq!(rt; kind_of(&row), *kind, "{key}");
+        assert_eq!(rt; key_of(alloc, &row)?.view(), *key);
     }
     Ok(())
 }
