@@ -16,6 +16,7 @@ use Rattle.records.specs.declared.commands.Command.{Command}
 use Rattle.records.specs.declared.commands.What.{What}
 use Rattle.records.specs.declared.commands.What.TheVariants as what
 
+-- a text of no bytes
 abbrev pub is_empty : List ℕ → Bool
 is_empty text = length text == 0
 
@@ -65,6 +66,7 @@ has_state Instance = true
 has_state Snapshot = false
 has_state Operation = false
 
+-- instances alone
 abbrev pub is_instance : ObjectKind → Bool
 is_instance Project = false
 is_instance Profile = false
@@ -96,6 +98,7 @@ is_list of = stands_in of.kind of.pool of.instance && is_empty of.name
 
 -- ---- which fields a body may have
 
+-- the fields of a body, true for each that it may have
 pub record Fields : Type 0 where
   pub description : Bool
   pub config : Bool
@@ -105,6 +108,7 @@ pub record Fields : Type 0 where
   pub kind : Bool
   pub driver : Bool
 
+-- a body that says nothing of the object
 abbrev pub no_fields : Fields
 no_fields = record { description = false; config = false; devices = false; profiles = false; ephemeral = false; kind = false; driver = false }
 
@@ -140,6 +144,7 @@ created_fields Operation from = no_fields
 abbrev pub if_allowed : Bool → Bool → Bool
 if_allowed there may_be = not there || may_be
 
+-- the body has no field beyond these
 abbrev pub has_only : Fields → Body → Bool
 has_only fields body =
     if_allowed (is_some body.description) fields.description
@@ -160,6 +165,7 @@ are_settings settings = list_all (λ entry. not (is_empty entry.0)) settings
 abbrev pub are_devices : NamedDevices → Bool
 are_devices devices = list_all (λ device. are_settings device.1) devices
 
+-- no text comes twice
 abbrev pub are_distinct : List (List ℕ) → Bool
 are_distinct [] = true
 are_distinct (text ∷ texts) = not (list_any (bytes_eq text) texts) && are_distinct texts
@@ -168,15 +174,18 @@ are_distinct (text ∷ texts) = not (list_any (bytes_eq text) texts) && are_dist
 abbrev pub are_profiles : List (List ℕ) → Bool
 are_profiles profiles = nat_le (length profiles) 64 && are_distinct profiles
 
+-- each field that is there has its form
 abbrev pub has_forms : Body → Bool
 has_forms body =
     option_map_or are_settings body.config true
     && option_map_or are_devices body.devices true
     && option_map_or are_profiles body.profiles true
 
+-- a slash stands in the text
 abbrev pub has_slash : List ℕ → Bool
 has_slash text = list_any (λ byte. byte == 47) text
 
+-- made from nothing
 abbrev pub is_none_origin : Origin → Bool
 is_none_origin origin.None = true
 is_none_origin (origin.Image alias) = false
@@ -198,10 +207,12 @@ abbrev pub has_needed : ObjectKind → Body → Bool
 has_needed Pool body = is_some body.driver
 has_needed kind body = true
 
+-- the body of a new object of this kind
 abbrev pub is_creation : ObjectKind → Body → Bool
 is_creation kind body =
     has_only (created_fields kind body.origin) body && has_forms body && may_come_from kind body.origin && has_needed kind body
 
+-- the body of PUT or PATCH of an object of this kind
 abbrev pub is_change : ObjectKind → Body → Bool
 is_change kind body = has_only (changed_fields kind) body && has_forms body && is_none_origin body.origin
 
@@ -212,6 +223,7 @@ is_timeout (negsuc n) = n == 0
 
 -- ---- the requests
 
+-- each request with its object, its body and its number in their forms
 abbrev pub is_request : What → Bool
 is_request what.Root = true
 is_request what.Server = true

@@ -33,16 +33,18 @@ use Rattle.row_codec.specs.declared.damage.Damaged.TheVariants as damaged
 use Rattle.row_codec.specs.declared.damage.Unreadable.{Unreadable}
 use Rattle.row_codec.specs.declared.parts.Shape.{Shape}
 
+-- What is read next from what was read, or the first damage.
 infixl 10 ◌>>=◌
 abbrev pub ◌>>=◌ : {A B E : Type 0} → Result A E → (A → Result B E) → Result B E
 (Ok x) >>= f = f x
 (Err e) >>= f = Err e
 
--- What a function returned, seen by view, is what reading gives, unless memory ran out.
+-- An error is the one that reading gives, unless memory ran out.
 abbrev pub Fails : {Y E : Type 0} → Or E → Result Y E → Type 0
 Fails or.NoMemory read = Unit {0}
 Fails (or.Why e) read = read ≡ Err e
 
+-- What a function returned, seen by view, is what reading gives, unless memory ran out.
 abbrev pub Gives : {X Y E : Type 0} → (X → Y) → Result X (Or E) → Result Y E → Type 0
 Gives view (Ok x) read = read ≡ Ok (view x)
 Gives view (Err e) read = Fails e read
@@ -56,16 +58,17 @@ IsRead view (Err e) read = read ≡ Err e
 abbrev pub Read : Type 0 → Type 0
 Read A = Result (A × List ℕ) Unreadable
 
+-- nothing from here on can be read
 abbrev pub stops_at : {A : Type 0} → List ℕ → Result A Unreadable
 stops_at bytes = Err (record { left = length bytes })
 
 -- ---- numbers, bytes and texts
 
--- four bytes, highest first
+-- a count: four bytes, highest first
 unfoldable pub count_at : List ℕ → Read ℕ
 count_at bytes = if nat_lt (length bytes) 4 then stops_at bytes else Ok (from_be_bytes w32 (take 4 bytes), drop 4 bytes)
 
--- eight bytes, highest first
+-- a number: eight bytes, highest first
 unfoldable pub number_at : List ℕ → Read ℕ
 number_at bytes = if nat_lt (length bytes) 8 then stops_at bytes else Ok (from_be_bytes w64 (take 8 bytes), drop 8 bytes)
 
@@ -75,13 +78,15 @@ moment_at bytes = do
   moment ← number_at bytes
   if nat_lt moment.0 MOMENT_LIMIT then Ok moment else stops_at bytes
 
--- what a byte stands for, if it stands for anything
+-- what a byte stands for as a truth, if for anything
 abbrev pub truth_of : ℕ → Option Bool
 truth_of byte = if byte == 0 then Some false else (if byte == 1 then Some true else None)
 
+-- the same as the kind of an instance
 abbrev pub instance_kind_of : ℕ → Option Kind
 instance_kind_of byte = if byte == 0 then Some container.Container else (if byte == 1 then Some container.Machine else None)
 
+-- the same as the driver of a pool
 abbrev pub driver_of : ℕ → Option Driver
 driver_of byte =
     if byte == 0 then Some driver.Dir
@@ -90,6 +95,7 @@ driver_of byte =
     else (if byte == 3 then Some driver.Zfs
     else None)))
 
+-- what a byte stands for, and the bytes behind it
 abbrev pub meant_at : {A : Type 0} → Option A → List ℕ → List ℕ → Read A
 meant_at None rest bytes = stops_at bytes
 meant_at (Some x) rest bytes = Ok (x, rest)
@@ -141,6 +147,7 @@ pub record IsLast {V : Type 0} (entries : List (List ℕ × V)) (key : List ℕ)
   pub rising : KeysRise entries
   pub above : is_next (last_of entries) key ≡ true
 
+-- a text of no bytes
 abbrev pub is_empty : List ℕ → Bool
 is_empty text = length text == 0
 
@@ -169,6 +176,7 @@ setting_at before bytes = do
   value ← filled_at key.1
   Ok ((key.0, value.0), value.1)
 
+-- settings whose keys rise, neither key nor value empty
 abbrev pub settings_at : List ℕ → Read Settings
 settings_at bytes = list_at setting_at bytes
 
@@ -179,9 +187,11 @@ device_at before bytes = do
   config ← settings_at name.1
   Ok ((name.0, config.0), config.1)
 
+-- devices whose names rise, each with its settings
 abbrev pub devices_at : List ℕ → Read NamedDevices
 devices_at bytes = list_at device_at bytes
 
+-- texts in any order
 abbrev pub texts_at : List ℕ → Read (List (List ℕ))
 texts_at bytes = list_at (λ before. text_at) bytes
 
@@ -193,7 +203,7 @@ shape_at bytes = do
   devices ← devices_at config.1
   Ok (record { profiles = profiles.0; config = config.0; devices = devices.0 }, devices.1)
 
--- ---- bodies
+-- ---- bodies: the names are those of the key
 
 -- the bytes behind the version, which is 1
 abbrev pub version_at : List ℕ → Result (List ℕ) Unreadable
@@ -205,6 +215,7 @@ abbrev pub ended : List ℕ → Result (Unit {0}) Unreadable
 ended [] = Ok tt
 ended (byte ∷ rest) = stops_at (byte ∷ rest)
 
+-- the body of a project: description and settings
 unfoldable pub project_in : List ℕ → List ℕ → Result Project Unreadable
 project_in name body = do
   rest ← version_at body
@@ -213,6 +224,7 @@ project_in name body = do
   end ← ended config.1
   Ok (record { name = name; description = description.0; config = config.0 })
 
+-- the body of a profile: description, settings and devices
 unfoldable pub profile_in : List ℕ → List ℕ → List ℕ → Result Profile Unreadable
 profile_in project name body = do
   rest ← version_at body
@@ -222,6 +234,7 @@ profile_in project name body = do
   end ← ended devices.1
   Ok (record { project = project; name = name; description = description.0; config = config.0; devices = devices.0 })
 
+-- the body of a network: description and settings
 unfoldable pub network_in : List ℕ → List ℕ → List ℕ → Result Network Unreadable
 network_in project name body = do
   rest ← version_at body
@@ -230,6 +243,7 @@ network_in project name body = do
   end ← ended config.1
   Ok (record { project = project; name = name; description = description.0; config = config.0 })
 
+-- the body of a pool: driver, description and settings
 unfoldable pub pool_in : List ℕ → List ℕ → Result Pool Unreadable
 pool_in name body = do
   rest ← version_at body
@@ -239,6 +253,7 @@ pool_in name body = do
   end ← ended config.1
   Ok (record { name = name; driver = driver.0; description = description.0; config = config.0 })
 
+-- the body of a volume: description, settings and the moment of creation
 unfoldable pub volume_in : List ℕ → List ℕ → List ℕ → List ℕ → Result Volume Unreadable
 volume_in project pool name body = do
   rest ← version_at body
@@ -248,6 +263,7 @@ volume_in project pool name body = do
   end ← ended created.1
   Ok (record { project = project; pool = pool; name = name; description = description.0; config = config.0; created = created.0 })
 
+-- the body of an instance: kind, whether ephemeral, description, origin, the moment of creation, profiles, settings and devices
 unfoldable pub instance_in : List ℕ → List ℕ → List ℕ → Result Instance Unreadable
 instance_in project name body = do
   rest ← version_at body
@@ -271,6 +287,7 @@ instance_in project name body = do
     devices = shape.0.devices;
   })
 
+-- the body of a snapshot: the moments of creation and of expiry, profiles, settings and devices
 unfoldable pub snapshot_in : List ℕ → List ℕ → List ℕ → List ℕ → Result Snapshot Unreadable
 snapshot_in project instance name body = do
   rest ← version_at body
@@ -301,6 +318,7 @@ damage_of len (or.Why unreadable) = or.Why (damaged.Body (len - unreadable.left)
 
 -- ---- keys
 
+-- the byte that stands between names
 abbrev pub is_slash : ℕ → Bool
 is_slash byte = byte == 47
 
@@ -320,37 +338,45 @@ three_names_in first second third key =
 
 -- ---- entries, by their keys and bodies
 
+-- a project, whose name is the key
 unfoldable pub project_of : List ℕ → List ℕ → Result Project Damaged
 project_of key body = if good_name_of kind.Project key then placed (length body) (project_in key body) else Err damaged.Key
 
+-- a profile, whose key is PROJECT/NAME
 unfoldable pub profile_of : List ℕ → List ℕ → Result Profile Damaged
 profile_of key body = do
   names ← two_names_in kind.Project kind.Profile key
   placed (length body) (profile_in names.0 names.1 body)
 
+-- a network, whose key is PROJECT/NAME
 unfoldable pub network_of : List ℕ → List ℕ → Result Network Damaged
 network_of key body = do
   names ← two_names_in kind.Project kind.Network key
   placed (length body) (network_in names.0 names.1 body)
 
+-- a pool, whose name is the key
 unfoldable pub pool_of : List ℕ → List ℕ → Result Pool Damaged
 pool_of key body = if good_name_of kind.Pool key then placed (length body) (pool_in key body) else Err damaged.Key
 
+-- a volume, whose key is PROJECT/POOL/NAME
 unfoldable pub volume_of : List ℕ → List ℕ → Result Volume Damaged
 volume_of key body = do
   names ← three_names_in kind.Project kind.Pool kind.Volume key
   placed (length body) (volume_in names.0 names.1 names.2 body)
 
+-- an instance, whose key is PROJECT/NAME
 unfoldable pub instance_of : List ℕ → List ℕ → Result Instance Damaged
 instance_of key body = do
   names ← two_names_in kind.Project kind.Instance key
   placed (length body) (instance_in names.0 names.1 body)
 
+-- a snapshot, whose key is PROJECT/INSTANCE/NAME
 unfoldable pub snapshot_of : List ℕ → List ℕ → Result Snapshot Damaged
 snapshot_of key body = do
   names ← three_names_in kind.Project kind.Instance kind.Snapshot key
   placed (length body) (snapshot_in names.0 names.1 names.2 body)
 
+-- what was read, as f makes it
 abbrev pub mapped : {A B E : Type 0} → (A → B) → Result A E → Result B E
 mapped f (Ok x) = Ok (f x)
 mapped f (Err e) = Err e

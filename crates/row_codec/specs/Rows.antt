@@ -15,6 +15,7 @@ use Rattle.row_codec.specs.Spelling.{entry_of}
 
 -- ---- its key
 
+-- a name that an object of this kind may get
 abbrev pub IsGood : ObjectKind → List ℕ → Type 0
 IsGood kind name = good_name_of kind name ≡ true
 
@@ -30,6 +31,7 @@ HasGoodKey (row.Snapshot r) = IsGood kind.Project r.project × IsGood kind.Insta
 
 -- ---- its moments
 
+-- a second before the end of the year 9999
 abbrev pub IsMoment : ℕ → Type 0
 IsMoment moment = moment < MOMENT_LIMIT
 
@@ -49,12 +51,15 @@ HasMoments (row.Snapshot r) = IsMoment r.created × IsMoment r.expires
 abbrev pub IsShort : {X : Type 0} → List X → Type 0
 IsShort items = length items < 2 ^ 32
 
+-- the list is short, and each text
 abbrev pub AreShortTexts : List (List ℕ) → Type 0
 AreShortTexts texts = IsShort texts × AllByRecursion IsShort texts
 
+-- the list is short, and each key and value
 abbrev pub AreShortSettings : Settings → Type 0
 AreShortSettings settings = IsShort settings × AllByRecursion (λ s. IsShort s.0 × IsShort s.1) settings
 
+-- the list is short, and each name and the settings of each device
 abbrev pub AreShortDevices : NamedDevices → Type 0
 AreShortDevices devices = IsShort devices × AllByRecursion (λ d. IsShort d.0 × AreShortSettings d.1) devices
 
@@ -71,12 +76,15 @@ HasShortParts (row.Snapshot r) = AreShortTexts r.profiles × AreShortSettings r.
 
 -- ---- what each row of the program has by its type
 
+-- each text is UTF-8
 abbrev pub AreUtf8 : List (List ℕ) → Type 0
 AreUtf8 texts = AllByRecursion IsUtf8 texts
 
+-- keys rise, no key or value is empty, and each is UTF-8
 abbrev pub AreTypedSettings : Settings → Type 0
 AreTypedSettings settings = IsConfig settings × AllByRecursion (λ s. IsUtf8 s.0 × IsUtf8 s.1) settings
 
+-- names rise, and each name and all settings are as they are by their types
 abbrev pub AreTypedDevices : NamedDevices → Type 0
 AreTypedDevices devices = IsDevices devices × AllByRecursion (λ d. IsUtf8 d.0 × AreTypedSettings d.1) devices
 
@@ -93,6 +101,7 @@ HasTypedParts (row.Snapshot r) = AreUtf8 r.profiles × AreTypedSettings r.config
 
 -- ---- what has a spelling
 
+-- a row that can be kept
 pub record IsRow (r : Row) : Type 0 where
   pub keyed : HasGoodKey r
   pub timely : HasMoments r

@@ -21,26 +21,29 @@ use Rattle.records.specs.declared.rows.Row.TheVariants as row
 
 -- ---- parts
 
--- its length as four bytes, highest first, and the text
+-- a text: its length as four bytes, highest first, and its bytes
 unfoldable pub text_bytes : List ℕ → List ℕ
 text_bytes text = to_be_bytes w32 (length text) ++ text
 
--- eight bytes, highest first
+-- a number: eight bytes, highest first
 unfoldable pub number_bytes : ℕ → List ℕ
 number_bytes number = to_be_bytes w64 number
 
--- a count as four bytes, and the items
+-- a list: its count as four bytes, highest first, and its items
 unfoldable pub list_bytes : {X : Type 0} → (X → List ℕ) → List X → List ℕ
 list_bytes item items = to_be_bytes w32 (length items) ++ flat_map item items
 
+-- a truth, as one byte
 abbrev pub truth_byte : Bool → ℕ
 truth_byte false = 0
 truth_byte true = 1
 
+-- the kind of an instance, as one byte
 abbrev pub kind_byte : Kind → ℕ
 kind_byte kind.Container = 0
 kind_byte kind.Machine = 1
 
+-- the driver of a pool, as one byte
 abbrev pub driver_byte : Driver → ℕ
 driver_byte driver.Dir = 0
 driver_byte driver.Btrfs = 1
@@ -51,6 +54,7 @@ driver_byte driver.Zfs = 3
 abbrev pub setting_bytes : List ℕ × List ℕ → List ℕ
 setting_bytes setting = text_bytes setting.0 ++ text_bytes setting.1
 
+-- settings, in the order of their keys
 abbrev pub settings_bytes : Settings → List ℕ
 settings_bytes settings = list_bytes setting_bytes settings
 
@@ -58,29 +62,37 @@ settings_bytes settings = list_bytes setting_bytes settings
 abbrev pub device_bytes : List ℕ × Settings → List ℕ
 device_bytes device = text_bytes device.0 ++ settings_bytes device.1
 
+-- devices, in the order of their names
 abbrev pub devices_bytes : NamedDevices → List ℕ
 devices_bytes devices = list_bytes device_bytes devices
 
+-- texts, in the order of the list
 abbrev pub texts_bytes : List (List ℕ) → List ℕ
 texts_bytes texts = list_bytes text_bytes texts
 
 -- ---- bodies: the version, and the parts
 
+-- the body of a project: description and settings
 abbrev pub project_bytes : Project → List ℕ
 project_bytes r = (1 ∷ text_bytes r.description) ++ settings_bytes r.config
 
+-- the body of a profile: description, settings and devices
 abbrev pub profile_bytes : Profile → List ℕ
 profile_bytes r = (1 ∷ text_bytes r.description) ++ settings_bytes r.config ++ devices_bytes r.devices
 
+-- the body of a network: description and settings
 abbrev pub network_bytes : Network → List ℕ
 network_bytes r = (1 ∷ text_bytes r.description) ++ settings_bytes r.config
 
+-- the body of a pool: driver, description and settings
 abbrev pub pool_bytes : Pool → List ℕ
 pool_bytes r = (1 ∷ driver_byte r.driver ∷ text_bytes r.description) ++ settings_bytes r.config
 
+-- the body of a volume: description, settings and the moment of creation
 abbrev pub volume_bytes : Volume → List ℕ
 volume_bytes r = (1 ∷ text_bytes r.description) ++ settings_bytes r.config ++ number_bytes r.created
 
+-- the body of an instance: kind, whether ephemeral, description, origin, the moment of creation, profiles, settings and devices
 abbrev pub instance_bytes : Instance → List ℕ
 instance_bytes r =
     (1 ∷ kind_byte r.kind ∷ truth_byte r.ephemeral ∷ text_bytes r.description)
@@ -90,6 +102,7 @@ instance_bytes r =
     ++ settings_bytes r.config
     ++ devices_bytes r.devices
 
+-- the body of a snapshot: the moments of creation and of expiry, profiles, settings and devices
 abbrev pub snapshot_bytes : Snapshot → List ℕ
 snapshot_bytes r =
     (1 ∷ number_bytes r.created)
@@ -98,6 +111,7 @@ snapshot_bytes r =
     ++ settings_bytes r.config
     ++ devices_bytes r.devices
 
+-- the body of a row, by its kind
 abbrev pub body_of : Row → List ℕ
 body_of (row.Project r) = project_bytes r
 body_of (row.Profile r) = profile_bytes r
@@ -109,6 +123,7 @@ body_of (row.Snapshot r) = snapshot_bytes r
 
 -- ---- kinds and keys
 
+-- the number of the kind of a row
 abbrev pub kind_of : Row → ℕ
 kind_of (row.Project r) = 1
 kind_of (row.Profile r) = 2
@@ -118,13 +133,15 @@ kind_of (row.Volume r) = 5
 kind_of (row.Instance r) = 6
 kind_of (row.Snapshot r) = 7
 
--- two names, or three, with a slash between
+-- two names with a slash between
 abbrev pub two_names : List ℕ → List ℕ → List ℕ
 two_names first second = first ++ 47 ∷ second
 
+-- three names with slashes between
 abbrev pub three_names : List ℕ → List ℕ → List ℕ → List ℕ
 three_names first second third = two_names first (two_names second third)
 
+-- the key of a row: its project where it has one, its pool or instance where it stands in one, and its name
 abbrev pub key_of : Row → List ℕ
 key_of (row.Project r) = r.name
 key_of (row.Profile r) = two_names r.project r.name

@@ -117,107 +117,49 @@ static SPELLINGS: [Line; 15] = [
     ),
 ];
 
-fn bytes_of(alloc: Global, pieces: &[&[u8]]) -> Result<Vec<u8>, NoMemory> {
-    let mut bytes = Vec::new(alloc);
-    for piece in pieces {
-        bytes.extend_from_slice(piece)?;
-    }
-    Ok(bytes)
-}
+/// The body of a project with one setting and no description.
+const LAB: &[u8] = b"\x01\x00\x00\x00\x00\x00\x00\x00\x01\x00\x00\x00\x06user.a\x00\x00\x00\x011";
 
-fn entry_of(alloc: Global, kind: u8, key: &str, body: &[u8]) -> Result<Entry, NoMemory> {
-    Ok(Entry {
-        kind,
-        key: Text::from_text(alloc, key)?,
-        body: Seq::of_bytes(alloc, body)?,
-    })
-}
-
-/// The damage of an entry, or none where it is read as a row.
-fn damage_of(alloc: Global, kind: u8, key: &str, body: &[u8]) -> Result<Option<Damaged>, NoMemory> {
-    let entry = entry_of(alloc, kind, key, body)?;
-    match decode(alloc, &entry) {
-        Ok(_) => Ok(None),
-        Err(Or::Why(damaged)) => Ok(Some(damaged)),
-        Err(Or::NoMemory) => Err(NoMemory),
-    }
-}
-
-/// Cut before each of its bytes, a body is damaged where the cut piece begins.
-fn is_damaged_at_each_cut(
-    alloc: Global,
-    kind: u8,
-    key: &str,
-    pieces: &[&[u8]],
-) -> Result<bool, NoMemory> {
-    let mut whole = Vec::new(alloc);
-    for piece in pieces {
-        let place = whole.len() as u64;
-        for within in 0..piece.len() {
-            let cut = bytes_of(alloc, &[&whole, &piece[..within]])?;
-            if damage_of(alloc, kind, key, &cut)? != Some(Damaged::Body(place)) {
-                return Ok(false);
-            }
-        }
-        whole.extend_from_slice(piece)?;
-    }
-    Ok(true)
-}
-
-/// What is written of the row that an entry is read as, or of a copy of that row.
-fn written_again(alloc: Global, entry: &Entry) -> Result<Entry, Or<Damaged>> {
-    let row = decode(alloc, entry)?.copy(alloc)?;
-    Ok(encode(alloc, &row)?)
-}
-
-fn is_written_again(alloc: Global, kind: u8, key: &str, body: &[u8]) -> Result<bool, NoMemory> {
-    let entry = entry_of(alloc, kind, key, body)?;
-    match written_again(alloc, &entry) {
-        Ok(again) => Ok(again.kind == kind && again.key.view() == key && again.body.view() == body),
-        Err(Or::Why(_)) => Ok(false),
-        Err(Or::NoMemory) => Err(NoMemory),
-    }
-}
-
-#[test]
-fn a_project_and_its_damages(rt: HostRuntime) -> Result<(), Fail> {
-    let alloc = rt.alloc();
-    let body = b"\x01\x00\x00\x00\x00\x00\x00\x00\x01\x00\x00\x00\x06user.a\x00\x00\x00\x011";
-    assert_eq!(rt; body.len(), 24);
-    assert!(rt; is_written_again(alloc, 1, "lab", body)?);
-    let longer = bytes_of(alloc, &[body, b"\x00"])?;
-    let newer = bytes_of(alloc, &[b"\x02", &body[1..]])?;
-    for (kind, key, body, damaged) in [
-        (1, "lab", longer.as_slice(), Damaged::Body(24)),
-        (1, "lab", newer.as_slice(), Damaged::Body(0)),
-        (9, "lab", body, Damaged::Kind),
-        (1, "a/b", body, Damaged::Key),
-    ] {
-        assert_eq!(rt;
-            damage_of(alloc, kind, key, body)?,
-            Some(damaged),
-            "{damaged:?}"
-        );
-    }
-    Ok(())
-}
-
-#[test]
-fn rows_of_each_kind(rt: HostRuntime) -> Result<(), Fail> {
-    let alloc = rt.alloc();
-    for (kind, key, pieces) in &SPELLINGS {
-        let body = bytes_of(alloc, pieces)?;
-        let longer = bytes_of(alloc, &[&body, b"\x00"])?;
-        let end = Damaged::Body(body.len() as u64);
-        assert!(rt; is_written_again(alloc, *kind, key, &body)?, "{key}");
-        assert!(rt; is_damaged_at_each_cut(alloc, *kind, key, pieces)?, "{key}");
-        assert_eq!(rt; damage_of(alloc, *kind, key, &longer)?, Some(end), "{key}");
-    }
-    Ok(())
-}
+/// Entries of no row. The kind is judged before the key, and the key before the body.
+static DAMAGED_ENTRIES: [(u8, &str, &[u8], Damaged); 24] = [
+    (
+        1,
+        "lab",
+        b"\x01\x00\x00\x00\x00\x00\x00\x00\x01\x00\x00\x00\x06user.a\x00\x00\x00\x011\x00",
+        Damaged::Body(24),
+    ),
+    (
+        1,
+        "lab",
+        b"\x02\x00\x00\x00\x00\x00\x00\x00\x01\x00\x00\x00\x06user.a\x00\x00\x00\x011",
+        Damaged::Body(0),
+    ),
+    (9, "lab", LAB, Damaged::Kind),
+    (1, "a/b", LAB, Damaged::Key),
+    (0, "lab", &[], Damaged::Kind),
+    (8, "lab", &[], Damaged::Kind),
+    (255, "", &[], Damaged::Kind),
+    (1, "", &[], Damaged::Key),
+    (1, "-lab", &[], Damaged::Key),
+    (1, "lab/", &[], Damaged::Key),
+    (2, "lab", &[], Damaged::Key),
+    (2, "lab/", &[], Damaged::Key),
+    (2, "/web", &[], Damaged::Key),
+    (2, "lab/web/x", &[], Damaged::Key),
+    (2, "a_b/web", &[], Damaged::Key),
+    (3, "lab/b", &[], Damaged::Key),
+    (4, "p0/", &[], Damaged::Key),
+    (5, "lab/p0", &[], Damaged::Key),
+    (5, "lab/p0/", &[], Damaged::Key),
+    (5, "lab/p0/v/w", &[], Damaged::Key),
+    (6, "lab/7a", &[], Damaged::Key),
+    (6, "lab/c1/", &[], Damaged::Key),
+    (7, "lab/c1", &[], Damaged::Key),
+    (7, "lab/7a/s0", &[], Damaged::Key),
+];
 
 /// Bodies that no row has, and the place of the first damage.
-static DAMAGED: [(Line, u64); 22] = [
+static DAMAGED_BODIES: [(Line, u64); 22] = [
     ((1, "lab", &[]), 0),
     ((1, "lab", &[b"\x00", NONE, NONE]), 0),
     ((1, "lab", &[VERSION, b"\x00\x00\x00\x01\xff", NONE]), 1),
@@ -290,55 +232,120 @@ static DAMAGED: [(Line, u64); 22] = [
     ),
 ];
 
-#[test]
-fn damaged_bodies(rt: HostRuntime) -> Result<(), Fail> {
-    let alloc = rt.alloc();
-    for ((kind, key, pieces), place) in &DAMAGED {
-        let body = bytes_of(alloc, pieces)?;
-        let damage = Damaged::Body(*place);
-        assert_eq!(rt;
-            damage_of(alloc, *kind, key, &body)?,
-            Some(damage),
-            "{key} at {place}"
-        );
-    }
-    Ok(())
-}
-
-/// Kinds and keys of no row. The kind is judged before the key, and the key before the body.
-static MISNAMED: [(u8, &str, Damaged); 20] = [
-    (0, "lab", Damaged::Kind),
-    (8, "lab", Damaged::Kind),
-    (255, "", Damaged::Kind),
-    (1, "", Damaged::Key),
-    (1, "-lab", Damaged::Key),
-    (1, "lab/", Damaged::Key),
-    (2, "lab", Damaged::Key),
-    (2, "lab/", Damaged::Key),
-    (2, "/web", Damaged::Key),
-    (2, "lab/web/x", Damaged::Key),
-    (2, "a_b/web", Damaged::Key),
-    (3, "lab/b", Damaged::Key),
-    (4, "p0/", Damaged::Key),
-    (5, "lab/p0", Damaged::Key),
-    (5, "lab/p0/", Damaged::Key),
-    (5, "lab/p0/v/w", Damaged::Key),
-    (6, "lab/7a", Damaged::Key),
-    (6, "lab/c1/", Damaged::Key),
-    (7, "lab/c1", Damaged::Key),
-    (7, "lab/7a/s0", Damaged::Key),
+/// Bodies of a pool, an instance and a snapshot whose fields are looked at.
+static WITH_FIELDS: [Line; 3] = [
+    (4, "p0", &[VERSION, b"\x02", CAFE, ONE, KEY, VALUE]),
+    (
+        6,
+        "lab/c1",
+        &[
+            VERSION, b"\x01", b"\x00", CAFE, ROOT, LATER, TWO, ETH0, ROOT, NONE, NONE,
+        ],
+    ),
+    (
+        7,
+        "lab/c1/s0",
+        &[VERSION, LATER, LAST_SECOND, NONE, NONE, ONE, ETH0, NONE],
+    ),
 ];
 
-#[test]
-fn kinds_and_keys_of_no_row(rt: HostRuntime) -> Result<(), Fail> {
-    for (kind, key, damaged) in &MISNAMED {
-        assert_eq!(rt;
-            damage_of(rt.alloc(), *kind, key, &[])?,
-            Some(*damaged),
-            "{kind} {key}"
-        );
+fn bytes_of(alloc: Global, pieces: &[&[u8]]) -> Result<Vec<u8>, NoMemory> {
+    let mut bytes = Vec::new(alloc);
+    for piece in pieces {
+        bytes.extend_from_slice(piece)?;
     }
-    Ok(())
+    Ok(bytes)
+}
+
+fn entry_of(alloc: Global, kind: u8, key: &str, body: &[u8]) -> Result<Entry, NoMemory> {
+    Ok(Entry {
+        kind,
+        key: Text::from_text(alloc, key)?,
+        body: Seq::of_bytes(alloc, body)?,
+    })
+}
+
+fn damage_of(alloc: Global, entry: &Entry) -> Option<Damaged> {
+    match decode(alloc, entry) {
+        Err(Or::Why(damaged)) => Some(damaged),
+        _ => None,
+    }
+}
+
+fn is_damaged(alloc: Global, kind: u8, key: &str, body: &[u8], damaged: Damaged) -> bool {
+    match entry_of(alloc, kind, key, body) {
+        Ok(entry) => damage_of(alloc, &entry) == Some(damaged),
+        Err(_) => false,
+    }
+}
+
+/// Cut before each of its bytes, a body is damaged where the cut piece begins.
+fn is_damaged_at_each_cut(
+    alloc: Global,
+    kind: u8,
+    key: &str,
+    pieces: &[&[u8]],
+) -> Result<bool, NoMemory> {
+    let mut whole = Vec::new(alloc);
+    for piece in pieces {
+        let place = Damaged::Body(whole.len() as u64);
+        for within in 0..piece.len() {
+            let cut = bytes_of(alloc, &[&whole, &piece[..within]])?;
+            if !is_damaged(alloc, kind, key, &cut, place) {
+                return Ok(false);
+            }
+        }
+        whole.extend_from_slice(piece)?;
+    }
+    Ok(true)
+}
+
+fn is_same(written: Result<Entry, NoMemory>, entry: &Entry) -> bool {
+    match written {
+        Ok(again) => {
+            again.kind == entry.kind
+                && again.key.is(&entry.key)
+                && again.body.view() == entry.body.view()
+        }
+        Err(_) => false,
+    }
+}
+
+fn is_copied(alloc: Global, row: &Row) -> bool {
+    row.copy(alloc).is_ok()
+}
+
+fn is_keyed(alloc: Global, row: &Row, entry: &Entry) -> bool {
+    match key_of(alloc, row) {
+        Ok(key) => key.is(&entry.key) && kind_of(row) == entry.kind,
+        Err(_) => false,
+    }
+}
+
+/// The entry is read as a row, which is written as the same entry.
+fn is_written_again(alloc: Global, entry: &Entry) -> bool {
+    match decode(alloc, entry) {
+        Ok(row) => {
+            is_copied(alloc, &row)
+                && is_keyed(alloc, &row, entry)
+                && is_same(encode(alloc, &row), entry)
+        }
+        Err(_) => false,
+    }
+}
+
+fn is_kept(alloc: Global, kind: u8, key: &str, body: &[u8]) -> bool {
+    match entry_of(alloc, kind, key, body) {
+        Ok(entry) => is_written_again(alloc, &entry),
+        Err(_) => false,
+    }
+}
+
+fn is_spelling(alloc: Global, kind: u8, key: &str, pieces: &[&[u8]]) -> Result<bool, NoMemory> {
+    let body = bytes_of(alloc, pieces)?;
+    let longer = bytes_of(alloc, &[&body, b"\x00"])?;
+    let end = Damaged::Body(body.len() as u64);
+    Ok(is_kept(alloc, kind, key, &body) && is_damaged(alloc, kind, key, &longer, end))
 }
 
 fn is_the_pool(pool: &Pool) -> bool {
@@ -370,32 +377,57 @@ fn has_its_fields(row: &Row) -> bool {
     }
 }
 
-/// Bodies of a pool, an instance and a snapshot whose fields are looked at.
-static WITH_FIELDS: [Line; 3] = [
-    (4, "p0", &[VERSION, b"\x02", CAFE, ONE, KEY, VALUE]),
-    (
-        6,
-        "lab/c1",
-        &[
-            VERSION, b"\x01", b"\x00", CAFE, ROOT, LATER, TWO, ETH0, ROOT, NONE, NONE,
-        ],
-    ),
-    (
-        7,
-        "lab/c1/s0",
-        &[VERSION, LATER, LAST_SECOND, NONE, NONE, ONE, ETH0, NONE],
-    ),
-];
+fn is_read_with_its_fields(alloc: Global, entry: &Entry) -> bool {
+    match decode(alloc, entry) {
+        Ok(row) => has_its_fields(&row),
+        Err(_) => false,
+    }
+}
+
+#[test]
+fn a_project_and_its_damages(rt: HostRuntime) -> Result<(), Fail> {
+    assert_eq!(rt; LAB.len(), 24);
+    assert!(rt; is_kept(rt.alloc(), 1, "lab", LAB));
+    for (kind, key, body, damaged) in &DAMAGED_ENTRIES {
+        assert!(rt;
+            is_damaged(rt.alloc(), *kind, key, body, *damaged),
+            "{kind} {key}"
+        );
+    }
+    Ok(())
+}
+
+#[test]
+fn rows_of_each_kind(rt: HostRuntime) -> Result<(), Fail> {
+    for (kind, key, pieces) in &SPELLINGS {
+        assert!(rt; is_spelling(rt.alloc(), *kind, key, pieces)?, "{key}");
+        assert!(rt;
+            is_damaged_at_each_cut(rt.alloc(), *kind, key, pieces)?,
+            "{key} cut"
+        );
+    }
+    Ok(())
+}
+
+#[test]
+fn damaged_bodies(rt: HostRuntime) -> Result<(), Fail> {
+    for ((kind, key, pieces), place) in &DAMAGED_BODIES {
+        let body = bytes_of(rt.alloc(), pieces)?;
+        let damaged = Damaged::Body(*place);
+        assert!(rt;
+            is_damaged(rt.alloc(), *kind, key, &body, damaged),
+            "{key} at {place}"
+        );
+    }
+    Ok(())
+}
 
 #[test]
 fn parts_go_to_their_fields(rt: HostRuntime) -> Result<(), Fail> {
-    let alloc = rt.alloc();
     for (kind, key, pieces) in &WITH_FIELDS {
-        let body = bytes_of(alloc, pieces)?;
-        let row = decode(alloc, &entry_of(alloc, *kind, key, &body)?)?;
-        assert!(rt; has_its_fields(&row), "{key}");
-        assert_eq!(rt; kind_of(&row), *kind, "{key}");
-        assert_eq!(rt; key_of(alloc, &row)?.view(), *key);
+        let body = bytes_of(rt.alloc(), pieces)?;
+        let entry = entry_of(rt.alloc(), *kind, key, &body)?;
+        assert!(rt; is_read_with_its_fields(rt.alloc(), &entry), "{key}");
     }
     Ok(())
 }
