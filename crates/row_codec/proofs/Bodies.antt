@@ -1,5 +1,5 @@
 -- A body that is read as a row is the spelling of the row, and a spelling with nothing behind it is read as its row.
-use Rattle.std.proofs.Common.{◌≡◌, ℕ, zero, suc, Bool, true, false, cond, eqb, List, [], ◌∷◌, ◌++◌, length, Option, Some, None, Result, Ok, Err, refl, sym, ap, subst, ◌∙◌, append_assoc, arith}
+use Rattle.std.proofs.Common.{◌≡◌, ℕ, Bool, true, false, cond, eqb, List, [], ◌∷◌, ◌++◌, Some, Ok, refl, ap, subst, ◌∙◌, append_assoc, arith}
 use Rattle.std.proofs.lemmas.Bool.Decides.{nat_tests}
 use Rattle.std.proofs.lemmas.List.{append-nil}
 use Rattle.size_values.specs.declared.kinds.Kind.{Kind}
@@ -13,12 +13,11 @@ use Rattle.records.specs.declared.rows.Pool.{Pool}
 use Rattle.records.specs.declared.rows.Volume.{Volume}
 use Rattle.records.specs.declared.rows.Instance.{Instance}
 use Rattle.records.specs.declared.rows.Snapshot.{Snapshot}
-use Rattle.row_codec.specs.declared.damage.Unreadable.{Unreadable}
 use Rattle.row_codec.specs.declared.parts.Shape.{Shape}
 use Rattle.row_codec.specs.Rows.{IsMoment}
 use Rattle.row_codec.specs.Spelling.{text_bytes, number_bytes, truth_byte, kind_byte, driver_byte, settings_bytes, devices_bytes, texts_bytes, project_bytes, profile_bytes, network_bytes, pool_bytes, volume_bytes, instance_bytes, snapshot_bytes}
-use Rattle.row_codec.specs.Reading.{◌>>=◌, Read, stops_at, code_at, truth_of, instance_kind_of, driver_of, text_at, moment_at, settings_at, texts_at, devices_at, shape_at, version_at, ended, project_in, profile_in, network_in, pool_in, volume_in, instance_in, snapshot_in}
-use Rattle.row_codec.proofs.Fields.{IsBytes, IsBytes-tail, Went, went, passed, ok_is, Takes, Takes-then, IsPart, IsText, text_part, moment_part, code_part}
+use Rattle.row_codec.specs.Reading.{◌>>=◌, stops_at, code_at, truth_of, instance_kind_of, driver_of, text_at, moment_at, settings_at, texts_at, devices_at, shape_at, version_at, ended, project_in, profile_in, network_in, pool_in, volume_in, instance_in, snapshot_in}
+use Rattle.row_codec.proofs.Fields.{IsBytes, IsBytes-tail, went, ok_is, Takes, Takes-then, IsPart, IsText, text_part, moment_part, code_part}
 use Rattle.row_codec.proofs.Settings.{FitsTexts, FitsSettings, FitsDevices, texts_part, settings_part, devices_part}
 
 truth_part : IsPart (code_at truth_of) (λ b. truth_byte b ∷ []) (λ b. Unit {0})

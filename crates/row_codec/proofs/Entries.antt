@@ -1,5 +1,5 @@
 -- An entry that is read as a row is the spelling of the row, and the spelling of a row is read as the row.
-use Rattle.std.proofs.Common.{◌≡◌, ℕ, Bool, true, false, cond, eqb, List, [], ◌∷◌, ◌++◌, length, Result, Ok, Err, refl, sym, ap, subst, ◌∙◌}
+use Rattle.std.proofs.Common.{◌≡◌, ℕ, Bool, true, false, cond, eqb, List, [], length, Result, Ok, Err, refl, sym, ap, subst, ◌∙◌}
 use Rattle.std.specs.Prelude.{IfOk}
 use Rattle.std.proofs.lemmas.Bool.{eqb-true}
 use Rattle.std.proofs.lemmas.List.{append-nil}
@@ -21,9 +21,8 @@ use Rattle.row_codec.specs.declared.damage.Damaged.TheVariants as damaged
 use Rattle.row_codec.specs.declared.damage.Unreadable.{Unreadable}
 use Rattle.row_codec.specs.Spelling.{two_names, three_names, entry_of, project_bytes, profile_bytes, network_bytes, pool_bytes, volume_bytes, instance_bytes, snapshot_bytes}
 use Rattle.row_codec.specs.Rows.{IsGood, IsRow, Spells}
-use Rattle.row_codec.specs.Reading.{◌>>=◌, Gives, placed, mapped, ended, two_names_in, three_names_in, project_in, profile_in, network_in, pool_in, volume_in, instance_in, snapshot_in, project_of, profile_of, network_of, pool_of, volume_of, instance_of, snapshot_of, row_at, row_of}
-use Rattle.row_codec.proofs.Fields.{IsBytes, IsText, Went, went}
-use Rattle.row_codec.proofs.Settings.{FitsTexts, FitsSettings, FitsDevices}
+use Rattle.row_codec.specs.Reading.{Gives, placed, mapped, two_names_in, three_names_in, project_in, profile_in, network_in, pool_in, volume_in, instance_in, snapshot_in, project_of, profile_of, network_of, pool_of, volume_of, instance_of, snapshot_of, row_at, row_of}
+use Rattle.row_codec.proofs.Fields.{IsBytes, went}
 use Rattle.row_codec.proofs.Names.{passed_then, two_took, two_again, three_took, three_again}
 use Rattle.row_codec.proofs.Bodies.{FitsProject, project_took, project_again, FitsProfile, profile_took, profile_again, FitsNetwork, network_took, network_again, FitsPool, pool_took, pool_again, FitsVolume, volume_took, volume_again, FitsInstance, instance_took, instance_again, FitsSnapshot, snapshot_took, snapshot_again}
 

@@ -1,13 +1,12 @@
 -- Lists that are read are those that were written: texts, settings with rising keys, devices with rising names.
-use Rattle.std.proofs.Common.{◌≡◌, ◌≢◌, ℕ, zero, suc, ◌^◌, ◌<◌, Bool, true, false, cond, eqb, List, [], ◌∷◌, ◌++◌, length, Option, Some, None, Result, Ok, Err, refl, sym, ap, subst, ◌∙◌, append_assoc, arith}
+use Rattle.std.proofs.Common.{◌≡◌, ℕ, zero, suc, ◌^◌, ◌<◌, List, [], ◌∷◌, ◌++◌, length, Option, Some, None, Ok, refl, sym, ap, subst, ◌∙◌, append_assoc, arith}
 use Rattle.std.specs.Int.{w32, to_be_bytes}
 use Rattle.std.specs.List.{flat_map, AllByRecursion}
 use Rattle.std.proofs.lemmas.List.Concat.{flat_map-cons}
-use Rattle.row_codec.specs.declared.damage.Unreadable.{Unreadable}
-use Rattle.row_codec.specs.Spelling.{text_bytes, list_bytes}
+use Rattle.row_codec.specs.Spelling.{list_bytes}
 use Rattle.row_codec.specs.Rows.{IsShort}
 use Rattle.row_codec.specs.Reading.{◌>>=◌, Read, count_at, items_at, list_at}
-use Rattle.row_codec.proofs.Fields.{IsBytes, Went, went, Takes, Takes-then, IsPart, count_part, ok_is}
+use Rattle.row_codec.proofs.Fields.{IsBytes, went, Takes, Takes-then, IsPart, count_part, ok_is}
 
 -- A reader of one item behind another: as of a part, and the item may follow that other.
 pub record IsItem {X : Type 0} (read : Option X → List ℕ → Read X) (spelled : X → List ℕ) (Fits : X → Type 0) (Follows : Option X → X → Type 0) : Type 0 where

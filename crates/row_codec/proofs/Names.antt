@@ -1,11 +1,10 @@
 -- A good name has no slash and is not empty, so the names of a key are those that were joined.
-use Rattle.std.proofs.Common.{◌≡◌, ◌≢◌, ℕ, zero, suc, ◌+◌, ◌≤◌, ◌<◌, Bool, true, false, cond, eqb, leb, ltb, not, ◌&&◌, List, [], ◌∷◌, ◌++◌, length, get_or, take, drop, Result, Ok, Err, refl, sym, ap, subst, ◌∙◌, arith, inl, inr}
-use Rattle.std.specs.List.{before_first, after_first, position_or_len, list_all, All}
+use Rattle.std.proofs.Common.{◌≡◌, ◌≢◌, ℕ, ◌+◌, Bool, true, false, cond, not, ◌&&◌, List, [], ◌∷◌, ◌++◌, length, take, drop, Result, Ok, Err, refl, sym, ap, subst, ◌∙◌, arith, inl, inr}
+use Rattle.std.specs.List.{before_first, after_first, position_or_len, list_all}
 use Rattle.std.proofs.lemmas.Bool.{eqb-true, cases_lt}
-use Rattle.std.proofs.lemmas.Bool.Decides.{nat_tests}
 use Rattle.std.proofs.Math.Seq.{drop-append-add}
-use Rattle.std.proofs.lemmas.List.{take_at, drop_at, drop_all, length-append}
-use Rattle.std.proofs.lemmas.List.Sums.{AllPass-from_list_all, position_or_len_is, split_at_first, passes_at_first}
+use Rattle.std.proofs.lemmas.List.{take_at, drop_all}
+use Rattle.std.proofs.lemmas.List.Sums.{split_at_first, passes_at_first}
 use Rattle.size_values.specs.declared.kinds.ObjectKind.{ObjectKind}
 use Rattle.size_values.specs.declared.kinds.ObjectKind.TheVariants as kind
 use Rattle.estate_rules.specs.Names.{good_name_of, is_word_of, is_object_byte, is_project_byte, is_instance_byte, is_object_name, is_project_name, is_instance_name}
@@ -14,7 +13,7 @@ use Rattle.row_codec.specs.declared.damage.Damaged.TheVariants as damaged
 use Rattle.row_codec.specs.Rows.{IsGood}
 use Rattle.row_codec.specs.Spelling.{two_names, three_names}
 use Rattle.row_codec.specs.Reading.{◌>>=◌, is_slash, two_names_in, three_names_in}
-use Rattle.row_codec.proofs.Fields.{both_true, passed, Went, went}
+use Rattle.row_codec.proofs.Fields.{both_true, passed, went}
 
 -- a list without a byte that is a slash
 abbrev pub HasNoSlash : List ℕ → Type 0

@@ -1,16 +1,15 @@
 -- The lists of rows that are read are those that were written, with the facts that rows state of them.
-use Rattle.std.proofs.Common.{◌≡◌, ◌≢◌, ℕ, zero, suc, ◌<◌, Bool, true, false, cond, eqb, List, [], ◌∷◌, ◌++◌, length, Option, Some, None, Result, Ok, Err, refl, sym, ap, subst, ◌∙◌, append_assoc, arith}
+use Rattle.std.proofs.Common.{◌≡◌, ◌≢◌, ℕ, true, false, cond, List, [], ◌∷◌, ◌++◌, length, Option, Some, None, Ok, refl, ap, subst, ◌∙◌, append_assoc, arith}
 use Rattle.std.specs.List.{AllByRecursion}
 use Rattle.std.specs.Str.{IsUtf8}
 use Rattle.std.proofs.lemmas.Bool.Decides.{nat_tests}
 use Rattle.std.proofs.lemmas.List.Elements.{All-from_recursion, recursion_from_All}
-use Rattle.config_lists.specs.Settings.{Settings, IsFull, IsConfig}
-use Rattle.config_lists.specs.Devices.{NamedDevices, IsDevices}
-use Rattle.row_codec.specs.declared.damage.Unreadable.{Unreadable}
+use Rattle.config_lists.specs.Settings.{Settings, IsFull}
+use Rattle.config_lists.specs.Devices.{NamedDevices}
 use Rattle.row_codec.specs.Spelling.{text_bytes, setting_bytes, settings_bytes, device_bytes, devices_bytes, texts_bytes}
 use Rattle.row_codec.specs.Rows.{IsShort, AreShortTexts, AreShortSettings, AreShortDevices, AreUtf8, AreTypedSettings, AreTypedDevices}
 use Rattle.row_codec.specs.Reading.{◌>>=◌, Read, stops_at, text_at, is_next, is_empty, filled_at, next_at, next_filled_at, setting_at, settings_at, device_at, devices_at, texts_at}
-use Rattle.row_codec.proofs.Fields.{IsBytes, Went, went, passed, passed_not, ok_is, Takes, Takes-then, IsPart, IsText, text_part}
+use Rattle.row_codec.proofs.Fields.{IsBytes, went, passed, passed_not, ok_is, Takes, Takes-then, IsPart, IsText, text_part}
 use Rattle.row_codec.proofs.Listed.{IsItem, AreInRow, AreItems, list_part}
 use Rattle.row_codec.proofs.Rising.{IsNext, KeysRise-from_row, row_from_KeysRise}
 

@@ -1,6 +1,6 @@
-use Rattle.std.proofs.Common.{None, List, ℕ}
+use Rattle.std.proofs.Common.{None}
 use Rattle.std.proofs.lemmas.Result.{err_from_is_err_and}
-use Rattle.row_codec.specs.Reading.{items_at, text_at, setting_at, device_at}
+use Rattle.row_codec.specs.Reading.{items_at, setting_at}
 use Rattle.row_codec.proofs.Items.{goes_on, ends, is_done}
 use Rattle.row_codec.proofs.lists.settings_from.Goals as goal
 

@@ -1,5 +1,5 @@
 use Rattle.std.proofs.Common.{◌≡◌, ◌-◌, None}
-use Rattle.row_codec.specs.Reading.{last_of, items_at, text_at, setting_at, device_at}
+use Rattle.row_codec.specs.Reading.{last_of, items_at, setting_at}
 use Rattle.row_codec.proofs.Items.{with_front}
 use Rattle.row_codec.proofs.lists.settings_from.Given as goal
 
