@@ -1,0 +1,4 @@
+pub mod Computed
+pub mod Moving
+pub mod Following
+pub mod Running

@@ -1,0 +1,61 @@
+-- Links of objects: the path of an object, and its project where that is not `default`.
+use Rattle.std.specs.Prelude.{ℕ, List, [], ◌∷◌, ◌++◌, if◌then◌else◌, codes}
+use Rattle.std.specs.Str.{bytes_eq}
+use Rattle.plain_lists.specs.Edits.{inserted}
+use Rattle.size_values.specs.declared.kinds.ObjectKind.{ObjectKind}
+use Rattle.size_values.specs.declared.kinds.ObjectKind.TheVariants.{Project, Profile, Network, Pool, Volume, Instance, Snapshot, Operation}
+use Rattle.records.specs.declared.rows.Row.{Row}
+use Rattle.records.specs.declared.rows.Row.TheVariants as row
+use Rattle.records.specs.declared.commands.Target.{Target}
+use Rattle.row_machine.specs.Rows.{default_name, text_before}
+
+-- the query that names a project; `default` needs none
+abbrev pub project_query : List ℕ → List ℕ
+project_query project = if bytes_eq project default_name then [] else codes "?project=" ++ project
+
+-- the path of an object, by its kind, the pool or instance that it stands in, and its name
+abbrev pub path_of : Target → List ℕ
+path_of of = path of.kind where
+  path : ObjectKind → List ℕ
+  path Project = codes "/1.0/projects/" ++ of.name
+  path Profile = codes "/1.0/profiles/" ++ of.name
+  path Network = codes "/1.0/networks/" ++ of.name
+  path Pool = codes "/1.0/storage-pools/" ++ of.name
+  path Volume = codes "/1.0/storage-pools/" ++ of.pool ++ codes "/volumes/custom/" ++ of.name
+  path Instance = codes "/1.0/instances/" ++ of.name
+  path Snapshot = codes "/1.0/instances/" ++ of.instance ++ codes "/snapshots/" ++ of.name
+  path Operation = codes "/1.0/operations/" ++ of.name
+
+-- the link of an object that belongs to a project; pools and projects belong to none
+abbrev pub link_of : List ℕ → Target → List ℕ
+link_of project of = path_of of ++ query of.kind where
+  query : ObjectKind → List ℕ
+  query Project = []
+  query Pool = []
+  query other = project_query project
+
+-- what names a row
+abbrev pub target_of : Row → Target
+target_of (row.Project r) = record { kind = Project; pool = []; instance = []; name = r.name }
+target_of (row.Profile r) = record { kind = Profile; pool = []; instance = []; name = r.name }
+target_of (row.Network r) = record { kind = Network; pool = []; instance = []; name = r.name }
+target_of (row.Pool r) = record { kind = Pool; pool = []; instance = []; name = r.name }
+target_of (row.Volume r) = record { kind = Volume; pool = r.pool; instance = []; name = r.name }
+target_of (row.Instance r) = record { kind = Instance; pool = []; instance = []; name = r.name }
+target_of (row.Snapshot r) = record { kind = Snapshot; pool = []; instance = r.instance; name = r.name }
+
+-- texts in byte order
+abbrev pub sorted : List (List ℕ) → List (List ℕ)
+sorted [] = []
+sorted (text ∷ texts) = inserted (text_before text) text (sorted texts)
+
+-- how refusals write a kind
+abbrev pub kind_text : ObjectKind → List ℕ
+kind_text Project = codes "project"
+kind_text Profile = codes "profile"
+kind_text Network = codes "network"
+kind_text Pool = codes "storage-pool"
+kind_text Volume = codes "storage-volume"
+kind_text Instance = codes "instance"
+kind_text Snapshot = codes "snapshot"
+kind_text Operation = codes "operation"

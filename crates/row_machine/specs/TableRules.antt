@@ -1,0 +1,115 @@
+-- Rules on the size of tables and rows (C1, C2), and on the number of operations (O1 to O5).
+use Rattle.std.specs.Prelude.{ℕ, ◌+◌, nat_lt, List, [], ◌∷◌, length, min, ◌-◌, ◌^◌, Option, Some, None, if◌then◌else◌, option_and_then, codes}
+use Rattle.std.specs.Option.{option_map}
+use Rattle.std.specs.Result.{result_err}
+use Rattle.plain_lists.specs.Firsts.{first, first_of}
+use Rattle.size_values.specs.declared.kinds.ObjectKind.{ObjectKind}
+use Rattle.size_values.specs.declared.kinds.ObjectKind.TheVariants as kind
+use Rattle.operations.specs.declared.status.Status.{Status}
+use Rattle.operations.specs.declared.status.Status.TheVariants.{Pending, Running, Cancelling, Success, Failure, Cancelled}
+use Rattle.operations.specs.declared.faults.CancelFault.{CancelFault}
+use Rattle.operations.specs.declared.faults.CancelFault.TheVariants as cancel_fault
+use Rattle.operations.specs.declared.faults.EnterFault.{EnterFault}
+use Rattle.operations.specs.declared.faults.EnterFault.TheVariants.{Full, Spent}
+use Rattle.operations.specs.declared.limits.TheConstants.{LIVE_LIMIT, NUMBER_LIMIT}
+use Rattle.operations.specs.Kept.{kept_at, enter_fault, cancel_answer}
+use Rattle.records.specs.declared.refusals.Rule.TheVariants as rule
+use Rattle.records.specs.declared.refusals.Refusal.{Refusal}
+use Rattle.records.specs.declared.rows.Row.{Row}
+use Rattle.records.specs.declared.commands.What.{What}
+use Rattle.records.specs.declared.commands.What.TheVariants as what
+use Rattle.row_codec.specs.Spelling.{body_of}
+use Rattle.row_machine.specs.State.{State}
+use Rattle.row_machine.specs.Claims.{of_live, claimed_instance, claimed_volume, claimed_snapshot}
+use Rattle.row_machine.specs.Links.{kind_text, target_of}
+use Rattle.row_machine.specs.Refusals.{untold, on_number}
+
+-- ---- O1 to O3: an operation that cannot be cancelled
+
+-- how a status is written
+abbrev pub status_text : Status → List ℕ
+status_text Pending = codes "Pending"
+status_text Running = codes "Running"
+status_text Cancelling = codes "Cancelling"
+status_text Success = codes "Success"
+status_text Failure = codes "Failure"
+status_text Cancelled = codes "Cancelled"
+
+-- what a cancel is refused by; an operation that is not kept is missing
+abbrev pub cancel_refusal : ℕ → CancelFault → Option Refusal
+cancel_refusal number cancel_fault.Unknown = None
+cancel_refusal number (cancel_fault.Ended status) = Some (record { rule = rule.O1; kept = record untold { key = status_text status; number = number } })
+cancel_refusal number cancel_fault.Fixed = Some (on_number rule.O2 number)
+cancel_refusal number cancel_fault.Already = Some (on_number rule.O3 number)
+
+-- why an operation cannot be cancelled
+unfoldable pub cancel_broken : State → What → Option Refusal
+cancel_broken s (what.Cancel op) = option_and_then (cancel_refusal op) (result_err (cancel_answer (kept_at s.operations op)))
+cancel_broken s other = None
+
+-- ---- O4, O5: no operation can be entered
+
+-- why no operation can be entered
+abbrev pub enter_refusal : EnterFault → Refusal
+enter_refusal Full = on_number rule.O4 LIVE_LIMIT
+enter_refusal Spent = on_number rule.O5 NUMBER_LIMIT
+
+-- no operation can be entered
+unfoldable pub entry_broken : State → Option Refusal
+entry_broken s = option_map enter_refusal (enter_fault s.operations)
+
+-- ---- C1: a table is full
+
+-- how many rows of a kind there may be, with those that live operations claim
+abbrev pub cap_of : ObjectKind → ℕ
+cap_of kind.Project = 1024
+cap_of kind.Profile = 16384
+cap_of kind.Network = 1024
+cap_of kind.Pool = 64
+cap_of kind.Volume = 65536
+cap_of kind.Instance = 65536
+cap_of kind.Snapshot = 65536
+cap_of kind.Operation = 1280
+
+-- how many rows of a kind there are and are claimed
+abbrev pub count_of : State → ObjectKind → ℕ
+count_of s kind.Project = length s.projects
+count_of s kind.Profile = length s.profiles
+count_of s kind.Network = length s.networks
+count_of s kind.Pool = length s.pools
+count_of s kind.Volume = length s.volumes + length (of_live claimed_volume s)
+count_of s kind.Instance = length s.instances + length (of_live claimed_instance s)
+count_of s kind.Snapshot = length s.snapshots + length (of_live claimed_snapshot s)
+count_of s kind.Operation = length s.operations.live + length s.operations.ended
+
+-- the kinds of rows, in their order
+abbrev pub row_kinds : List ObjectKind
+row_kinds = kind.Project ∷ kind.Profile ∷ kind.Network ∷ kind.Pool ∷ kind.Volume ∷ kind.Instance ∷ kind.Snapshot ∷ []
+
+-- C1 of a kind
+abbrev pub too_many : State → ObjectKind → Option Refusal
+too_many s kind =
+    if nat_lt (cap_of kind) (count_of s kind)
+    then Some (record { rule = rule.C1; kept = record untold { kind = kind_text kind; number = cap_of kind } })
+    else None
+
+-- ---- C2: a row is too large
+
+-- the bytes that a row's body has
+abbrev pub size_of : Row → ℕ
+size_of r = length (body_of r)
+
+-- the most bytes that a body may have
+abbrev pub largest_row : ℕ
+largest_row = 65536
+
+-- the number that is told stops at the greatest one that eight bytes hold
+abbrev pub too_large : Row → Option Refusal
+too_large r =
+    if nat_lt largest_row (size_of r)
+    then Some (record { rule = rule.C2; kept = record untold { kind = kind_text (target_of r).kind; number = min (size_of r) (2 ^ 64 - 1) } })
+    else None
+
+-- the first table that is full after a change, and then the first row of it that is too large
+unfoldable pub tables_broken : State → List Row → Option Refusal
+tables_broken after rows = first (first_of (too_many after) row_kinds ∷ first_of too_large rows ∷ [])
