@@ -1,6 +1,7 @@
 /* Frames the HTTP/1.1 requests on standard input and prints how many there are: the least work that any reader of
    them has to do. A head ends with the first empty line, and its Content-Length says how long the body is.
-   It answers nothing, and takes no care of faults. */
+   It takes no care of faults. Without arguments it answers nothing; with one it writes a reply that stands ready
+   behind each request, as a server must that answers each before it goes on. */
 #include <stdio.h>
 #include <stdlib.h>
 #include <string.h>
@@ -29,7 +30,12 @@ static size_t body_len(const char *p, size_t len) {
     return 0;
 }
 
-int main(void) {
+static const char reply[] =
+    "HTTP/1.1 501 Not Implemented\r\nContent-Type: application/json\r\nContent-Length: 82\r\n\r\n"
+    "{\"error\":\"not built yet\",\"error_code\":501,\"metadata\":{\"rule\":\"A0\"},\"type\":\"error\"}";
+
+int main(int argc, char **argv) {
+    (void)argv;
     size_t held = 0, used = 0;
     unsigned long count = 0, bodies = 0;
     for (;;) {
@@ -39,6 +45,7 @@ int main(void) {
             used += head + body;
             bodies += body;
             count++;
+            if (argc > 1 && write(1, reply, sizeof reply - 1) < 0) return 1;
             continue;
         }
         memmove(buffer, buffer + used, held - used);
@@ -48,6 +55,6 @@ int main(void) {
         if (got <= 0) break;
         held += got;
     }
-    printf("%lu requests, %lu bytes of bodies, %lu bytes left\n", count, bodies, (unsigned long)held);
+    fprintf(stderr, "%lu requests, %lu bytes of bodies, %lu bytes left\n", count, bodies, (unsigned long)held);
     return 0;
 }

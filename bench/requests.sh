@@ -1,6 +1,7 @@
 #!/usr/bin/env bash
-# Reads 900,000 small requests (about 60 MB) from a file through `incus_run run`, beside a small C program that only frames
-# the same bytes: seconds, bytes a second, memory, and the ratio. Files are made in bench/out/, which is not committed.
+# Reads 900,000 small requests (about 60 MB) from a file through `incus_run run`, beside a small C program that frames the
+# same bytes, without replies and with one that stands ready: seconds, bytes a second, memory, and the ratios. Then the same
+# of a few requests with large bodies. Files are made in bench/out/, which is not committed.
 set -eu
 cd "$(dirname "$0")"
 mkdir -p out
@@ -11,22 +12,37 @@ request = b"GET /1.0 HTTP/1.1\r\nHost: localhost\r\nUser-Agent: requests.sh/1.0\
 for _ in range(int(sys.argv[1])):
     sys.stdout.buffer.write(request)
 PY
+python3 - $((count / 16000 + 1)) > out/bodies.http <<'PY'
+import sys
+body = b"x" * 1048576
+request = b"POST /1.0/projects HTTP/1.1\r\nHost: localhost\r\nContent-Length: %d\r\n\r\n" % len(body)
+for _ in range(int(sys.argv[1])):
+    sys.stdout.buffer.write(request + body)
+PY
 cc -O2 -o out/frame frame.c
 ../bin/incus_run nothing || true # builds the program where it must; it reads no word `nothing`
-bytes=$(stat -c %s out/requests.http)
 measure() {
-    local best="" line
+    local file=$1 best="" line
+    shift
     for _ in 1 2 3; do
-        line=$( { /usr/bin/time -f '%e %M' "$@" < out/requests.http > out/replies; } 2>&1 | tail -1)
+        line=$( { /usr/bin/time -f '%e %M' "$@" < "out/$file" > out/replies; } 2>&1 | tail -1)
         if [ -z "$best" ] || [ "$(printf '%s\n%s\n' "${line% *}" "${best% *}" | sort -n | head -1)" = "${line% *}" ]; then best=$line; fi
     done
     echo "$best"
 }
-read -r frame_seconds frame_memory < <(measure out/frame)
-read -r seconds memory < <(measure ../bin/incus_run run)
-awk -v n="$count" -v b="$bytes" -v f="$frame_seconds" -v s="$seconds" -v fm="$frame_memory" -v m="$memory" 'BEGIN {
-    printf "requests %d, bytes %d\n", n, b
-    printf "C program, framing alone: %.2f s, %.0f MB/s, %d KB\n", f, b / f / 1e6, fm
-    printf "incus_run run, with replies: %.2f s, %.0f MB/s, %.0f requests/s, %d KB\n", s, b / s / 1e6, n / s, m
-    printf "ratio %.1f\n", s / f
-}'
+compare() {
+    local file=$1 what=$2 bytes
+    bytes=$(stat -c %s "out/$file")
+    read -r frame_seconds frame_memory < <(measure "$file" out/frame)
+    read -r reply_seconds _ < <(measure "$file" out/frame reply)
+    read -r seconds memory < <(measure "$file" ../bin/incus_run run)
+    awk -v w="$what" -v b="$bytes" -v f="$frame_seconds" -v r="$reply_seconds" -v s="$seconds" -v fm="$frame_memory" -v m="$memory" 'BEGIN {
+        printf "%s, bytes %d\n", w, b
+        printf "  C program, framing alone: %.2f s, %.0f MB/s, %d KB\n", f, b / f / 1e6, fm
+        printf "  C program, with a reply that stands ready: %.2f s, %.0f MB/s\n", r, b / r / 1e6
+        printf "  incus_run run: %.2f s, %.0f MB/s, %d KB\n", s, b / s / 1e6, m
+        printf "  ratios %.1f and %.1f\n", s / f, s / r
+    }'
+}
+compare requests.http "$count small requests"
+compare bodies.http "requests with bodies of 1 MiB"

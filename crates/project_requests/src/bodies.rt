@@ -1,18 +1,10 @@
 ghost use Rattle.std.specs.Prelude.{◌≡◌, IfOk};
 ghost use Rattle.serde_json.specs.Data.{Members, object};
 ghost use Rattle.serde_json.specs.View.{view};
-ghost use Rattle.project_requests.specs.Bodies.{success_body, error_body, rule_kept, taken_kept};
+ghost use Rattle.project_requests.specs.Bodies.{error_body, rule_kept, taken_kept};
 
 use serde_json::{Value, json};
 use std::alloc::{AllocError, Global};
-
-/// The body of a synchronous change that was made.
-pub(crate) fn success(alloc: Global) -> Result<Value, AllocError>
-    ensures { IfOk result (λ v. view v ≡ success_body) }
-{
-    let nothing = json!(in alloc; {})?;
-    json!(in alloc; {"metadata": nothing, "status": "Success", "status_code": 200, "type": "sync"})
-}
 
 /// What a refusal keeps where it names only its rule.
 pub(crate) fn rule(alloc: Global, rule: &str) -> Result<Value, AllocError>

@@ -3,6 +3,7 @@ ghost use Rattle.http_front.specs.Replies.{is_reply_code};
 ghost use Rattle.serde_json.specs.Data.{object};
 ghost use Rattle.serde_json.specs.View.{view};
 ghost use Rattle.serde_json.specs.Written.{has_float};
+ghost use Rattle.project_requests.specs.declared.reply.Refusal.TheVariants as refusal;
 ghost use Rattle.project_requests.specs.declared.reply.Reply.TheVariants as reply;
 ghost use Rattle.project_requests.specs.Replies.{error_of, refusal_body, refusal_code, kept_of, printed, reply_with};
 
@@ -105,18 +106,53 @@ fn print(alloc: Global, code: u16, body: &Value, last: bool) -> Result<Seq<u8>, 
     )
 }
 
+/// The reply to a request that was carried out. It depends on nothing, so its bytes stand below.
+fn created(last: bool) -> &'static [u8]
+    ensures { result.now ≡ printed reply.Created last }
+{
+    if last { CREATED_LAST } else { CREATED }
+}
+
+/// The reply to a request that is not built yet.
+fn not_built(last: bool) -> &'static [u8]
+    ensures { result.now ≡ printed (reply.Refused refusal.NotBuilt) last }
+{
+    if last { NOT_BUILT_LAST } else { NOT_BUILT }
+}
+
 /// The reply to a request that was carried out.
 pub fn print_created(alloc: Global, last: bool) -> Result<Seq<u8>, NoMemory>
     ensures { IfOk result (λ b. b ≡ printed reply.Created last) }
 {
-    let body = bodies::success(alloc)?;
-    print(alloc, 200, &body, last)
+    Seq::of_bytes(alloc, created(last))
+}
+
+/// The reply to a refusal, with what it keeps.
+fn print_kept(alloc: Global, refusal: &Refusal, last: bool) -> Result<Seq<u8>, NoMemory>
+    ensures { IfOk result (λ b. b ≡ printed (reply.Refused refusal.now) last) }
+{
+    let body = refusal.body(alloc)?;
+    print(alloc, refusal.code(), &body, last)
 }
 
 /// The reply to a request that is refused.
 pub fn print_refused(alloc: Global, refusal: &Refusal, last: bool) -> Result<Seq<u8>, NoMemory>
     ensures { IfOk result (λ b. b ≡ printed (reply.Refused refusal.now) last) }
 {
-    let body = refusal.body(alloc)?;
-    print(alloc, refusal.code(), &body, last)
+    match refusal {
+        Refusal::NotBuilt => Seq::of_bytes(alloc, not_built(last)),
+        _ => print_kept(alloc, refusal, last),
+    }
 }
+
+const CREATED: &[u8] =
+    b"HTTP/1.1 200 OK\r\nContent-Type: application/json\r\nContent-Length: 66\r\n\r\n{\"metadata\":{},\"status\":\"Success\",\"status_code\":200,\"type\":\"sync\"}";
+
+const CREATED_LAST: &[u8] =
+    b"HTTP/1.1 200 OK\r\nContent-Type: application/json\r\nContent-Length: 66\r\nConnection: close\r\n\r\n{\"metadata\":{},\"status\":\"Success\",\"status_code\":200,\"type\":\"sync\"}";
+
+const NOT_BUILT: &[u8] =
+    b"HTTP/1.1 501 Not Implemented\r\nContent-Type: application/json\r\nContent-Length: 82\r\n\r\n{\"error\":\"not built yet\",\"error_code\":501,\"metadata\":{\"rule\":\"A0\"},\"type\":\"error\"}";
+
+const NOT_BUILT_LAST: &[u8] =
+    b"HTTP/1.1 501 Not Implemented\r\nContent-Type: application/json\r\nContent-Length: 82\r\nConnection: close\r\n\r\n{\"error\":\"not built yet\",\"error_code\":501,\"metadata\":{\"rule\":\"A0\"},\"type\":\"error\"}";
