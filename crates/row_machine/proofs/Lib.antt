@@ -2,3 +2,4 @@ pub mod Computed
 pub mod Moving
 pub mod Following
 pub mod Running
+pub mod Beginning

@@ -17,6 +17,8 @@ use Rattle.row_machine.specs.State.{State}
 use Rattle.row_machine.specs.Accept.{After}
 use Rattle.row_machine.specs.Step.{Outcome, step}
 use Rattle.row_machine.specs.Runs.{Ran, run}
+use Rattle.row_machine.specs.Opening.{with_rows, first_rows}
+use Rattle.row_machine.specs.Whole.{IsWhole}
 
 -- no event at all: no answers, no ends, and the state as it is
 abbrev pub EmptyRunStays : Type 0
@@ -45,3 +47,7 @@ EndedStays = (s : State) (events : List (Event × Outcome)) (r : Ran) (o later :
 abbrev pub EndsOnce : Type 0
 EndsOnce = (s : State) (events : List (Event × Outcome)) (r : Ran) →
     AreKept s.operations → run s events ≡ Some r → Distinct (λ (end : ℕ × Status). end.0) r.ends
+
+-- a server that is opened without entries is in a state in which all facts hold
+abbrev pub NewIsWhole : Type 0
+NewIsWhole = IsWhole (with_rows first_rows)

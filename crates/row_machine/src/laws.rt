@@ -1,5 +1,5 @@
 //! Laws of the machine: functions that do nothing, whose contracts are the laws.
-ghost use Rattle.row_machine.specs.Laws.{EmptyRunStays, RunsJoin, RefusedStays, EndedStays, EndsOnce};
+ghost use Rattle.row_machine.specs.Laws.{EmptyRunStays, RunsJoin, RefusedStays, EndedStays, EndsOnce, NewIsWhole};
 ghost use Rattle.row_machine.specs.Worked.{AreWorked};
 
 /// No events: nothing is answered, nothing ends, and the state stays.
@@ -25,6 +25,11 @@ pub fn an_ended_operation_stays()
 /// In the ends of a run no number stands twice.
 pub fn each_operation_ends_once()
     ensures { EndsOnce }
+{}
+
+/// The facts hold of a new server: the state that no entries open to.
+pub fn a_new_server_is_whole()
+    ensures { NewIsWhole }
 {}
 
 /// The examples: lists of events from a new server with their exact answers, refusals and usage, each computed.

@@ -13,7 +13,7 @@ mod work;
 pub use changes::RowChange;
 pub use events::{Answer, Event, Fetched};
 pub use laws::{
-    a_refused_request_stays, an_empty_run_stays, an_ended_operation_stays,
+    a_new_server_is_whole, a_refused_request_stays, an_empty_run_stays, an_ended_operation_stays,
     each_operation_ends_once, examples, runs_join,
 };
 pub use work::Work;

@@ -1,5 +1,5 @@
 use crate::laws::{
-    a_refused_request_stays, an_empty_run_stays, an_ended_operation_stays,
+    a_new_server_is_whole, a_refused_request_stays, an_empty_run_stays, an_ended_operation_stays,
     each_operation_ends_once, examples, runs_join,
 };
 
@@ -10,5 +10,6 @@ fn laws_can_be_called() {
     a_refused_request_stays();
     an_ended_operation_stays();
     each_operation_ends_once();
+    a_new_server_is_whole();
     examples();
 }

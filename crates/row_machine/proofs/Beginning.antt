@@ -1,0 +1,286 @@
+-- The facts hold of a new server, computed.
+use Rattle.std.proofs.Common.{◌≡◌, ◌≢◌, ℕ, ◌≤◌, Bool, true, false, Option, Some, None, List, [], ◌∷◌, length, refl, arith}
+use Rattle.plain_lists.specs.Members.{Mem, Each, Distinct}
+use Rattle.plain_lists.proofs.Elements.{Each-none, Each-cons}
+use Rattle.size_values.specs.declared.amounts.Part.{Part}
+use Rattle.size_values.specs.declared.amounts.Part.TheVariants.{Instances, Containers, Machines, Cpu, Memory, Processes, Disk}
+use Rattle.operations.proofs.KeptLemmas.{AreKept-none}
+use Rattle.row_machine.specs.State.{State}
+use Rattle.row_machine.specs.Laws.{NewIsWhole}
+use Rattle.row_machine.specs.Whole.{IsWhole, AreNamed, AreLinked, HasDefaults, AreSettled, AreOperations, AreWithin, IsWithin, IsClean, AreBalanced, AreFew}
+use Rattle.row_machine.specs.Scenes.{begin}
+use Rattle.std.specs.Prelude.{IfSome}
+use Rattle.project_limits.specs.Admission.{limit_on}
+use Rattle.row_machine.specs.Rows.{default_name}
+use Rattle.row_machine.specs.Opening.{default_project}
+use Rattle.row_machine.specs.Usage.{used}
+use Rattle.size_values.specs.Address.{address_of, cidr_of}
+use Rattle.size_values.specs.Amounts.{plus_of, minus_of, excess_of, fits_in}
+use Rattle.size_values.specs.Count.{count_of}
+use Rattle.size_values.specs.Cpu.{set_of, cpu_of}
+use Rattle.size_values.specs.Expiry.{expiry_of}
+use Rattle.size_values.specs.MemorySize.{memory_of}
+use Rattle.size_values.specs.Size.{size_of}
+use Rattle.size_values.specs.Truth.{truth_of}
+use Rattle.config_lists.specs.Changes.{settled, patched}
+use Rattle.config_lists.specs.Devices.{is_root_disk, root_of}
+use Rattle.config_lists.specs.Entries.{value_of, put, without, replaced}
+use Rattle.option_tables.specs.Checks.{keys_fault, instance_fault, project_fault, network_fault, pool_fault, volume_fault, device_fault, devices_fault}
+use Rattle.option_tables.specs.Forms.{value_fault}
+use Rattle.option_tables.specs.Tables.{instance_lines, project_lines, network_lines, pool_lines, volume_lines, device_lines as option_tables_tables_device_lines, device_form, device_type, listed_form, form_of}
+use Rattle.estate_rules.specs.Names.{is_instance_name, is_project_name, is_object_name}
+use Rattle.estate_rules.specs.Uses.{names_network, names_pool, names_volume}
+use Rattle.expansion.specs.Layers.{laid, expanded, expanded_setting, expanded_device}
+use Rattle.restrictions.specs.Forbids.{setting_lines, device_lines as restrictions_forbids_device_lines, device_rule, setting_rule, broken_settings, missing_setting, broken_devices, first_forbidden, snapshots_forbidden}
+use Rattle.restrictions.specs.Policies.{policy_of}
+use Rattle.restrictions.specs.Words.{word_named, is_true}
+use Rattle.project_limits.specs.Admission.{first_over, networks_over}
+use Rattle.project_limits.specs.Countable.{first_uncounted, volume_uncounted}
+use Rattle.project_limits.specs.Instance.{cpu_in, memory_in, disk_in, instance_amounts, volume_amounts}
+use Rattle.project_limits.specs.Limits.{count_in, size_in, limits_of}
+use Rattle.row_codec.specs.Reading.{count_at, number_at, moment_at, code_at, text_at, items_at, list_at, filled_at, next_at, next_filled_at, setting_at, device_at, shape_at, project_in, profile_in, network_in, pool_in, volume_in, instance_in, snapshot_in, two_names_in, three_names_in, project_of, profile_of, network_of, pool_of, volume_of, instance_of, snapshot_of, row_at}
+use Rattle.row_codec.specs.Spelling.{text_bytes, number_bytes, list_bytes}
+use Rattle.row_machine.specs.Accept.{accepted}
+use Rattle.row_machine.specs.Claims.{judged_instances, judged_volumes, amounts_of_instance, share_of}
+use Rattle.row_machine.specs.Expansions.{expanded_of}
+use Rattle.row_machine.specs.Holders.{busy_with, holder_of, first_user_of}
+use Rattle.row_machine.specs.Homes.{home_of}
+use Rattle.row_machine.specs.LimitRules.{instance_uncounted, volume_uncounts, counts_broken, part_exceeds, networks_exceed, limits_broken}
+use Rattle.row_machine.specs.NameRules.{project_missing, what_is_missing, name_broken, names_broken}
+use Rattle.row_machine.specs.Notices.{since}
+use Rattle.row_machine.specs.Opening.{rows_break, opening_of}
+use Rattle.row_machine.specs.Plans.{plan_of}
+use Rattle.row_machine.specs.PolicyRules.{forbids_profile, forbids_instance, policy_broken, snapshot_blocked}
+use Rattle.row_machine.specs.Records.{records_of}
+use Rattle.row_machine.specs.Rules.{broken}
+use Rattle.row_machine.specs.SettingRules.{root_missing, profile_missing, devices_miss, instance_settings, profile_settings, row_settings, settings_broken}
+use Rattle.row_machine.specs.StandingRules.{instance_busy, wrong_state, object_protected, object_used, project_occupied, profile_held, standing_broken}
+use Rattle.row_machine.specs.Step.{step}
+use Rattle.row_machine.specs.TableRules.{cancel_broken, entry_broken, tables_broken}
+use Rattle.row_machine.specs.Usage.{loads, usage_of, networks_of}
+use Rattle.row_machine.specs.Views.{used_by, usage_view, read}
+use Rattle.row_machine.specs.Work.{entered, succeeded, failed, cancelled}
+use Rattle.std.specs.Fmt.{digits}
+
+one : {X : Type 0} (P : X → Type 0) {x : X} → P x → Each P (x ∷ [])
+one P a = Each-cons P a Each-none
+
+two : {X : Type 0} (P : X → Type 0) {x y : X} → P x → P y → Each P (x ∷ y ∷ [])
+two P a b = Each-cons P a (one P b)
+
+names : AreNamed begin
+unfolding
+    digits address_of cidr_of plus_of minus_of excess_of fits_in count_of set_of cpu_of expiry_of memory_of size_of
+    truth_of settled patched is_root_disk root_of value_of put without replaced keys_fault instance_fault project_fault
+    network_fault pool_fault volume_fault device_fault devices_fault value_fault instance_lines project_lines
+    network_lines pool_lines volume_lines option_tables_tables_device_lines device_form device_type listed_form form_of
+    is_instance_name is_project_name is_object_name names_network names_pool names_volume laid expanded expanded_setting
+    expanded_device setting_lines restrictions_forbids_device_lines device_rule setting_rule broken_settings
+    missing_setting broken_devices first_forbidden snapshots_forbidden policy_of word_named is_true first_over
+    networks_over first_uncounted volume_uncounted cpu_in memory_in disk_in instance_amounts volume_amounts count_in
+    size_in limits_of count_at number_at moment_at code_at text_at items_at list_at filled_at next_at next_filled_at
+    setting_at device_at shape_at project_in profile_in network_in pool_in volume_in instance_in snapshot_in two_names_in
+    three_names_in project_of profile_of network_of pool_of volume_of instance_of snapshot_of row_at text_bytes
+    number_bytes list_bytes accepted judged_instances judged_volumes amounts_of_instance share_of expanded_of busy_with
+    holder_of first_user_of home_of instance_uncounted volume_uncounts counts_broken part_exceeds networks_exceed
+    limits_broken project_missing what_is_missing name_broken names_broken since rows_break opening_of plan_of
+    forbids_profile forbids_instance policy_broken snapshot_blocked records_of broken root_missing profile_missing
+    devices_miss instance_settings profile_settings row_settings settings_broken instance_busy wrong_state
+    object_protected object_used project_occupied profile_held standing_broken step cancel_broken entry_broken
+    tables_broken loads usage_of networks_of used_by usage_view read entered succeeded failed cancelled
+names = record {
+  good = two _ refl (refl, refl);
+  moments = two _ tt tt;
+  projects = (Each-none, tt);
+  profiles = (Each-none, tt);
+  networks = tt;
+  pools = tt;
+  volumes = tt;
+  instances = tt;
+  snapshots = tt;
+  powers = refl;
+  new_volumes = tt;
+  new_instances = tt;
+  new_snapshots = tt;
+}
+
+links : AreLinked begin
+unfolding
+    digits address_of cidr_of plus_of minus_of excess_of fits_in count_of set_of cpu_of expiry_of memory_of size_of
+    truth_of settled patched is_root_disk root_of value_of put without replaced keys_fault instance_fault project_fault
+    network_fault pool_fault volume_fault device_fault devices_fault value_fault instance_lines project_lines
+    network_lines pool_lines volume_lines option_tables_tables_device_lines device_form device_type listed_form form_of
+    is_instance_name is_project_name is_object_name names_network names_pool names_volume laid expanded expanded_setting
+    expanded_device setting_lines restrictions_forbids_device_lines device_rule setting_rule broken_settings
+    missing_setting broken_devices first_forbidden snapshots_forbidden policy_of word_named is_true first_over
+    networks_over first_uncounted volume_uncounted cpu_in memory_in disk_in instance_amounts volume_amounts count_in
+    size_in limits_of count_at number_at moment_at code_at text_at items_at list_at filled_at next_at next_filled_at
+    setting_at device_at shape_at project_in profile_in network_in pool_in volume_in instance_in snapshot_in two_names_in
+    three_names_in project_of profile_of network_of pool_of volume_of instance_of snapshot_of row_at text_bytes
+    number_bytes list_bytes accepted judged_instances judged_volumes amounts_of_instance share_of expanded_of busy_with
+    holder_of first_user_of home_of instance_uncounted volume_uncounts counts_broken part_exceeds networks_exceed
+    limits_broken project_missing what_is_missing name_broken names_broken since rows_break opening_of plan_of
+    forbids_profile forbids_instance policy_broken snapshot_blocked records_of broken root_missing profile_missing
+    devices_miss instance_settings profile_settings row_settings settings_broken instance_busy wrong_state
+    object_protected object_used project_occupied profile_held standing_broken step cancel_broken entry_broken
+    tables_broken loads usage_of networks_of used_by usage_view read entered succeeded failed cancelled
+links = record {
+  homes = two _ refl refl;
+  volumes = Each-none;
+  snapshots = Each-none;
+  snapshot_profiles = Each-none;
+  profiles = one _ refl;
+  instances = Each-none;
+  operations = Each-none;
+}
+
+defaults : HasDefaults begin
+unfolding
+    digits address_of cidr_of plus_of minus_of excess_of fits_in count_of set_of cpu_of expiry_of memory_of size_of
+    truth_of settled patched is_root_disk root_of value_of put without replaced keys_fault instance_fault project_fault
+    network_fault pool_fault volume_fault device_fault devices_fault value_fault instance_lines project_lines
+    network_lines pool_lines volume_lines option_tables_tables_device_lines device_form device_type listed_form form_of
+    is_instance_name is_project_name is_object_name names_network names_pool names_volume laid expanded expanded_setting
+    expanded_device setting_lines restrictions_forbids_device_lines device_rule setting_rule broken_settings
+    missing_setting broken_devices first_forbidden snapshots_forbidden policy_of word_named is_true first_over
+    networks_over first_uncounted volume_uncounted cpu_in memory_in disk_in instance_amounts volume_amounts count_in
+    size_in limits_of count_at number_at moment_at code_at text_at items_at list_at filled_at next_at next_filled_at
+    setting_at device_at shape_at project_in profile_in network_in pool_in volume_in instance_in snapshot_in two_names_in
+    three_names_in project_of profile_of network_of pool_of volume_of instance_of snapshot_of row_at text_bytes
+    number_bytes list_bytes accepted judged_instances judged_volumes amounts_of_instance share_of expanded_of busy_with
+    holder_of first_user_of home_of instance_uncounted volume_uncounts counts_broken part_exceeds networks_exceed
+    limits_broken project_missing what_is_missing name_broken names_broken since rows_break opening_of plan_of
+    forbids_profile forbids_instance policy_broken snapshot_blocked records_of broken root_missing profile_missing
+    devices_miss instance_settings profile_settings row_settings settings_broken instance_busy wrong_state
+    object_protected object_used project_occupied profile_held standing_broken step cancel_broken entry_broken
+    tables_broken loads usage_of networks_of used_by usage_view read entered succeeded failed cancelled
+defaults = record { project = refl; profiles = one _ (λ on. refl) }
+
+settings : AreSettled begin
+unfolding
+    digits address_of cidr_of plus_of minus_of excess_of fits_in count_of set_of cpu_of expiry_of memory_of size_of
+    truth_of settled patched is_root_disk root_of value_of put without replaced keys_fault instance_fault project_fault
+    network_fault pool_fault volume_fault device_fault devices_fault value_fault instance_lines project_lines
+    network_lines pool_lines volume_lines option_tables_tables_device_lines device_form device_type listed_form form_of
+    is_instance_name is_project_name is_object_name names_network names_pool names_volume laid expanded expanded_setting
+    expanded_device setting_lines restrictions_forbids_device_lines device_rule setting_rule broken_settings
+    missing_setting broken_devices first_forbidden snapshots_forbidden policy_of word_named is_true first_over
+    networks_over first_uncounted volume_uncounted cpu_in memory_in disk_in instance_amounts volume_amounts count_in
+    size_in limits_of count_at number_at moment_at code_at text_at items_at list_at filled_at next_at next_filled_at
+    setting_at device_at shape_at project_in profile_in network_in pool_in volume_in instance_in snapshot_in two_names_in
+    three_names_in project_of profile_of network_of pool_of volume_of instance_of snapshot_of row_at text_bytes
+    number_bytes list_bytes accepted judged_instances judged_volumes amounts_of_instance share_of expanded_of busy_with
+    holder_of first_user_of home_of instance_uncounted volume_uncounts counts_broken part_exceeds networks_exceed
+    limits_broken project_missing what_is_missing name_broken names_broken since rows_break opening_of plan_of
+    forbids_profile forbids_instance policy_broken snapshot_blocked records_of broken root_missing profile_missing
+    devices_miss instance_settings profile_settings row_settings settings_broken instance_busy wrong_state
+    object_protected object_used project_occupied profile_held standing_broken step cancel_broken entry_broken
+    tables_broken loads usage_of networks_of used_by usage_view read entered succeeded failed cancelled
+settings = record { settings = two _ refl refl; devices = two _ refl refl; roots = Each-none }
+
+operations : AreOperations begin
+unfolding
+    digits address_of cidr_of plus_of minus_of excess_of fits_in count_of set_of cpu_of expiry_of memory_of size_of
+    truth_of settled patched is_root_disk root_of value_of put without replaced keys_fault instance_fault project_fault
+    network_fault pool_fault volume_fault device_fault devices_fault value_fault instance_lines project_lines
+    network_lines pool_lines volume_lines option_tables_tables_device_lines device_form device_type listed_form form_of
+    is_instance_name is_project_name is_object_name names_network names_pool names_volume laid expanded expanded_setting
+    expanded_device setting_lines restrictions_forbids_device_lines device_rule setting_rule broken_settings
+    missing_setting broken_devices first_forbidden snapshots_forbidden policy_of word_named is_true first_over
+    networks_over first_uncounted volume_uncounted cpu_in memory_in disk_in instance_amounts volume_amounts count_in
+    size_in limits_of count_at number_at moment_at code_at text_at items_at list_at filled_at next_at next_filled_at
+    setting_at device_at shape_at project_in profile_in network_in pool_in volume_in instance_in snapshot_in two_names_in
+    three_names_in project_of profile_of network_of pool_of volume_of instance_of snapshot_of row_at text_bytes
+    number_bytes list_bytes accepted judged_instances judged_volumes amounts_of_instance share_of expanded_of busy_with
+    holder_of first_user_of home_of instance_uncounted volume_uncounts counts_broken part_exceeds networks_exceed
+    limits_broken project_missing what_is_missing name_broken names_broken since rows_break opening_of plan_of
+    forbids_profile forbids_instance policy_broken snapshot_blocked records_of broken root_missing profile_missing
+    devices_miss instance_settings profile_settings row_settings settings_broken instance_busy wrong_state
+    object_protected object_used project_occupied profile_held standing_broken step cancel_broken entry_broken
+    tables_broken loads usage_of networks_of used_by usage_view read entered succeeded failed cancelled
+operations = record { kept = AreKept-none; busy = λ project instance. omega arith; claims = Each-none }
+
+limits : AreWithin begin
+unfolding
+    digits address_of cidr_of plus_of minus_of excess_of fits_in count_of set_of cpu_of expiry_of memory_of size_of
+    truth_of settled patched is_root_disk root_of value_of put without replaced keys_fault instance_fault project_fault
+    network_fault pool_fault volume_fault device_fault devices_fault value_fault instance_lines project_lines
+    network_lines pool_lines volume_lines option_tables_tables_device_lines device_form device_type listed_form form_of
+    is_instance_name is_project_name is_object_name names_network names_pool names_volume laid expanded expanded_setting
+    expanded_device setting_lines restrictions_forbids_device_lines device_rule setting_rule broken_settings
+    missing_setting broken_devices first_forbidden snapshots_forbidden policy_of word_named is_true first_over
+    networks_over first_uncounted volume_uncounted cpu_in memory_in disk_in instance_amounts volume_amounts count_in
+    size_in limits_of count_at number_at moment_at code_at text_at items_at list_at filled_at next_at next_filled_at
+    setting_at device_at shape_at project_in profile_in network_in pool_in volume_in instance_in snapshot_in two_names_in
+    three_names_in project_of profile_of network_of pool_of volume_of instance_of snapshot_of row_at text_bytes
+    number_bytes list_bytes accepted judged_instances judged_volumes amounts_of_instance share_of expanded_of busy_with
+    holder_of first_user_of home_of instance_uncounted volume_uncounts counts_broken part_exceeds networks_exceed
+    limits_broken project_missing what_is_missing name_broken names_broken since rows_break opening_of plan_of
+    forbids_profile forbids_instance policy_broken snapshot_blocked records_of broken root_missing profile_missing
+    devices_miss instance_settings profile_settings row_settings settings_broken instance_busy wrong_state
+    object_protected object_used project_occupied profile_held standing_broken step cancel_broken entry_broken
+    tables_broken loads usage_of networks_of used_by usage_view read entered succeeded failed cancelled
+limits = record {
+  limits = one _ (record { parts = within; networks = tt; instances = Each-none; volumes = Each-none });
+  policy = one _ (record { profiles = one _ (λ same number. refl); instances = Each-none });
+} where
+  within : (k : Part) → IfSome (limit_on k (limits_of default_project.config)) (λ limit. used begin default_name k ≤ limit)
+  within Instances = tt
+  within Containers = tt
+  within Machines = tt
+  within Cpu = tt
+  within Memory = tt
+  within Processes = tt
+  within Disk = tt
+
+sizes : AreFew begin
+unfolding
+    digits address_of cidr_of plus_of minus_of excess_of fits_in count_of set_of cpu_of expiry_of memory_of size_of
+    truth_of settled patched is_root_disk root_of value_of put without replaced keys_fault instance_fault project_fault
+    network_fault pool_fault volume_fault device_fault devices_fault value_fault instance_lines project_lines
+    network_lines pool_lines volume_lines option_tables_tables_device_lines device_form device_type listed_form form_of
+    is_instance_name is_project_name is_object_name names_network names_pool names_volume laid expanded expanded_setting
+    expanded_device setting_lines restrictions_forbids_device_lines device_rule setting_rule broken_settings
+    missing_setting broken_devices first_forbidden snapshots_forbidden policy_of word_named is_true first_over
+    networks_over first_uncounted volume_uncounted cpu_in memory_in disk_in instance_amounts volume_amounts count_in
+    size_in limits_of count_at number_at moment_at code_at text_at items_at list_at filled_at next_at next_filled_at
+    setting_at device_at shape_at project_in profile_in network_in pool_in volume_in instance_in snapshot_in two_names_in
+    three_names_in project_of profile_of network_of pool_of volume_of instance_of snapshot_of row_at text_bytes
+    number_bytes list_bytes accepted judged_instances judged_volumes amounts_of_instance share_of expanded_of busy_with
+    holder_of first_user_of home_of instance_uncounted volume_uncounts counts_broken part_exceeds networks_exceed
+    limits_broken project_missing what_is_missing name_broken names_broken since rows_break opening_of plan_of
+    forbids_profile forbids_instance policy_broken snapshot_blocked records_of broken root_missing profile_missing
+    devices_miss instance_settings profile_settings row_settings settings_broken instance_busy wrong_state
+    object_protected object_used project_occupied profile_held standing_broken step cancel_broken entry_broken
+    tables_broken loads usage_of networks_of used_by usage_view read entered succeeded failed cancelled
+sizes = record {
+  tables = Each-cons _ (omega arith) (Each-cons _ (omega arith) (Each-cons _ (omega arith) (Each-cons _ (omega arith)
+      (Each-cons _ (omega arith) (Each-cons _ (omega arith) (one _ (omega arith)))))));
+  rows = two _ (omega arith) (omega arith);
+  notices = tt;
+  few_notices = omega arith;
+  from_one = omega arith;
+  last_number = omega arith;
+}
+
+pub new-whole : NewIsWhole
+new-whole = record {
+  names = names;
+  links = links;
+  defaults = defaults;
+  settings = settings;
+  operations = operations;
+  under_way = Each-none;
+  shares = refl;
+  limits = limits;
+  books = balanced;
+  sizes = sizes;
+} where
+  balanced : AreBalanced begin
+  balanced Instances = refl
+  balanced Containers = refl
+  balanced Machines = refl
+  balanced Cpu = refl
+  balanced Memory = refl
+  balanced Processes = refl
+  balanced Disk = refl
