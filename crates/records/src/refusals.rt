@@ -4,7 +4,7 @@ use size_values::{NoMemory, Text};
 use std::alloc::Global;
 
 /// The rules by which a request is refused, in the order in which they are judged: of the head of a request
-/// (H), its form (A), names (N), what stands in the way (B), settings (V), the policy of a restricted project
+/// (H), that it is built yet (A0), its form (A), names (N), what stands in the way (B), settings (V), the policy of a restricted project
 /// (F), its limits (L), operations (O), the size of tables and rows (C), the store (K) and memory (M).
 #[derive(Clone, Copy, Debug, PartialEq, Eq)]
 pub enum Rule {
@@ -12,6 +12,7 @@ pub enum Rule {
     H2,
     H3,
     H4,
+    A0,
     A1,
     A2,
     A3,
