@@ -1,0 +1,19 @@
+//! Replies and events as JSON: the body, the code and the Location of every reply of the REST API, the text of a
+//! notice, and the ids of operations.
+#![tactic(auto)]
+
+mod ids;
+mod links;
+mod moments;
+mod notices;
+mod object;
+mod operations;
+mod printing;
+mod refusals;
+mod settings;
+mod views;
+mod words;
+
+pub use ids::{id_text, number_of};
+pub use notices::print_notice;
+pub use printing::print;
