@@ -1,2 +1,3 @@
-pub mod Walked
 pub mod Calendar
+pub mod Plain
+pub mod Walked

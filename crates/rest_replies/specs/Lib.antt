@@ -1,4 +1,3 @@
-pub mod Shared
 pub mod Words
 pub mod Ids
 pub mod Objects

@@ -8,7 +8,8 @@ use Rattle.operations.specs.declared.operation.OpFault.{OpFault}
 use Rattle.operations.specs.declared.operation.OpFault.TheVariants as fault
 use Rattle.records.specs.declared.replies.OpView.{OpView}
 use Rattle.serde_json.specs.Data.{Data, null, boolean, string}
-use Rattle.rest_replies.specs.Shared.{status_text, link_of}
+use Rattle.row_machine.specs.Links.{link_of}
+use Rattle.row_machine.specs.TableRules.{status_text}
 use Rattle.rest_replies.specs.Words.{status_code, error_text}
 use Rattle.rest_replies.specs.Ids.{id_text}
 use Rattle.rest_replies.specs.Moments.{moment_text}

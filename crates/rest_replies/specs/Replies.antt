@@ -9,7 +9,7 @@ use Rattle.records.specs.declared.replies.Reply.{Reply}
 use Rattle.records.specs.declared.replies.Reply.TheVariants as reply
 use Rattle.serde_json.specs.Data.{Data, string, object, Members, no_members, put}
 use Rattle.serde_json.specs.Written.{compact_text}
-use Rattle.rest_replies.specs.Shared.{untold}
+use Rattle.row_machine.specs.Refusals.{untold}
 use Rattle.rest_replies.specs.Words.{status_key}
 use Rattle.rest_replies.specs.Ids.{operation_link}
 use Rattle.rest_replies.specs.Objects.{object_of, list_of, whole}

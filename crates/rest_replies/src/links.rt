@@ -1,6 +1,6 @@
 //! The links of the objects that operations are about.
 ghost use Rattle.std.specs.Prelude.{◌≡◌, ◌++◌, IfOk, string_bytes};
-ghost use Rattle.rest_replies.specs.Shared.{project_query, path_of, link_of};
+ghost use Rattle.row_machine.specs.Links.{project_query, path_of, link_of};
 
 use records::Target;
 use size_values::{NoMemory, ObjectKind, Text};
@@ -16,7 +16,13 @@ fn joined(alloc: Global, list: &str, name: &str) -> Result<String, NoMemory>
 }
 
 /// A path of four parts.
-fn joined_inside(alloc: Global, list: &str, outer: &str, between: &str, name: &str) -> Result<String, NoMemory>
+fn joined_inside(
+    alloc: Global,
+    list: &str,
+    outer: &str,
+    between: &str,
+    name: &str,
+) -> Result<String, NoMemory>
     ensures { IfOk result (λ s. string_bytes s ≡ list.now ++ outer.now ++ between.now ++ name.now) }
 {
     let mut path = String::from_str(alloc, list)?;

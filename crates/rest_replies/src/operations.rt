@@ -102,7 +102,11 @@ fn may_stop(status: Status) -> bool
 
 /// An operation as an object.
 #[tactic(auto, unfolding(crate::specs::Operations::operation_data))]
-pub(crate) fn operation_value(alloc: Global, boot: u64, operation: &OpView) -> Result<Value, NoMemory>
+pub(crate) fn operation_value(
+    alloc: Global,
+    boot: u64,
+    operation: &OpView,
+) -> Result<Value, NoMemory>
     ensures { IfOk result (λ v. view v ≡ operation_data boot operation.now) }
 {
     let created = moment_text(alloc, operation.created)?;

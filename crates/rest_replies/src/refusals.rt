@@ -117,10 +117,12 @@ fn rule_text(rule: Rule) -> &'static str
         Rule::V3 => "device is malformed",
         Rule::V4 => "instance needs exactly one root disk",
         Rule::V5 => "named object is missing",
-        Rule::F1 | Rule::F2 | Rule::F3 | Rule::F4 | Rule::F5 | Rule::F6 | Rule::F7 => "setting is forbidden",
+        Rule::F1 | Rule::F2 | Rule::F3 | Rule::F4 | Rule::F5 | Rule::F6 | Rule::F7 =>
+            "setting is forbidden",
         Rule::F8 => "snapshots are forbidden",
         Rule::L0 => "setting is not countable",
-        Rule::L1 | Rule::L2 | Rule::L3 | Rule::L4 | Rule::L5 | Rule::L6 | Rule::L7 | Rule::L8 => "limit is exceeded",
+        Rule::L1 | Rule::L2 | Rule::L3 | Rule::L4 | Rule::L5 | Rule::L6 | Rule::L7 | Rule::L8 =>
+            "limit is exceeded",
         Rule::O1 => "operation has ended",
         Rule::O2 => "operation may not be cancelled",
         Rule::O3 => "operation is being cancelled",
@@ -139,12 +141,49 @@ pub(crate) fn rule_code(rule: Rule) -> u16
     ensures known { IsTrue (is_reply_code result) }
 {
     match rule {
-        Rule::H1 | Rule::H2 | Rule::H3 | Rule::H4 | Rule::A3 | Rule::A4 | Rule::A5 | Rule::A6 | Rule::N3 | Rule::B2 | Rule::B4 | Rule::B5 | Rule::V1 | Rule::V2 | Rule::V3 | Rule::V4 | Rule::V5 | Rule::O1 | Rule::O2 | Rule::O3 => 400,
+        Rule::H1
+        | Rule::H2
+        | Rule::H3
+        | Rule::H4
+        | Rule::A3
+        | Rule::A4
+        | Rule::A5
+        | Rule::A6
+        | Rule::N3
+        | Rule::B2
+        | Rule::B4
+        | Rule::B5
+        | Rule::V1
+        | Rule::V2
+        | Rule::V3
+        | Rule::V4
+        | Rule::V5
+        | Rule::O1
+        | Rule::O2
+        | Rule::O3 => 400,
         Rule::A0 => 501,
         Rule::A1 | Rule::N1 | Rule::N2 => 404,
         Rule::A2 => 405,
-        Rule::N4 | Rule::N5 | Rule::B1 | Rule::B6 | Rule::O4 | Rule::O5 | Rule::C1 | Rule::C2 => 409,
-        Rule::B3 | Rule::F1 | Rule::F2 | Rule::F3 | Rule::F4 | Rule::F5 | Rule::F6 | Rule::F7 | Rule::F8 | Rule::L0 | Rule::L1 | Rule::L2 | Rule::L3 | Rule::L4 | Rule::L5 | Rule::L6 | Rule::L7 | Rule::L8 => 403,
+        Rule::N4 | Rule::N5 | Rule::B1 | Rule::B6 | Rule::O4 | Rule::O5 | Rule::C1 | Rule::C2 =>
+            409,
+        Rule::B3
+        | Rule::F1
+        | Rule::F2
+        | Rule::F3
+        | Rule::F4
+        | Rule::F5
+        | Rule::F6
+        | Rule::F7
+        | Rule::F8
+        | Rule::L0
+        | Rule::L1
+        | Rule::L2
+        | Rule::L3
+        | Rule::L4
+        | Rule::L5
+        | Rule::L6
+        | Rule::L7
+        | Rule::L8 => 403,
         Rule::K1 => 503,
         Rule::M1 => 500,
     }
@@ -155,7 +194,17 @@ fn kept_parts(rule: Rule) -> &'static [Part]
     ensures { result.now ≡ kept_parts rule }
 {
     match rule {
-        Rule::H1 | Rule::H2 | Rule::H3 | Rule::H4 | Rule::A0 | Rule::A1 | Rule::A2 | Rule::A4 | Rule::A6 | Rule::K1 | Rule::M1 => &[],
+        Rule::H1
+        | Rule::H2
+        | Rule::H3
+        | Rule::H4
+        | Rule::A0
+        | Rule::A1
+        | Rule::A2
+        | Rule::A4
+        | Rule::A6
+        | Rule::K1
+        | Rule::M1 => &[],
         Rule::A3 | Rule::A5 | Rule::V1 => &[Part::Key],
         Rule::N1 | Rule::F8 => &[Part::Project],
         Rule::N2 | Rule::N3 | Rule::N4 | Rule::B3 | Rule::V5 => &[Part::Kind, Part::Name],
@@ -166,8 +215,18 @@ fn kept_parts(rule: Rule) -> &'static [Part]
         Rule::B5 | Rule::V4 => &[Part::Name],
         Rule::V2 | Rule::O1 => &[Part::Key, Part::Number],
         Rule::V3 => &[Part::Key, Part::Name, Part::Number],
-        Rule::F1 | Rule::F2 | Rule::F3 | Rule::F4 | Rule::F5 | Rule::F6 | Rule::F7 | Rule::L0 => &[Part::Key, Part::Name, Part::Project],
-        Rule::L1 | Rule::L2 | Rule::L3 | Rule::L4 | Rule::L5 | Rule::L6 | Rule::L7 | Rule::L8 => &[Part::Asked, Part::Key, Part::Limit, Part::Project, Part::Used],
+        Rule::F1 | Rule::F2 | Rule::F3 | Rule::F4 | Rule::F5 | Rule::F6 | Rule::F7 | Rule::L0 => &[
+            Part::Key,
+            Part::Name,
+            Part::Project,
+        ],
+        Rule::L1 | Rule::L2 | Rule::L3 | Rule::L4 | Rule::L5 | Rule::L6 | Rule::L7 | Rule::L8 => &[
+            Part::Asked,
+            Part::Key,
+            Part::Limit,
+            Part::Project,
+            Part::Used,
+        ],
         Rule::O2 | Rule::O3 | Rule::O4 | Rule::O5 => &[Part::Number],
         Rule::C1 | Rule::C2 => &[Part::Kind, Part::Number],
     }

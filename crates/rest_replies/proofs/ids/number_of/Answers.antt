@@ -5,4 +5,4 @@ use Rattle.rest_replies.proofs.ids.number_of.Goals as goal
 
 pub returns-in-Err : goal.returns-in-Err
 unfolding number_of
-returns-in-Err c = none_of (number_in_bytes c.args.boot) (parsed c.args.text.now) (λ u e. c.in-Err.ensures.ok.1 (u, e))
+returns-in-Err c = none_of (number_in_bytes c.args.boot) (parsed c.args.text.now) (λ u e. let never = c.in-Err.ensures.ok.1 (u, e) in cc)
