@@ -1,5 +1,5 @@
 -- The ids of operations: UUIDs of version 8 that hold the boot word and the number of the operation.
-use Rattle.std.specs.Prelude.{ℕ, ◌+◌, ◌-◌, ◌*◌, ◌/◌, ◌%◌, ◌^◌, ◌==◌, nat_lt, nat_le, ◌&&◌, if◌then◌else◌, List, ◌++◌, Option, Some, None, option_and_then, codes}
+use Rattle.std.specs.Prelude.{◌≡◌, ◌<◌, ℕ, ◌+◌, ◌-◌, ◌*◌, ◌/◌, ◌%◌, ◌^◌, ◌==◌, nat_lt, nat_le, ◌&&◌, if◌then◌else◌, List, ◌++◌, Option, Some, None, option_and_then, codes}
 use Rattle.std.specs.Int.{w128, to_be_bytes, from_be_bytes}
 use Rattle.uuid.specs.Text.{lower, hyphenated_text, parsed}
 
@@ -34,3 +34,7 @@ number_in_bytes boot bytes = number_in boot (from_be_bytes w128 bytes / 2 ^ 64) 
 -- the number that a text names, where it is a text form of an id of this boot
 unfoldable pub number_of : List ℕ → ℕ → Option ℕ
 number_of text boot = option_and_then (number_in_bytes boot) (parsed text)
+
+-- the id of a number names that number again
+abbrev pub ReadsBack : Type 0
+ReadsBack = (boot number : ℕ) → number < 2 ^ 62 → number_of (id_text boot number) boot ≡ Some number

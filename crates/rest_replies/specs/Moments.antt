@@ -1,5 +1,5 @@
 -- Moments as texts: days are told by the calendar, year by year and month by month.
-use Rattle.std.specs.Prelude.{ℕ, zero, suc, ◌+◌, ◌-◌, ◌/◌, ◌%◌, min, nat_lt, if◌then◌else◌, List, [], ◌∷◌, ◌++◌, pos, codes}
+use Rattle.std.specs.Prelude.{ℕ, zero, suc, ◌+◌, ◌-◌, ◌/◌, ◌%◌, min, nat_lt, if◌then◌else◌, List, ◌++◌, pos, codes}
 use Rattle.jiff_core.specs.Calendar.{days_in_year, days_in_month}
 use Rattle.jiff_fmt.specs.Text.{pad2, pad4}
 

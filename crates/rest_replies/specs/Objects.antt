@@ -1,6 +1,6 @@
 -- Objects and lists of JSON.
 use Rattle.std.specs.Prelude.{ℕ, List, [], ◌∷◌}
-use Rattle.serde_json.specs.Data.{Data, string, number, unsigned, array, object, Members, no_members, member}
+use Rattle.serde_json.specs.Data.{Data, number, unsigned, array, object, Members, no_members, member}
 use Rattle.serde_json.specs.View.{items_of, members_view}
 use Rattle.rest_replies.specs.declared.object.Object.{Object}
 

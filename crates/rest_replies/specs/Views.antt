@@ -13,11 +13,11 @@ use Rattle.records.specs.declared.rows.Snapshot.{Snapshot}
 use Rattle.records.specs.declared.replies.UsageLine.{UsageLine}
 use Rattle.records.specs.declared.replies.View.{View}
 use Rattle.records.specs.declared.replies.View.TheVariants as shown
-use Rattle.serde_json.specs.Data.{Data, null, boolean, string, number, negative, object, Members, no_members, put}
+use Rattle.serde_json.specs.Data.{Data, boolean, string, number, negative, object, Members, no_members, put}
 use Rattle.row_machine.specs.StandingRules.{power_text}
 use Rattle.rest_replies.specs.Words.{power_code, instance_kind, driver_text, limit_name}
 use Rattle.rest_replies.specs.Moments.{moment_text}
-use Rattle.rest_replies.specs.Objects.{members, object_of, list_of, whole}
+use Rattle.rest_replies.specs.Objects.{object_of, list_of, whole}
 use Rattle.rest_replies.specs.Settings.{settings_data, devices_data, texts_data}
 use Rattle.rest_replies.specs.Operations.{operation_data}
 

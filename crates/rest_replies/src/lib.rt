@@ -3,6 +3,7 @@
 #![tactic(auto)]
 
 mod ids;
+mod laws;
 mod links;
 mod moments;
 mod notices;
@@ -11,9 +12,12 @@ mod operations;
 mod printing;
 mod refusals;
 mod settings;
+#[cfg(test)]
+mod tests;
 mod views;
 mod words;
 
 pub use ids::{id_text, number_of};
+pub use laws::ids_read_back;
 pub use notices::print_notice;
 pub use printing::print;

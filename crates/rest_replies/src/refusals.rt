@@ -135,37 +135,12 @@ fn rule_text(rule: Rule) -> &'static str
     }
 }
 
-/// The HTTP status code of a rule.
+/// The HTTP status code of a rule, which is 400 for most.
 pub(crate) fn rule_code(rule: Rule) -> u16
     ensures code { result ≡ rule_code rule }
     ensures known { IsTrue (is_reply_code result) }
 {
     match rule {
-        Rule::H1
-        | Rule::H2
-        | Rule::H3
-        | Rule::H4
-        | Rule::A3
-        | Rule::A4
-        | Rule::A5
-        | Rule::A6
-        | Rule::N3
-        | Rule::B2
-        | Rule::B4
-        | Rule::B5
-        | Rule::V1
-        | Rule::V2
-        | Rule::V3
-        | Rule::V4
-        | Rule::V5
-        | Rule::O1
-        | Rule::O2
-        | Rule::O3 => 400,
-        Rule::A0 => 501,
-        Rule::A1 | Rule::N1 | Rule::N2 => 404,
-        Rule::A2 => 405,
-        Rule::N4 | Rule::N5 | Rule::B1 | Rule::B6 | Rule::O4 | Rule::O5 | Rule::C1 | Rule::C2 =>
-            409,
         Rule::B3
         | Rule::F1
         | Rule::F2
@@ -184,27 +159,22 @@ pub(crate) fn rule_code(rule: Rule) -> u16
         | Rule::L6
         | Rule::L7
         | Rule::L8 => 403,
-        Rule::K1 => 503,
+        Rule::A1 | Rule::N1 | Rule::N2 => 404,
+        Rule::A2 => 405,
+        Rule::N4 | Rule::N5 | Rule::B1 | Rule::B6 => 409,
+        Rule::O4 | Rule::O5 | Rule::C1 | Rule::C2 => 409,
         Rule::M1 => 500,
+        Rule::A0 => 501,
+        Rule::K1 => 503,
+        _ => 400,
     }
 }
 
-/// What is told with a rule.
+/// What is told with a rule. A rule that does not stand here tells nothing.
 fn kept_parts(rule: Rule) -> &'static [Part]
     ensures { result.now ≡ kept_parts rule }
 {
     match rule {
-        Rule::H1
-        | Rule::H2
-        | Rule::H3
-        | Rule::H4
-        | Rule::A0
-        | Rule::A1
-        | Rule::A2
-        | Rule::A4
-        | Rule::A6
-        | Rule::K1
-        | Rule::M1 => &[],
         Rule::A3 | Rule::A5 | Rule::V1 => &[Part::Key],
         Rule::N1 | Rule::F8 => &[Part::Project],
         Rule::N2 | Rule::N3 | Rule::N4 | Rule::B3 | Rule::V5 => &[Part::Kind, Part::Name],
@@ -229,6 +199,7 @@ fn kept_parts(rule: Rule) -> &'static [Part]
         ],
         Rule::O2 | Rule::O3 | Rule::O4 | Rule::O5 => &[Part::Number],
         Rule::C1 | Rule::C2 => &[Part::Kind, Part::Number],
+        _ => &[],
     }
 }
 

@@ -1,8 +1,6 @@
-use Rattle.std.proofs.Common.{◌≡◌, pos, arith, ◌∙◌}
+use Rattle.std.proofs.Common.{pos, arith, ◌∙◌}
 use Rattle.std.specs.Int.{w64}
 use Rattle.std.proofs.lemmas.Int.{to_z_pos}
-use Rattle.jiff_core.specs.declared.unit.Unit.TheVariants.{Day}
-use Rattle.jiff.specs.Words.{IsOnly}
 use Rattle.jiff.proofs.SpanFacts.{can_add-days}
 use Rattle.rest_replies.proofs.Calendar.{day_fits, days_after}
 use Rattle.rest_replies.proofs.moments.date_of.Goals as goal

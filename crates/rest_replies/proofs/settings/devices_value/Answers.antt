@@ -1,4 +1,4 @@
-use Rattle.std.proofs.Common.{◌≡◌, ap, ◌∙◌}
+use Rattle.std.proofs.Common.{ap, ◌∙◌}
 use Rattle.serde_json.specs.Data.{Data, put}
 use Rattle.rest_replies.specs.Objects.{members_in}
 use Rattle.rest_replies.proofs.Walked.{devices-next}
