@@ -1,7 +1,8 @@
 -- Replies: the code, the Location and the body of each.
-use Rattle.std.specs.Prelude.{ℕ, List, [], ◌∷◌, Bool, map, codes}
+use Rattle.std.specs.Prelude.{◌≡◌, ℕ, List, [], ◌∷◌, Bool, map, codes}
 use Rattle.operations.specs.declared.status.Status.{Status}
 use Rattle.http_front.specs.declared.reply.Printed.{Printed}
+use Rattle.http_front.specs.Replies.{no_memory_body}
 use Rattle.records.specs.declared.refusals.Rule.TheVariants as rule
 use Rattle.records.specs.declared.refusals.Refusal.{Refusal}
 use Rattle.records.specs.declared.replies.OpView.{OpView}
@@ -99,3 +100,7 @@ printed_of r boot last = record {
   location = reply_location boot r;
   last = last;
 }
+
+-- the body where there is no memory is the one that is sent without making it
+abbrev pub NoMemoryIsKnown : Type 0
+NoMemoryIsKnown = (boot : ℕ) → compact_text (reply_data boot reply.NoMemory) ≡ no_memory_body

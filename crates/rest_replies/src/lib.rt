@@ -18,6 +18,6 @@ mod views;
 mod words;
 
 pub use ids::{id_text, number_of};
-pub use laws::ids_read_back;
+pub use laws::{ids_read_back, no_memory_is_known};
 pub use notices::print_notice;
 pub use printing::print;
