@@ -8,7 +8,7 @@ mod links;
 mod moments;
 mod notices;
 mod object;
-mod operations;
+mod operation;
 mod printing;
 mod refusals;
 mod settings;

@@ -5,7 +5,7 @@ ghost use Rattle.rest_replies.specs.Notices.{life_text, told_type, life_data, to
 
 use crate::moments::moment_text;
 use crate::object::Object;
-use crate::operations::operation_value;
+use crate::operation::operation_value;
 use records::{Life, Notice, Told};
 use serde_json::Value;
 use size_values::{NoMemory, Text};

@@ -10,7 +10,7 @@ ghost use Rattle.rest_replies.specs.Replies.{success_data, started_data, links_d
 
 use crate::ids::operation_link;
 use crate::object::Object;
-use crate::operations::operation_value;
+use crate::operation::operation_value;
 use crate::refusals::{refusal_value, rule_code};
 use crate::settings::texts_value;
 use crate::views::view_value;

@@ -5,7 +5,7 @@ ghost use Rattle.rest_replies.specs.Views.{server_data, project_data, profile_da
 
 use crate::moments::moment_text;
 use crate::object::Object;
-use crate::operations::operation_value;
+use crate::operation::operation_value;
 use crate::settings::{devices_value, settings_value, texts_value};
 use crate::words::{driver_text, instance_kind, limit_name, power_code, power_text};
 use config_lists::{Config, Devices};
