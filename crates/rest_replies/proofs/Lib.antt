@@ -1,0 +1,4 @@
+pub mod Calendar
+pub mod Plain
+pub mod ReadBack
+pub mod Walked

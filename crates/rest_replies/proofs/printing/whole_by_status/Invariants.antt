@@ -1,0 +1,8 @@
+use Rattle.std.proofs.Common.{◌≡◌, drop}
+use Rattle.serde_json.specs.Data.{no_members}
+use Rattle.rest_replies.specs.Objects.{members_in}
+use Rattle.rest_replies.specs.Replies.{put_operations}
+use Rattle.rest_replies.proofs.printing.whole_by_status.Given as goal
+
+abbrev pub invariant-loop-group : goal.invariant-loop-group
+invariant-loop-group l = put_operations l.boot (drop l.group-index l.group-items) (members_in l.object) ≡ put_operations l.boot l.group-items no_members

@@ -1,0 +1,76 @@
+-- Notices as JSON.
+use Rattle.std.specs.Prelude.{ℕ, List, [], ◌∷◌, codes}
+use Rattle.records.specs.declared.notices.Life.{Life}
+use Rattle.records.specs.declared.notices.Life.TheVariants as life
+use Rattle.records.specs.declared.notices.Told.{Told}
+use Rattle.records.specs.declared.notices.Told.TheVariants as told
+use Rattle.records.specs.declared.notices.Notice.{Notice}
+use Rattle.serde_json.specs.Data.{Data, string}
+use Rattle.serde_json.specs.Written.{compact_text}
+use Rattle.rest_replies.specs.Moments.{moment_text}
+use Rattle.rest_replies.specs.Objects.{object_of}
+use Rattle.rest_replies.specs.Operations.{operation_data}
+
+-- how an action is written
+abbrev pub life_text : Life → List ℕ
+life_text life.ProjectCreated = codes "project-created"
+life_text life.ProjectUpdated = codes "project-updated"
+life_text life.ProjectRenamed = codes "project-renamed"
+life_text life.ProjectDeleted = codes "project-deleted"
+life_text life.ProfileCreated = codes "profile-created"
+life_text life.ProfileUpdated = codes "profile-updated"
+life_text life.ProfileRenamed = codes "profile-renamed"
+life_text life.ProfileDeleted = codes "profile-deleted"
+life_text life.NetworkCreated = codes "network-created"
+life_text life.NetworkUpdated = codes "network-updated"
+life_text life.NetworkRenamed = codes "network-renamed"
+life_text life.NetworkDeleted = codes "network-deleted"
+life_text life.PoolCreated = codes "storage-pool-created"
+life_text life.PoolUpdated = codes "storage-pool-updated"
+life_text life.PoolDeleted = codes "storage-pool-deleted"
+life_text life.VolumeCreated = codes "storage-volume-created"
+life_text life.VolumeUpdated = codes "storage-volume-updated"
+life_text life.VolumeRenamed = codes "storage-volume-renamed"
+life_text life.VolumeDeleted = codes "storage-volume-deleted"
+life_text life.InstanceCreated = codes "instance-created"
+life_text life.InstanceUpdated = codes "instance-updated"
+life_text life.InstanceDeleted = codes "instance-deleted"
+life_text life.InstanceRenamed = codes "instance-renamed"
+life_text life.InstanceStarted = codes "instance-started"
+life_text life.InstanceStopped = codes "instance-stopped"
+life_text life.InstanceRestarted = codes "instance-restarted"
+life_text life.InstancePaused = codes "instance-paused"
+life_text life.InstanceResumed = codes "instance-resumed"
+life_text life.InstanceRestored = codes "instance-restored"
+life_text life.SnapshotCreated = codes "instance-snapshot-created"
+life_text life.SnapshotDeleted = codes "instance-snapshot-deleted"
+
+-- the type of a notice
+abbrev pub told_type : Told → List ℕ
+told_type (told.Life action source) = codes "lifecycle"
+told_type (told.Op operation) = codes "operation"
+
+-- an action, with the link of its object
+unfoldable pub life_data : Life → List ℕ → Data
+life_data action source = object_of (
+    (codes "action", string (life_text action))
+    ∷ (codes "source", string source)
+    ∷ [])
+
+-- what a notice tells: an action, or an operation as it stands
+abbrev pub told_data : ℕ → Told → Data
+told_data boot (told.Life action source) = life_data action source
+told_data boot (told.Op operation) = operation_data boot operation
+
+-- a notice as an object
+unfoldable pub notice_data : ℕ → Notice → Data
+notice_data boot n = object_of (
+    (codes "metadata", told_data boot n.told)
+    ∷ (codes "project", string n.project)
+    ∷ (codes "timestamp", string (moment_text n.moment))
+    ∷ (codes "type", string (told_type n.told))
+    ∷ [])
+
+-- a notice as a text
+unfoldable pub notice_text : Notice → ℕ → List ℕ
+notice_text n boot = compact_text (notice_data boot n)

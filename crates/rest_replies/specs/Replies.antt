@@ -1,0 +1,106 @@
+-- Replies: the code, the Location and the body of each.
+use Rattle.std.specs.Prelude.{◌≡◌, ℕ, List, [], ◌∷◌, Bool, map, codes}
+use Rattle.operations.specs.declared.status.Status.{Status}
+use Rattle.http_front.specs.declared.reply.Printed.{Printed}
+use Rattle.http_front.specs.Replies.{no_memory_body}
+use Rattle.records.specs.declared.refusals.Rule.TheVariants as rule
+use Rattle.records.specs.declared.refusals.Refusal.{Refusal}
+use Rattle.records.specs.declared.replies.OpView.{OpView}
+use Rattle.records.specs.declared.replies.Reply.{Reply}
+use Rattle.records.specs.declared.replies.Reply.TheVariants as reply
+use Rattle.serde_json.specs.Data.{Data, string, object, Members, no_members, put}
+use Rattle.serde_json.specs.Written.{compact_text}
+use Rattle.row_machine.specs.Refusals.{untold}
+use Rattle.rest_replies.specs.Words.{status_key}
+use Rattle.rest_replies.specs.Ids.{operation_link}
+use Rattle.rest_replies.specs.Objects.{object_of, list_of, whole}
+use Rattle.rest_replies.specs.Settings.{texts_data}
+use Rattle.rest_replies.specs.Operations.{operation_data}
+use Rattle.rest_replies.specs.Views.{view_data}
+use Rattle.rest_replies.specs.Refusals.{rule_code, refusal_data}
+
+-- the reply to a command that was carried out at once, with what it tells
+unfoldable pub success_data : Data → Data
+success_data told = object_of (
+    (codes "metadata", told)
+    ∷ (codes "status", string (codes "Success"))
+    ∷ (codes "status_code", whole 200)
+    ∷ (codes "type", string (codes "sync"))
+    ∷ [])
+
+-- the reply to a command that began an operation
+unfoldable pub started_data : ℕ → OpView → Data
+started_data boot operation = object_of (
+    (codes "metadata", operation_data boot operation)
+    ∷ (codes "operation", string (operation_link boot operation.number))
+    ∷ (codes "status", string (codes "Operation created"))
+    ∷ (codes "status_code", whole 100)
+    ∷ (codes "type", string (codes "async"))
+    ∷ [])
+
+-- operations by their links
+unfoldable pub links_data : ℕ → List ℕ → Data
+links_data boot numbers = list_of (map (λ number. string (operation_link boot number)) numbers)
+
+-- the links of operations put by status into an object
+abbrev pub put_links : ℕ → List (Status × List ℕ) → Members → Members
+put_links boot [] ms = ms
+put_links boot (group ∷ groups) ms = put_links boot groups (put (status_key group.0) (links_data boot group.1) ms)
+
+-- the links of operations by status
+unfoldable pub by_status : ℕ → List (Status × List ℕ) → Data
+by_status boot groups = object (put_links boot groups no_members)
+
+-- operations as objects
+unfoldable pub operations_data : ℕ → List OpView → Data
+operations_data boot operations = list_of (map (operation_data boot) operations)
+
+-- operations put by status into an object
+abbrev pub put_operations : ℕ → List (Status × List OpView) → Members → Members
+put_operations boot [] ms = ms
+put_operations boot (group ∷ groups) ms = put_operations boot groups (put (status_key group.0) (operations_data boot group.1) ms)
+
+-- operations by status
+unfoldable pub whole_by_status : ℕ → List (Status × List OpView) → Data
+whole_by_status boot groups = object (put_operations boot groups no_members)
+
+-- the refusal where there is no memory
+abbrev pub no_memory_refusal : Refusal
+no_memory_refusal = record { rule = rule.M1; kept = untold }
+
+-- the body of a reply
+abbrev pub reply_data : ℕ → Reply → Data
+reply_data boot reply.Empty = success_data (object no_members)
+reply_data boot (reply.Links links) = success_data (texts_data links)
+reply_data boot (reply.One shown) = success_data (view_data boot shown)
+reply_data boot (reply.Many views) = success_data (list_of (map (view_data boot) views))
+reply_data boot (reply.OpLinks groups) = success_data (by_status boot groups)
+reply_data boot (reply.OpMany groups) = success_data (whole_by_status boot groups)
+reply_data boot (reply.Started operation) = started_data boot operation
+reply_data boot (reply.Refused refusal) = refusal_data refusal
+reply_data boot reply.NoMemory = refusal_data no_memory_refusal
+
+-- the HTTP status code of a reply
+abbrev pub reply_code : Reply → ℕ
+reply_code (reply.Started operation) = 202
+reply_code (reply.Refused refusal) = rule_code refusal.rule
+reply_code reply.NoMemory = rule_code rule.M1
+reply_code other = 200
+
+-- the Location of a reply, which only the start of an operation has
+abbrev pub reply_location : ℕ → Reply → List ℕ
+reply_location boot (reply.Started operation) = operation_link boot operation.number
+reply_location boot other = []
+
+-- a reply as it is printed; the connection may end behind it
+unfoldable pub printed_of : Reply → ℕ → Bool → Printed
+printed_of r boot last = record {
+  code = reply_code r;
+  body = compact_text (reply_data boot r);
+  location = reply_location boot r;
+  last = last;
+}
+
+-- the body where there is no memory is the one that is sent without making it
+abbrev pub NoMemoryIsKnown : Type 0
+NoMemoryIsKnown = (boot : ℕ) → compact_text (reply_data boot reply.NoMemory) ≡ no_memory_body

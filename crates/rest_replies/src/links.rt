@@ -1,0 +1,91 @@
+//! The links of the objects that operations are about.
+ghost use Rattle.std.specs.Prelude.{◌≡◌, ◌++◌, IfOk, string_bytes};
+ghost use Rattle.row_machine.specs.Links.{project_query, path_of, link_of};
+
+use records::Target;
+use size_values::{NoMemory, ObjectKind, Text};
+use std::alloc::Global;
+
+/// A path of two parts.
+fn joined(alloc: Global, list: &str, name: &str) -> Result<String, NoMemory>
+    ensures { IfOk result (λ s. string_bytes s ≡ list.now ++ name.now) }
+{
+    let mut path = String::from_str(alloc, list)?;
+    path.push_str(name)?;
+    Ok(path)
+}
+
+/// A path of four parts.
+fn joined_inside(
+    alloc: Global,
+    list: &str,
+    outer: &str,
+    between: &str,
+    name: &str,
+) -> Result<String, NoMemory>
+    ensures { IfOk result (λ s. string_bytes s ≡ list.now ++ outer.now ++ between.now ++ name.now) }
+{
+    let mut path = String::from_str(alloc, list)?;
+    path.push_str(outer)?;
+    path.push_str(between)?;
+    path.push_str(name)?;
+    Ok(path)
+}
+
+/// The path of an object, by its kind, the pool or instance that it stands in, and its name.
+fn path_text(alloc: Global, target: &Target) -> Result<String, NoMemory>
+    ensures { IfOk result (λ s. string_bytes s ≡ path_of target.now) }
+{
+    let name = target.name.view();
+    match target.kind {
+        ObjectKind::Project => joined(alloc, "/1.0/projects/", name),
+        ObjectKind::Profile => joined(alloc, "/1.0/profiles/", name),
+        ObjectKind::Network => joined(alloc, "/1.0/networks/", name),
+        ObjectKind::Pool => joined(alloc, "/1.0/storage-pools/", name),
+        ObjectKind::Volume => joined_inside(
+            alloc,
+            "/1.0/storage-pools/",
+            target.pool.view(),
+            "/volumes/custom/",
+            name,
+        ),
+        ObjectKind::Instance => joined(alloc, "/1.0/instances/", name),
+        ObjectKind::Snapshot => joined_inside(
+            alloc,
+            "/1.0/instances/",
+            target.instance.view(),
+            "/snapshots/",
+            name,
+        ),
+        ObjectKind::Operation => joined(alloc, "/1.0/operations/", name),
+    }
+}
+
+/// A path with the query that names a project; `default` needs none.
+fn with_query(path: String, project: &str) -> Result<Text, NoMemory>
+    ensures { IfOk result (λ t. t ≡ string_bytes path ++ project_query project.now) }
+{
+    if project == "default" {
+        return Ok(Text::from_string(path));
+    }
+    let mut link = path;
+    link.push_str("?project=")?;
+    link.push_str(project)?;
+    Ok(Text::from_string(link))
+}
+
+/// The link of an object that belongs to a project; pools and projects belong to none.
+pub(crate) fn link_text(alloc: Global, project: &str, target: &Target) -> Result<Text, NoMemory>
+    ensures { IfOk result (λ t. t ≡ link_of project.now target.now) }
+{
+    let path = path_text(alloc, target)?;
+    match target.kind {
+        ObjectKind::Project | ObjectKind::Pool => Ok(Text::from_string(path)),
+        ObjectKind::Profile
+        | ObjectKind::Network
+        | ObjectKind::Volume
+        | ObjectKind::Instance
+        | ObjectKind::Snapshot
+        | ObjectKind::Operation => with_query(path, project),
+    }
+}

@@ -1,0 +1,105 @@
+//! Notices as JSON.
+ghost use Rattle.std.specs.Prelude.{◌≡◌, IfOk};
+ghost use Rattle.serde_json.specs.View.{view};
+ghost use Rattle.rest_replies.specs.Notices.{life_text, told_type, life_data, told_data, notice_data, notice_text};
+
+use crate::moments::moment_text;
+use crate::object::Object;
+use crate::operation::operation_value;
+use records::{Life, Notice, Told};
+use serde_json::Value;
+use size_values::{NoMemory, Text};
+use std::alloc::Global;
+
+/// How an action is written.
+fn life_text(action: Life) -> &'static str
+    ensures { result.now ≡ life_text action }
+{
+    match action {
+        Life::ProjectCreated => "project-created",
+        Life::ProjectUpdated => "project-updated",
+        Life::ProjectRenamed => "project-renamed",
+        Life::ProjectDeleted => "project-deleted",
+        Life::ProfileCreated => "profile-created",
+        Life::ProfileUpdated => "profile-updated",
+        Life::ProfileRenamed => "profile-renamed",
+        Life::ProfileDeleted => "profile-deleted",
+        Life::NetworkCreated => "network-created",
+        Life::NetworkUpdated => "network-updated",
+        Life::NetworkRenamed => "network-renamed",
+        Life::NetworkDeleted => "network-deleted",
+        Life::PoolCreated => "storage-pool-created",
+        Life::PoolUpdated => "storage-pool-updated",
+        Life::PoolDeleted => "storage-pool-deleted",
+        Life::VolumeCreated => "storage-volume-created",
+        Life::VolumeUpdated => "storage-volume-updated",
+        Life::VolumeRenamed => "storage-volume-renamed",
+        Life::VolumeDeleted => "storage-volume-deleted",
+        Life::InstanceCreated => "instance-created",
+        Life::InstanceUpdated => "instance-updated",
+        Life::InstanceDeleted => "instance-deleted",
+        Life::InstanceRenamed => "instance-renamed",
+        Life::InstanceStarted => "instance-started",
+        Life::InstanceStopped => "instance-stopped",
+        Life::InstanceRestarted => "instance-restarted",
+        Life::InstancePaused => "instance-paused",
+        Life::InstanceResumed => "instance-resumed",
+        Life::InstanceRestored => "instance-restored",
+        Life::SnapshotCreated => "instance-snapshot-created",
+        Life::SnapshotDeleted => "instance-snapshot-deleted",
+    }
+}
+
+/// The type of a notice.
+fn told_type(told: &Told) -> &'static str
+    ensures { result.now ≡ told_type told.now }
+{
+    match told {
+        Told::Life { .. } => "lifecycle",
+        Told::Op(_) => "operation",
+    }
+}
+
+/// An action, with the link of its object.
+#[tactic(auto, unfolding(crate::specs::Notices::life_data))]
+fn life_value(alloc: Global, action: Life, source: &Text) -> Result<Value, NoMemory>
+    ensures { IfOk result (λ v. view v ≡ life_data action source.now) }
+{
+    let mut object = Object::new(alloc);
+    object.put_text("action", life_text(action))?;
+    object.put_text("source", source.view())?;
+    Ok(object.into_value())
+}
+
+/// What a notice tells: an action, or an operation as it stands.
+fn told_value(alloc: Global, boot: u64, told: &Told) -> Result<Value, NoMemory>
+    ensures { IfOk result (λ v. view v ≡ told_data boot told.now) }
+{
+    match told {
+        Told::Life { action, source } => life_value(alloc, *action, source),
+        Told::Op(operation) => operation_value(alloc, boot, operation),
+    }
+}
+
+/// A notice as an object.
+#[tactic(auto, unfolding(crate::specs::Notices::notice_data))]
+fn notice_value(alloc: Global, notice: &Notice, boot: u64) -> Result<Value, NoMemory>
+    ensures { IfOk result (λ v. view v ≡ notice_data boot notice.now) }
+{
+    let moment = moment_text(alloc, notice.moment)?;
+    let mut object = Object::new(alloc);
+    object.put("metadata", told_value(alloc, boot, &notice.told)?)?;
+    object.put_text("project", notice.project.view())?;
+    object.put_text("timestamp", moment.view())?;
+    object.put_text("type", told_type(&notice.told))?;
+    Ok(object.into_value())
+}
+
+/// A notice as the text of its event. The boot word is that of the ids of operations.
+#[tactic(auto, unfolding(crate::specs::Notices::notice_text))]
+pub fn print_notice(alloc: Global, notice: &Notice, boot: u64) -> Result<Text, NoMemory>
+    ensures { IfOk result (λ t. t ≡ notice_text notice.now boot) }
+{
+    let value = notice_value(alloc, notice, boot)?;
+    Ok(Text::from_string(value.to_string(alloc)?))
+}

@@ -1,0 +1,180 @@
+use crate::moments::moment_text;
+use crate::{id_text, number_of, print, print_notice};
+use records::{
+    Kept, Life, LimitKeyName, Notice, OpFault, OpView, Refusal, Reply, Rule, Status, Target, Told,
+    UsageLine, View,
+};
+use size_values::{NoMemory, ObjectKind, Seq, Text};
+use std::alloc::Global;
+
+const MADE: &str = "{\"metadata\":{},\"status\":\"Success\",\"status_code\":200,\"type\":\"sync\"}";
+
+const LINKS: &str =
+    "{\"metadata\":[\"/1.0\"],\"status\":\"Success\",\"status_code\":200,\"type\":\"sync\"}";
+
+const TAKEN: &str =
+    "{\"error\":\"name is taken\",\"error_code\":409,\"metadata\":{\"kind\":\"project\",\"name\":\"lab\",\"rule\":\"N4\"},\"type\":\"error\"}";
+
+const NOT_BUILT: &str =
+    "{\"error\":\"not built yet\",\"error_code\":501,\"metadata\":{\"rule\":\"A0\"},\"type\":\"error\"}";
+
+const NO_MEMORY: &str =
+    "{\"error\":\"no memory\",\"error_code\":500,\"metadata\":{\"rule\":\"M1\"},\"type\":\"error\"}";
+
+const STARTED: &str =
+    "{\"metadata\":{\"class\":\"task\",\"created_at\":\"1970-01-01T00:00:00Z\",\"err\":\"\",\"id\":\"00000000-0001-8000-8000-000000000002\",\"may_cancel\":true,\"metadata\":null,\"resources\":{\"instances\":[\"/1.0/instances/b?project=lab\"]},\"status\":\"Pending\",\"status_code\":105,\"updated_at\":\"1970-01-01T00:00:00Z\"},\"operation\":\"/1.0/operations/00000000-0001-8000-8000-000000000002\",\"status\":\"Operation created\",\"status_code\":100,\"type\":\"async\"}";
+
+const USAGE: &str =
+    "{\"metadata\":{\"resources\":{\"memory\":{\"limit\":-1,\"usage\":9223372036854775807}}},\"status\":\"Success\",\"status_code\":200,\"type\":\"sync\"}";
+
+const NOTICE: &str =
+    "{\"metadata\":{\"action\":\"instance-started\",\"source\":\"/1.0/instances/b?project=lab\"},\"project\":\"lab\",\"timestamp\":\"2000-02-29T00:00:00Z\",\"type\":\"lifecycle\"}";
+
+/// The start of the creation of instance `b` in project `lab`.
+fn creation(alloc: Global) -> Result<Reply, NoMemory> {
+    Ok(Reply::Started(OpView {
+        number: 2,
+        status: Status::Pending,
+        may_cancel: true,
+        created: 0,
+        updated: 0,
+        fault: OpFault::None,
+        project: Text::from_text(alloc, "lab")?,
+        target: Target {
+            kind: ObjectKind::Instance,
+            pool: Text::new(alloc),
+            instance: Text::new(alloc),
+            name: Text::from_text(alloc, "b")?,
+        },
+    }))
+}
+
+fn refused(alloc: Global, rule: Rule) -> Result<Reply, NoMemory> {
+    Ok(Reply::Refused(Refusal {
+        rule,
+        kept: Kept {
+            kind: Text::from_text(alloc, "project")?,
+            project: Text::new(alloc),
+            name: Text::from_text(alloc, "lab")?,
+            key: Text::new(alloc),
+            number: 0,
+            used: 0,
+            asked: 0,
+            limit: 0,
+        },
+    }))
+}
+
+fn links(alloc: Global) -> Result<Reply, NoMemory> {
+    let mut links = Seq::new(alloc);
+    links.push(Text::from_text(alloc, "/1.0")?)?;
+    Ok(Reply::Links(links))
+}
+
+/// More memory than a reply tells, with no limit.
+fn usage(alloc: Global) -> Result<Reply, NoMemory> {
+    let mut lines = Seq::new(alloc);
+    lines.push(UsageLine {
+        key: LimitKeyName::Memory,
+        used: 0x8000_0000_0000_0000,
+        limit: None,
+    })?;
+    Ok(Reply::One(View::Usage(lines)))
+}
+
+fn notice(alloc: Global) -> Result<Notice, NoMemory> {
+    Ok(Notice {
+        number: 1,
+        moment: 951_782_400,
+        project: Text::from_text(alloc, "lab")?,
+        told: Told::Life {
+            action: Life::InstanceStarted,
+            source: Text::from_text(alloc, "/1.0/instances/b?project=lab")?,
+        },
+    })
+}
+
+fn prints(
+    alloc: Global,
+    reply: Result<Reply, NoMemory>,
+    code: u16,
+    location: &str,
+    body: &str,
+) -> bool {
+    match reply {
+        Ok(reply) => is_printed(alloc, &reply, code, location, body),
+        Err(_) => false,
+    }
+}
+
+fn is_printed(alloc: Global, reply: &Reply, code: u16, location: &str, body: &str) -> bool {
+    match print(alloc, reply, 1, true) {
+        Ok(printed) => {
+            printed.code == code
+                && printed.location.view() == location
+                && printed.body.view() == body.as_bytes()
+                && printed.last
+        }
+        Err(_) => false,
+    }
+}
+
+fn is_text(text: Result<Text, NoMemory>, expected: &str) -> bool {
+    match text {
+        Ok(text) => text.view() == expected,
+        Err(_) => false,
+    }
+}
+
+fn tells(alloc: Global, notice: Result<Notice, NoMemory>, expected: &str) -> bool {
+    match notice {
+        Ok(notice) => is_text(print_notice(alloc, &notice, 1), expected),
+        Err(_) => false,
+    }
+}
+
+#[test]
+fn replies_are_printed(rt: HostRuntime) {
+    let alloc = rt.alloc();
+    let operation = "/1.0/operations/00000000-0001-8000-8000-000000000002";
+    assert!(rt; prints(alloc, Ok(Reply::Empty), 200, "", MADE));
+    assert!(rt; prints(alloc, links(alloc), 200, "", LINKS));
+    assert!(rt; prints(alloc, refused(alloc, Rule::N4), 409, "", TAKEN));
+    assert!(rt; prints(alloc, refused(alloc, Rule::A0), 501, "", NOT_BUILT));
+    assert!(rt; prints(alloc, Ok(Reply::NoMemory), 500, "", NO_MEMORY));
+    assert!(rt; prints(alloc, creation(alloc), 202, operation, STARTED));
+    assert!(rt; prints(alloc, usage(alloc), 200, "", USAGE));
+    assert!(rt; tells(alloc, notice(alloc), NOTICE));
+}
+
+#[test]
+fn moments_are_dates(rt: HostRuntime) {
+    let alloc = rt.alloc();
+    let cases = [
+        (0, "1970-01-01T00:00:00Z"),
+        (951_782_400, "2000-02-29T00:00:00Z"),
+        (4_102_444_800, "2100-01-01T00:00:00Z"),
+        (253_402_300_800, "9999-12-31T23:59:59Z"),
+    ];
+    for (moment, text) in cases {
+        assert!(rt; is_text(moment_text(alloc, moment), text));
+    }
+}
+
+#[test]
+fn ids_are_read_in_every_form(rt: HostRuntime) {
+    let id = "00000000-0001-8000-8000-00000000000a";
+    assert!(rt; is_text(id_text(rt.alloc(), 1, 10), id));
+    let cases = [
+        (id, Some(10)),
+        ("0000000000018000800000000000000A", Some(10)),
+        ("{00000000-0001-8000-8000-00000000000A}", Some(10)),
+        ("URN:uuid:00000000-0001-8000-8000-00000000000a", Some(10)),
+        ("00000000-0002-8000-8000-00000000000a", None),
+        ("00000000-0001-4000-8000-00000000000a", None),
+        ("10", None),
+    ];
+    for (text, number) in cases {
+        assert!(rt; number_of(text, 1) == number);
+    }
+}
