@@ -1,5 +1,5 @@
 -- The first fault among fields is that of the first field at fault.
-use Rattle.std.proofs.Common.{◌≡◌, ℕ, List, [], ◌∷◌, ◌++◌, Option, Some, None, refl, ap, sym, ◌∙◌}
+use Rattle.std.proofs.Common.{◌≡◌, ℕ, List, [], ◌∷◌, Option, Some, None, refl, ap, ◌∙◌}
 use Rattle.serde_json.specs.Data.{Data}
 use Rattle.rest_routes.specs.Fields.{fault_of, first_fault, or_next, IsFirstBad}
 use Rattle.rest_routes.specs.declared.fields.Field.{Field}

@@ -1,5 +1,5 @@
 -- Each command of a request is formed, and is one that is built: from the settings in a body up to the request.
-use Rattle.std.proofs.Common.{◌≡◌, ℕ, Bool, true, false, ◌&&◌, ◌||◌, List, [], ◌∷◌, length, ◌==◌, Option, Some, None, Result, Ok, Err, IfOk, IsTrue, refl, option_map, cond, not, codes}
+use Rattle.std.proofs.Common.{◌≡◌, ℕ, Bool, true, false, ◌&&◌, ◌||◌, List, [], ◌∷◌, Option, Some, None, Result, Ok, Err, IfOk, IsTrue, refl, option_map, cond, not, codes}
 use Rattle.std.specs.declared.cmp.Ordering.{Ordering}
 use Rattle.std.specs.declared.cmp.Ordering.TheVariants.{Less, Equal, Greater}
 use Rattle.std.specs.Ordering.{nat_cmp, match_ordering}
@@ -23,15 +23,14 @@ use Rattle.records.specs.declared.commands.What.TheVariants as what
 use Rattle.records.specs.declared.refusals.Refusal.{Refusal}
 use Rattle.size_values.specs.declared.memory.Or.{Or}
 use Rattle.rest_routes.specs.Answers.{Gives, mapped, followed}
-use Rattle.rest_routes.specs.Bodies.{object_in, name_at, body_of, text_at, config_at, devices_at}
+use Rattle.rest_routes.specs.Bodies.{object_in, body_of, text_at, config_at, devices_at}
 use Rattle.rest_routes.specs.Built.{is_built_request, is_built_command}
-use Rattle.rest_routes.specs.Commands.{named, one_asked, what_asked, judged, created, replaced, patched, renamed, creation_of, profile_changed, change_of, what_sent, is_unbuilt_creation, in_project, command_asked, command_with, command_without, command_sent, command_built, command_offered, command_by, command_at, command_in}
+use Rattle.rest_routes.specs.Commands.{named, one_asked, what_asked, judged, created, replaced, patched, renamed, creation_of, change_of, what_sent, is_unbuilt_creation, in_project, command_asked, command_with, command_without, command_sent, command_built, command_offered, command_by, command_at, command_in}
 use Rattle.rest_routes.specs.Fields.{given}
 use Rattle.rest_routes.specs.Paths.{name_of, path_of, query_of}
 use Rattle.rest_routes.specs.Places.{verb_of, has_body, offers, is_built, is_built_list, is_built_one}
 use Rattle.rest_routes.specs.Queries.{query_said}
 use Rattle.rest_routes.specs.Settings.{is_empty, with_change, changes_after, changes_of, with_setting, settings_after, device_of, devices_after, devices_of}
-use Rattle.rest_routes.specs.declared.fields.Shape.{Shape}
 use Rattle.rest_routes.specs.declared.fields.Shape.TheVariants as shape
 use Rattle.rest_routes.specs.declared.places.Place.{Place}
 use Rattle.rest_routes.specs.declared.places.Place.TheVariants as place

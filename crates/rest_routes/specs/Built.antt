@@ -1,5 +1,5 @@
 -- The commands that are built yet.
-use Rattle.std.specs.Prelude.{Bool, true, false, ◌||◌, is_none}
+use Rattle.std.specs.Prelude.{Bool, true, false, is_none}
 use Rattle.size_values.specs.declared.kinds.ObjectKind.{ObjectKind}
 use Rattle.size_values.specs.declared.kinds.ObjectKind.TheVariants as kind
 use Rattle.records.specs.declared.commands.Body.{Body}

@@ -14,7 +14,7 @@ use Rattle.rest_routes.specs.Answers.{mapped, followed}
 use Rattle.rest_routes.specs.Bodies.{object_in, name_at, body_of}
 use Rattle.rest_routes.specs.Fields.{given, fields_of, first_fault}
 use Rattle.rest_routes.specs.Paths.{path_of, query_of, name_of}
-use Rattle.rest_routes.specs.Places.{place_of, verb_of, has_body, offers, is_built, is_post}
+use Rattle.rest_routes.specs.Places.{place_of, verb_of, has_body, offers, is_built}
 use Rattle.rest_routes.specs.Queries.{query_said, project_of, recursion_asked}
 use Rattle.rest_routes.specs.Refusals.{on_key, plainly}
 use Rattle.rest_routes.specs.declared.fields.Shape.{Shape}

@@ -2,7 +2,7 @@ use crate::{Router, names_first_bad};
 use config_lists::Config;
 use http_heads::Request;
 use records::{Body, Command, Refusal, Rule, Target, What};
-use size_values::{Or, Seq, Text};
+use size_values::{NoMemory, Or, Seq, Text};
 use std::alloc::Global;
 use std::test::Fail;
 
@@ -34,34 +34,34 @@ const PATHS: [(&str, &str, Rule); 24] = [
     ("GET", "/1.0/events?type=operation,lifecycle", Rule::A6),
 ];
 
-/// Queries of `GET /1.0/profiles`, with the key of the first bad pair; none is empty.
+/// Targets of GET, with the key of the first bad pair of the query, which is empty where there is none.
 const QUERIES: [(&str, &str); 26] = [
-    ("", ""),
-    ("&&", ""),
-    ("project=", ""),
-    ("recursion=2&recursion=9", ""),
-    ("recursion=9&recursion=2", "recursion"),
-    ("recursion", "recursion"),
-    ("recursion=%31", ""),
-    ("timeout=-1", ""),
-    ("timeout=0", ""),
-    ("timeout=1000000&timeout=x", ""),
-    ("timeout=1000001", "timeout"),
-    ("timeout=007", "timeout"),
-    ("timeout=-0", "timeout"),
-    ("timeout=%2B5", "timeout"),
-    ("timeout=", "timeout"),
-    ("type=lifecycle", ""),
-    ("type=operation,lifecycle,operation", ""),
-    ("type=lifecycle,", "type"),
-    ("type=", "type"),
-    ("type=logging&timeout=x", "type"),
-    ("a=b&timeout=x&filter", "timeout"),
-    ("all-projects=false", "all-projects"),
-    ("all%2Dprojects", "all-projects"),
-    ("project=a&filter=", "filter"),
-    ("Recursion=9&public", ""),
-    ("recursion=0?recursion=9", "recursion"),
+    ("/1.0/profiles?", ""),
+    ("/1.0/profiles?&&", ""),
+    ("/1.0/profiles?project=", ""),
+    ("/1.0/profiles?recursion=2&recursion=9", ""),
+    ("/1.0/profiles?recursion=9&recursion=2", "recursion"),
+    ("/1.0/profiles?recursion", "recursion"),
+    ("/1.0/profiles?recursion=%31", ""),
+    ("/1.0/profiles?timeout=-1", ""),
+    ("/1.0/profiles?timeout=0", ""),
+    ("/1.0/profiles?timeout=1000000&timeout=x", ""),
+    ("/1.0/profiles?timeout=1000001", "timeout"),
+    ("/1.0/profiles?timeout=007", "timeout"),
+    ("/1.0/profiles?timeout=-0", "timeout"),
+    ("/1.0/profiles?timeout=%2B5", "timeout"),
+    ("/1.0/profiles?timeout=", "timeout"),
+    ("/1.0/profiles?type=lifecycle", ""),
+    ("/1.0/profiles?type=operation,lifecycle,operation", ""),
+    ("/1.0/profiles?type=lifecycle,", "type"),
+    ("/1.0/profiles?type=", "type"),
+    ("/1.0/profiles?type=logging&timeout=x", "type"),
+    ("/1.0/profiles?a=b&timeout=x&filter", "timeout"),
+    ("/1.0/profiles?all-projects=false", "all-projects"),
+    ("/1.0/profiles?all%2Dprojects", "all-projects"),
+    ("/1.0/profiles?project=a&filter=", "filter"),
+    ("/1.0/profiles?Recursion=9&public", ""),
+    ("/1.0/profiles?recursion=0?recursion=9", "recursion"),
 ];
 
 /// Requests that are refused by their body, with the rule and the key.
@@ -372,55 +372,6 @@ fn is_command(
     }
 }
 
-#[test]
-fn paths_methods_and_queries_are_judged(rt: HostRuntime) -> Result<(), Fail> {
-    let alloc = rt.alloc();
-    let router = Router::new(alloc)?;
-    for (method, target, rule) in &PATHS {
-        let request = request(alloc, method, target, "{\"config\":0}")?;
-        let answer = router.route(alloc, &request, 0);
-        assert!(rt; is_refused(&answer, *rule, ""), "{method} {target}");
-    }
-    for (query, key) in &QUERIES {
-        let target = format!(in alloc; "/1.0/profiles?{query}")?;
-        let request = request(alloc, "GET", target.as_str(), "")?;
-        let answer = router.route(alloc, &request, 0);
-        if key.is_empty() {
-            assert!(rt; answer.is_ok(), "query {query}");
-        } else {
-            assert!(rt; is_refused(&answer, Rule::A3, key), "query {query}");
-        }
-    }
-    Ok(())
-}
-
-#[test]
-fn bodies_are_judged(rt: HostRuntime) -> Result<(), Fail> {
-    let alloc = rt.alloc();
-    let router = Router::new(alloc)?;
-    for (method, target, body, rule, key) in &BODIES {
-        let request = request(alloc, method, target, body)?;
-        let answer = router.route(alloc, &request, 0);
-        assert!(rt; is_refused(&answer, *rule, key), "{method} {target} {body}");
-    }
-    Ok(())
-}
-
-#[test]
-fn requests_ask_for_commands(rt: HostRuntime) -> Result<(), Fail> {
-    let alloc = rt.alloc();
-    let router = Router::new(alloc)?;
-    for (method, target, body, word, project, name) in &COMMANDS {
-        let request = request(alloc, method, target, body)?;
-        let answer = router.route(alloc, &request, 0);
-        assert!(rt;
-            is_command(&answer, word, project, name),
-            "{method} {target} {body}"
-        );
-    }
-    Ok(())
-}
-
 const BODY: &str =
     "{\"description\":\"d\",\"config\":{\"b\":\"2\",\"a\":\"1\",\"c\":\"\"},\"devices\":{\"root\":{\"path\":\"/\",\"pool\":\"\"},\"eth0\":{}}}";
 
@@ -429,7 +380,7 @@ fn has_only(config: &Config, key: &str, value: &str) -> bool {
     config.len() == 1 && config.has(key, value)
 }
 
-/// Whether the parts are those of `BODY`.
+/// Whether the description and the devices are those of `BODY`.
 fn is_body(body: &Body) -> bool {
     let Some(description) = &body.description else {
         return false;
@@ -450,39 +401,128 @@ fn is_body(body: &Body) -> bool {
 }
 
 /// The settings that the changes of a body make of `a=0` and `c=3`.
-fn changed(alloc: Global, body: &Body) -> Result<Config, Fail> {
+fn changed(alloc: Global, body: &Body) -> Result<Config, NoMemory> {
     let mut config = Config::new(alloc);
     config.set("a", "0")?;
     config.set("c", "3")?;
     match &body.config {
-        Some(changes) => Ok(config.patched(changes)?),
+        Some(changes) => config.patched(changes),
         None => Ok(config),
     }
 }
 
 /// Whether the changes are those of `BODY`: `a` and `b` are set, and `c` is removed.
-fn changes_config(alloc: Global, body: &Body) -> Result<bool, Fail> {
-    let config = changed(alloc, body)?;
-    Ok(config.len() == 2 && config.has("a", "1") && config.has("b", "2"))
+fn changes_config(alloc: Global, body: &Body) -> bool {
+    match changed(alloc, body) {
+        Ok(config) => config.len() == 2 && config.has("a", "1") && config.has("b", "2"),
+        Err(_) => false,
+    }
 }
 
-/// Whether an answer is a PUT or a PATCH of a profile with the parts of `BODY`.
-fn has_body(alloc: Global, answer: &Result<Command, Or<Refusal>>) -> Result<bool, Fail> {
-    match answer {
-        Ok(
-            Command {
-                project: _,
-                what: What::Put { of: _, body },
-            },
-        ) => Ok(is_body(body) && changes_config(alloc, body)?),
-        Ok(
-            Command {
-                project: _,
-                what: What::Patch { of: _, body },
-            },
-        ) => Ok(is_body(body) && changes_config(alloc, body)?),
-        _ => Ok(false),
+/// Whether a request is a PUT or a PATCH with the parts of `BODY`.
+fn has_body(alloc: Global, what: &What) -> bool {
+    match what {
+        What::Put { of: _, body } => is_body(body) && changes_config(alloc, body),
+        What::Patch { of: _, body } => is_body(body) && changes_config(alloc, body),
+        _ => false,
     }
+}
+
+/// How a request is answered.
+#[derive(Clone, Copy)]
+enum Want {
+    /// By a refusal with this rule and key.
+    Refused(Rule, &'static str),
+    /// By a command with this word, project and name.
+    Asked(&'static str, &'static str, &'static str),
+    /// By some command.
+    Good,
+    /// By a PUT or PATCH with the parts of `BODY`.
+    Read,
+}
+
+fn is_wanted(alloc: Global, answer: &Result<Command, Or<Refusal>>, want: &Want) -> bool {
+    match want {
+        Want::Refused(rule, key) => is_refused(answer, *rule, key),
+        Want::Asked(word, project, name) => is_command(answer, word, project, name),
+        Want::Good => answer.is_ok(),
+        Want::Read => match answer {
+            Ok(command) => has_body(alloc, &command.what),
+            Err(_) => false,
+        },
+    }
+}
+
+/// Whether a request is answered so.
+fn answers(alloc: Global, router: &Router, request: &Request, want: &Want) -> bool {
+    let answer = router.route(alloc, request, 0);
+    is_wanted(alloc, &answer, want)
+}
+
+/// How a query with this first bad key is answered; an empty key is none.
+fn judged(key: &'static str) -> Want {
+    if key.is_empty() {
+        Want::Good
+    } else {
+        Want::Refused(Rule::A3, key)
+    }
+}
+
+#[test]
+fn paths_and_methods_are_judged(rt: HostRuntime) -> Result<(), Fail> {
+    let alloc = rt.alloc();
+    let router = Router::new(alloc)?;
+    for (method, target, rule) in &PATHS {
+        let request = request(alloc, method, target, "{\"config\":0}")?;
+        let want = Want::Refused(*rule, "");
+        assert!(rt;
+            answers(alloc, &router, &request, &want),
+            "{method} {target}"
+        );
+    }
+    Ok(())
+}
+
+#[test]
+fn queries_are_judged(rt: HostRuntime) -> Result<(), Fail> {
+    let alloc = rt.alloc();
+    let router = Router::new(alloc)?;
+    for (target, key) in &QUERIES {
+        let request = request(alloc, "GET", target, "")?;
+        let want = judged(key);
+        assert!(rt; answers(alloc, &router, &request, &want), "{target}");
+    }
+    Ok(())
+}
+
+#[test]
+fn bodies_are_judged(rt: HostRuntime) -> Result<(), Fail> {
+    let alloc = rt.alloc();
+    let router = Router::new(alloc)?;
+    for (method, target, body, rule, key) in &BODIES {
+        let request = request(alloc, method, target, body)?;
+        let want = Want::Refused(*rule, key);
+        assert!(rt;
+            answers(alloc, &router, &request, &want),
+            "{method} {target} {body}"
+        );
+    }
+    Ok(())
+}
+
+#[test]
+fn requests_ask_for_commands(rt: HostRuntime) -> Result<(), Fail> {
+    let alloc = rt.alloc();
+    let router = Router::new(alloc)?;
+    for (method, target, body, word, project, name) in &COMMANDS {
+        let request = request(alloc, method, target, body)?;
+        let want = Want::Asked(word, project, name);
+        assert!(rt;
+            answers(alloc, &router, &request, &want),
+            "{method} {target} {body}"
+        );
+    }
+    Ok(())
 }
 
 #[test]
@@ -491,8 +531,7 @@ fn bodies_are_read(rt: HostRuntime) -> Result<(), Fail> {
     let router = Router::new(alloc)?;
     for method in ["PUT", "PATCH"] {
         let request = request(alloc, method, "/1.0/profiles/p", BODY)?;
-        let answer = router.route(alloc, &request, 0);
-        assert!(rt; has_body(alloc, &answer)?, "{method}");
+        assert!(rt; answers(alloc, &router, &request, &Want::Read), "{method}");
     }
     Ok(())
 }
