@@ -1,0 +1,335 @@
+-- Each command of a request is formed, and is one that is built: from the settings in a body up to the request.
+use Rattle.std.proofs.Common.{◌≡◌, ℕ, Bool, true, false, ◌&&◌, ◌||◌, List, [], ◌∷◌, Option, Some, None, Result, Ok, Err, IfOk, IsTrue, refl, option_map, cond, not, codes}
+use Rattle.std.specs.declared.cmp.Ordering.{Ordering}
+use Rattle.std.specs.declared.cmp.Ordering.TheVariants.{Less, Equal, Greater}
+use Rattle.std.specs.Ordering.{nat_cmp, match_ordering}
+use Rattle.std.specs.Cmp.Lexicographic.{slice_cmp}
+use Rattle.std.specs.List.{list_all}
+use Rattle.std.specs.Option.{option_map_or}
+use Rattle.serde_json.specs.Data.{Data, Members, no_members, member}
+use Rattle.serde_json.specs.Find.{as_object, as_str}
+use Rattle.size_values.specs.declared.kinds.ObjectKind.{ObjectKind}
+use Rattle.size_values.specs.declared.kinds.ObjectKind.TheVariants as kind
+use Rattle.config_lists.specs.Devices.{NamedDevices}
+use Rattle.config_lists.specs.Entries.{put}
+use Rattle.config_lists.specs.Settings.{Settings}
+use Rattle.http_heads.specs.declared.request.Request.{Request}
+use Rattle.records.specs.Forms.{are_settings, are_devices, is_creation, is_change, is_request, is_formed}
+use Rattle.records.specs.declared.commands.Body.{Body}
+use Rattle.records.specs.declared.commands.Origin.TheVariants as origin
+use Rattle.records.specs.declared.commands.Command.{Command}
+use Rattle.records.specs.declared.commands.What.{What}
+use Rattle.records.specs.declared.commands.What.TheVariants as what
+use Rattle.records.specs.declared.refusals.Refusal.{Refusal}
+use Rattle.size_values.specs.declared.memory.Or.{Or}
+use Rattle.rest_routes.specs.Answers.{Gives, mapped, followed}
+use Rattle.rest_routes.specs.Bodies.{object_in, body_of, text_at, config_at, devices_at}
+use Rattle.rest_routes.specs.Built.{is_built_request, is_built_command}
+use Rattle.rest_routes.specs.Commands.{named, one_asked, what_asked, judged, created, replaced, patched, renamed, creation_of, change_of, what_sent, is_unbuilt_creation, in_project, command_asked, command_with, command_without, command_sent, command_built, command_offered, command_by, command_at, command_in}
+use Rattle.rest_routes.specs.Fields.{given}
+use Rattle.rest_routes.specs.Paths.{name_of, path_of, query_of}
+use Rattle.rest_routes.specs.Places.{verb_of, has_body, offers, is_built, is_built_list, is_built_one}
+use Rattle.rest_routes.specs.Queries.{query_said}
+use Rattle.rest_routes.specs.Settings.{is_empty, with_change, changes_after, changes_of, with_setting, settings_after, device_of, devices_after, devices_of}
+use Rattle.rest_routes.specs.declared.fields.Shape.TheVariants as shape
+use Rattle.rest_routes.specs.declared.places.Place.{Place}
+use Rattle.rest_routes.specs.declared.places.Place.TheVariants as place
+use Rattle.rest_routes.specs.declared.places.Verb.{Verb}
+use Rattle.rest_routes.specs.declared.places.Verb.TheVariants as verb
+use Rattle.rest_routes.specs.declared.query.Query.{Query}
+
+-- ---- settings and devices
+
+-- the parts of a test that passes
+both : (a b : Bool) → (a && b) ≡ true → (a ≡ true) × (b ≡ true)
+both true b h = (refl, h)
+both false b h = (h, cc)
+
+-- two tests that pass
+and_true : (a b : Bool) → a ≡ true → b ≡ true → (a && b) ≡ true
+and_true true b h k = k
+and_true false b h k = h
+
+-- A put keeps what a test says of all entries, where it passes the new value under its key and under each key of an
+-- entry that passes.
+module _ {V : Type 0} (test : List ℕ × V → Bool) (key : List ℕ) (value : V) (here : test (key, value) ≡ true)
+    (over : (k : List ℕ) (old : V) → test (k, old) ≡ true → test (k, value) ≡ true) where
+  list_all-put : (entries : List (List ℕ × V)) → list_all test entries ≡ true → list_all test (put entries key value) ≡ true
+  unfolding put
+  list_all-put [] h = and_true _ _ here refl
+  list_all-put (e ∷ es) h = by (slice_cmp nat_cmp key e.0) (list_all-put es (both _ _ h).1)
+    where
+      by : (o : Ordering) → list_all test (put es key value) ≡ true → list_all test (match_ordering o ((key, value) ∷ e ∷ es) ((e.0, value) ∷ es) (e ∷ put es key value)) ≡ true
+      by Less rest = and_true _ _ here h
+      by Equal rest = and_true _ _ (over e.0 e.1 (both _ _ h).0) (both _ _ h).1
+      by Greater rest = and_true _ _ (both _ _ h).0 rest
+
+-- a key that is not empty joins settings
+put_formed : (config : Settings) (key value : List ℕ) → is_empty key ≡ false → are_settings config ≡ true → are_settings (put config key value) ≡ true
+put_formed config key value e h = list_all-put (λ entry. not (is_empty entry.0)) key value (rw e refl) (λ k old same. same) config h
+
+-- a device with settings joins devices
+put_device_formed : (devices : NamedDevices) (name : List ℕ) (device : Settings) → are_settings device ≡ true → are_devices devices ≡ true → are_devices (put devices name device) ≡ true
+put_device_formed devices name device e h = list_all-put (λ entry. are_settings entry.1) name device e (λ k old same. e) devices h
+
+with_change_formed : (changes : Settings) (key : List ℕ) (text : Option (List ℕ)) → are_settings changes ≡ true → are_settings (with_change changes key text) ≡ true
+with_change_formed changes key None h = h
+with_change_formed changes key (Some text) h = by (is_empty key) refl
+  where
+    by : (b : Bool) → is_empty key ≡ b → are_settings (cond b changes (put changes key text)) ≡ true
+    by true e = h
+    by false e = put_formed changes key text e h
+
+changes_formed : (ms : Members) (changes : Settings) → are_settings changes ≡ true → are_settings (changes_after changes ms) ≡ true
+changes_formed no_members changes h = h
+changes_formed (member key value more) changes h = changes_formed more (with_change changes key (as_str value)) (with_change_formed changes key (as_str value) h)
+
+changes_of_formed : (value : Data) → are_settings (changes_of value) ≡ true
+unfolding changes_of
+changes_of_formed value = by (as_object value)
+  where
+    by : (o : Option Members) → are_settings (option_map_or (changes_after []) o []) ≡ true
+    by None = refl
+    by (Some ms) = changes_formed ms [] refl
+
+with_setting_formed : (config : Settings) (key : List ℕ) (text : Option (List ℕ)) → are_settings config ≡ true → are_settings (with_setting config key text) ≡ true
+with_setting_formed config key None h = h
+with_setting_formed config key (Some text) h = by (is_empty key) (is_empty text) refl
+  where
+    by : (b c : Bool) → is_empty key ≡ b → are_settings (cond (b || c) config (put config key text)) ≡ true
+    by true c e = h
+    by false true e = h
+    by false false e = put_formed config key text e h
+
+settings_formed : (ms : Members) (config : Settings) → are_settings config ≡ true → are_settings (settings_after config ms) ≡ true
+settings_formed no_members config h = h
+settings_formed (member key value more) config h = settings_formed more (with_setting config key (as_str value)) (with_setting_formed config key (as_str value) h)
+
+device_of_formed : (value : Data) → are_settings (device_of value) ≡ true
+unfolding device_of
+device_of_formed value = by (as_object value)
+  where
+    by : (o : Option Members) → are_settings (option_map_or (settings_after []) o []) ≡ true
+    by None = refl
+    by (Some ms) = settings_formed ms [] refl
+
+devices_formed : (ms : Members) (devices : NamedDevices) → are_devices devices ≡ true → are_devices (devices_after devices ms) ≡ true
+devices_formed no_members devices h = h
+devices_formed (member name value more) devices h = devices_formed more (put devices name (device_of value)) (put_device_formed devices name (device_of value) (device_of_formed value) h)
+
+devices_of_formed : (value : Data) → are_devices (devices_of value) ≡ true
+unfolding devices_of
+devices_of_formed value = by (as_object value)
+  where
+    by : (o : Option Members) → are_devices (option_map_or (devices_after []) o []) ≡ true
+    by None = refl
+    by (Some ms) = devices_formed ms [] refl
+
+-- ---- bodies
+
+config_formed : (body : Data) → option_map_or are_settings (config_at body) true ≡ true
+unfolding config_at
+config_formed body = by (given (codes "config") body)
+  where
+    by : (o : Option Data) → option_map_or are_settings (option_map changes_of o) true ≡ true
+    by None = refl
+    by (Some value) = changes_of_formed value
+
+devices_at_formed : (body : Data) → option_map_or are_devices (devices_at body) true ≡ true
+unfolding devices_at
+devices_at_formed body = by (given (codes "devices") body)
+  where
+    by : (o : Option Data) → option_map_or are_devices (option_map devices_of o) true ≡ true
+    by None = refl
+    by (Some value) = devices_of_formed value
+
+-- a body with these parts and no other
+abbrev with_parts : Option (List ℕ) → Option Settings → Option NamedDevices → Body
+with_parts description config devices = record {
+  description = description;
+  config = config;
+  devices = devices;
+  profiles = None;
+  kind = None;
+  ephemeral = None;
+  driver = None;
+  origin = origin.None;
+}
+
+project_parts : (description : Option (List ℕ)) → is_creation kind.Project (with_parts description None None) ≡ true
+project_parts None = refl
+project_parts (Some text) = refl
+
+creation_parts : (description : Option (List ℕ)) (config : Option Settings) (devices : Option NamedDevices) → option_map_or are_settings config true ≡ true → option_map_or are_devices devices true ≡ true → is_creation kind.Profile (with_parts description config devices) ≡ true
+creation_parts None None None h k = refl
+creation_parts None None (Some ds) h k = rw k refl
+creation_parts None (Some cs) None h k = rw h refl
+creation_parts None (Some cs) (Some ds) h k = rw (h, k) refl
+creation_parts (Some text) None None h k = refl
+creation_parts (Some text) None (Some ds) h k = rw k refl
+creation_parts (Some text) (Some cs) None h k = rw h refl
+creation_parts (Some text) (Some cs) (Some ds) h k = rw (h, k) refl
+
+change_parts : (description : Option (List ℕ)) (config : Option Settings) (devices : Option NamedDevices) → option_map_or are_settings config true ≡ true → option_map_or are_devices devices true ≡ true → is_change kind.Profile (with_parts description config devices) ≡ true
+change_parts None None None h k = refl
+change_parts None None (Some ds) h k = rw k refl
+change_parts None (Some cs) None h k = rw h refl
+change_parts None (Some cs) (Some ds) h k = rw (h, k) refl
+change_parts (Some text) None None h k = refl
+change_parts (Some text) None (Some ds) h k = rw k refl
+change_parts (Some text) (Some cs) None h k = rw h refl
+change_parts (Some text) (Some cs) (Some ds) h k = rw (h, k) refl
+
+-- ---- what is asked
+
+-- a request that is formed and built
+record Passes (asked : What) : Type 0 where
+  formed : is_request asked ≡ true
+  built : is_built_request asked ≡ true
+
+-- the request of an answer, if it is one, passes
+abbrev AnswerPasses : Result What Refusal → Type 0
+AnswerPasses answer = IfOk answer Passes
+
+mapped_passes : {A : Type 0} (f : A → What) → ((x : A) → Passes (f x)) → (r : Result A Refusal) → AnswerPasses (mapped f r)
+mapped_passes f fine (Ok x) = fine x
+mapped_passes f fine (Err e) = tt
+
+project_passes : (body : Data) → AnswerPasses (created kind.Project shape.NewProject body)
+unfolding created body_of
+project_passes body =
+    mapped_passes _ (λ fine. record { formed = project_parts (text_at (codes "description") body); built = refl }) (judged shape.NewProject body)
+
+profile_passes : (body : Data) → AnswerPasses (created kind.Profile shape.NewProfile body)
+unfolding created body_of
+profile_passes body =
+    mapped_passes _ (λ fine. record { formed = creation_parts (text_at (codes "description") body) (config_at body) (devices_at body) (config_formed body) (devices_at_formed body); built = refl }) (judged shape.NewProfile body)
+
+replaced_passes : (name : List ℕ) (body : Data) → AnswerPasses (replaced (named kind.Profile name) shape.ProfileChange body)
+unfolding replaced body_of
+replaced_passes name body =
+    mapped_passes _ (λ fine. record { formed = change_parts (text_at (codes "description") body) (config_at body) (devices_at body) (config_formed body) (devices_at_formed body); built = refl }) (judged shape.ProfileChange body)
+
+patched_passes : (name : List ℕ) (body : Data) → AnswerPasses (patched (named kind.Profile name) shape.ProfileChange body)
+unfolding patched body_of
+patched_passes name body =
+    mapped_passes _ (λ fine. record { formed = change_parts (text_at (codes "description") body) (config_at body) (devices_at body) (config_formed body) (devices_at_formed body); built = refl }) (judged shape.ProfileChange body)
+
+renamed_passes : (name : List ℕ) (body : Data) → AnswerPasses (renamed (named kind.Profile name) body)
+unfolding renamed
+renamed_passes name body = mapped_passes _ (λ fine. record { formed = refl; built = refl }) (judged shape.Rename body)
+
+creation_passes : (kind : ObjectKind) (body : Data) → AnswerPasses (creation_of kind body)
+creation_passes kind.Project body = project_passes body
+creation_passes kind.Profile body = profile_passes body
+creation_passes other body = tt
+
+change_passes : (kind : ObjectKind) (verb : Verb) (name : List ℕ) (body : Data) → AnswerPasses (change_of kind verb (named kind name) body)
+change_passes kind.Profile verb.Put name body = replaced_passes name body
+change_passes kind.Profile verb.Patch name body = patched_passes name body
+change_passes kind.Profile other name body = renamed_passes name body
+change_passes other verb name body = tt
+
+sent_passes : (place : Place) (verb : Verb) (path : List ℕ) (body : Data) → AnswerPasses (what_sent place verb path body)
+sent_passes (place.List kind) verb path body = creation_passes kind body
+sent_passes (place.One kind) verb path body = change_passes kind verb (name_of path) body
+sent_passes other verb path body = tt
+
+one_passes : (kind : ObjectKind) (verb : Verb) (name : List ℕ) → is_built_one kind verb ≡ true → Passes (one_asked verb (named kind name))
+one_passes kind.Project verb.Get name h = record { formed = refl; built = refl }
+one_passes kind.Project verb.Post name h = cc
+one_passes kind.Project verb.Put name h = cc
+one_passes kind.Project verb.Patch name h = cc
+one_passes kind.Project verb.Delete name h = cc
+one_passes kind.Profile verb.Get name h = record { formed = refl; built = refl }
+one_passes kind.Profile verb.Post name h = record { formed = refl; built = refl }
+one_passes kind.Profile verb.Put name h = record { formed = refl; built = refl }
+one_passes kind.Profile verb.Patch name h = record { formed = refl; built = refl }
+one_passes kind.Profile verb.Delete name h = record { formed = refl; built = refl }
+one_passes other verb name h = cc
+
+list_passes : (kind : ObjectKind) (recursion : Bool) → is_built_list kind ≡ true → Passes (what.List (named kind []) recursion)
+list_passes kind.Project recursion h = record { formed = refl; built = refl }
+list_passes kind.Profile recursion h = record { formed = refl; built = refl }
+list_passes other recursion h = cc
+
+asked_passes : (place : Place) (verb : Verb) (path : List ℕ) (query : Query) → is_built place verb ≡ true → AnswerPasses (what_asked place verb path query)
+asked_passes place.Root verb path query h = record { formed = refl; built = refl }
+asked_passes place.Server verb path query h = record { formed = refl; built = refl }
+asked_passes (place.List kind) verb path query h = list_passes kind _ h
+asked_passes (place.One kind) verb path query h = one_passes kind verb (name_of path) h
+asked_passes other verb path query h = tt
+
+-- ---- requests
+
+-- a command that is formed and built
+record IsGood (command : Command) : Type 0 where
+  formed : is_formed command ≡ true
+  built : is_built_command command ≡ true
+
+-- the command of an answer, if it is one, is good
+abbrev AnswerIsGood : Result Command Refusal → Type 0
+AnswerIsGood answer = IfOk answer IsGood
+
+in_project_good : (query : Query) (answer : Result What Refusal) → AnswerPasses answer → AnswerIsGood (mapped (in_project query) answer)
+in_project_good query (Ok asked) h = record { formed = h.formed; built = h.built }
+in_project_good query (Err refusal) h = tt
+
+followed_good : (said : Result Query Refusal) (next : Query → Result Command Refusal) → ((query : Query) → AnswerIsGood (next query)) → AnswerIsGood (followed said next)
+followed_good (Ok query) next h = h query
+followed_good (Err refusal) next h = tt
+
+-- the branch that a test takes is good
+either_good : (test : Bool) (a b : Result Command Refusal) → (test ≡ true → AnswerIsGood a) → (test ≡ false → AnswerIsGood b) → AnswerIsGood (cond test a b)
+either_good true a b h k = h refl
+either_good false a b h k = k refl
+
+asked_good : (place : Place) (verb : Verb) (target : List ℕ) → is_built place verb ≡ true → AnswerIsGood (command_asked place verb target)
+unfolding command_asked
+asked_good place verb target h = followed_good (query_said (query_of target)) _ (λ query. in_project_good query _ (asked_passes place verb (path_of target) query h))
+
+with_good : (place : Place) (verb : Verb) (target : List ℕ) (body : Data) → AnswerIsGood (command_with place verb target body)
+unfolding command_with
+with_good place verb target body = followed_good (query_said (query_of target)) _ (λ query. in_project_good query _ (sent_passes place verb (path_of target) body))
+
+without_good : (target : List ℕ) → AnswerIsGood (command_without target)
+unfolding command_without
+without_good target = followed_good (query_said (query_of target)) _ (λ query. tt)
+
+sent_good : (place : Place) (verb : Verb) (target : List ℕ) (body : Option Data) → AnswerIsGood (command_sent place verb target body)
+sent_good place verb target None = without_good target
+sent_good place verb target (Some body) = either_good (is_unbuilt_creation place body) _ _ (λ is. tt) (λ is. with_good place verb target body)
+
+built_good : (place : Place) (verb : Verb) (request : Request) → is_built place verb ≡ true → AnswerIsGood (command_built place verb request)
+unfolding command_built
+built_good place verb request h = either_good (has_body verb) _ _ (λ is. sent_good place verb request.target (object_in request.body)) (λ is. asked_good place verb request.target h)
+
+offered_good : (place : Place) (verb : Verb) (request : Request) → AnswerIsGood (command_offered place verb request)
+unfolding command_offered
+offered_good place verb request = either_good (is_built place verb) _ _ (λ is. built_good place verb request is) (λ is. tt)
+
+by_good : (place : Place) (verb : Verb) (request : Request) → AnswerIsGood (command_by place verb request)
+unfolding command_by
+by_good place verb request = either_good (offers place verb) _ _ (λ is. offered_good place verb request) (λ is. tt)
+
+at_good : (place : Place) (verb : Option Verb) (request : Request) → AnswerIsGood (command_at place verb request)
+at_good place None request = tt
+at_good place (Some verb) request = by_good place verb request
+
+in_good : (place : Option Place) (request : Request) → AnswerIsGood (command_in place request)
+in_good None request = tt
+in_good (Some place) request = at_good place (verb_of request.method) request
+
+-- the command that is due is good
+good_due : (command : Command) (due : Result Command Refusal) → due ≡ Ok command → AnswerIsGood due → IsGood command
+good_due command due is h = rw is at h
+
+-- a command that a function returns is formed
+pub formed_due : (result : Result Command (Or Refusal)) (place : Option Place) (request : Request) → Gives result (command_in place request) → IfOk result (λ c. IsTrue (is_formed c))
+formed_due (Ok command) place request h = (good_due command _ h (in_good place request)).formed
+formed_due (Err refusal) place request h = tt
+
+-- a command that a function returns is built
+pub built_due : (result : Result Command (Or Refusal)) (place : Option Place) (request : Request) → Gives result (command_in place request) → IfOk result (λ c. IsTrue (is_built_command c))
+built_due (Ok command) place request h = (good_due command _ h (in_good place request)).built
+built_due (Err refusal) place request h = tt

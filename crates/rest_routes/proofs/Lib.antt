@@ -1,0 +1,4 @@
+pub mod FirstBad
+pub mod Formed
+pub mod Members
+pub mod Rows

@@ -1,0 +1,31 @@
+-- The parts of a request's target: its path, its query, and the names in its path.
+use Rattle.std.specs.Prelude.{ℕ, Bool, ◌==◌, List}
+use Rattle.std.specs.List.{before_first, after_first}
+
+-- the byte that stands between the parts of a path
+abbrev pub is_slash : ℕ → Bool
+is_slash byte = byte == 47
+
+-- the byte that stands before the query
+abbrev pub is_question_mark : ℕ → Bool
+is_question_mark byte = byte == 63
+
+-- what stands before the first slash, or all where there is none
+unfoldable pub before_slash : List ℕ → List ℕ
+before_slash text = before_first is_slash text
+
+-- what stands behind the first slash, or nothing where there is none
+unfoldable pub after_slash : List ℕ → List ℕ
+after_slash text = after_first is_slash text
+
+-- the path of a target: all before the first question mark
+unfoldable pub path_of : List ℕ → List ℕ
+path_of target = before_first is_question_mark target
+
+-- the query of a target: all behind the first question mark
+unfoldable pub query_of : List ℕ → List ℕ
+query_of target = after_first is_question_mark target
+
+-- the name of the object in a path `/1.0/profiles/NAME`: its third part
+unfoldable pub name_of : List ℕ → List ℕ
+name_of path = before_slash (after_slash (after_slash (after_slash path)))

@@ -1,0 +1,17 @@
+-- Refusals of requests by their form: a rule, and the key that it tells.
+use Rattle.std.specs.Prelude.{ℕ, List, []}
+use Rattle.records.specs.declared.refusals.Rule.{Rule}
+use Rattle.records.specs.declared.refusals.Kept.{Kept}
+use Rattle.records.specs.declared.refusals.Refusal.{Refusal}
+
+-- nothing is told
+abbrev pub untold : Kept
+untold = record { kind = []; project = []; name = []; key = []; number = 0; used = 0; asked = 0; limit = 0 }
+
+-- the rule and a key
+abbrev pub on_key : Rule → List ℕ → Refusal
+on_key rule key = record { rule = rule; kept = record untold { key = key } }
+
+-- the rule alone
+abbrev pub plainly : Rule → Refusal
+plainly rule = record { rule = rule; kept = untold }

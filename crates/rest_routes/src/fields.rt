@@ -1,0 +1,121 @@
+ghost use Rattle.std.specs.Prelude.{◌≡◌, option_map};
+ghost use Rattle.serde_json.specs.View.{view};
+ghost use Rattle.rest_routes.specs.Fields.{fields_of, key_of, if_given, given, fits, absent_fault, fault_of, first_fault};
+
+use crate::settings::{fits_devices, fits_settings};
+use serde_json::Value;
+
+/// The fields of bodies, each in its form: a name is a text that has to be there, a description a text, `config` an
+/// object of texts, and `devices` an object of such objects.
+#[derive(Clone, Copy)]
+pub(crate) enum Field {
+    Name,
+    Description,
+    Config,
+    Devices,
+}
+
+/// The shapes of bodies: which fields they have. Those of PUT and PATCH are one.
+#[derive(Clone, Copy)]
+pub(crate) enum Shape {
+    NewProject,
+    NewProfile,
+    ProfileChange,
+    Rename,
+}
+
+/// The fields of a shape, in the order in which they are judged.
+pub(crate) fn fields_of(shape: Shape) -> &'static [Field]
+    ensures { result.now ≡ fields_of shape }
+{
+    match shape {
+        Shape::NewProject => &[Field::Name, Field::Description],
+        Shape::NewProfile => &[
+            Field::Name,
+            Field::Description,
+            Field::Config,
+            Field::Devices,
+        ],
+        Shape::ProfileChange => &[Field::Description, Field::Config, Field::Devices],
+        Shape::Rename => &[Field::Name],
+    }
+}
+
+fn key_of(field: Field) -> &'static str
+    ensures { result.now ≡ key_of field }
+{
+    match field {
+        Field::Name => "name",
+        Field::Description => "description",
+        Field::Config => "config",
+        Field::Devices => "devices",
+    }
+}
+
+#[tactic(auto, unfolding(crate::specs::Fields::if_given))]
+fn if_given(value: &Value) -> Option<&Value>
+    ensures { option_map (λ m. view m.now) result ≡ if_given (view value.now) }
+{
+    if value.is_null() { None } else { Some(value) }
+}
+
+/// The value of a field that is there and not null.
+#[tactic(auto, unfolding(crate::specs::Fields::given))]
+pub(crate) fn given<'a>(key: &str, body: &'a Value) -> Option<&'a Value>
+    ensures { option_map (λ m. view m.now) result ≡ given key.now (view body.now) }
+{
+    match body.get(key) {
+        Some(value) => if_given(value),
+        None => None,
+    }
+}
+
+fn fits(field: Field, value: &Value) -> bool
+    ensures { result ≡ fits field (view value.now) }
+{
+    match field {
+        Field::Name => value.as_str().is_some(),
+        Field::Description => value.as_str().is_some(),
+        Field::Config => fits_settings(value),
+        Field::Devices => fits_devices(value),
+    }
+}
+
+fn absent_fault(field: Field) -> Option<&'static str>
+    ensures { option_map (λ k. k.now) result ≡ absent_fault field }
+{
+    match field {
+        Field::Name => Some("name"),
+        _ => None,
+    }
+}
+
+/// The key of a field that is at fault.
+#[tactic(auto, unfolding(crate::specs::Fields::fault_of))]
+fn fault_of(field: Field, body: &Value) -> Option<&'static str>
+    ensures { option_map (λ k. k.now) result ≡ fault_of field (view body.now) }
+{
+    match given(key_of(field), body) {
+        Some(value) => {
+            if fits(field, value) {
+                None
+            } else {
+                Some(key_of(field))
+            }
+        }
+        None => absent_fault(field),
+    }
+}
+
+/// The key of the first field that is at fault.
+pub(crate) fn first_fault(fields: &[Field], body: &Value) -> Option<&'static str>
+    ensures { option_map (λ k. k.now) result ≡ first_fault fields.now (view body.now) }
+{
+    for field in fields {
+        match fault_of(*field, body) {
+            Some(key) => return Some(key),
+            None => {}
+        }
+    }
+    None
+}
