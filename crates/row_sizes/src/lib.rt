@@ -1,0 +1,10 @@
+//! How many bytes the body of a row has, without writing it. The body is that of version 1 of the stored row.
+#![tactic(auto)]
+
+mod laws;
+mod sizes;
+#[cfg(test)]
+mod tests;
+
+pub use laws::{capped_large, capped_small, small_rows_are_short};
+pub use sizes::{instance_size, profile_size, project_size};

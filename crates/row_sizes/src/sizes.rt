@@ -1,0 +1,98 @@
+//! The sizes of bodies of version 1, part by part. A sum stops at the greatest number of eight bytes.
+ghost use Rattle.std.specs.Prelude.{◌≡◌, ◌+◌, ℕ, length};
+ghost use Rattle.row_codec.specs.Spelling.{text_bytes, texts_bytes, settings_bytes, devices_bytes, project_bytes, profile_bytes, instance_bytes};
+ghost use Rattle.row_sizes.specs.Sizes.{capped};
+
+use config_lists::{Config, Devices};
+use records::{Instance, Profile, Project};
+use size_values::Text;
+
+/// The sum of both, or the greatest number.
+fn plus(a: u64, b: u64) -> u64
+    ensures { (m n : ℕ) → a ≡ capped m → b ≡ capped n → result ≡ capped (m + n) }
+{
+    if a > u64::MAX - b { u64::MAX } else { a + b }
+}
+
+/// A text with its length before it.
+fn text_size(text: &str) -> u64
+    ensures { result ≡ capped (length (text_bytes text.now)) }
+{
+    plus(4, text.len() as u64)
+}
+
+/// A list of texts with its count before it.
+fn texts_size(texts: &[Text]) -> u64
+    ensures { result ≡ capped (length (texts_bytes texts.now)) }
+{
+    let mut size = 4;
+    for text in texts {
+        size = plus(size, text_size(text.view()));
+    }
+    size
+}
+
+/// Settings with their count before them.
+fn settings_size(config: &Config) -> u64
+    ensures { result ≡ capped (length (settings_bytes config.now)) }
+{
+    let mut size = 4;
+    for place in 0..config.len() {
+        let setting = plus(
+            text_size(config.key_at(place)),
+            text_size(config.value_at(place)),
+        );
+        size = plus(size, setting);
+    }
+    size
+}
+
+/// Devices with their count before them.
+fn devices_size(devices: &Devices) -> u64
+    ensures { result ≡ capped (length (devices_bytes devices.now)) }
+{
+    let mut size = 4;
+    for place in 0..devices.len() {
+        let device = plus(
+            text_size(devices.name_at(place)),
+            settings_size(devices.device_at(place)),
+        );
+        size = plus(size, device);
+    }
+    size
+}
+
+/// How many bytes the body of a project has, or the greatest number where there are more.
+pub fn project_size(row: &Project) -> u64
+    ensures { result ≡ capped (length (project_bytes row.now)) }
+{
+    let parts = plus(
+        text_size(row.description.view()),
+        settings_size(&row.config),
+    );
+    plus(1, parts)
+}
+
+/// How many bytes the body of a profile has, or the greatest number where there are more.
+pub fn profile_size(row: &Profile) -> u64
+    ensures { result ≡ capped (length (profile_bytes row.now)) }
+{
+    let lists = plus(settings_size(&row.config), devices_size(&row.devices));
+    let parts = plus(text_size(row.description.view()), lists);
+    plus(1, parts)
+}
+
+/// How many bytes the body of an instance has, or the greatest number where there are more.
+pub fn instance_size(row: &Instance) -> u64
+    ensures { result ≡ capped (length (instance_bytes row.now)) }
+{
+    let texts = plus(
+        text_size(row.description.view()),
+        text_size(row.origin.view()),
+    );
+    let lists = plus(
+        texts_size(row.profiles.view()),
+        plus(settings_size(&row.config), devices_size(&row.devices)),
+    );
+    plus(11, plus(texts, lists))
+}
