@@ -1,0 +1,14 @@
+//! Which rule of the row machine the creation of an instance breaks first, over plain vectors.
+#![tactic(auto)]
+
+mod creation;
+#[cfg(test)]
+mod creation_tests;
+mod names;
+mod new_rows;
+mod sizes;
+mod standing;
+mod tables;
+mod tasks;
+
+pub use creation::creation_broken;

@@ -1,0 +1,5 @@
+pub mod Chains
+pub mod Countables
+pub mod Judged
+pub mod Limited
+pub mod Loops

@@ -1,0 +1,16 @@
+use Rattle.std.proofs.Common.{if◌then◌else◌, None, option_and_then}
+use Rattle.std.specs.Str.{bytes_eq}
+use Rattle.row_machine.specs.Claims.{claimed_instance}
+use Rattle.row_machine.specs.PolicyRules.{forbids_instance}
+use Rattle.plain_rules.proofs.Loops.{tells-here, tells-next}
+use Rattle.plain_rules.proofs.policy.claims_forbid.Goals as goal
+
+pub returns-in-Some : goal.returns-in-Some
+returns-in-Some c =
+    tells-here (λ o. option_and_then (λ i. if bytes_eq i.project c.args.project.now.name then forbids_instance c.args.plain.now c.args.project.now c.args.number i else None) (claimed_instance o.work)) c.args.live.now c.loop-operation.operation-index c.operation-item.result c.loop-operation-test.true c.operation-item.is c.loop-operation.invariant
+    c.in_ok-refusal.field-0 c.in-Some.refusal c.in_ok-refusal.ensures c.in-Some.is
+
+pub loop-operation-preserved : goal.loop-operation-preserved
+loop-operation-preserved c =
+    tells-next (λ o. option_and_then (λ i. if bytes_eq i.project c.args.project.now.name then forbids_instance c.args.plain.now c.args.project.now c.args.number i else None) (claimed_instance o.work)) c.args.live.now c.loop-operation.operation-index c.operation-item.result c.loop-operation-test.true c.operation-item.is c.loop-operation.invariant
+    c.in_ok-refusal.field-0 c.in_ok-refusal.ensures c.in_default.is
