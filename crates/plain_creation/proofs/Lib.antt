@@ -1,4 +1,4 @@
 pub mod Counts
 pub mod Created
 pub mod Ends
-pub mod Sums
+pub mod Tellings

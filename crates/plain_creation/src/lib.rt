@@ -6,7 +6,6 @@ mod creation;
 mod creation_tests;
 mod names;
 mod new_rows;
-mod sizes;
 mod standing;
 mod tables;
 mod tasks;

@@ -8,12 +8,12 @@ ghost use Rattle.records.specs.declared.rows.Row.TheVariants as row_of;
 ghost use Rattle.row_machine.specs.Claims.{claimed_instance, claimed_volume, claimed_snapshot};
 ghost use Rattle.row_machine.specs.TableRules.{enter_refusal, cap_of, count_of, row_kinds, too_many, too_large, tables_broken};
 
-use crate::sizes::instance_size;
 use operations::{EnterFault, LIVE_LIMIT, NUMBER_LIMIT, Operation};
 use plain_readings::Plain;
 use plain_rules::{claimed_instance, on_kind, on_number};
 use records::{Instance, Refusal, Row, Rule, Snapshot, Volume};
 use row_machine::Work;
+use row_sizes::instance_size;
 use size_values::{NoMemory, ObjectKind};
 use std::alloc::Global;
 

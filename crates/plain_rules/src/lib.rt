@@ -9,5 +9,5 @@ mod settings;
 
 pub use limits::{counts_broken, limits_broken};
 pub use policy::{claimed_instance, policy_broken};
-pub use refusals::{on_held, on_kind, on_name, on_number, on_object, on_project};
-pub use settings::instance_settings;
+pub use refusals::{on_held, on_kind, on_name, on_number, on_object, on_project, untold};
+pub use settings::{instance_settings, tables_break};

@@ -1,0 +1,151 @@
+ghost use Rattle.std.specs.Prelude.{◌≡◌, [], IfOk};
+ghost use Rattle.row_machine.specs.Opening.{first_rows, default_project};
+ghost use Rattle.row_machine.specs.Plans.{put_all};
+ghost use Rattle.core_rows.specs.Entries.{entry_changes};
+ghost use Rattle.core_rows.specs.Opening.{Opens, Begins, Commits, IsEmptyKeeper, first_state};
+
+use crate::draft::Draft;
+use crate::entries::{default_profile, entry_changes};
+use crate::estate::Estate;
+use config_lists::Config;
+use record_keeper::Keeper;
+use records::{Project, Row};
+use row_machine::RowChange;
+use size_values::{EntryChange, NoMemory, Or, Seq, Text};
+use std::alloc::Global;
+
+/// Why the rows could not be opened.
+#[derive(Clone, Copy, Debug, PartialEq, Eq)]
+pub enum OpenFault {
+    /// The keeper failed at the load or at the first commit.
+    KeeperFailed,
+    /// The keeper has entries already; rows of an earlier run are not read yet.
+    HasEntries,
+    NoMemory,
+}
+
+/// The settings of the project `default`: all features.
+#[tactic(auto, unfolding(config_lists::specs::Entries::put))]
+fn all_features(alloc: Global) -> Result<Config, NoMemory>
+    ensures { IfOk result (λ c. c ≡ default_project.config) }
+{
+    let mut config = Config::new(alloc);
+    config.set("features.images", "true")?;
+    config.set("features.networks", "true")?;
+    config.set("features.profiles", "true")?;
+    config.set("features.storage.buckets", "true")?;
+    config.set("features.storage.volumes", "true")?;
+    Ok(config)
+}
+
+/// The project `default` as it is made.
+fn default_project(alloc: Global) -> Result<Project, NoMemory>
+    ensures { IfOk result (λ p. p ≡ default_project) }
+{
+    let name = Text::from_text(alloc, "default")?;
+    let config = all_features(alloc)?;
+    Ok(Project {
+        name,
+        description: Text::new(alloc),
+        config,
+    })
+}
+
+/// The rows of a server without entries: the project `default`, and its profile `default`.
+fn first_changes(alloc: Global) -> Result<Seq<RowChange>, NoMemory>
+    ensures { IfOk result (λ cs. cs ≡ put_all first_rows) }
+{
+    let project = default_project(alloc)?;
+    let profile = default_profile(alloc, &project.name)?;
+    let mut changes = Seq::new(alloc);
+    changes.push(RowChange::Put(Row::Project(project)))?;
+    changes.push(RowChange::Put(Row::Profile(profile)))?;
+    Ok(changes)
+}
+
+/// The entries of the first rows.
+fn first_entries(
+    alloc: Global,
+    changes: &Seq<RowChange>,
+) -> Result<Seq<EntryChange>, NoMemory>
+    requires { changes.now ≡ put_all first_rows }
+    ensures { IfOk result (λ es. es ≡ entry_changes (put_all first_rows)) }
+{
+    entry_changes(alloc, changes)
+}
+
+/// The estate of the first rows.
+fn first_estate(alloc: Global, changes: Seq<RowChange>) -> Result<Estate, NoMemory>
+    requires { changes ≡ put_all first_rows }
+    ensures state { IfOk result (λ e. e.state ≡ first_state) }
+    ensures untold { IfOk result (λ e. e.untold ≡ []) }
+{
+    let mut draft = Draft::new(alloc);
+    draft.reserve_for(&changes)?;
+    draft.apply(changes);
+    Estate::of(alloc, draft)
+}
+
+/// The estate of the first rows with their entries, which are not committed yet.
+fn first_of_all(alloc: Global) -> Result<(Estate, Seq<EntryChange>), NoMemory>
+    ensures state { IfOk result (λ p. p.0.state ≡ first_state) }
+    ensures untold { IfOk result (λ p. p.0.untold ≡ []) }
+    ensures entries { IfOk result (λ p. p.1 ≡ entry_changes (put_all first_rows)) }
+{
+    let changes = first_changes(alloc)?;
+    let entries = first_entries(alloc, &changes)?;
+    let estate = first_estate(alloc, changes)?;
+    Ok((estate, entries))
+}
+
+/// Loads the entries, of which there must be none.
+fn load_nothing<R: Keeper>(keeper: &mut R) -> Result<(), OpenFault>
+    ensures { IsEmptyKeeper result (R.told keeper.old) (R.told keeper.new) (R.failures keeper.old) (R.failures keeper.new) }
+{
+    match keeper.load() {
+        Ok(found) => {
+            if found.is_empty() {
+                Ok(())
+            } else {
+                Err(OpenFault::HasEntries)
+            }
+        }
+        Err(Or::NoMemory) => Err(OpenFault::NoMemory),
+        Err(Or::Why(_)) => Err(OpenFault::KeeperFailed),
+    }
+}
+
+/// Commits changes of entries.
+fn commit<R: Keeper>(keeper: &mut R, changes: &Seq<EntryChange>) -> Result<(), OpenFault>
+    ensures { Commits result changes.now (R.told keeper.old) (R.told keeper.new) (R.failures keeper.old) (R.failures keeper.new) }
+{
+    match keeper.commit(changes) {
+        Ok(()) => Ok(()),
+        Err(Or::NoMemory) => Err(OpenFault::NoMemory),
+        Err(Or::Why(_)) => Err(OpenFault::KeeperFailed),
+    }
+}
+
+/// Commits the first rows, and then has them.
+fn begin<R: Keeper>(alloc: Global, keeper: &mut R) -> Result<Estate, OpenFault>
+    ensures { Begins result (R.told keeper.old) (R.told keeper.new) (R.failures keeper.old) (R.failures keeper.new) }
+{
+    let Ok((estate, entries)) = first_of_all(alloc) else {
+        return Err(OpenFault::NoMemory);
+    };
+    match commit(keeper, &entries) {
+        Ok(()) => Ok(estate),
+        Err(fault) => Err(fault),
+    }
+}
+
+/// The rows of a keeper that has no entries yet: the project `default` with all features and its profile `default`,
+/// which are committed first, at once.
+pub fn load_rows<R: Keeper>(alloc: Global, keeper: &mut R) -> Result<Estate, OpenFault>
+    ensures { Opens result (R.told keeper.old) (R.told keeper.new) (R.failures keeper.old) (R.failures keeper.new) }
+{
+    match load_nothing(keeper) {
+        Ok(()) => begin(alloc, keeper),
+        Err(fault) => Err(fault),
+    }
+}
