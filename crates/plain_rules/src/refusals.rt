@@ -7,7 +7,7 @@ use size_values::{NoMemory, ObjectKind, Text};
 use std::alloc::Global;
 
 /// Nothing is told.
-pub(crate) fn untold(alloc: Global) -> Kept
+pub fn untold(alloc: Global) -> Kept
     ensures { result ≡ untold }
 {
     Kept {

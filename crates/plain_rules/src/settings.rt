@@ -130,8 +130,8 @@ fn setting_refusal(
     }
 }
 
-/// Settings and devices against the tables.
-fn tables_break(
+/// Settings and devices against the tables, V1 to V3: the first fault of the settings, or else of the devices.
+pub fn tables_break(
     alloc: Global,
     config: &Config,
     settings: Result<(), SettingFault>,
