@@ -1,5 +1,5 @@
 -- An opening after a load that found nothing.
-use Rattle.std.proofs.Common.{◌≡◌, ◌≢◌, ◌≤◌, ◌+◌, ◌^◌, ◌-◌, min, subst, ℕ, List, [], Option, Some, None, IfSome, option_map, Result, Ok, Err, refl, ap, sym, ◌∙◌, arith}
+use Rattle.std.proofs.Common.{◌≡◌, ◌≢◌, ◌≤◌, subst, ℕ, List, [], Option, Some, None, IfSome, option_map, Result, Ok, Err, refl, ap, ◌∙◌, arith}
 use Rattle.size_values.specs.Causes.{Rose}
 use Rattle.size_values.specs.declared.entry.Entry.{Entry}
 use Rattle.record_keeper.specs.Entries.{after_changes}

@@ -1,10 +1,8 @@
 -- Where a new element goes, as code finds it; and keys of two names.
-use Rattle.std.proofs.Common.{◌≡◌, ℕ, zero, suc, ◌+◌, ◌<◌, Bool, true, false, cond, not, ◌&&◌, ◌||◌, ◌==◌, Option, Some, None, List, [], ◌∷◌, ◌++◌, length, take, drop, get_or, unwrap_or, refl, sym, ◌∙◌, ap, arith}
-use Rattle.std.proofs.Math.Numerals.{one-add}
-use Rattle.std.specs.List.{list_any, position, position_or_len, insert}
+use Rattle.std.proofs.Common.{◌≡◌, ℕ, zero, suc, ◌<◌, Bool, true, false, cond, ◌&&◌, ◌||◌, ◌==◌, Option, Some, None, List, [], ◌∷◌, ◌++◌, length, take, drop, get_or, unwrap_or, refl, sym, ◌∙◌, ap, arith}
+use Rattle.std.specs.List.{list_any, position, insert}
 use Rattle.std.proofs.lemmas.List.Quantifiers.{position-Some}
 use Rattle.std.specs.Str.{bytes_eq}
-
 use Rattle.std.proofs.lemmas.List.{take-append-drop}
 use Rattle.std.proofs.Math.Seq.{take-append_seam}
 use Rattle.config_lists.proofs.Keys.{same, bytes_eq-itself}

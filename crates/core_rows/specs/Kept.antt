@@ -1,5 +1,5 @@
 -- What the rows are seen as.
-use Rattle.std.specs.Prelude.{ℕ, ◌≤◌, Bool, true, false, List, [], ◌∷◌, length}
+use Rattle.std.specs.Prelude.{ℕ, ◌≤◌, Bool, true, false, List, length}
 use Rattle.std.specs.List.{list_all}
 use Rattle.size_values.specs.declared.kinds.ObjectKind.{ObjectKind}
 use Rattle.size_values.specs.declared.kinds.ObjectKind.TheVariants as kind

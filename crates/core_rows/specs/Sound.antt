@@ -1,5 +1,5 @@
 -- What is true of the rows at all times, as far as it is claimed by now: projects and their profiles alone are there yet.
-use Rattle.std.specs.Prelude.{◌≡◌, ◌≤◌, ℕ, false, List, None}
+use Rattle.std.specs.Prelude.{◌≡◌, ◌≤◌, false, List, None}
 use Rattle.plain_lists.specs.Members.{Each}
 use Rattle.size_values.specs.declared.amounts.Part.{Part}
 use Rattle.restrictions.specs.Policies.{policy_of}

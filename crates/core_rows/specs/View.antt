@@ -1,5 +1,5 @@
 -- What contracts see of the rows, and what is true of the fields.
-use Rattle.std.specs.Prelude.{ℕ, ◌≤◌, ◌-◌, min, vec_len, vec_capacity}
+use Rattle.std.specs.Prelude.{◌≤◌, ◌-◌, min, vec_len, vec_capacity}
 use Rattle.core_rows.specs.declared.draft.Draft.TheInside.{Inside as DraftInside}
 use Rattle.core_rows.specs.declared.estate.Estate.TheInside.{Inside as EstateInside}
 use Rattle.core_rows.specs.Kept.{Drafted, Kept, untold_limit}

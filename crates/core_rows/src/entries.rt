@@ -43,10 +43,7 @@ fn entry_change(alloc: Global, change: &RowChange) -> Result<EntryChange, NoMemo
 }
 
 /// Changes of rows as changes of their entries, in their order.
-pub fn entry_changes(
-    alloc: Global,
-    changes: &Seq<RowChange>,
-) -> Result<Seq<EntryChange>, NoMemory>
+pub fn entry_changes(alloc: Global, changes: &Seq<RowChange>) -> Result<Seq<EntryChange>, NoMemory>
     requires { AllByRecursion HasEntry changes.now }
     ensures { IfOk result (λ es. es ≡ entry_changes changes.now) }
 {

@@ -64,10 +64,7 @@ fn first_changes(alloc: Global) -> Result<Seq<RowChange>, NoMemory>
 }
 
 /// The entries of the first rows.
-fn first_entries(
-    alloc: Global,
-    changes: &Seq<RowChange>,
-) -> Result<Seq<EntryChange>, NoMemory>
+fn first_entries(alloc: Global, changes: &Seq<RowChange>) -> Result<Seq<EntryChange>, NoMemory>
     requires { changes.now ≡ put_all first_rows }
     ensures { IfOk result (λ es. es ≡ entry_changes (put_all first_rows)) }
 {

@@ -1,4 +1,4 @@
-use Rattle.std.proofs.Common.{◌≡◌, sym, subst}
+use Rattle.std.proofs.Common.{sym, subst}
 use Rattle.std.specs.List.{AllByRecursion}
 use Rattle.core_rows.specs.Kept.{HasEntry}
 use Rattle.core_rows.proofs.FirstEntries.{first-entries}

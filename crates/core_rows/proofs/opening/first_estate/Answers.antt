@@ -1,4 +1,4 @@
-use Rattle.std.proofs.Common.{◌≡◌, [], ◌∙◌, ap, sym, subst}
+use Rattle.std.proofs.Common.{[], ◌∙◌, ap, sym, subst}
 use Rattle.row_machine.specs.Changes.{applied}
 use Rattle.core_rows.specs.Sound.{IsSound, state_with}
 use Rattle.core_rows.proofs.BeginsSound.{opens-sound}

@@ -1,5 +1,3 @@
-use Rattle.std.proofs.Common.{◌≡◌, Ok, ap, sym, subst}
-use Rattle.core_rows.specs.Opening.{IsEmptyKeeper}
 use Rattle.core_rows.proofs.Opens.{opened-after}
 use Rattle.core_rows.proofs.opening.load_rows.Goals as goal
 

@@ -1,4 +1,4 @@
-use Rattle.std.proofs.Common.{◌≡◌, ◌∙◌, ap, unwrap_or, length, List}
+use Rattle.std.proofs.Common.{◌∙◌, ap, unwrap_or, length, List}
 use Rattle.std.specs.List.{position, insert}
 use Rattle.records.specs.declared.rows.Profile.{Profile}
 use Rattle.row_machine.specs.Rows.{is_profile, texts_before, profile_names}
@@ -10,7 +10,7 @@ pub returns-in-Some-clause-rows : goal.returns-in-Some-clause-rows
 returns-in-Some-clause-rows c =
     c.set_at.ensures.items
     ∙ replaced-at (is_profile c.args.row.project c.args.row.name) (λ y. texts_before (profile_names c.args.row) (profile_names y)) c.args.row c.args.rows.now.items c.in-Some.place
-      (c.in-Some.ensures ∙ ap (position (is_profile c.args.row.project c.args.row.name)) c.deref.ensures.value)
+    (c.in-Some.ensures ∙ ap (position (is_profile c.args.row.project c.args.row.name)) c.deref.ensures.value)
 
 pub returns-in-None-clause-rows : goal.returns-in-None-clause-rows
 returns-in-None-clause-rows c =
@@ -18,6 +18,6 @@ returns-in-None-clause-rows c =
     let items = c.args.rows.now.items in
     c.insert_reserved.ensures.items
     ∙ ap (λ i. insert items i c.args.row)
-      (c.profile_gap-place.ensures ∙ ap (λ (rows : List Profile). unwrap_or (position before rows) (length rows)) c.deref-in-None.ensures.value)
+    (c.profile_gap-place.ensures ∙ ap (λ (rows : List Profile). unwrap_or (position before rows) (length rows)) c.deref-in-None.ensures.value)
     ∙ inserted-gap before c.args.row items
     ∙ replaced-new (is_profile c.args.row.project c.args.row.name) before c.args.row items (c.in-None.ensures ∙ ap (position (is_profile c.args.row.project c.args.row.name)) c.deref.ensures.value)

@@ -1,4 +1,4 @@
-use Rattle.std.proofs.Common.{◌≡◌, ◌∙◌, ap, sym}
+use Rattle.std.proofs.Common.{◌∙◌, ap}
 use Rattle.std.specs.List.{position}
 use Rattle.records.specs.declared.rows.Row.TheVariants as row
 use Rattle.row_machine.specs.Changes.{has_key}

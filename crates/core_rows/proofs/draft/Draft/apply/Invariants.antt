@@ -1,4 +1,4 @@
-use Rattle.std.proofs.Common.{◌≡◌, ◌≤◌, ◌+◌, true, length, take, drop}
+use Rattle.std.proofs.Common.{◌≡◌, ◌≤◌, ◌+◌, true, length}
 use Rattle.row_machine.specs.Changes.{applied}
 use Rattle.core_rows.specs.Kept.{are_built}
 use Rattle.core_rows.proofs.draft.Draft.apply.Given as goal

@@ -1,0 +1,7 @@
+pub mod Judged
+pub mod Asked
+pub mod Keeping
+pub mod Planned
+pub mod Told
+pub mod Reads
+pub mod Built

@@ -1,0 +1,16 @@
+//! Projects and their profiles over the REST API: which rule a command on them breaks first, and what is then answered.
+#![tactic(auto)]
+
+mod checks;
+mod keeping;
+mod links;
+mod making;
+mod notices;
+mod objects;
+mod planning;
+mod plans;
+mod reading;
+#[cfg(test)]
+mod tests;
+
+pub use objects::do_object;
