@@ -12,6 +12,7 @@ use Rattle.records.specs.declared.rows.Profile.{Profile}
 use Rattle.row_machine.specs.declared.changes.RowChange.{RowChange}
 use Rattle.row_machine.specs.declared.events.Answer.TheVariants as answer
 use Rattle.row_machine.specs.State.{State}
+use Rattle.row_machine.specs.Records.{records_of}
 use Rattle.row_machine.specs.Changes.{applied}
 use Rattle.row_machine.specs.Plans.{plan_of, changes}
 use Rattle.row_machine.specs.Rules.{broken}
@@ -20,7 +21,6 @@ use Rattle.row_machine.specs.Accept.{and_then}
 use Rattle.row_machine.specs.Step.{well, keeper_failed, no_memory}
 use Rattle.row_machine.specs.Whole.{AreNamed}
 use Rattle.core_rows.specs.Entries.{entry_changes, StaysNamed}
-use Rattle.core_rows.specs.Opening.{Tells}
 use Rattle.core_rows.specs.Sound.{state_with, IsSound}
 use Rattle.core_objects.specs.Keeping.{CanKeep}
 use Rattle.core_objects.specs.Planned.{Follows}
@@ -80,36 +80,19 @@ asked-kept s c moment cs n (reply.OpMany xs) s' untold told told' before now pla
 asked-kept s c moment cs n (reply.Started v) s' untold told told' before now plan free notices kept = absurd kept
 
 -- entries that are the records of the old state, after these changes
-tells_after : (ps : List Project) (rs : List Profile) (cs : List RowChange) (told : Option (List Entry)) → AreNamed (state_with ps rs) → StaysNamed (state_with ps rs) cs
-    → Tells told (state_with ps rs) → Tells (option_map (after_changes (entry_changes cs)) told) (applied (state_with ps rs) cs)
-tells_after ps rs cs None named stays tells = tt
-tells_after ps rs cs (Some entries) named stays tells = ap (after_changes (entry_changes cs)) tells ∙ records-follow ps rs cs named stays
-
--- the records follow a change that was kept, or not
-pub records-kept : (ps : List Project) (rs : List Profile) (cs : List RowChange) (n : Untold) (r : Reply) (s' : State) (untold : List Untold)
-    (told told' : Option (List Entry)) (before now : ℕ) → AreNamed (state_with ps rs) → StaysNamed (state_with ps rs) cs
-    → Keeps r cs n (state_with ps rs) s' untold told told' before now → KeepsRecords told (state_with ps rs) told' s'
-records-kept ps rs cs n reply.Empty s' untold told told' before now named stays kept = λ tells.
-    subst (λ s. Tells told' s) (sym kept.0) (subst (λ t. Tells t (applied (state_with ps rs) cs)) (sym kept.2) (tells_after ps rs cs told named stays tells))
-records-kept ps rs cs n (reply.Refused r) s' untold told told' before now named stays kept = λ tells.
-    subst (λ s. Tells told' s) (sym kept.1) (subst (λ t. Tells t (state_with ps rs)) (sym kept.3) tells)
-records-kept ps rs cs n reply.NoMemory s' untold told told' before now named stays kept = λ tells.
-    subst (λ s. Tells told' s) (sym kept.0) (subst (λ t. Tells t (state_with ps rs)) (sym kept.2) tells)
-records-kept ps rs cs n (reply.Links xs) s' untold told told' before now named stays kept = absurd kept
-records-kept ps rs cs n (reply.One v) s' untold told told' before now named stays kept = absurd kept
-records-kept ps rs cs n (reply.Many vs) s' untold told told' before now named stays kept = absurd kept
-records-kept ps rs cs n (reply.OpLinks xs) s' untold told told' before now named stays kept = absurd kept
-records-kept ps rs cs n (reply.OpMany xs) s' untold told told' before now named stays kept = absurd kept
-records-kept ps rs cs n (reply.Started v) s' untold told told' before now named stays kept = absurd kept
+tells_after : (ps : List Project) (rs : List Profile) (cs : List RowChange) (start : Option (List Entry)) → AreNamed (state_with ps rs) → StaysNamed (state_with ps rs) cs
+    → option_map (after_changes (entry_changes cs)) (option_map (λ _. records_of (state_with ps rs)) start) ≡ option_map (λ _. records_of (applied (state_with ps rs) cs)) start
+tells_after ps rs cs None named stays = refl
+tells_after ps rs cs (Some entries) named stays = ap Some (records-follow ps rs cs named stays)
 
 -- the records of a state of which the facts hold follow a change that was made
 pub records-made : (s : State) (cs : List RowChange) (told told' : Option (List Entry)) (s' : State) → IsSound s → StaysNamed s cs
     → told' ≡ option_map (after_changes (entry_changes cs)) told → s' ≡ applied s cs → KeepsRecords told s told' s'
-records-made s cs told told' s' sound stays committed made = λ tells.
-    subst (Tells told') (sym made)
-    (subst (λ t. Tells t (applied s cs)) (sym committed)
-    (subst (λ t. Tells (option_map (after_changes (entry_changes cs)) told) (applied t cs)) (sym sound.alone)
-    (tells_after s.projects s.profiles cs told (subst AreNamed sound.alone sound.names) (subst (λ t. StaysNamed t cs) sound.alone stays) (subst (Tells told) sound.alone tells))))
+records-made s cs told told' s' sound stays committed made = λ start is.
+    committed ∙ ap (option_map (after_changes (entry_changes cs))) is
+    ∙ subst (λ t. option_map (after_changes (entry_changes cs)) (option_map (λ _. records_of t) start) ≡ option_map (λ _. records_of (applied t cs)) start) (sym sound.alone)
+    (tells_after s.projects s.profiles cs start (subst AreNamed sound.alone sound.names) (subst (λ t. StaysNamed t cs) sound.alone stays))
+    ∙ ap (λ t. option_map (λ _. records_of t) start) (sym made)
 
 -- what was planned was kept, or not
 pub follows-kept : (s : State) (c : Command) (moment : ℕ) (cs : List RowChange) (n : Untold) (r : Reply) (s' : State) (untold : List Untold)
@@ -123,10 +106,10 @@ follows-kept s c moment cs n r s' untold told told' before now ready kept record
 pub follows-refused : (s : State) (c : Command) (moment : ℕ) (untold : List Untold) (r : Refusal) (told : Option (List Entry)) (faults : ℕ)
     → broken s c moment ≡ Some r → untold ≡ [] → Follows s c moment s untold (reply.Refused r) told told faults faults
 follows-refused s c moment untold r told faults breaks none =
-    record { asked = asked-refused s c moment s untold r faults faults breaks refl none (omega arith); kept = λ tells. tells }
+    record { asked = asked-refused s c moment s untold r faults faults breaks refl none (omega arith); kept = λ start is. is }
 
 -- nothing was done, since memory was refused
 pub follows-no-memory : (s : State) (c : Command) (moment : ℕ) (untold : List Untold) (told : Option (List Entry)) (faults : ℕ)
     → untold ≡ [] → Follows s c moment s untold reply.NoMemory told told faults faults
 follows-no-memory s c moment untold told faults none =
-    record { asked = asked-no-memory s c moment s untold faults faults refl none (omega arith); kept = λ tells. tells }
+    record { asked = asked-no-memory s c moment s untold faults faults refl none (omega arith); kept = λ start is. is }

@@ -107,7 +107,7 @@ answered-follows r s c moment untold told faults none h = by r h where
   plainly : (r : Reply) → step s (event.Ask c moment) well ≡ Some (and_then (answered r) s) → Follows s c moment s untold r told told faults faults
   plainly r h = record {
     asked = record { outcome = well; caused = omega arith; is = h ∙ ap (λ ns. Some (and_then (answered r) (telling ns s))) (sym none) };
-    kept = λ tells. tells;
+    kept = λ start is. is;
   }
 
   by : (r : Reply) → IsAnswered r s c moment → Follows s c moment s untold r told told faults faults

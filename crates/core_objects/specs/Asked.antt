@@ -19,7 +19,7 @@ use Rattle.row_machine.specs.Notices.{telling}
 use Rattle.row_machine.specs.Accept.{and_then}
 use Rattle.row_machine.specs.Step.{Outcome, well, keeper_failed, no_memory, step}
 use Rattle.core_rows.specs.Entries.{entry_changes}
-use Rattle.core_rows.specs.Opening.{Tells}
+use Rattle.row_machine.specs.Records.{records_of}
 
 -- the answer that a reply is: want of memory is an answer of its own
 abbrev pub answered : Reply → Answer
@@ -40,9 +40,9 @@ pub record IsAsked (s : State) (c : Command) (moment : ℕ) (s' : State) (untold
   pub caused : IsCaused outcome before now
   pub is : step s (event.Ask c moment) outcome ≡ Some (and_then (answered r) (telling untold s'))
 
--- entries that were the records of the old state are those of the new one
+-- what told the records of the old state tells those of the new one, and goes on to tell or not to tell
 abbrev pub KeepsRecords : Option (List Entry) → State → Option (List Entry) → State → Type 0
-KeepsRecords told s told' s' = Tells told s → Tells told' s'
+KeepsRecords told s told' s' = (start : Option (List Entry)) → told ≡ option_map (λ _. records_of s) start → told' ≡ option_map (λ _. records_of s') start
 
 -- what committing and then making changes comes to: they are made and this notice is left, or the keeper failed or memory
 -- was refused, and all is as before
