@@ -65,15 +65,30 @@ fn answers(
     word_of(&reply) == word
 }
 
+/// Whether a command is answered so by a new server over a keeper.
+fn answered_first(alloc: Global, keeper: &mut MapKeeper, command: &Command, word: &str) -> bool
+    requires formed { is_formed command.now ≡ true }
+    requires built { is_built_command command.now ≡ true }
+{
+    match load_rows(alloc, keeper) {
+        Ok(mut estate) => answers(alloc, &mut estate, keeper, command, word),
+        Err(_) => false,
+    }
+}
+
+/// Whether the creation of a project of this name is answered so.
+fn created_first(alloc: Global, keeper: &mut MapKeeper, name: &str, word: &str) -> bool {
+    match new_project(alloc, name) {
+        Ok(command) => answered_first(alloc, keeper, &command, word),
+        Err(_) => false,
+    }
+}
+
 /// Whether the creation of a project of this name by a new server is answered so, where the listed calls of its keeper fail.
 fn first_creation(alloc: Global, fails: &[u64], name: &str, word: &str) -> Result<bool, Fail> {
-    let command = new_project(alloc, name)?;
     let fails = Seq::from_vec(Vec::from_slice(alloc, fails)?);
     let mut keeper = MapKeeper::new(alloc, fails);
-    match load_rows(alloc, &mut keeper) {
-        Ok(mut estate) => Ok(answers(alloc, &mut estate, &mut keeper, &command, word)),
-        Err(_) => Ok(false),
-    }
+    Ok(created_first(alloc, &mut keeper, name, word))
 }
 
 #[test]
