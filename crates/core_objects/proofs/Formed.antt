@@ -12,7 +12,7 @@ use Rattle.records.specs.declared.commands.Origin.{Origin}
 use Rattle.records.specs.declared.commands.Origin.TheVariants as origin
 use Rattle.records.specs.declared.commands.Target.{Target}
 use Rattle.records.specs.declared.commands.What.TheVariants as what
-use Rattle.core_objects.specs.Built.{is_profile_kind}
+use Rattle.records.specs.Built.{is_profile_kind}
 use Rattle.core_objects.specs.Judged.{project_target, profile_target}
 
 none : (xs : List ℕ) → is_empty xs ≡ true → xs ≡ []

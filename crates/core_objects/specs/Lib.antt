@@ -4,4 +4,3 @@ pub mod Keeping
 pub mod Planned
 pub mod Told
 pub mod Reads
-pub mod Built

@@ -1,15 +1,8 @@
 -- The reads that are answered by now.
 use Rattle.std.specs.Prelude.{Bool, true, false}
-use Rattle.size_values.specs.declared.kinds.ObjectKind.{ObjectKind}
-use Rattle.size_values.specs.declared.kinds.ObjectKind.TheVariants as kind
+use Rattle.records.specs.Built.{is_read_kind}
 use Rattle.records.specs.declared.commands.What.{What}
 use Rattle.records.specs.declared.commands.What.TheVariants as what
-
--- a kind of objects that is read by now: projects and profiles
-abbrev pub is_read_kind : ObjectKind → Bool
-is_read_kind kind.Project = true
-is_read_kind kind.Profile = true
-is_read_kind other = false
 
 -- a read that is answered by now: of the server, or of projects and profiles
 abbrev pub is_built_read : What → Bool

@@ -10,7 +10,7 @@ ghost use Rattle.row_machine.specs.Rules.{broken};
 ghost use Rattle.core_rows.specs.Sound.{IsSound};
 ghost use Rattle.core_objects.specs.Judged.{asks};
 ghost use Rattle.core_objects.specs.Reads.{is_built_read};
-ghost use Rattle.core_objects.specs.Built.{is_built_command, is_built_request, is_built_creation, is_profile_kind};
+ghost use Rattle.records.specs.Built.{is_built_command, is_built_request, is_built_creation, is_profile_kind};
 ghost use Rattle.core_objects.specs.Planned.{Follows, IsPlanned, IsAnswered};
 
 use crate::checks::{check_profiles, check_there, project_shown};

@@ -11,7 +11,8 @@ ghost use Rattle.row_machine.specs.Homes.{home_of};
 ghost use Rattle.row_machine.specs.Plans.{row_of};
 ghost use Rattle.row_machine.specs.Views.{row_view, rows_reply, list_reply, one, read};
 ghost use Rattle.core_rows.specs.Sound.{state_with};
-ghost use Rattle.core_objects.specs.Reads.{is_read_kind, is_built_read};
+ghost use Rattle.records.specs.Built.{is_read_kind};
+ghost use Rattle.core_objects.specs.Reads.{is_built_read};
 
 use crate::links::{ordered_links, profile_links, project_links};
 use core_rows::Estate;

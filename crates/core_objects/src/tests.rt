@@ -1,6 +1,6 @@
 ghost use Rattle.std.specs.Prelude.{◌≡◌, [], true, IfOk};
 ghost use Rattle.records.specs.Forms.{is_formed};
-ghost use Rattle.core_objects.specs.Built.{is_built_command};
+ghost use Rattle.records.specs.Built.{is_built_command};
 
 use crate::do_object;
 use core_rows::{Estate, load_rows};

@@ -17,10 +17,6 @@ use Rattle.core_rows.specs.declared.opening.OpenFault.TheVariants as fault
 abbrev pub first_state : State
 first_state = with_rows first_rows
 
--- where the entries are told, they are those of the rows of this state
-abbrev pub Tells : Option (List Entry) → State → Type 0
-Tells told s = IfSome told (λ entries. entries ≡ records_of s)
-
 -- an opening that was refused leaves the entries; it failed only where the keeper's count rose, and has entries where there are some
 abbrev pub Refuses : OpenFault → Option (List Entry) → Option (List Entry) → ℕ → ℕ → Type 0
 Refuses fault.KeeperFailed told told' faults faults' = (told' ≡ told) × Rose faults faults'

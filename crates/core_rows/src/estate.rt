@@ -128,6 +128,7 @@ impl Estate {
         ensures some { IfSome result (λ notice. self.old.untold ≡ notice ∷ self.new.untold) }
         ensures none { IfNone result ((self.old.untold ≡ []) × (self.new.untold ≡ [])) }
         ensures state { self.new.state ≡ self.old.state }
+        ensures sound { IsSound self.new.state }
     {
         if self.untold.is_empty() {
             return None;

@@ -24,7 +24,7 @@ use Rattle.records.specs.declared.refusals.Refusal.{Refusal}
 use Rattle.size_values.specs.declared.memory.Or.{Or}
 use Rattle.rest_routes.specs.Answers.{Gives, mapped, followed}
 use Rattle.rest_routes.specs.Bodies.{object_in, body_of, text_at, config_at, devices_at}
-use Rattle.rest_routes.specs.Built.{is_built_request, is_built_command}
+use Rattle.records.specs.Built.{is_built_request, is_built_command}
 use Rattle.rest_routes.specs.Commands.{named, one_asked, what_asked, judged, created, replaced, patched, renamed, creation_of, change_of, what_sent, is_unbuilt_creation, in_project, command_asked, command_with, command_without, command_sent, command_built, command_offered, command_by, command_at, command_in}
 use Rattle.rest_routes.specs.Fields.{given}
 use Rattle.rest_routes.specs.Paths.{name_of, path_of, query_of}

@@ -1,6 +1,5 @@
 pub mod Answers
 pub mod Bodies
-pub mod Built
 pub mod Commands
 pub mod Fields
 pub mod Paths

@@ -1,7 +1,7 @@
 ghost use Rattle.std.specs.Prelude.{◌≡◌, IfOk, IsTrue, map, [], option_map};
 ghost use Rattle.records.specs.Forms.{is_formed};
 ghost use Rattle.rest_routes.specs.Answers.{Gives};
-ghost use Rattle.rest_routes.specs.Built.{is_built_command};
+ghost use Rattle.records.specs.Built.{is_built_command};
 ghost use Rattle.rest_routes.specs.Commands.{command_of};
 ghost use Rattle.rest_routes.specs.Places.{rows_after, rows, place_of};
 
@@ -12,12 +12,27 @@ use http_heads::Request;
 use records::{Command, Refusal};
 use size_values::{NoMemory, Or};
 use std::alloc::Global;
+use std::marker::Model;
 
-/// Knows the paths of the REST API, and reads requests.
+/// Knows the paths of the REST API, and reads requests. Contracts see the rows of its table.
 #[derive(Drop)]
 pub struct Router {
     inner: matchit::Router<Place>,
-    ghost ours: { inner ≡ rows },
+}
+
+impl Model for Router {
+    ghost use Rattle.matchit.specs.Rows.{RowsOf};
+    ghost use Rattle.matchit.specs.Router.{RouteOf};
+    ghost use Rattle.rest_routes.specs.declared.places.Place.{Place};
+
+    ghost Value = { RowsOf (RouteOf Place) };
+
+    ghost use Rattle.std.specs.Prelude.{◌≡◌};
+    ghost use Rattle.rest_routes.specs.Places.{rows};
+
+    ghost view = { λ r. r.inner };
+
+    ghost invariant = { λ r. r.inner ≡ rows };
 }
 
 /// A router that knows these paths. Two of them that could not be told apart are answered as want of memory.
@@ -55,7 +70,9 @@ fn place_of(router: &matchit::Router<Place>, path: &str) -> Option<Place>
 
 impl Router {
     /// A router for the paths of the REST API.
-    pub fn new(alloc: Global) -> Result<Router, NoMemory> {
+    pub fn new(alloc: Global) -> Result<Router, NoMemory>
+        ensures { IfOk result (λ r. r ≡ rows) }
+    {
         let inner = full_router(alloc)?;
         Ok(Router { inner })
     }

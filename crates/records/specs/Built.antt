@@ -1,4 +1,4 @@
--- The commands that are built by now.
+-- The commands that the server carries out by now.
 use Rattle.std.specs.Prelude.{Bool, true, false, is_none}
 use Rattle.size_values.specs.declared.kinds.ObjectKind.{ObjectKind}
 use Rattle.size_values.specs.declared.kinds.ObjectKind.TheVariants as kind
@@ -6,7 +6,12 @@ use Rattle.records.specs.declared.commands.Body.{Body}
 use Rattle.records.specs.declared.commands.Command.{Command}
 use Rattle.records.specs.declared.commands.What.{What}
 use Rattle.records.specs.declared.commands.What.TheVariants as what
-use Rattle.core_objects.specs.Reads.{is_read_kind}
+
+-- a kind of objects that is read by now: projects and profiles
+abbrev pub is_read_kind : ObjectKind → Bool
+is_read_kind kind.Project = true
+is_read_kind kind.Profile = true
+is_read_kind other = false
 
 -- a creation that is built: of a project without settings, or of a profile
 abbrev pub is_built_creation : ObjectKind → Body → Bool
