@@ -6,10 +6,11 @@ use Rattle.size_values.specs.Causes.{Rose}
 use Rattle.size_values.specs.declared.entry.Entry.{Entry}
 use Rattle.http_heads.specs.Messages.{Ending, ended, cut, malformed, Splits}
 use Rattle.http_heads.specs.declared.request.Request.{Request}
-use Rattle.project_requests.specs.Machine.{Projects, Asked, entries_of}
-use Rattle.project_requests.specs.Opening.{first_projects}
-use Rattle.project_requests.specs.declared.opening.OpenFault.{OpenFault}
-use Rattle.project_requests.specs.declared.opening.OpenFault.TheVariants as fault
+use Rattle.row_machine.specs.State.{State}
+use Rattle.row_machine.specs.Records.{records_of}
+use Rattle.core_rows.specs.Opening.{first_state}
+use Rattle.core_rows.specs.declared.opening.OpenFault.{OpenFault}
+use Rattle.core_rows.specs.declared.opening.OpenFault.TheVariants as fault
 use Rattle.serial_run.specs.declared.running.StartFault.{StartFault}
 use Rattle.serial_run.specs.declared.running.StartFault.TheVariants as start
 use Rattle.serial_run.specs.declared.session.TheConstants.{MOST_REQUESTS}
@@ -41,21 +42,21 @@ start_status start.Words = 8
 start_status start.NoMemory = 9
 start_status start.HasEntries = 13
 
--- the world behind an opening that was accepted: the project default and its entry, and a count of the keeper's failures
+-- the world behind an opening that was accepted: the first rows and their entries, and a count of the keeper's failures
 abbrev pub opened : World → ℕ → World
-opened w faults = record w { kept = option_map (λ _. entries_of first_projects) w.kept; projects = first_projects; keeper_faults = faults }
+opened w faults = record w { kept = option_map (λ _. records_of first_state) w.kept; state = first_state; keeper_faults = faults }
 
--- The words were read, the projects of a keeper without entries were opened, and there was one session. At its end some bytes may
--- still be to come, and there are projects; nobody outside sees either.
+-- The words were read, the rows of a keeper without entries were opened, and there was one session. At its end some bytes may
+-- still be to come, and there are rows; nobody outside sees either.
 pub record Ran (words : List (List ℕ)) (w w' : World) (status : ℕ) : Type 0 where
   pub read : are_run words ≡ true
   pub empty : IfSome w.kept (λ entries. entries ≡ [])
   pub faults : ℕ
   pub later : w.keeper_faults ≤ faults
   pub input : Option (List ℕ)
-  pub projects : Projects
+  pub state : State
   pub ends : SessionEnd
-  pub session : Session (opened w faults) (record w' { input = input; projects = projects }) ends
+  pub session : Session (opened w faults) (record w' { input = input; state = state }) ends
   pub status_is : status ≡ status_of ends
 
 -- why there was no session

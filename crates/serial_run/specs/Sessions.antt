@@ -5,10 +5,10 @@ use Rattle.size_values.specs.Causes.{Rose}
 use Rattle.http_heads.specs.Messages.{IsBlank, IsCut, IsMalformed}
 use Rattle.http_heads.specs.declared.request.HeadFault.{HeadFault}
 use Rattle.http_front.specs.Reading.{IsUnfinished}
-use Rattle.project_requests.specs.Machine.{Asked, printed_replies}
-use Rattle.project_requests.specs.Replies.{printed}
-use Rattle.project_requests.specs.declared.reply.Refusal.TheVariants as refusal
-use Rattle.project_requests.specs.declared.reply.Reply.TheVariants as reply
+use Rattle.rest_service.specs.Exchanges.{Exchange, printed_replies, malformed_text}
+use Rattle.rest_service.specs.Answers.{no_memory_text}
+use Rattle.rest_service.specs.declared.answers.Answered.{Answered}
+use Rattle.rest_service.specs.declared.answers.Answered.TheVariants as written
 use Rattle.serial_run.specs.declared.session.TheConstants.{MOST_REQUESTS}
 use Rattle.serial_run.specs.declared.session.SessionEnd.{SessionEnd}
 use Rattle.serial_run.specs.declared.session.SessionEnd.TheVariants as end
@@ -22,24 +22,19 @@ pub record IsQuiet (w w' : World) : Type 0 where
   pub changes : Changes w w' []
   pub later : IsLater w w'
 
--- what answers a malformed place, after which the connection closes
-abbrev pub place_reply : HeadFault → List ℕ
-place_reply fault = printed (reply.Refused (refusal.Head fault)) true
-
--- one more request was carried out, and of its reply some first bytes were written
-pub record AnswersInPart (w w' : World) : Type 0 where
-  pub asked : Asked
-  pub read : Reads w (asked ∷ []) (λ rest. Unit {0})
-  pub count : ℕ
-  pub written : w'.output ≡ append_known w.output (take count (printed_replies w.projects (asked ∷ [])))
-  pub changes : Changes w w' (asked ∷ [])
+-- one more request was carried out, and of its reply so many first bytes were written
+pub record AnswersInPart (w w' : World) (count : ℕ) : Type 0 where
+  pub exchange : Exchange
+  pub read : Reads w (exchange ∷ []) (λ rest. Unit {0})
+  pub written : w'.output ≡ append_known w.output (take count (printed_replies (exchange ∷ [])))
+  pub changes : Changes w w' (exchange ∷ [])
 
 -- a malformed place stands next, and of its reply some first bytes were written
 pub record RefusesInPart (w w' : World) : Type 0 where
   pub fault : HeadFault
   pub stands : IfSome w.input (λ bytes. IsMalformed bytes fault)
   pub count : ℕ
-  pub written : w'.output ≡ append_known w.output (take count (place_reply fault))
+  pub written : w'.output ≡ append_known w.output (take count (malformed_text fault))
   pub changes : Changes w w' []
 
 -- the bytes held are no whole message, and what the source has left comes behind them
@@ -53,16 +48,16 @@ abbrev pub Stops : SessionEnd → World → World → Type 0
 Stops end.Ended w w' = IsQuiet w w' × IfSome w.input IsBlank × (w'.ended ≡ true)
 Stops end.Cut w w' = IsQuiet w w' × IfSome w.input IsCut × (w'.ended ≡ true)
 Stops (end.Malformed fault) w w' =
-    IfSome w.input (λ bytes. IsMalformed bytes fault) × (w'.output ≡ append_known w.output (place_reply fault)) × Changes w w' [] × IsLater w w'
+    IfSome w.input (λ bytes. IsMalformed bytes fault) × (w'.output ≡ append_known w.output (malformed_text fault)) × Changes w w' [] × IsLater w w'
 Stops end.ReadFault w w' = IsQuiet w w' × IfSome w.input (HoldsUnfinished w') × Rose w.read_faults w'.read_faults
-Stops end.WriteFault w w' = (AnswersInPart w w' ⊎ RefusesInPart w w') × IsLater w w' × Rose w.write_faults w'.write_faults
+Stops end.WriteFault w w' = (((count : ℕ) × AnswersInPart w w' count) ⊎ RefusesInPart w w') × IsLater w w' × Rose w.write_faults w'.write_faults
 Stops end.Spent w w' = w' ≡ w
-Stops end.NoMemory w w' = IsQuiet w w'
+Stops end.NoMemory w w' = IsQuiet w w' ⊎ (AnswersInPart w w' 0 × IsLater w w')
 
 -- one turn: the next message was answered, or the session stops
 abbrev pub Turns : Turn → World → World → Type 0
-Turns turn.GoOn w w' = (asked : Asked) × Serves w w' (asked ∷ []) × (asked.request.last ≡ false)
-Turns turn.Final w w' = (asked : Asked) × Serves w w' (asked ∷ []) × (asked.request.last ≡ true)
+Turns turn.GoOn w w' = (e : Exchange) × Serves w w' (e ∷ []) × (e.request.last ≡ false)
+Turns turn.Final w w' = (e : Exchange) × Serves w w' (e ∷ []) × (e.request.last ≡ true)
 Turns (turn.Stop ends) w w' = Stops ends w w' × (ends ≢ end.Spent)
 
 -- how many requests were answered whole before a stop: fewer than a session may take, but where it took all of them
@@ -88,11 +83,11 @@ StopsBehindFinal end.NoMemory = ⊥
 -- A session from w to w': the requests that it answered whole, the world behind them, and how it stopped there. Either none
 -- of them was the last on its connection, or the final one alone was.
 pub record Session (w w' : World) (ends : SessionEnd) : Type 0 where
-  pub asked : List Asked
+  pub exchanges : List Exchange
   pub behind : World
-  pub serves : Serves w behind asked
-  pub counted : CountsAt ends (length asked)
-  pub stops : (AllGoOn asked × Stops ends behind w') ⊎ (OnlyFinalEnds asked × StopsBehindFinal ends × (w' ≡ behind))
+  pub serves : Serves w behind exchanges
+  pub counted : CountsAt ends (length exchanges)
+  pub stops : (AllGoOn exchanges × Stops ends behind w') ⊎ (OnlyFinalEnds exchanges × StopsBehindFinal ends × (w' ≡ behind))
 
 -- how a request was answered that was answered whole
 abbrev pub turn_after_reply : Bool → Turn
@@ -104,10 +99,32 @@ abbrev pub turn_after : {T E : Type 0} → Result T E → Bool → Turn
 turn_after (Ok u) last = turn_after_reply last
 turn_after (Err e) last = turn.Stop end.WriteFault
 
+-- the bytes that are written for an answer
+abbrev pub text_for : Answered → Bool → List ℕ
+text_for (written.Printed bytes) last = bytes
+text_for written.NoMemory last = no_memory_text last
+text_for written.Unprinted last = []
+
+-- memory for the reply was refused
+abbrev pub IsUnprinted : Answered → Type 0
+IsUnprinted (written.Printed bytes) = ⊥
+IsUnprinted written.NoMemory = ⊥
+IsUnprinted written.Unprinted = Unit {0}
+
+-- An answer was written whole and the turn goes on as its request says, or some first bytes of it and the write failed; or
+-- nothing was, since memory for it was refused.
+abbrev pub WritesAnswer : Turn → Answered → Bool → Option (List ℕ) → Option (List ℕ) → ℕ → ℕ → Type 0
+WritesAnswer turn.GoOn a last held held' faults faults' = (last ≡ false) × (held' ≡ append_known held (text_for a last)) × ¬ IsUnprinted a × (faults ≤ faults')
+WritesAnswer turn.Final a last held held' faults faults' = (last ≡ true) × (held' ≡ append_known held (text_for a last)) × ¬ IsUnprinted a × (faults ≤ faults')
+WritesAnswer (turn.Stop end.WriteFault) a last held held' faults faults' =
+    (count : ℕ) × (held' ≡ append_known held (take count (text_for a last))) × ¬ IsUnprinted a × (faults ≤ faults') × Rose faults faults'
+WritesAnswer (turn.Stop end.NoMemory) a last held held' faults faults' = IsUnprinted a × (held' ≡ held) × (faults' ≡ faults)
+WritesAnswer (turn.Stop other) a last held held' faults faults' = ⊥
+
 -- A malformed place was answered by its rule, or of that reply some first bytes were written, or memory was refused before it.
 abbrev pub RefusesPlace : HeadFault → SessionEnd → Option (List ℕ) → Option (List ℕ) → ℕ → ℕ → Type 0
-RefusesPlace fault (end.Malformed other) held held' faults faults' = (other ≡ fault) × (held' ≡ append_known held (place_reply fault)) × (faults ≤ faults')
-RefusesPlace fault end.WriteFault held held' faults faults' = (count : ℕ) × (held' ≡ append_known held (take count (place_reply fault))) × (faults ≤ faults') × Rose faults faults'
+RefusesPlace fault (end.Malformed other) held held' faults faults' = (other ≡ fault) × (held' ≡ append_known held (malformed_text fault)) × (faults ≤ faults')
+RefusesPlace fault end.WriteFault held held' faults faults' = (count : ℕ) × (held' ≡ append_known held (take count (malformed_text fault))) × (faults ≤ faults') × Rose faults faults'
 RefusesPlace fault end.NoMemory held held' faults faults' = (held' ≡ held) × (faults' ≡ faults)
 RefusesPlace fault end.Ended held held' faults faults' = ⊥
 RefusesPlace fault end.Cut held held' faults faults' = ⊥

@@ -5,10 +5,12 @@ use Rattle.std.specs.Io.KnownBytes.{append_known}
 use Rattle.size_values.specs.declared.entry.Entry.{Entry}
 use Rattle.http_heads.specs.Messages.{Ending, ended, cut, malformed}
 use Rattle.http_heads.specs.declared.request.Request.{Request}
-use Rattle.project_requests.specs.Machine.{Asked, entries_of, printed_replies, projects_after}
-use Rattle.project_requests.specs.Opening.{first_projects}
+use Rattle.size_values.specs.Causes.{RoseBy}
+use Rattle.row_machine.specs.State.{State}
+use Rattle.row_machine.specs.Records.{records_of}
+use Rattle.core_rows.specs.Opening.{first_state}
+use Rattle.rest_service.specs.Exchanges.{Exchange, LeadTo, printed_replies, failures_in, malformed_text}
 use Rattle.serial_run.specs.declared.session.TheConstants.{MOST_REQUESTS}
-use Rattle.serial_run.specs.Sessions.{place_reply}
 use Rattle.serial_run.specs.Worlds.{requests_of}
 
 -- the requests up to and with the first that is the last on its connection
@@ -33,7 +35,7 @@ pub record End : Type 0 where
 abbrev pub end_at : Ending → End
 end_at ended = record { status = 0; text = [] }
 end_at (cut held) = record { status = 2; text = [] }
-end_at (malformed fault) = record { status = 3; text = place_reply fault }
+end_at (malformed fault) = record { status = 3; text = malformed_text fault }
 
 -- The end of a run that has answered these requests of an input that ends so: the most requests that a session may answer go
 -- before a last request, and that goes before the end of the input.
@@ -47,14 +49,18 @@ end_behind_all requests ending =
 abbrev pub end_due : List Request → Ending → End
 end_due messages ending = end_behind_all (answered messages) ending
 
--- The run did what its input asks, and nothing else: each request that is answered had its outcome, the exit status is the one that
--- is due, the sink holds the replies in their order, and the keeper has the entries of the projects that they leave.
-pub record RunsText (messages : List Request) (ending : Ending) (status : ℕ) (held held' : Option (List ℕ)) (told told' : Option (List Entry)) : Type 0 where
-  pub asked : List Asked
-  pub requests_are : requests_of asked ≡ answered messages
+-- The run did what its input asks, and nothing else: the requests that are answered, each with its outcome and its reply, lead the
+-- row machine from the first rows to some state; the exit status is the one that is due, the sink holds the replies in their order,
+-- the keeper has the records of that state, and its count rose at least once for each request in which it failed.
+pub record RunsText (messages : List Request) (ending : Ending) (status : ℕ) (held held' : Option (List ℕ)) (told told' : Option (List Entry)) (faults faults' : ℕ) : Type 0 where
+  pub exchanges : List Exchange
+  pub state : State
+  pub requests_are : requests_of exchanges ≡ answered messages
+  pub leads : LeadTo first_state exchanges state
   pub status_is : status ≡ (end_due messages ending).status
-  pub written : held' ≡ append_known held (printed_replies first_projects asked ++ (end_due messages ending).text)
-  pub kept : told' ≡ option_map (λ _. entries_of (projects_after first_projects asked)) told
+  pub written : held' ≡ append_known held (printed_replies exchanges ++ (end_due messages ending).text)
+  pub kept : told' ≡ option_map (λ _. records_of state) told
+  pub failed : RoseBy (failures_in exchanges) faults faults'
 
 -- whether an exit status is that of a fault of the outside, of words that are not read, of entries that are there already, or of
 -- refused memory

@@ -2,7 +2,7 @@ ghost use Rattle.std.specs.Prelude.{◌≡◌, ◌≢◌, ◌<◌, ◌⊎◌, �
 ghost use Rattle.size_values.specs.Causes.{Rose};
 ghost use Rattle.http_heads.specs.Messages.{Ending, ended, Splits};
 ghost use Rattle.http_heads.specs.declared.request.Request.{Request};
-ghost use Rattle.project_requests.specs.Machine.{Projects};
+ghost use Rattle.row_machine.specs.State.{State, empty_state};
 ghost use Rattle.serial_run.specs.Runs.{Ran, Refused, are_run, start_fault, start_status, status_of};
 ghost use Rattle.serial_run.specs.Sessions.{Session};
 ghost use Rattle.serial_run.specs.Texts.{RunsText, is_fault};
@@ -12,9 +12,8 @@ ghost use Rattle.serial_run.specs.Worlds.{World};
 use crate::serving::serve;
 use crate::session::SessionEnd;
 use http_front::{Buffer, Sink, Source};
-use project_requests::{OpenFault, open};
 use record_keeper::Keeper;
-use size_values::Text;
+use rest_service::{OpenFault, Service};
 use std::alloc::Global;
 
 /// Why a run has no session.
@@ -88,17 +87,17 @@ fn session<S: Source, K: Sink, R: Keeper>(
     sink: &mut K,
     keeper: &mut R,
     mut buffer: Buffer,
-    mut projects: Vec<Text>,
+    mut service: Service,
 ) -> SessionEnd
     requires { buffer ≡ [] }
-    ensures { (input : Option (List ℕ)) × (after : Projects) × Session
+    ensures { (input : Option (List ℕ)) × (after : State) × Session
         (record {
           input = S.left source.old;
           left = S.left source.old;
           ended = S.ended source.old;
           output = K.held sink.old;
           kept = R.told keeper.old;
-          projects = projects.items;
+          state = service;
           read_faults = S.failures source.old;
           write_faults = K.failures sink.old;
           keeper_faults = R.failures keeper.old;
@@ -109,14 +108,14 @@ fn session<S: Source, K: Sink, R: Keeper>(
           ended = S.ended source.new;
           output = K.held sink.new;
           kept = R.told keeper.new;
-          projects = after;
+          state = after;
           read_faults = S.failures source.new;
           write_faults = K.failures sink.new;
           keeper_faults = R.failures keeper.new;
         })
         result }
 {
-    serve(alloc, &mut buffer, source, sink, keeper, &mut projects)
+    serve(alloc, &mut buffer, source, sink, keeper, &mut service)
 }
 
 /// A run of the program.
@@ -134,7 +133,7 @@ fn run<S: Source, K: Sink, R: Keeper>(
           ended = S.ended source.old;
           output = K.held sink.old;
           kept = R.told keeper;
-          projects = [];
+          state = empty_state;
           read_faults = S.failures source.old;
           write_faults = K.failures sink.old;
           keeper_faults = R.failures keeper;
@@ -145,7 +144,7 @@ fn run<S: Source, K: Sink, R: Keeper>(
           ended = S.ended source.new;
           output = K.held sink.new;
           kept = R.told result.1;
-          projects = [];
+          state = empty_state;
           read_faults = S.failures source.new;
           write_faults = K.failures sink.new;
           keeper_faults = R.failures result.1;
@@ -158,7 +157,7 @@ fn run<S: Source, K: Sink, R: Keeper>(
           ended = S.ended source.old;
           output = K.held sink.old;
           kept = R.told keeper;
-          projects = [];
+          state = empty_state;
           read_faults = S.failures source.old;
           write_faults = K.failures sink.old;
           keeper_faults = R.failures keeper;
@@ -169,7 +168,7 @@ fn run<S: Source, K: Sink, R: Keeper>(
           ended = S.ended source.new;
           output = K.held sink.new;
           kept = R.told result.1;
-          projects = [];
+          state = empty_state;
           read_faults = S.failures source.new;
           write_faults = K.failures sink.new;
           keeper_faults = R.failures result.1;
@@ -182,9 +181,9 @@ fn run<S: Source, K: Sink, R: Keeper>(
     let Ok(buffer) = Buffer::new(alloc) else {
         return (StartFault::NoMemory.status(), keeper);
     };
-    match open(alloc, &mut keeper) {
-        Ok(projects) => {
-            let ends = session(alloc, source, sink, &mut keeper, buffer, projects);
+    match Service::new(alloc, &mut keeper) {
+        Ok(service) => {
+            let ends = session(alloc, source, sink, &mut keeper, buffer, service);
             (ends.status(), keeper)
         }
         Err(fault) => (StartFault::of(fault).status(), keeper),
@@ -208,7 +207,7 @@ pub fn run_main<S: Source, K: Sink, R: Keeper>(
           ended = S.ended source.old;
           output = K.held sink.old;
           kept = R.told keeper;
-          projects = [];
+          state = empty_state;
           read_faults = S.failures source.old;
           write_faults = K.failures sink.old;
           keeper_faults = R.failures keeper;
@@ -219,7 +218,7 @@ pub fn run_main<S: Source, K: Sink, R: Keeper>(
           ended = S.ended source.new;
           output = K.held sink.new;
           kept = R.told result.1;
-          projects = [];
+          state = empty_state;
           read_faults = S.failures source.new;
           write_faults = K.failures sink.new;
           keeper_faults = R.failures result.1;
@@ -232,7 +231,7 @@ pub fn run_main<S: Source, K: Sink, R: Keeper>(
           ended = S.ended source.old;
           output = K.held sink.old;
           kept = R.told keeper;
-          projects = [];
+          state = empty_state;
           read_faults = S.failures source.old;
           write_faults = K.failures sink.old;
           keeper_faults = R.failures keeper;
@@ -243,7 +242,7 @@ pub fn run_main<S: Source, K: Sink, R: Keeper>(
           ended = S.ended source.new;
           output = K.held sink.new;
           kept = R.told result.1;
-          projects = [];
+          state = empty_state;
           read_faults = S.failures source.new;
           write_faults = K.failures sink.new;
           keeper_faults = R.failures result.1;
@@ -252,7 +251,7 @@ pub fn run_main<S: Source, K: Sink, R: Keeper>(
 
     // Over a source that tells its bytes: a fault, or what these bytes ask.
     ensures text { IfSome (S.left source.old) (λ text. (messages : List Request) (ending : Ending) → Splits text messages ending →
-        (is_fault result.0 ≡ true) ⊎ RunsText messages ending result.0 (K.held sink.old) (K.held sink.new) (R.told keeper) (R.told result.1)) }
+        (is_fault result.0 ≡ true) ⊎ RunsText messages ending result.0 (K.held sink.old) (K.held sink.new) (R.told keeper) (R.told result.1) (R.failures keeper) (R.failures result.1)) }
 
     // Whole messages and no fault: all of them are answered, or memory was refused.
     ensures complete { IfSome (S.left source.old) (λ text. (messages : List Request) → Splits text messages ended → length messages < MOST_REQUESTS →

@@ -6,7 +6,7 @@ use crate::session::{MOST_REQUESTS, SessionEnd, Turn};
 use crate::turn::turn;
 use http_front::{Buffer, Sink, Source};
 use record_keeper::Keeper;
-use size_values::Text;
+use rest_service::Service;
 use std::alloc::Global;
 
 /// Where a session stops behind the final request, with this many requests answered before it.
@@ -28,7 +28,7 @@ pub(crate) fn serve<S: Source, K: Sink, R: Keeper>(
     source: &mut S,
     sink: &mut K,
     keeper: &mut R,
-    projects: &mut Vec<Text>,
+    service: &mut Service,
 ) -> SessionEnd
     ensures { Session
         (record {
@@ -37,7 +37,7 @@ pub(crate) fn serve<S: Source, K: Sink, R: Keeper>(
           ended = S.ended source.old;
           output = K.held sink.old;
           kept = R.told keeper.old;
-          projects = projects.old.items;
+          state = service.old;
           read_faults = S.failures source.old;
           write_faults = K.failures sink.old;
           keeper_faults = R.failures keeper.old;
@@ -48,7 +48,7 @@ pub(crate) fn serve<S: Source, K: Sink, R: Keeper>(
           ended = S.ended source.new;
           output = K.held sink.new;
           kept = R.told keeper.new;
-          projects = projects.new.items;
+          state = service.new;
           read_faults = S.failures source.new;
           write_faults = K.failures sink.new;
           keeper_faults = R.failures keeper.new;
@@ -56,7 +56,7 @@ pub(crate) fn serve<S: Source, K: Sink, R: Keeper>(
         result }
 {
     for done in 0..MOST_REQUESTS {
-        match turn(alloc, buffer, source, sink, keeper, projects) {
+        match turn(alloc, buffer, source, sink, keeper, service) {
             Turn::GoOn => {}
             Turn::Final => return end_behind(done),
             Turn::Stop(ends) => return ends,

@@ -1,38 +1,38 @@
-ghost use Rattle.std.specs.Prelude.{◌≡◌, [], IfOk};
+ghost use Rattle.std.specs.Prelude.{◌≡◌};
 ghost use Rattle.std.specs.Io.KnownBytes.{prepend_known};
-ghost use Rattle.size_values.specs.Causes.{HasCause};
-ghost use Rattle.http_front.specs.Streams.{Writes};
-ghost use Rattle.project_requests.specs.Answers.{bytes_for};
-ghost use Rattle.serial_run.specs.Sessions.{RefusesPlace, Turns, turn_after};
+ghost use Rattle.serial_run.specs.Sessions.{RefusesPlace, Turns, WritesAnswer, turn_after};
 
 use crate::session::{SessionEnd, Turn};
 use http_front::{Buffer, Got, HeadFault, Sink, SinkFailed, Source, no_memory_reply, read_request};
-use project_requests::{Refusal, answer, print_refused};
 use record_keeper::Keeper;
-use size_values::{NoMemory, Seq, Text};
+use rest_service::{Answered, Service, print_malformed};
+use size_values::NoMemory;
 use std::alloc::Global;
 
-/// Writes a printed reply, or the reply of refused memory, which takes none.
-fn write_reply<K: Sink>(
-    sink: &mut K,
-    reply: &Result<Seq<u8>, NoMemory>,
-    last: bool,
-) -> Result<(), SinkFailed>
-    ensures written { Writes (K.held sink.old) (K.held sink.new) result (bytes_for reply.now last) }
-    ensures cause { HasCause (K.failures sink.old) (K.failures sink.new) result }
-{
-    match reply {
-        Ok(bytes) => sink.write(bytes.view()),
-        Err(NoMemory) => sink.write(no_memory_reply(last)),
-    }
-}
-
+/// How a turn goes on behind a reply, from whether it was written and whether its request is the last on its connection.
 fn turn_after(written: Result<(), SinkFailed>, last: bool) -> Turn
     ensures { result ≡ turn_after written last }
 {
     match written {
-        Ok(()) => { if last { Turn::Final } else { Turn::GoOn } }
+        Ok(()) => {
+            if last {
+                Turn::Final
+            } else {
+                Turn::GoOn
+            }
+        }
         Err(SinkFailed) => Turn::Stop(SessionEnd::WriteFault),
+    }
+}
+
+/// Writes what a request is answered. Where memory for its reply was refused, nothing is written and the session stops.
+fn write_answer<K: Sink>(sink: &mut K, answered: &Answered, last: bool) -> Turn
+    ensures { WritesAnswer result answered.now last (K.held sink.old) (K.held sink.new) (K.failures sink.old) (K.failures sink.new) }
+{
+    match answered {
+        Answered::Printed(bytes) => turn_after(sink.write(bytes.view()), last),
+        Answered::NoMemory => turn_after(sink.write(no_memory_reply(last)), last),
+        Answered::Unprinted => Turn::Stop(SessionEnd::NoMemory),
     }
 }
 
@@ -40,7 +40,7 @@ fn turn_after(written: Result<(), SinkFailed>, last: bool) -> Turn
 fn refuse<K: Sink>(alloc: Global, sink: &mut K, fault: HeadFault) -> SessionEnd
     ensures { RefusesPlace fault result (K.held sink.old) (K.held sink.new) (K.failures sink.old) (K.failures sink.new) }
 {
-    match print_refused(alloc, &Refusal::Head(fault), true) {
+    match print_malformed(alloc, fault) {
         Ok(bytes) => match sink.write(bytes.view()) {
             Ok(()) => SessionEnd::Malformed(fault),
             Err(SinkFailed) => SessionEnd::WriteFault,
@@ -56,7 +56,7 @@ pub(crate) fn turn<S: Source, K: Sink, R: Keeper>(
     source: &mut S,
     sink: &mut K,
     keeper: &mut R,
-    projects: &mut Vec<Text>,
+    service: &mut Service,
 ) -> Turn
     ensures { Turns result
         (record {
@@ -65,7 +65,7 @@ pub(crate) fn turn<S: Source, K: Sink, R: Keeper>(
           ended = S.ended source.old;
           output = K.held sink.old;
           kept = R.told keeper.old;
-          projects = projects.old.items;
+          state = service.old;
           read_faults = S.failures source.old;
           write_faults = K.failures sink.old;
           keeper_faults = R.failures keeper.old;
@@ -76,7 +76,7 @@ pub(crate) fn turn<S: Source, K: Sink, R: Keeper>(
           ended = S.ended source.new;
           output = K.held sink.new;
           kept = R.told keeper.new;
-          projects = projects.new.items;
+          state = service.new;
           read_faults = S.failures source.new;
           write_faults = K.failures sink.new;
           keeper_faults = R.failures keeper.new;
@@ -84,9 +84,8 @@ pub(crate) fn turn<S: Source, K: Sink, R: Keeper>(
 {
     match read_request(alloc, buffer, source) {
         Got::Request(request) => {
-            let reply = answer(alloc, projects, keeper, &request);
-            let written = write_reply(sink, &reply, request.last);
-            turn_after(written, request.last)
+            let answered = service.answer(alloc, keeper, &request);
+            write_answer(sink, &answered, request.last)
         }
         Got::End => Turn::Stop(SessionEnd::Ended),
         Got::Cut(_) => Turn::Stop(SessionEnd::Cut),

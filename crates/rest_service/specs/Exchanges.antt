@@ -1,0 +1,90 @@
+-- Requests one after the other, each carried out by the row machine, while nobody listens to what is told.
+use Rattle.std.specs.Prelude.{◌≡◌, ℕ, List, [], ◌∷◌, Bool, true, Option, Some, None, option_map, Result, Ok, Err}
+use Rattle.std.specs.List.{flat_map, sum_by}
+use Rattle.http_heads.specs.declared.request.Request.{Request}
+use Rattle.http_heads.specs.declared.request.HeadFault.{HeadFault}
+use Rattle.http_heads.specs.declared.request.HeadFault.TheVariants as fault
+use Rattle.http_front.specs.Replies.{reply_text}
+use Rattle.records.specs.declared.commands.Command.{Command}
+use Rattle.records.specs.declared.refusals.Rule.{Rule}
+use Rattle.records.specs.declared.refusals.Rule.TheVariants as rule
+use Rattle.records.specs.declared.refusals.Refusal.{Refusal}
+use Rattle.records.specs.declared.replies.Reply.{Reply}
+use Rattle.records.specs.declared.replies.Reply.TheVariants as reply
+use Rattle.row_machine.specs.declared.events.Answer.TheVariants as answer
+use Rattle.row_machine.specs.declared.events.Event.TheVariants as event
+use Rattle.row_machine.specs.State.{State}
+use Rattle.row_machine.specs.Refusals.{plainly}
+use Rattle.row_machine.specs.Accept.{After, and_then}
+use Rattle.row_machine.specs.Step.{Outcome, well, keeper_failed, no_memory, step}
+use Rattle.core_objects.specs.Asked.{answered}
+use Rattle.rest_replies.specs.Replies.{printed_of}
+use Rattle.rest_routes.specs.Commands.{command_of}
+
+-- a request that was taken, how the outside fared with it, and its reply
+pub record Exchange : Type 0 where
+  pub request : Request
+  pub outcome : Outcome
+  pub reply : Reply
+
+-- this request, with this outcome and this reply
+abbrev pub exchange : Request → Outcome → Reply → Exchange
+exchange request outcome reply = record { request = request; outcome = outcome; reply = reply }
+
+-- ---- one request
+
+-- a request that is refused by its form asks for no command: the keeper is not called, and nothing changes
+abbrev pub refused : State → Refusal → Outcome → Option After
+refused s refusal well = Some (and_then (answer.Reply (reply.Refused refusal)) s)
+refused s refusal (keeper_failed rise) = None
+refused s refusal no_memory = Some (and_then answer.NoMemory s)
+
+-- the command that a request asks for is one step of the machine; there is no clock yet, so its moment is 0
+abbrev pub carried_out : State → Outcome → Result Command Refusal → Option After
+carried_out s outcome (Ok command) = step s (event.Ask command 0) outcome
+carried_out s outcome (Err refusal) = refused s refusal outcome
+
+-- nobody listens: the notices are dropped
+abbrev pub unheard : State → State
+unheard s = record s { notices = []; next_notice = 1 }
+
+-- What a request comes to: its answer, and the state after it. None where the outcome is not possible with it.
+unfoldable pub served : State → Request → Outcome → Option After
+served s request outcome = option_map (λ after. and_then after.answer (unheard after.state)) (carried_out s outcome (command_of request 0))
+
+-- ---- one after the other
+
+-- Exchanges lead from one state to another: each request comes to its reply, and to the state in which the next one is taken.
+abbrev pub LeadTo : State → List Exchange → State → Type 0
+LeadTo s [] s' = s ≡ s'
+LeadTo s (e ∷ more) s' = (next : State) × (served s e.request e.outcome ≡ Some (and_then (answered e.reply) next)) × LeadTo next more s'
+
+-- how often the keeper failed: at most once for a request
+abbrev pub failure_of : Outcome → ℕ
+failure_of well = 0
+failure_of (keeper_failed rise) = 1
+failure_of no_memory = 0
+
+abbrev pub failures_in : List Exchange → ℕ
+failures_in exchanges = sum_by (λ e. failure_of e.outcome) exchanges
+
+-- ---- their bytes
+
+-- the bytes of a reply, which says where the connection ends behind it; no operation is begun yet, so the boot word is 0
+unfoldable pub printed : Reply → Bool → List ℕ
+printed r last = reply_text (printed_of r 0 last)
+
+-- the bytes of the replies, in their order
+abbrev pub printed_replies : List Exchange → List ℕ
+printed_replies exchanges = flat_map (λ e. printed e.reply e.request.last) exchanges
+
+-- the rule that a malformed place breaks
+abbrev pub rule_of : HeadFault → Rule
+rule_of fault.H1 = rule.H1
+rule_of fault.H2 = rule.H2
+rule_of fault.H3 = rule.H3
+rule_of fault.H4 = rule.H4
+
+-- the bytes that answer a malformed place, behind which the connection ends
+abbrev pub malformed_text : HeadFault → List ℕ
+malformed_text fault = printed (reply.Refused (plainly (rule_of fault))) true

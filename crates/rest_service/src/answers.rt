@@ -1,0 +1,77 @@
+//! What is written for a reply.
+ghost use Rattle.std.specs.Prelude.{◌≡◌, true, IfOk, IsTrue};
+ghost use Rattle.http_front.specs.Replies.{is_reply_code, reply_text};
+ghost use Rattle.row_machine.specs.Refusals.{plainly};
+ghost use Rattle.rest_replies.specs.Replies.{printed_of};
+ghost use Rattle.rest_service.specs.Answers.{HasText};
+ghost use Rattle.rest_service.specs.Exchanges.{printed, rule_of, malformed_text};
+
+use http_front::{HeadFault, reply_bytes};
+use plain_rules::untold;
+use records::{Refusal, Reply, Rule};
+use rest_replies::{no_memory_is_known, print};
+use size_values::{NoMemory, Seq};
+use std::alloc::Global;
+
+/// The boot word of this service: no operation is begun yet, so no id is told.
+pub(crate) const BOOT: u64 = 0;
+
+/// What is to be written for a request.
+#[derive(Debug, Drop)]
+pub enum Answered {
+    /// These bytes.
+    Printed(Seq<u8>),
+    /// Memory was refused before anything changed: the reply that takes none (`http_front::no_memory_reply`).
+    NoMemory,
+    /// The request was carried out, but memory for its reply was refused, so nothing can be written.
+    Unprinted,
+}
+
+/// The bytes of a reply.
+#[tactic(auto, unfolding(crate::specs::Exchanges::printed))]
+fn text_of(alloc: Global, reply: &Reply, last: bool) -> Result<Seq<u8>, NoMemory>
+    ensures { IfOk result (λ bytes. bytes ≡ printed reply.now last) }
+{
+    let printed = print(alloc, reply, BOOT, last)?;
+    reply_bytes(alloc, &printed)
+}
+
+/// What is to be written for a reply.
+pub(crate) fn answered(alloc: Global, reply: &Reply, last: bool) -> Answered
+    ensures { HasText result reply.now last }
+{
+    match reply {
+        Reply::NoMemory => {
+            no_memory_is_known();
+            Answered::NoMemory
+        }
+        _ => match text_of(alloc, reply, last) {
+            Ok(bytes) => Answered::Printed(bytes),
+            Err(NoMemory) => Answered::Unprinted,
+        },
+    }
+}
+
+/// The rule that a malformed place breaks.
+fn rule_of(fault: HeadFault) -> Rule
+    ensures { result ≡ rule_of fault }
+{
+    match fault {
+        HeadFault::H1 => Rule::H1,
+        HeadFault::H2 => Rule::H2,
+        HeadFault::H3 => Rule::H3,
+        HeadFault::H4 => Rule::H4,
+    }
+}
+
+/// The bytes that answer a place in which no request can begin: its rule, and that the connection ends
+/// (RFC 9112, section 9.6).
+pub fn print_malformed(alloc: Global, fault: HeadFault) -> Result<Seq<u8>, NoMemory>
+    ensures { IfOk result (λ bytes. bytes ≡ malformed_text fault) }
+{
+    let refusal = Refusal {
+        rule: rule_of(fault),
+        kept: untold(alloc),
+    };
+    text_of(alloc, &Reply::Refused(refusal), true)
+}

@@ -1,0 +1,12 @@
+//! The REST API as a service: it takes one request after the other and answers each, over rows that it keeps (REST API
+//! of the Incus documentation).
+#![tactic(auto)]
+
+mod answers;
+mod service;
+#[cfg(test)]
+mod tests;
+
+pub use answers::{Answered, print_malformed};
+pub use core_rows::OpenFault;
+pub use service::Service;

@@ -1,0 +1,93 @@
+ghost use Rattle.std.specs.Prelude.{◌≡◌, []};
+ghost use Rattle.row_machine.specs.State.{State};
+ghost use Rattle.core_rows.specs.Sound.{IsSound};
+ghost use Rattle.rest_service.specs.Answers.{Answers, Opens, Replies};
+
+use crate::answers::{Answered, BOOT, answered};
+use core_objects::do_object;
+use core_rows::{Estate, OpenFault, load_rows};
+use http_front::Request;
+use record_keeper::Keeper;
+use records::Reply;
+use rest_routes::Router;
+use size_values::Or;
+use std::alloc::Global;
+use std::marker::Model;
+
+/// The moment of each request, in seconds since 1970: there is no clock yet, and no reply tells a moment.
+const MOMENT: u64 = 0;
+
+/// Takes one request after the other. Contracts see the state of the row machine that its rows are.
+#[derive(Drop)]
+pub struct Service {
+    router: Router,
+    estate: Estate,
+}
+
+impl Model for Service {
+    ghost use Rattle.row_machine.specs.State.{State};
+
+    ghost Value = { State };
+
+    ghost use Rattle.rest_service.specs.View.{rows_of, IsQuiet};
+
+    ghost view = { rows_of };
+
+    ghost invariant = { IsQuiet };
+}
+
+/// Drops the notices that were not yet taken: nobody listens.
+fn drop_told(estate: &mut Estate)
+    ensures quiet { estate.new.untold ≡ [] }
+    ensures state { estate.new.state ≡ estate.old.state }
+    ensures sound { IsSound estate.new.state }
+{
+    while let Some(_) = estate.take_told() {}
+}
+
+/// Carries a request out. The notices of its change are left in the estate.
+fn reply_to<R: Keeper>(
+    alloc: Global,
+    router: &Router,
+    estate: &mut Estate,
+    keeper: &mut R,
+    request: &Request,
+) -> Reply
+    requires quiet { estate.old.untold ≡ [] }
+    ensures { Replies estate.old.state estate.new.state estate.new.untold (R.told keeper.old) (R.told keeper.new) (R.failures keeper.old) (R.failures keeper.new) request.now result }
+{
+    match router.route(alloc, request, BOOT) {
+        Ok(command) => do_object(alloc, estate, keeper, &command, MOMENT),
+        Err(Or::Why(refusal)) => Reply::Refused(refusal),
+        Err(Or::NoMemory) => Reply::NoMemory,
+    }
+}
+
+impl Service {
+    /// A service over the rows of a keeper, which must have no entries yet: it gets the project `default` and its
+    /// profile `default`, in one commit.
+    pub fn new<R: Keeper>(alloc: Global, keeper: &mut R) -> Result<Service, OpenFault>
+        ensures { Opens result (R.told keeper.old) (R.told keeper.new) (R.failures keeper.old) (R.failures keeper.new) }
+    {
+        let Ok(router) = Router::new(alloc) else {
+            return Err(OpenFault::NoMemory);
+        };
+        let estate = load_rows(alloc, keeper)?;
+        Ok(Service { router, estate })
+    }
+
+    /// Answers one request: routes it, carries its command out, and prints the reply. What the keeper did not commit
+    /// is not done.
+    pub fn answer<R: Keeper>(
+        &mut self,
+        alloc: Global,
+        keeper: &mut R,
+        request: &Request,
+    ) -> Answered
+        ensures { Answers self.old self.new (R.told keeper.old) (R.told keeper.new) (R.failures keeper.old) (R.failures keeper.new) request.now result }
+    {
+        let reply = reply_to(alloc, &self.router, &mut self.estate, keeper, request);
+        drop_told(&mut self.estate);
+        answered(alloc, &reply, request.last)
+    }
+}

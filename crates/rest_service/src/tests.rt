@@ -1,0 +1,2 @@
+use crate::Service;
+use std::test::Fail;
