@@ -42,7 +42,7 @@ fn drop_told(estate: &mut Estate)
     ensures state { estate.new.state ≡ estate.old.state }
     ensures sound { IsSound estate.new.state }
 {
-    while let Some(_) = estate.take_told() {}
+    while let Some(_notice) = estate.take_told() {}
 }
 
 /// Carries a request out. The notices of its change are left in the estate.

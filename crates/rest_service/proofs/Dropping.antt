@@ -1,0 +1,23 @@
+-- Notices that nobody takes change nothing of the rows.
+use Rattle.std.proofs.Common.{◌≡◌, ℕ, ◌==◌, ◌^◌, ◌-◌, Bool, true, false, List, [], ◌∷◌, refl, ap, sym, ◌∙◌, if◌then◌else◌}
+use Rattle.records.specs.declared.notices.Untold.{Untold}
+use Rattle.row_machine.specs.State.{State}
+use Rattle.row_machine.specs.Notices.{push_notice, telling}
+use Rattle.core_rows.specs.Sound.{state_with, IsSound}
+use Rattle.rest_service.specs.Exchanges.{unheard}
+
+-- one notice
+pushed : (n : Untold) (s : State) → unheard (push_notice n s) ≡ unheard s
+pushed n s = by (s.next_notice == 2 ^ 64 - 1) refl where
+  by : (full : Bool) → (s.next_notice == 2 ^ 64 - 1) ≡ full → unheard (push_notice n s) ≡ unheard s
+  by true is = rw is refl
+  by false is = rw is refl
+
+-- several notices
+told : (ns : List Untold) (s : State) → unheard (telling ns s) ≡ unheard s
+told [] s = refl
+told (n ∷ ns) s = told ns (push_notice n s) ∙ pushed n s
+
+-- the rows alone, with what was told of them dropped, are the rows
+pub rows_unheard : (ns : List Untold) (s : State) → IsSound s → unheard (telling ns s) ≡ s
+rows_unheard ns s sound = told ns s ∙ ap unheard sound.alone ∙ sym sound.alone
