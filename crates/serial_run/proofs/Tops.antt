@@ -1,49 +1,52 @@
 -- The clauses of the top call, from what a run comes to.
-use Rattle.std.proofs.Common.{◌≡◌, ◌≢◌, ◌<◌, ◌≤◌, ◌++◌, ◌==◌, ◌⊎◌, ℕ, List, [], ◌∷◌, length, take, Bool, true, false, Option, Some, None, IfSome, option_map, refl, ap, sym, ◌∙◌, subst, arith, inl, inr}
-use Rattle.std.proofs.lemmas.List.{append-nil, length-take}
+use Rattle.std.proofs.Common.{◌≡◌, ◌≢◌, ◌<◌, ◌≤◌, ◌++◌, ◌⊎◌, ℕ, List, [], ◌∷◌, length, Bool, true, false, Option, Some, None, IfSome, option_map, refl, ap, sym, ◌∙◌, subst, arith, inl, inr}
+use Rattle.std.proofs.lemmas.List.{length-take}
 use Rattle.std.proofs.lemmas.Bool.{false≢true}
 use Rattle.std.specs.Io.KnownBytes.{append_known}
 use Rattle.size_values.specs.Causes.{Rose}
 use Rattle.size_values.specs.declared.entry.Entry.{Entry}
 use Rattle.http_heads.specs.Messages.{Splits, Ending, ended}
 use Rattle.http_heads.specs.declared.request.Request.{Request}
-use Rattle.project_requests.specs.Answers.{IsKept, KeptAlong}
-use Rattle.project_requests.specs.Machine.{Projects, Asked, printed_replies, projects_after, entries_of}
-use Rattle.project_requests.specs.Opening.{first_projects}
+use Rattle.row_machine.specs.Records.{records_of}
+use Rattle.core_rows.specs.Opening.{first_state}
+use Rattle.rest_service.specs.Exchanges.{LeadTo, printed_replies}
 use Rattle.serial_run.specs.declared.running.StartFault.{StartFault}
 use Rattle.serial_run.specs.declared.running.StartFault.TheVariants as start
 use Rattle.serial_run.specs.declared.session.SessionEnd.{SessionEnd}
 use Rattle.serial_run.specs.declared.session.SessionEnd.TheVariants as end
 use Rattle.serial_run.specs.Runs.{are_run, status_of, start_status, opened, Ran, Refused, HasCauseToRefuse}
-use Rattle.serial_run.specs.Sessions.{Session, Stops, StopsBehindFinal, place_reply}
+use Rattle.serial_run.specs.Sessions.{Session, Stops, StopsBehindFinal}
 use Rattle.serial_run.specs.declared.session.TheConstants.{MOST_REQUESTS}
 use Rattle.serial_run.specs.Texts.{through_last, has_last, answered, end_due, RunsText, is_fault}
-use Rattle.serial_run.specs.Worlds.{World, AllGoOn, OnlyFinalEnds}
-use Rattle.serial_run.proofs.Served.{append_twice, append_nothing}
+use Rattle.serial_run.specs.Worlds.{World, Changes, AllGoOn, OnlyFinalEnds}
+use Rattle.serial_run.proofs.Served.{append_twice, append_nothing, changes_none}
 use Rattle.serial_run.proofs.Whole.{IsSettled, IsDue, session_due, text_at, not_full}
 
--- what a settled stop wrote and changed behind the requests
+-- What a settled stop wrote and changed behind the requests: no row, and with them no record.
 record StopsQuietly (ends : SessionEnd) (w w' : World) : Type 0 where
   written : w'.output ≡ append_known w.output (text_at ends)
-  projects : w'.projects ≡ w.projects
-  kept : KeptAlong w.projects w'.projects w.kept w'.kept
+  changes : Changes w w' []
+  keeps : w.keeper_faults ≤ w'.keeper_faults
 
+-- where a session does nothing more
 same_quietly : (ends : SessionEnd) (w w' : World) → w' ≡ w → text_at ends ≡ [] → StopsQuietly ends w w'
-same_quietly ends w w' same none = record {
-  written = ap (λ v. v.output) same ∙ append_nothing w.output ∙ ap (append_known w.output) (sym none);
-  projects = ap (λ v. v.projects) same;
-  kept = λ start is. subst (λ v. IsKept start v.projects v.kept) (sym same) is;
-}
+same_quietly ends w w' same none = subst (λ v. StopsQuietly ends w v) (sym same) (record {
+  written = append_nothing w.output ∙ ap (append_known w.output) (sym none);
+  changes = changes_none w;
+  keeps = omega arith;
+})
 
+-- where it stops behind requests that go on
 stops_quietly : (ends : SessionEnd) (w w' : World) → Stops ends w w' → IsSettled ends → StopsQuietly ends w w'
-stops_quietly end.Ended w w' stops settled = record { written = stops.0.output ∙ append_nothing w.output; projects = stops.0.changes.projects; kept = stops.0.changes.kept }
-stops_quietly end.Cut w w' stops settled = record { written = stops.0.output ∙ append_nothing w.output; projects = stops.0.changes.projects; kept = stops.0.changes.kept }
-stops_quietly (end.Malformed fault) w w' stops settled = record { written = stops.1; projects = stops.2.projects; kept = stops.2.kept }
+stops_quietly end.Ended w w' stops settled = record { written = stops.0.output ∙ append_nothing w.output; changes = stops.0.changes; keeps = stops.0.later.keeps }
+stops_quietly end.Cut w w' stops settled = record { written = stops.0.output ∙ append_nothing w.output; changes = stops.0.changes; keeps = stops.0.later.keeps }
+stops_quietly (end.Malformed fault) w w' stops settled = record { written = stops.1; changes = stops.2; keeps = stops.3.keeps }
 stops_quietly end.Spent w w' stops settled = same_quietly end.Spent w w' stops refl
 stops_quietly end.ReadFault w w' stops settled = absurd settled
 stops_quietly end.WriteFault w w' stops settled = absurd settled
 stops_quietly end.NoMemory w w' stops settled = absurd settled
 
+-- where it stops behind a final request
 behind_final : (ends : SessionEnd) (w w' : World) → StopsBehindFinal ends → w' ≡ w → StopsQuietly ends w w'
 behind_final end.Ended w w' is same = same_quietly end.Ended w w' same refl
 behind_final end.Spent w w' is same = same_quietly end.Spent w w' same refl
@@ -53,24 +56,29 @@ behind_final end.ReadFault w w' is same = absurd is
 behind_final end.WriteFault w w' is same = absurd is
 behind_final end.NoMemory w w' is same = absurd is
 
+-- where it stops in either way
 session_quietly : (w w' : World) (ends : SessionEnd) (s : Session w w' ends) → IsSettled ends → StopsQuietly ends s.behind w'
 session_quietly w w' ends s settled = by s.stops where
-  by : (AllGoOn s.asked × Stops ends s.behind w') ⊎ (OnlyFinalEnds s.asked × StopsBehindFinal ends × (w' ≡ s.behind)) → StopsQuietly ends s.behind w'
+  by : (AllGoOn s.exchanges × Stops ends s.behind w') ⊎ (OnlyFinalEnds s.exchanges × StopsBehindFinal ends × (w' ≡ s.behind)) → StopsQuietly ends s.behind w'
   by (inl (going, stops)) = stops_quietly ends s.behind w' stops settled
   by (inr (only, is, same)) = behind_final ends s.behind w' is same
 
--- a settled session over a known text, from the first projects on, does what the text asks
-session_text : (w w' : World) (ends : SessionEnd) (told : Option (List Entry)) (text : List ℕ) (messages : List Request) (ending : Ending) → Session w w' ends → w.projects ≡ first_projects → IsKept told first_projects w.kept
-    → w.input ≡ Some text → Splits text messages ending → IsSettled ends → RunsText messages ending (status_of ends) w.output w'.output told w'.kept
-session_text w w' ends told text messages ending s first kept input splits settled = record {
-  asked = s.asked;
+-- a settled session over a known text, from the first rows and their records on, does what the text asks
+session_text : (w w' : World) (ends : SessionEnd) (told : Option (List Entry)) (before : ℕ) (text : List ℕ) (messages : List Request) (ending : Ending) → Session w w' ends
+    → w.state ≡ first_state → w.kept ≡ option_map (λ _. records_of w.state) told → before ≤ w.keeper_faults
+    → w.input ≡ Some text → Splits text messages ending → IsSettled ends → RunsText messages ending (status_of ends) w.output w'.output told w'.kept before w'.keeper_faults
+session_text w w' ends told before text messages ending s first kept later input splits settled = record {
+  exchanges = s.exchanges;
+  state = w'.state;
   requests_are = due.requests_are;
+  leads = subst (λ start. LeadTo start s.exchanges w'.state) first (subst (LeadTo w.state s.exchanges) quiet.changes.leads s.serves.changes.leads);
   status_is = sym (ap (λ e. e.status) due.end_is);
-  written = quiet.written ∙ ap (λ known. append_known known (text_at ends)) s.serves.written ∙ append_twice w.output (printed_replies w.projects s.asked) (text_at ends)
-      ∙ ap (λ ps. append_known w.output (printed_replies ps s.asked ++ text_at ends)) first ∙ ap (λ t. append_known w.output (printed_replies first_projects s.asked ++ t)) (sym (ap (λ e. e.text) due.end_is));
-  kept = quiet.kept told (s.serves.changes.kept told (subst (λ ps. IsKept told ps w.kept) (sym first) kept)) ∙ ap (λ ps. option_map (λ _. entries_of ps) told) (quiet.projects ∙ s.serves.changes.projects ∙ ap (λ ps. projects_after ps s.asked) first);
+  written = quiet.written ∙ ap (λ known. append_known known (text_at ends)) s.serves.written ∙ append_twice w.output (printed_replies s.exchanges) (text_at ends)
+      ∙ ap (λ t. append_known w.output (printed_replies s.exchanges ++ t)) (sym (ap (λ e. e.text) due.end_is));
+  kept = quiet.changes.kept told (s.serves.changes.kept told kept);
+  failed = omega (arith, later, s.serves.changes.failed, quiet.keeps);
 } where
-  due : IsDue messages ending ends s.asked
+  due : IsDue messages ending ends s.exchanges
   due = session_due w w' ends text messages ending s input splits settled
 
   quiet : StopsQuietly ends s.behind w'
@@ -78,36 +86,40 @@ session_text w w' ends told text messages ending s first kept input splits settl
 
 -- a run with a session ends with a fault, or does what its text asks
 ran_text : (words : List (List ℕ)) (w w' : World) (status : ℕ) (r : Ran words w w' status) (text : List ℕ) (messages : List Request) (ending : Ending) → w.input ≡ Some text → Splits text messages ending
-    → (is_fault status ≡ true) ⊎ RunsText messages ending status w.output w'.output w.kept w'.kept
-ran_text words w w' status r text messages ending input splits = subst (λ n. (is_fault n ≡ true) ⊎ RunsText messages ending n w.output w'.output w.kept w'.kept) (sym r.status_is) (by r.ends r.session) where
-  by : (ends : SessionEnd) → Session (opened w r.faults) (record w' { input = r.input; projects = r.projects }) ends → (is_fault (status_of ends) ≡ true) ⊎ RunsText messages ending (status_of ends) w.output w'.output w.kept w'.kept
-  by end.Ended s = inr (session_text _ _ end.Ended w.kept text messages ending s refl refl input splits tt)
-  by end.Cut s = inr (session_text _ _ end.Cut w.kept text messages ending s refl refl input splits tt)
-  by (end.Malformed fault) s = inr (session_text _ _ (end.Malformed fault) w.kept text messages ending s refl refl input splits tt)
-  by end.Spent s = inr (session_text _ _ end.Spent w.kept text messages ending s refl refl input splits tt)
+    → (is_fault status ≡ true) ⊎ RunsText messages ending status w.output w'.output w.kept w'.kept w.keeper_faults w'.keeper_faults
+ran_text words w w' status r text messages ending input splits = subst (λ n. (is_fault n ≡ true) ⊎ RunsText messages ending n w.output w'.output w.kept w'.kept w.keeper_faults w'.keeper_faults) (sym r.status_is) (by r.ends r.session) where
+  by : (ends : SessionEnd) → Session (opened w r.faults) (record w' { input = r.input; state = r.state }) ends → (is_fault (status_of ends) ≡ true) ⊎ RunsText messages ending (status_of ends) w.output w'.output w.kept w'.kept w.keeper_faults w'.keeper_faults
+  by end.Ended s = inr (session_text _ _ end.Ended w.kept w.keeper_faults text messages ending s refl refl r.later input splits tt)
+  by end.Cut s = inr (session_text _ _ end.Cut w.kept w.keeper_faults text messages ending s refl refl r.later input splits tt)
+  by (end.Malformed fault) s = inr (session_text _ _ (end.Malformed fault) w.kept w.keeper_faults text messages ending s refl refl r.later input splits tt)
+  by end.Spent s = inr (session_text _ _ end.Spent w.kept w.keeper_faults text messages ending s refl refl r.later input splits tt)
   by end.ReadFault s = inl refl
   by end.WriteFault s = inl refl
   by end.NoMemory s = inl refl
 
+-- a run that has no session ends with a fault
 start_fault_is : (why : StartFault) → is_fault (start_status why) ≡ true
 start_fault_is start.Words = refl
 start_fault_is start.KeeperFailed = refl
 start_fault_is start.HasEntries = refl
 start_fault_is start.NoMemory = refl
 
+-- there was a session, or there was none
 abbrev pub Done : List (List ℕ) → World → World → ℕ → Type 0
 Done words w w' status = Ran words w w' status ⊎ Refused words w w' status
 
 -- a run over a known text ends with a fault, or does what the text asks
 pub top_text : (words : List (List ℕ)) (w w' : World) (status : ℕ) (known : Option (List ℕ)) → Done words w w' status → w.input ≡ known
-    → IfSome known (λ text. (messages : List Request) (ending : Ending) → Splits text messages ending → (is_fault status ≡ true) ⊎ RunsText messages ending status w.output w'.output w.kept w'.kept)
+    → IfSome known (λ text. (messages : List Request) (ending : Ending) → Splits text messages ending → (is_fault status ≡ true) ⊎ RunsText messages ending status w.output w'.output w.kept w'.kept w.keeper_faults w'.keeper_faults)
 top_text words w w' status None done is = tt
 top_text words w w' status (Some text) (inl ran) is = λ messages ending splits. ran_text words w w' status ran text messages ending is splits
 top_text words w w' status (Some text) (inr refused) is = λ messages ending splits. inl (ap is_fault refused.status_is ∙ start_fault_is refused.why)
 
+-- a count that rose later rose since before
 rose_from : (a b c : ℕ) → a ≤ b → Rose b c → Rose a c
 rose_from a b c later rose = omega (arith, later, rose)
 
+-- no more requests than there are come up to the first last one
 through_last_few : (ms : List Request) → length (through_last ms) ≤ length ms
 through_last_few [] = omega arith
 through_last_few (m ∷ ms) = at m.last refl (through_last_few ms) where
@@ -129,21 +141,21 @@ due_whole messages few = by (has_last (answered messages)) refl where
 ran_complete : (words : List (List ℕ)) (w w' : World) (status : ℕ) (r : Ran words w w' status) (text : List ℕ) (messages : List Request) → w.input ≡ Some text → Splits text messages ended → length messages < MOST_REQUESTS
     → ¬ (Rose w.read_faults w'.read_faults) → ¬ (Rose w.write_faults w'.write_faults) → (status ≡ 0) ⊎ (status ≡ 9)
 ran_complete words w w' status r text messages input splits few reads writes = subst (λ n. (n ≡ 0) ⊎ (n ≡ 9)) (sym r.status_is) (by r.ends r.session) where
-  settled : (ends : SessionEnd) → Session (opened w r.faults) (record w' { input = r.input; projects = r.projects }) ends → IsSettled ends → (status_of ends ≡ 0) ⊎ (status_of ends ≡ 9)
-  settled ends s is = inl ((session_text _ _ ends w.kept text messages ended s refl refl input splits is).status_is ∙ due_whole messages few)
+  settled : (ends : SessionEnd) → Session (opened w r.faults) (record w' { input = r.input; state = r.state }) ends → IsSettled ends → (status_of ends ≡ 0) ⊎ (status_of ends ≡ 9)
+  settled ends s is = inl ((session_text _ _ ends w.kept w.keeper_faults text messages ended s refl refl r.later input splits is).status_is ∙ due_whole messages few)
 
-  by : (ends : SessionEnd) → Session (opened w r.faults) (record w' { input = r.input; projects = r.projects }) ends → (status_of ends ≡ 0) ⊎ (status_of ends ≡ 9)
+  by : (ends : SessionEnd) → Session (opened w r.faults) (record w' { input = r.input; state = r.state }) ends → (status_of ends ≡ 0) ⊎ (status_of ends ≡ 9)
   by end.Ended s = inl refl
   by end.Cut s = settled end.Cut s tt
   by (end.Malformed fault) s = settled (end.Malformed fault) s tt
   by end.Spent s = settled end.Spent s tt
   by end.NoMemory s = inr refl
   by end.ReadFault s = at s.stops where
-    at : (AllGoOn s.asked × Stops end.ReadFault s.behind (record w' { input = r.input; projects = r.projects })) ⊎ (OnlyFinalEnds s.asked × ⊥ × (record w' { input = r.input; projects = r.projects } ≡ s.behind)) → (status_of end.ReadFault ≡ 0) ⊎ (status_of end.ReadFault ≡ 9)
+    at : (AllGoOn s.exchanges × Stops end.ReadFault s.behind (record w' { input = r.input; state = r.state })) ⊎ (OnlyFinalEnds s.exchanges × ⊥ × (record w' { input = r.input; state = r.state } ≡ s.behind)) → (status_of end.ReadFault ≡ 0) ⊎ (status_of end.ReadFault ≡ 9)
     at (inl (going, stops)) = absurd (reads (rose_from w.read_faults s.behind.read_faults w'.read_faults s.serves.later.reads stops.2))
     at (inr (only, none, same)) = absurd none
   by end.WriteFault s = at s.stops where
-    at : (AllGoOn s.asked × Stops end.WriteFault s.behind (record w' { input = r.input; projects = r.projects })) ⊎ (OnlyFinalEnds s.asked × ⊥ × (record w' { input = r.input; projects = r.projects } ≡ s.behind)) → (status_of end.WriteFault ≡ 0) ⊎ (status_of end.WriteFault ≡ 9)
+    at : (AllGoOn s.exchanges × Stops end.WriteFault s.behind (record w' { input = r.input; state = r.state })) ⊎ (OnlyFinalEnds s.exchanges × ⊥ × (record w' { input = r.input; state = r.state } ≡ s.behind)) → (status_of end.WriteFault ≡ 0) ⊎ (status_of end.WriteFault ≡ 9)
     at (inl (going, stops)) = absurd (writes (rose_from w.write_faults s.behind.write_faults w'.write_faults s.serves.later.writes stops.2))
     at (inr (only, none, same)) = absurd none
 

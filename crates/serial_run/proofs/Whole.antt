@@ -1,18 +1,18 @@
 -- A session over a text that is known whole.
-use Rattle.std.proofs.Common.{◌≡◌, ◌<◌, ◌≤◌, ◌+◌, ◌++◌, ◌==◌, ◌⊎◌, ℕ, List, [], ◌∷◌, length, map, take, Bool, true, false, ◌||◌, if◌then◌else◌, Option, Some, None, IfSome, refl, ap, sym, ◌∙◌, subst, arith, inl, inr}
+use Rattle.std.proofs.Common.{◌≡◌, ◌<◌, ◌≤◌, ◌++◌, ◌==◌, ◌⊎◌, ℕ, List, [], ◌∷◌, length, take, true, false, ◌||◌, if◌then◌else◌, Some, IfSome, refl, ap, sym, ◌∙◌, subst, arith, inl, inr}
 use Rattle.std.proofs.lemmas.Bool.Decides.{nat_tests}
 use Rattle.std.proofs.lemmas.List.{append-nil, take_all, length-map}
 use Rattle.std.proofs.Math.Seq.{take-append_seam}
-use Rattle.http_heads.specs.Messages.{Begins, Splits, Ending, ended, cut, malformed, EndsAs, IsMessage, IsBlank, IsCut, IsMalformed}
+use Rattle.http_heads.specs.Messages.{Begins, Splits, Ending, ended, cut, malformed, EndsAs, IsBlank, IsCut, IsMalformed}
 use Rattle.http_heads.specs.declared.request.Request.{Request}
 use Rattle.http_heads.proofs.MessageLemmas.{message_unique, ending_message, ending_unique}
-use Rattle.project_requests.specs.Machine.{Asked}
+use Rattle.rest_service.specs.Exchanges.{Exchange, malformed_text}
 use Rattle.serial_run.specs.declared.session.TheConstants.{MOST_REQUESTS}
 use Rattle.serial_run.specs.declared.session.SessionEnd.{SessionEnd}
 use Rattle.serial_run.specs.declared.session.SessionEnd.TheVariants as end
 use Rattle.serial_run.specs.Runs.{status_of}
-use Rattle.serial_run.specs.Sessions.{Session, Stops, CountsAt, StopsBehindFinal, place_reply}
-use Rattle.serial_run.specs.Texts.{through_last, answered, has_last, End, end_at, end_behind_all, end_due}
+use Rattle.serial_run.specs.Sessions.{Session, Stops, CountsAt, StopsBehindFinal}
+use Rattle.serial_run.specs.Texts.{through_last, answered, has_last, end_at, end_behind_all, end_due}
 use Rattle.serial_run.specs.Worlds.{World, AllGoOn, OnlyFinalEnds, requests_of}
 
 -- where a text begins with messages, its reading begins with them too, and goes on with that of the rest
@@ -21,6 +21,7 @@ pub record GoesOn (rest : List ℕ) (begun messages : List Request) (ending : En
   pub messages_are : messages ≡ begun ++ more
   pub rest_splits : Splits rest more ending
 
+-- a text that begins with messages goes on behind them
 pub splits_behind : (text rest : List ℕ) (begun messages : List Request) (ending : Ending) → Begins text begun rest → Splits text messages ending → GoesOn rest begun messages ending
 splits_behind text rest [] messages ending begins splits = record { more = messages; messages_are = refl; rest_splits = subst (λ bytes. Splits bytes messages ending) (sym begins) splits }
 splits_behind text rest (m ∷ begun) [] ending begins splits = absurd (ending_message text ending (subst (λ bytes. EndsAs bytes ending) splits.begins splits.ends) begins.1)
@@ -35,66 +36,74 @@ pub none_more : (rest : List ℕ) (more : List Request) (ending other : Ending) 
 none_more rest [] ending other splits ends = (refl, ending_unique rest ending other (subst (λ bytes. EndsAs bytes ending) splits.begins splits.ends) ends)
 none_more rest (m ∷ more) ending other splits ends = absurd (ending_message rest other ends splits.begins.1)
 
-through_last_going : (asked : List Asked) (more : List Request) → AllGoOn asked → through_last (requests_of asked ++ more) ≡ requests_of asked ++ through_last more
+-- requests that go on are all before the first last one
+through_last_going : (exchanges : List Exchange) (more : List Request) → AllGoOn exchanges → through_last (requests_of exchanges ++ more) ≡ requests_of exchanges ++ through_last more
 through_last_going [] more going = refl
-through_last_going (a ∷ asked) more going = ap (λ last. a.request ∷ (if last then [] else through_last (requests_of asked ++ more))) going.0 ∙ ap (λ ms. a.request ∷ ms) (through_last_going asked more going.1)
+through_last_going (e ∷ exchanges) more going = ap (λ last. e.request ∷ (if last then [] else through_last (requests_of exchanges ++ more))) going.0 ∙ ap (λ ms. e.request ∷ ms) (through_last_going exchanges more going.1)
 
-through_last_final : (asked : List Asked) (more : List Request) → OnlyFinalEnds asked → through_last (requests_of asked ++ more) ≡ requests_of asked
+-- behind a final request nothing more is read
+through_last_final : (exchanges : List Exchange) (more : List Request) → OnlyFinalEnds exchanges → through_last (requests_of exchanges ++ more) ≡ requests_of exchanges
 through_last_final [] more only = absurd only
-through_last_final (a ∷ []) more only = ap (λ last. a.request ∷ (if last then [] else through_last more)) only
-through_last_final (a ∷ b ∷ asked) more only = ap (λ last. a.request ∷ (if last then [] else through_last (requests_of (b ∷ asked) ++ more))) only.0 ∙ ap (λ ms. a.request ∷ ms) (through_last_final (b ∷ asked) more only.1)
+through_last_final (e ∷ []) more only = ap (λ last. e.request ∷ (if last then [] else through_last more)) only
+through_last_final (e ∷ other ∷ exchanges) more only = ap (λ last. e.request ∷ (if last then [] else through_last (requests_of (other ∷ exchanges) ++ more))) only.0 ∙ ap (λ ms. e.request ∷ ms) (through_last_final (other ∷ exchanges) more only.1)
 
-has_last_going : (asked : List Asked) → AllGoOn asked → has_last (requests_of asked) ≡ false
+-- none of the requests that go on is the last on its connection
+has_last_going : (exchanges : List Exchange) → AllGoOn exchanges → has_last (requests_of exchanges) ≡ false
 has_last_going [] going = refl
-has_last_going (a ∷ asked) going = ap (λ last. last || has_last (requests_of asked)) going.0 ∙ has_last_going asked going.1
+has_last_going (e ∷ exchanges) going = ap (λ last. last || has_last (requests_of exchanges)) going.0 ∙ has_last_going exchanges going.1
 
-has_last_final : (asked : List Asked) → OnlyFinalEnds asked → has_last (requests_of asked) ≡ true
+-- where the final request is, one of them is
+has_last_final : (exchanges : List Exchange) → OnlyFinalEnds exchanges → has_last (requests_of exchanges) ≡ true
 has_last_final [] only = absurd only
-has_last_final (a ∷ []) only = ap (λ last. last || false) only
-has_last_final (a ∷ b ∷ asked) only = ap (λ last. last || has_last (requests_of (b ∷ asked))) only.0 ∙ has_last_final (b ∷ asked) only.1
+has_last_final (e ∷ []) only = ap (λ last. last || false) only
+has_last_final (e ∷ other ∷ exchanges) only = ap (λ last. last || has_last (requests_of (other ∷ exchanges))) only.0 ∙ has_last_final (other ∷ exchanges) only.1
 
 -- fewer are not the most
 pub not_full : (n : ℕ) → n < MOST_REQUESTS → (n == MOST_REQUESTS) ≡ false
 not_full n few = grind (arith, nat_tests)
 
+-- the most are the most
 is_full : (n : ℕ) → n ≡ MOST_REQUESTS → (n == MOST_REQUESTS) ≡ true
 is_full n full = grind (arith, nat_tests)
 
-length_requests : (asked : List Asked) → length (requests_of asked) ≡ length asked
-length_requests asked = length-map asked (λ a. a.request)
+-- there are as many requests as exchanges
+length_requests : (exchanges : List Exchange) → length (requests_of exchanges) ≡ length exchanges
+length_requests exchanges = length-map exchanges (λ e. e.request)
 
 -- requests behind which the input ends are all answered
-answered_going : (asked : List Asked) (messages more : List Request) → messages ≡ requests_of asked ++ more → more ≡ [] → AllGoOn asked → length asked < MOST_REQUESTS → answered messages ≡ requests_of asked
-answered_going asked messages more are none going few =
-    ap answered (are ∙ ap (λ ms. requests_of asked ++ ms) none) ∙ ap (take MOST_REQUESTS) (through_last_going asked [] going ∙ append-nil (requests_of asked))
-    ∙ take_all MOST_REQUESTS (requests_of asked) (omega (arith, few, length_requests asked))
+answered_going : (exchanges : List Exchange) (messages more : List Request) → messages ≡ requests_of exchanges ++ more → more ≡ [] → AllGoOn exchanges → length exchanges < MOST_REQUESTS → answered messages ≡ requests_of exchanges
+answered_going exchanges messages more are none going few =
+    ap answered (are ∙ ap (λ ms. requests_of exchanges ++ ms) none) ∙ ap (take MOST_REQUESTS) (through_last_going exchanges [] going ∙ append-nil (requests_of exchanges))
+    ∙ take_all MOST_REQUESTS (requests_of exchanges) (omega (arith, few, length_requests exchanges))
 
 -- as many requests as a session may answer are those that are answered
-answered_full : (asked : List Asked) (messages more : List Request) → messages ≡ requests_of asked ++ more → AllGoOn asked → length asked ≡ MOST_REQUESTS → answered messages ≡ requests_of asked
-answered_full asked messages more are going full =
-    ap answered are ∙ ap (take MOST_REQUESTS) (through_last_going asked more going)
-    ∙ ap (λ n. take n (requests_of asked ++ through_last more)) (sym (length_requests asked ∙ full)) ∙ take-append_seam (requests_of asked) (through_last more)
+answered_full : (exchanges : List Exchange) (messages more : List Request) → messages ≡ requests_of exchanges ++ more → AllGoOn exchanges → length exchanges ≡ MOST_REQUESTS → answered messages ≡ requests_of exchanges
+answered_full exchanges messages more are going full =
+    ap answered are ∙ ap (take MOST_REQUESTS) (through_last_going exchanges more going)
+    ∙ ap (λ n. take n (requests_of exchanges ++ through_last more)) (sym (length_requests exchanges ∙ full)) ∙ take-append_seam (requests_of exchanges) (through_last more)
 
 -- requests of which the final one is the last on its connection are those that are answered
-answered_final : (asked : List Asked) (messages more : List Request) → messages ≡ requests_of asked ++ more → OnlyFinalEnds asked → length asked ≤ MOST_REQUESTS → answered messages ≡ requests_of asked
-answered_final asked messages more are only few =
-    ap answered are ∙ ap (take MOST_REQUESTS) (through_last_final asked more only) ∙ take_all MOST_REQUESTS (requests_of asked) (omega (arith, few, length_requests asked))
+answered_final : (exchanges : List Exchange) (messages more : List Request) → messages ≡ requests_of exchanges ++ more → OnlyFinalEnds exchanges → length exchanges ≤ MOST_REQUESTS → answered messages ≡ requests_of exchanges
+answered_final exchanges messages more are only few =
+    ap answered are ∙ ap (take MOST_REQUESTS) (through_last_final exchanges more only) ∙ take_all MOST_REQUESTS (requests_of exchanges) (omega (arith, few, length_requests exchanges))
 
 -- the end that is due behind answered requests
-due_going : (asked : List Asked) (ending : Ending) → AllGoOn asked → length asked < MOST_REQUESTS → end_behind_all (requests_of asked) ending ≡ end_at ending
-due_going asked ending going few = rw (not_full (length (requests_of asked)) (omega (arith, few, length_requests asked)), has_last_going asked going) refl
+due_going : (exchanges : List Exchange) (ending : Ending) → AllGoOn exchanges → length exchanges < MOST_REQUESTS → end_behind_all (requests_of exchanges) ending ≡ end_at ending
+due_going exchanges ending going few = rw (not_full (length (requests_of exchanges)) (omega (arith, few, length_requests exchanges)), has_last_going exchanges going) refl
 
-due_full : (asked : List Asked) (ending : Ending) → length asked ≡ MOST_REQUESTS → end_behind_all (requests_of asked) ending ≡ record { status = 10; text = [] }
-due_full asked ending full = rw (is_full (length (requests_of asked)) (length_requests asked ∙ full)) refl
+-- the same where they are as many as a session may answer
+due_full : (exchanges : List Exchange) (ending : Ending) → length exchanges ≡ MOST_REQUESTS → end_behind_all (requests_of exchanges) ending ≡ record { status = 10; text = [] }
+due_full exchanges ending full = rw (is_full (length (requests_of exchanges)) (length_requests exchanges ∙ full)) refl
 
-due_final : (asked : List Asked) (ending : Ending) → OnlyFinalEnds asked → length asked < MOST_REQUESTS → end_behind_all (requests_of asked) ending ≡ record { status = 0; text = [] }
-due_final asked ending only few = rw (not_full (length (requests_of asked)) (omega (arith, few, length_requests asked)), has_last_final asked only) refl
+-- and where the final one is the last on its connection
+due_final : (exchanges : List Exchange) (ending : Ending) → OnlyFinalEnds exchanges → length exchanges < MOST_REQUESTS → end_behind_all (requests_of exchanges) ending ≡ record { status = 0; text = [] }
+due_final exchanges ending only few = rw (not_full (length (requests_of exchanges)) (omega (arith, few, length_requests exchanges)), has_last_final exchanges only) refl
 
 -- the text that is written behind the replies where a session stops so
 abbrev pub text_at : SessionEnd → List ℕ
 text_at end.Ended = []
 text_at end.Cut = []
-text_at (end.Malformed fault) = place_reply fault
+text_at (end.Malformed fault) = malformed_text fault
 text_at end.ReadFault = []
 text_at end.WriteFault = []
 text_at end.Spent = []
@@ -111,39 +120,40 @@ IsSettled end.Spent = Unit {0}
 IsSettled end.NoMemory = ⊥
 
 -- what a session answered and how it stopped are what its input is due
-pub record IsDue (messages : List Request) (ending : Ending) (ends : SessionEnd) (asked : List Asked) : Type 0 where
-  pub requests_are : requests_of asked ≡ answered messages
+pub record IsDue (messages : List Request) (ending : Ending) (ends : SessionEnd) (exchanges : List Exchange) : Type 0 where
+  pub requests_are : requests_of exchanges ≡ answered messages
   pub end_is : end_due messages ending ≡ record { status = status_of ends; text = text_at ends }
 
-due_by : (messages : List Request) (ending : Ending) (ends : SessionEnd) (asked : List Asked) → answered messages ≡ requests_of asked → end_behind_all (requests_of asked) ending ≡ record { status = status_of ends; text = text_at ends } → IsDue messages ending ends asked
-due_by messages ending ends asked are due = record { requests_are = sym are; end_is = ap (λ ms. end_behind_all ms ending) are ∙ due }
+-- the end is that of the requests that are answered
+due_by : (messages : List Request) (ending : Ending) (ends : SessionEnd) (exchanges : List Exchange) → answered messages ≡ requests_of exchanges → end_behind_all (requests_of exchanges) ending ≡ record { status = status_of ends; text = text_at ends } → IsDue messages ending ends exchanges
+due_by messages ending ends exchanges are due = record { requests_are = sym are; end_is = ap (λ ms. end_behind_all ms ending) are ∙ due }
 
 -- where the rest behind the requests ends as the session stopped
-due_at_end : (rest : List ℕ) (asked : List Asked) (messages : List Request) (ending other : Ending) (ends : SessionEnd) → GoesOn rest (requests_of asked) messages ending → EndsAs rest other → end_at other ≡ record { status = status_of ends; text = text_at ends }
-    → AllGoOn asked → length asked < MOST_REQUESTS → IsDue messages ending ends asked
-due_at_end rest asked messages ending other ends far stands is going few =
+due_at_end : (rest : List ℕ) (exchanges : List Exchange) (messages : List Request) (ending other : Ending) (ends : SessionEnd) → GoesOn rest (requests_of exchanges) messages ending → EndsAs rest other → end_at other ≡ record { status = status_of ends; text = text_at ends }
+    → AllGoOn exchanges → length exchanges < MOST_REQUESTS → IsDue messages ending ends exchanges
+due_at_end rest exchanges messages ending other ends far stands is going few =
     let none : (far.more ≡ []) × (ending ≡ other) = none_more rest far.more ending other far.rest_splits stands in
-    due_by messages ending ends asked (answered_going asked messages far.more far.messages_are none.0 going few) (due_going asked ending going few ∙ ap end_at none.1 ∙ is)
+    due_by messages ending ends exchanges (answered_going exchanges messages far.more far.messages_are none.0 going few) (due_going exchanges ending going few ∙ ap end_at none.1 ∙ is)
 
 -- a session that settled did what its input is due
-pub session_due : (w w' : World) (ends : SessionEnd) (text : List ℕ) (messages : List Request) (ending : Ending) (s : Session w w' ends) → w.input ≡ Some text → Splits text messages ending → IsSettled ends → IsDue messages ending ends s.asked
+pub session_due : (w w' : World) (ends : SessionEnd) (text : List ℕ) (messages : List Request) (ending : Ending) (s : Session w w' ends) → w.input ≡ Some text → Splits text messages ending → IsSettled ends → IsDue messages ending ends s.exchanges
 session_due w w' ends text messages ending s input splits settled = by ends s.counted s.stops settled where
-  taken : (rest : List ℕ) × Begins text (requests_of s.asked) rest × (s.behind.input ≡ Some rest)
-  taken = subst (λ known. IfSome known (λ bytes. (rest : List ℕ) × Begins bytes (requests_of s.asked) rest × (s.behind.input ≡ Some rest))) input s.serves.read
+  taken : (rest : List ℕ) × Begins text (requests_of s.exchanges) rest × (s.behind.input ≡ Some rest)
+  taken = subst (λ known. IfSome known (λ bytes. (rest : List ℕ) × Begins bytes (requests_of s.exchanges) rest × (s.behind.input ≡ Some rest))) input s.serves.read
 
-  far : GoesOn taken.0 (requests_of s.asked) messages ending
-  far = splits_behind text taken.0 (requests_of s.asked) messages ending taken.1 splits
+  far : GoesOn taken.0 (requests_of s.exchanges) messages ending
+  far = splits_behind text taken.0 (requests_of s.exchanges) messages ending taken.1 splits
 
   at_rest : (P : List ℕ → Type 0) → IfSome s.behind.input P → P taken.0
   at_rest P known = subst (λ input. IfSome input P) taken.2 known
 
-  by : (ends : SessionEnd) → CountsAt ends (length s.asked) → (AllGoOn s.asked × Stops ends s.behind w') ⊎ (OnlyFinalEnds s.asked × StopsBehindFinal ends × (w' ≡ s.behind)) → IsSettled ends → IsDue messages ending ends s.asked
-  by end.Ended few (inl (going, stops)) settled = due_at_end taken.0 s.asked messages ending ended end.Ended far (at_rest IsBlank stops.1) refl going few
-  by end.Ended few (inr (only, tail, same)) settled = due_by messages ending end.Ended s.asked (answered_final s.asked messages far.more far.messages_are only (omega (arith, few))) (due_final s.asked ending only few)
-  by end.Cut few (inl (going, stops)) settled = due_at_end taken.0 s.asked messages ending (cut (length taken.0)) end.Cut far (at_rest IsCut stops.1, refl) refl going few
-  by (end.Malformed fault) few (inl (going, stops)) settled = due_at_end taken.0 s.asked messages ending (malformed fault) (end.Malformed fault) far (at_rest (λ bytes. IsMalformed bytes fault) stops.0) refl going few
-  by end.Spent full (inl (going, stops)) settled = due_by messages ending end.Spent s.asked (answered_full s.asked messages far.more far.messages_are going full) (due_full s.asked ending full)
-  by end.Spent full (inr (only, tail, same)) settled = due_by messages ending end.Spent s.asked (answered_final s.asked messages far.more far.messages_are only (omega (arith, full))) (due_full s.asked ending full)
+  by : (ends : SessionEnd) → CountsAt ends (length s.exchanges) → (AllGoOn s.exchanges × Stops ends s.behind w') ⊎ (OnlyFinalEnds s.exchanges × StopsBehindFinal ends × (w' ≡ s.behind)) → IsSettled ends → IsDue messages ending ends s.exchanges
+  by end.Ended few (inl (going, stops)) settled = due_at_end taken.0 s.exchanges messages ending ended end.Ended far (at_rest IsBlank stops.1) refl going few
+  by end.Ended few (inr (only, tail, same)) settled = due_by messages ending end.Ended s.exchanges (answered_final s.exchanges messages far.more far.messages_are only (omega (arith, few))) (due_final s.exchanges ending only few)
+  by end.Cut few (inl (going, stops)) settled = due_at_end taken.0 s.exchanges messages ending (cut (length taken.0)) end.Cut far (at_rest IsCut stops.1, refl) refl going few
+  by (end.Malformed fault) few (inl (going, stops)) settled = due_at_end taken.0 s.exchanges messages ending (malformed fault) (end.Malformed fault) far (at_rest (λ bytes. IsMalformed bytes fault) stops.0) refl going few
+  by end.Spent full (inl (going, stops)) settled = due_by messages ending end.Spent s.exchanges (answered_full s.exchanges messages far.more far.messages_are going full) (due_full s.exchanges ending full)
+  by end.Spent full (inr (only, tail, same)) settled = due_by messages ending end.Spent s.exchanges (answered_final s.exchanges messages far.more far.messages_are only (omega (arith, full))) (due_full s.exchanges ending full)
   by end.Cut few (inr (only, tail, same)) settled = absurd tail
   by (end.Malformed fault) few (inr (only, tail, same)) settled = absurd tail
   by end.ReadFault few stops settled = absurd settled

@@ -14,13 +14,7 @@ fn turn_after(written: Result<(), SinkFailed>, last: bool) -> Turn
     ensures { result ≡ turn_after written last }
 {
     match written {
-        Ok(()) => {
-            if last {
-                Turn::Final
-            } else {
-                Turn::GoOn
-            }
-        }
+        Ok(()) => { if last { Turn::Final } else { Turn::GoOn } }
         Err(SinkFailed) => Turn::Stop(SessionEnd::WriteFault),
     }
 }

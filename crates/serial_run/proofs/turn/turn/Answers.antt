@@ -3,5 +3,5 @@ use Rattle.serial_run.proofs.turn.turn.Goals as goal
 
 pub returns-in-Request : goal.returns-in-Request
 returns-in-Request g c =
-    turn_answers _ _ c.in-Request.request c.answer-reply.result c.write_reply-written.result c.turn_after.result c.turn_after.ensures
-    c.in-Request.ensures.next c.answer-reply.ensures c.in-Request.ensures.later c.write_reply-written.ensures.written c.write_reply-written.ensures.cause
+    turn_answers _ _ c.in-Request.request c.answer-answered.result c.write_answer.result
+    c.in-Request.ensures.next c.answer-answered.ensures c.in-Request.ensures.later c.write_answer.ensures
