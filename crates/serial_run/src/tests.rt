@@ -1,6 +1,6 @@
-use crate::run_main;
-use http_front::{ByteSink, ByteSource};
-use record_keeper::{Keeper, MapKeeper};
+//! Sessions: in whatever pieces their bytes come, and where reads and writes fail.
+
+use crate::runs::{Outcome, Setting, WELL, run, run_with};
 use size_values::{Entry, Seq, Text};
 use std::alloc::Global;
 use std::test::Fail;
@@ -13,6 +13,21 @@ const ROOT: &str = "GET / HTTP/1.1\r\n\r\n";
 
 const LAST_ROOT: &str = "GET / HTTP/1.1\r\nConnection: x, Close\r\n\r\n";
 
+const OLD_ROOT: &str = "GET / HTTP/1.0\r\n\r\n";
+
+const SERVER: &str = "GET /1.0 HTTP/1.1\r\n\r\n";
+
+const PROJECTS: &str = "GET /1.0/projects HTTP/1.1\r\n\r\n";
+
+const NETWORKS: &str = "GET /1.0/networks HTTP/1.1\r\n\r\n";
+
+const CUT_BODY: &str = "POST /1.0/projects HTTP/1.1\r\nContent-Length: 10\r\n\r\n{\"na";
+
+const CUT_LARGEST_BODY: &str =
+    "POST /1.0/projects HTTP/1.1\r\nContent-Length: 1048576\r\n\r\n{\"na";
+
+const TOO_LONG_BODY: &str = "POST /1.0/projects HTTP/1.1\r\nContent-Length: 1048577\r\n\r\n{\"na";
+
 const TWO_LENGTHS: &str = "GET / HTTP/1.1\r\nContent-Length: 3\r\nContent-Length: 4\r\n\r\n";
 
 const MADE: &str =
@@ -21,41 +36,26 @@ const MADE: &str =
 const TAKEN: &str =
     "HTTP/1.1 409 Conflict\r\nContent-Type: application/json\r\nContent-Length: 112\r\n\r\n{\"error\":\"name is taken\",\"error_code\":409,\"metadata\":{\"kind\":\"project\",\"name\":\"lab\",\"rule\":\"N4\"},\"type\":\"error\"}";
 
+const VERSIONS: &str =
+    "HTTP/1.1 200 OK\r\nContent-Type: application/json\r\nContent-Length: 72\r\n\r\n{\"metadata\":[\"/1.0\"],\"status\":\"Success\",\"status_code\":200,\"type\":\"sync\"}";
+
+const LAST_VERSIONS: &str =
+    "HTTP/1.1 200 OK\r\nContent-Type: application/json\r\nContent-Length: 72\r\nConnection: close\r\n\r\n{\"metadata\":[\"/1.0\"],\"status\":\"Success\",\"status_code\":200,\"type\":\"sync\"}";
+
+const STABLE: &str =
+    "HTTP/1.1 200 OK\r\nContent-Type: application/json\r\nContent-Length: 159\r\n\r\n{\"metadata\":{\"api_extensions\":[],\"api_status\":\"stable\",\"api_version\":\"1.0\",\"auth\":\"trusted\",\"public\":false},\"status\":\"Success\",\"status_code\":200,\"type\":\"sync\"}";
+
+const WITH_LAB: &str =
+    "HTTP/1.1 200 OK\r\nContent-Type: application/json\r\nContent-Length: 109\r\n\r\n{\"metadata\":[\"/1.0/projects/default\",\"/1.0/projects/lab\"],\"status\":\"Success\",\"status_code\":200,\"type\":\"sync\"}";
+
 const NOT_BUILT: &str =
     "HTTP/1.1 501 Not Implemented\r\nContent-Type: application/json\r\nContent-Length: 82\r\n\r\n{\"error\":\"not built yet\",\"error_code\":501,\"metadata\":{\"rule\":\"A0\"},\"type\":\"error\"}";
-
-const LAST_NOT_BUILT: &str =
-    "HTTP/1.1 501 Not Implemented\r\nContent-Type: application/json\r\nContent-Length: 82\r\nConnection: close\r\n\r\n{\"error\":\"not built yet\",\"error_code\":501,\"metadata\":{\"rule\":\"A0\"},\"type\":\"error\"}";
-
-const UNAVAILABLE: &str =
-    "HTTP/1.1 503 Service Unavailable\r\nContent-Type: application/json\r\nContent-Length: 80\r\n\r\n{\"error\":\"unavailable\",\"error_code\":503,\"metadata\":{\"rule\":\"K1\"},\"type\":\"error\"}";
 
 const BAD_LENGTH: &str =
     "HTTP/1.1 400 Bad Request\r\nContent-Type: application/json\r\nContent-Length: 88\r\nConnection: close\r\n\r\n{\"error\":\"length is malformed\",\"error_code\":400,\"metadata\":{\"rule\":\"H3\"},\"type\":\"error\"}";
 
-/// How many bytes a read gives at most, and which call of the source, the sink and the keeper fails, or 0 for none.
-#[derive(Clone, Copy, Debug)]
-struct Setting {
-    piece: usize,
-    read: u64,
-    write: u64,
-    keep: u64,
-}
-
-const WELL: Setting = Setting {
-    piece: 65_536,
-    read: 0,
-    write: 0,
-    keep: 0,
-};
-
-/// The exit status of a run, what it wrote, and how many entries are kept.
-#[derive(Debug, Drop)]
-struct Outcome {
-    status: u8,
-    written: Vec<u8>,
-    kept: usize,
-}
+const TOO_LONG: &str =
+    "HTTP/1.1 400 Bad Request\r\nContent-Type: application/json\r\nContent-Length: 85\r\nConnection: close\r\n\r\n{\"error\":\"body is too long\",\"error_code\":400,\"metadata\":{\"rule\":\"H4\"},\"type\":\"error\"}";
 
 fn joined(alloc: Global, parts: &[&str]) -> Result<Vec<u8>, Fail> {
     let mut all = Vec::new(alloc);
@@ -65,204 +65,113 @@ fn joined(alloc: Global, parts: &[&str]) -> Result<Vec<u8>, Fail> {
     Ok(all)
 }
 
-/// The list of one call that fails.
-fn only(alloc: Global, call: u64) -> Result<Seq<u64>, Fail> {
-    let mut calls = Seq::new(alloc);
-    calls.push(call)?;
-    Ok(calls)
-}
-
-fn words_of(alloc: Global, words: &[&str]) -> Result<Vec<String>, Fail> {
-    let mut owned = Vec::new(alloc);
-    for word in words {
-        owned.push(String::from_str(alloc, word)?)?;
-    }
-    Ok(owned)
-}
-
-fn run(
+/// Whether a run ended with this status, these replies, and so many entries.
+fn ended_so(
     alloc: Global,
-    words: &[&str],
-    parts: &[&str],
-    setting: Setting,
-    entries: &Seq<Entry>,
-) -> Result<Outcome, Fail> {
-    let piece = setting.piece.max(1);
-    let words = words_of(alloc, words)?;
-    let bytes = Seq::from_vec(joined(alloc, parts)?);
-    let mut source = ByteSource::new(bytes, piece, only(alloc, setting.read)?);
-    let mut sink = ByteSink::new(alloc, only(alloc, setting.write)?);
-    let keeper = MapKeeper::with_entries(alloc, entries, only(alloc, setting.keep)?)?;
-    let (status, mut keeper) = run_main(alloc, &words, &mut source, &mut sink, keeper);
-    let kept = match keeper.load() {
-        Ok(found) => found.len(),
-        Err(_) => 0,
-    };
-    Ok(Outcome {
-        status,
-        written: Vec::from_slice(alloc, sink.bytes())?,
-        kept,
-    })
+    outcome: &Outcome,
+    status: u8,
+    replies: &[&str],
+    kept: usize,
+) -> Result<bool, Fail> {
+    let due = joined(alloc, replies)?;
+    Ok(
+        outcome.status == status
+            && outcome.written.as_slice() == due.as_slice()
+            && outcome.kept == kept,
+    )
 }
 
+/// Each project is two entries: its own, and that of its profile `default`.
 #[test]
 fn runs_in_whatever_pieces(rt: HostRuntime) -> Result<(), Fail> {
     let alloc = rt.alloc();
-    let cases: [(&str, &[&str], u8, &[&str], usize); 9] = [
-        ("nothing", &[], 0, &[], 1),
-        ("one", &[LAB], 0, &[MADE], 2),
-        ("three", &[LAB, LAB, ROOT], 0, &[MADE, TAKEN, NOT_BUILT], 2),
+    let cases: [(&str, &[&str], u8, &[&str], usize); 13] = [
+        ("nothing", &[], 0, &[], 2),
+        ("one", &[ROOT], 0, &[VERSIONS], 2),
+        (
+            "a name twice",
+            &[LAB, PROJECTS, LAB, PROJECTS],
+            0,
+            &[MADE, WITH_LAB, TAKEN, WITH_LAB],
+            4,
+        ),
+        ("not built", &[LAB, NETWORKS], 0, &[MADE, NOT_BUILT], 4),
         (
             "blank lines",
             &["\r\n\n", SHOP, "\r", ROOT, "\n\n"],
             0,
-            &[MADE, NOT_BUILT],
-            2,
+            &[MADE, VERSIONS],
+            4,
         ),
+        ("cut in a body", &[SERVER, CUT_BODY], 2, &[STABLE], 2),
+        ("cut in a large body", &[CUT_LARGEST_BODY], 2, &[], 2),
+        ("cut in a head", &[LAB, "GET / HT"], 2, &[MADE], 4),
+        ("two lengths", &[TWO_LENGTHS], 3, &[BAD_LENGTH], 2),
         (
-            "cut in a body",
-            &[
-                ROOT,
-                "POST /1.0/projects HTTP/1.1\r\nContent-Length: 10\r\n\r\n{\"na",
-            ],
-            2,
-            &[NOT_BUILT],
-            1,
-        ),
-        ("cut in a head", &[LAB, "GET / HT"], 2, &[MADE], 2),
-        (
-            "two lengths",
+            "two lengths between",
             &[SHOP, TWO_LENGTHS, LAB],
             3,
             &[MADE, BAD_LENGTH],
-            2,
+            4,
+        ),
+        (
+            "a body too long",
+            &[SHOP, TOO_LONG_BODY],
+            3,
+            &[MADE, TOO_LONG],
+            4,
         ),
         (
             "a last request",
             &[LAB, LAST_ROOT, SHOP],
             0,
-            &[MADE, LAST_NOT_BUILT],
-            2,
+            &[MADE, LAST_VERSIONS],
+            4,
         ),
-        (
-            "HTTP/1.0",
-            &["GET / HTTP/1.0\r\n\r\n", LAB],
-            0,
-            &[LAST_NOT_BUILT],
-            1,
-        ),
+        ("HTTP/1.0", &[OLD_ROOT, LAB], 0, &[LAST_VERSIONS], 2),
     ];
     for (name, parts, status, replies, kept) in cases {
+        let input = joined(alloc, parts)?;
         for piece in [1, 2, 7, 65_536] {
-            let outcome = run(
-                alloc,
-                &["run"],
-                parts,
-                Setting { piece, ..WELL },
-                &Seq::new(alloc),
-            )?;
-            assert!(rt; outcome.status == status, "{name}");
-            assert!(rt;
-                outcome.written.as_slice() == joined(alloc, replies)?.as_slice(),
-                "{name}"
-            );
-            assert!(rt; outcome.kept == kept, "{name}");
+            let outcome = run(alloc, input.as_slice(), Setting { piece, ..WELL })?;
+            assert!(rt; ended_so(alloc, &outcome, status, replies, kept)?, "{name}");
         }
     }
     Ok(())
 }
 
-/// A read gives one message and the first bytes of the next one, so a failed read comes behind the whole messages before it.
+/// A read gives one message and the first bytes of the next one, so a failed read comes behind the whole messages before it. Behind a
+/// failed write the earlier replies stand, and the last one in part.
 #[test]
-fn failing_reads(rt: HostRuntime) -> Result<(), Fail> {
+fn failing_reads_and_writes(rt: HostRuntime) -> Result<(), Fail> {
     let alloc = rt.alloc();
-    let cases: [(u64, &[&str]); 4] = [
-        (1, &[]),
-        (2, &[MADE]),
-        (3, &[MADE, NOT_BUILT]),
-        (4, &[MADE, NOT_BUILT, MADE]),
+    let input = joined(alloc, &[LAB, NETWORKS, SHOP])?;
+    let cases: [(u64, &[&str], usize, usize); 3] = [
+        (1, &[], 2, 4),
+        (2, &[MADE], 4, 4),
+        (3, &[MADE, NOT_BUILT], 4, 6),
     ];
-    for (call, replies) in cases {
+    for (call, replies, read, written) in cases {
+        let calls = [call];
         let setting = Setting {
             piece: LAB.len(),
-            read: call,
+            reads: &calls,
             ..WELL
         };
-        let outcome = run(
-            alloc,
-            &["run"],
-            &[LAB, ROOT, SHOP],
-            setting,
-            &Seq::new(alloc),
-        )?;
-        assert!(rt; outcome.status == 4, "read {call}");
-        assert!(rt;
-            outcome.written.as_slice() == joined(alloc, replies)?.as_slice(),
-            "read {call}"
-        );
-    }
-    Ok(())
-}
-
-#[test]
-fn failing_writes(rt: HostRuntime) -> Result<(), Fail> {
-    let alloc = rt.alloc();
-    let cases: [(u64, &[&str], usize); 3] = [
-        (1, &[], 2),
-        (2, &[MADE], 2),
-        (3, &[MADE, NOT_BUILT], 3),
-    ];
-    for (call, replies, kept) in cases {
+        let outcome = run(alloc, input.as_slice(), setting)?;
+        assert!(rt; ended_so(alloc, &outcome, 4, replies, read)?, "read {call}");
         let setting = Setting {
-            write: call,
+            writes: &calls,
             ..WELL
         };
-        let outcome = run(
-            alloc,
-            &["run"],
-            &[LAB, ROOT, SHOP],
-            setting,
-            &Seq::new(alloc),
-        )?;
-        assert!(rt; outcome.status == 5, "write {call}");
+        let outcome = run(alloc, input.as_slice(), setting)?;
+        let due = joined(alloc, replies)?;
         assert!(rt;
-            outcome
-                .written
-                .as_slice()
-                .starts_with(joined(alloc, replies)?.as_slice()),
+            outcome.written.as_slice().starts_with(due.as_slice()),
             "write {call}"
         );
-        assert!(rt; outcome.kept == kept, "write {call}");
-    }
-    Ok(())
-}
-
-/// The load is the keeper's call 1, the commit of the project default call 2, and the creations are calls 3 and 4.
-#[test]
-fn failing_calls_of_the_keeper(rt: HostRuntime) -> Result<(), Fail> {
-    let alloc = rt.alloc();
-    let cases = [
-        (1, 6, "", "", "", 0),
-        (2, 6, "", "", "", 0),
-        (3, 0, UNAVAILABLE, NOT_BUILT, MADE, 2),
-        (4, 0, MADE, NOT_BUILT, UNAVAILABLE, 2),
-    ];
-    for (call, status, first, second, third, kept) in cases {
-        let setting = Setting { keep: call, ..WELL };
-        let outcome = run(
-            alloc,
-            &["run"],
-            &[LAB, ROOT, SHOP],
-            setting,
-            &Seq::new(alloc),
-        )?;
-        let written = joined(alloc, &[first, second, third])?;
-        assert!(rt; outcome.status == status, "call {call}");
-        assert!(rt;
-            outcome.written.as_slice() == written.as_slice(),
-            "call {call}"
-        );
-        assert!(rt; outcome.kept == kept, "call {call}");
+        assert_eq!(rt; outcome.status, 5, "write {call}");
+        assert_eq!(rt; outcome.kept, written, "write {call}");
     }
     Ok(())
 }
@@ -270,6 +179,7 @@ fn failing_calls_of_the_keeper(rt: HostRuntime) -> Result<(), Fail> {
 #[test]
 fn runs_without_a_session(rt: HostRuntime) -> Result<(), Fail> {
     let alloc = rt.alloc();
+    let mut entries = Seq::new(alloc);
     let words: [&[&str]; 6] = [
         &[],
         &["runs"],
@@ -279,17 +189,15 @@ fn runs_without_a_session(rt: HostRuntime) -> Result<(), Fail> {
         &[""],
     ];
     for words in words {
-        let outcome = run(alloc, words, &[LAB], WELL, &Seq::new(alloc))?;
-        assert!(rt; outcome.status == 8 && outcome.written.is_empty() && outcome.kept == 0);
+        let outcome = run_with(alloc, words, LAB.as_bytes(), WELL, &entries)?;
+        assert!(rt; ended_so(alloc, &outcome, 8, &[], 0)?);
     }
-    let mut entries = Seq::new(alloc);
-    let key = Text::from_text(alloc, "lab")?;
     entries.push(Entry {
         kind: 1,
-        key,
+        key: Text::from_text(alloc, "lab")?,
         body: Seq::new(alloc),
     })?;
-    let outcome = run(alloc, &["run"], &[LAB], WELL, &entries)?;
-    assert!(rt; outcome.status == 13 && outcome.written.is_empty() && outcome.kept == 1);
+    let outcome = run_with(alloc, &["run"], LAB.as_bytes(), WELL, &entries)?;
+    assert!(rt; ended_so(alloc, &outcome, 13, &[], 1)?);
     Ok(())
 }
