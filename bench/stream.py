@@ -4,8 +4,15 @@
 Usage: stream.py projects COUNT          creations of the projects p1 to pCOUNT
        stream.py gets COUNT              COUNT times GET /
        stream.py instances COUNT SEED    the stream that the crate workload makes of SEED and COUNT
+       stream.py spread-projects FIRST LAST          creations of the projects of the numbers FIRST to LAST
+       stream.py profiles PROJECT FIRST LAST         creations of the profiles of these numbers in PROJECT
+       stream.py get-profiles PROJECT ROWS COUNT     COUNT times the GET of a profile of a number from 1 to ROWS
+       stream.py put-profiles PROJECT ROWS COUNT     COUNT times the PUT of one
+       stream.py reads TARGET COUNT                  COUNT times the GET of TARGET
+       stream.py name LETTER NUMBER                  the name of the project (p) or profile (a) of a number
 
-It shares no code with the programs: the rule of the third kind is written here a second time, on whole numbers.
+The names that `name` tells are in no order of their numbers, so a new row comes to stand anywhere among the others.
+It shares no code with the programs: the rule of the kind `instances` is written here a second time, on whole numbers.
 """
 import json
 import sys
@@ -25,9 +32,51 @@ def projects(count):
         yield request("POST", "/1.0/projects", compact({"name": f"p{number}"}))
 
 
-def gets(count):
+def name(letter, number):
+    """Names that differ as their numbers do: the factor is odd."""
+    return f"{letter}{number * 2654435761 % 2**32:08x}"
+
+
+def spread_projects(first, last):
+    for number in range(first, last + 1):
+        yield request("POST", "/1.0/projects", compact({"name": name("p", number)}))
+
+
+def reads(target, count):
     for _ in range(count):
-        yield b"GET / HTTP/1.1\r\nHost: localhost\r\n\r\n"
+        yield f"GET {target} HTTP/1.1\r\nHost: localhost\r\n\r\n".encode("ascii")
+
+
+def gets(count):
+    return reads("/", count)
+
+
+def content(cpus):
+    config = {"limits.cpu": str(cpus), "limits.memory": "1GiB"}
+    device = {"path": "/mnt", "source": "/srv", "type": "disk"}
+    return {"config": config, "description": "a profile", "devices": {"data": device}}
+
+
+def profiles(project, first, last):
+    for number in range(first, last + 1):
+        body = {"name": name("a", number), **content(1 + number % 8)}
+        yield request("POST", f"/1.0/profiles?project={project}", compact(body))
+
+
+def spread(rows, count):
+    """Numbers from 1 to rows, as far apart as the steps of a prime leave them."""
+    return (1 + step * 7919 % rows for step in range(count))
+
+
+def get_profiles(project, rows, count):
+    for number in spread(rows, count):
+        yield from reads(f"/1.0/profiles/{name('a', number)}?project={project}", 1)
+
+
+def put_profiles(project, rows, count):
+    for step, number in enumerate(spread(rows, count)):
+        target = f"/1.0/profiles/{name('a', number)}?project={project}"
+        yield request("PUT", target, compact(content(1 + step % 16)))
 
 
 def numbers(seed):
@@ -59,12 +108,24 @@ def instances(count, seed):
         yield request("POST", "/1.0/instances?project=lab", compact(body))
 
 
+KINDS = {
+    "projects": (projects, (int,)),
+    "gets": (gets, (int,)),
+    "instances": (instances, (int, int)),
+    "spread-projects": (spread_projects, (int, int)),
+    "profiles": (profiles, (str, int, int)),
+    "get-profiles": (get_profiles, (str, int, int)),
+    "put-profiles": (put_profiles, (str, int, int)),
+    "reads": (reads, (str, int)),
+    "name": (lambda letter, number: [name(letter, number).encode("ascii")], (str, int)),
+}
+
+
 def main(words):
-    kinds = {"projects": (projects, 1), "gets": (gets, 1), "instances": (instances, 2)}
-    if not words or words[0] not in kinds or len(words) - 1 != kinds[words[0]][1]:
+    make, kinds = KINDS.get(words[0] if words else "", (None, ()))
+    if make is None or len(words) - 1 != len(kinds):
         sys.exit(__doc__)
-    make, _ = kinds[words[0]]
-    for piece in make(*map(int, words[1:])):
+    for piece in make(*(kind(word) for kind, word in zip(kinds, words[1:]))):
         sys.stdout.buffer.write(piece)
 
 
