@@ -1,9 +1,10 @@
 //! The rows that the creation of an instance makes.
 ghost use Rattle.std.specs.Prelude.{◌≡◌, IfOk, ◌∷◌, [], unwrap_or};
 ghost use Rattle.row_machine.specs.Rows.{default_name};
-ghost use Rattle.row_machine.specs.NewRows.{new_description, new_config, new_devices, patched_config, patched_devices, image_of, made_instance, copied_instance};
+ghost use Rattle.row_machine.specs.NewRows.{new_description, image_of, made_instance, copied_instance};
 
 use config_lists::{Config, Devices};
+use new_rows::{new_config, new_description, new_devices, patched_config, patched_devices};
 use records::{Body, Instance, Origin};
 use size_values::{Kind, NoMemory, Seq, Text};
 use std::alloc::Global;
@@ -16,53 +17,6 @@ pub(crate) fn image_of(origin: &Origin) -> &str
         Origin::None => "",
         Origin::Image(alias) => alias.view(),
         Origin::Copy { .. } => "",
-    }
-}
-
-fn new_description(alloc: Global, body: &Body) -> Result<Text, NoMemory>
-    ensures { IfOk result (λ t. t ≡ new_description body.now) }
-{
-    match &body.description {
-        Some(text) => text.copy(alloc),
-        None => Ok(Text::new(alloc)),
-    }
-}
-
-fn new_config(alloc: Global, body: &Body) -> Result<Config, NoMemory>
-    ensures { IfOk result (λ c. c ≡ new_config body.now) }
-{
-    match &body.config {
-        Some(asked) => asked.settled(),
-        None => Ok(Config::new(alloc)),
-    }
-}
-
-fn new_devices(alloc: Global, body: &Body) -> Result<Devices, NoMemory>
-    ensures { IfOk result (λ d. d ≡ new_devices body.now) }
-{
-    match &body.devices {
-        Some(devices) => devices.copy(),
-        None => Ok(Devices::new(alloc)),
-    }
-}
-
-/// The settings of a source, with those of the request over them.
-fn patched_config(old: &Config, body: &Body) -> Result<Config, NoMemory>
-    ensures { IfOk result (λ c. c ≡ patched_config old.now body.now) }
-{
-    match &body.config {
-        Some(changes) => old.patched(changes),
-        None => old.copy(),
-    }
-}
-
-/// The devices of a source, those of the request whole in place of the ones of their names.
-fn patched_devices(old: &Devices, body: &Body) -> Result<Devices, NoMemory>
-    ensures { IfOk result (λ d. d ≡ patched_devices old.now body.now) }
-{
-    match &body.devices {
-        Some(devices) => old.replaced(devices),
-        None => old.copy(),
     }
 }
 
