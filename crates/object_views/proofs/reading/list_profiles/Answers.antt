@@ -8,8 +8,8 @@ use Rattle.records.specs.declared.replies.View.TheVariants as view
 use Rattle.row_machine.specs.Homes.{home_of}
 use Rattle.row_machine.specs.Views.{rows_reply}
 use Rattle.core_rows.specs.Sound.{state_with}
-use Rattle.core_objects.proofs.ReadLists.{unused-views}
-use Rattle.core_objects.proofs.reading.list_profiles.Goals as goal
+use Rattle.object_views.proofs.ReadLists.{unused-views}
+use Rattle.object_views.proofs.reading.list_profiles.Goals as goal
 
 pub returns-in_ok-views : goal.returns-in_ok-views
 returns-in_ok-views c =

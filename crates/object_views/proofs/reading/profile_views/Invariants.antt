@@ -2,7 +2,7 @@ use Rattle.std.proofs.Common.{◌≡◌, ◌++◌, [], map, drop, filter}
 use Rattle.std.specs.Str.{bytes_eq}
 use Rattle.records.specs.declared.rows.Profile.{Profile}
 use Rattle.records.specs.declared.replies.View.TheVariants as view
-use Rattle.core_objects.proofs.reading.profile_views.Given as goal
+use Rattle.object_views.proofs.reading.profile_views.Given as goal
 
 abbrev pub invariant-loop-row : goal.invariant-loop-row
 invariant-loop-row l =

@@ -3,7 +3,7 @@ use Rattle.std.specs.Str.{bytes_eq}
 use Rattle.records.specs.declared.rows.Row.TheVariants as row
 use Rattle.row_machine.specs.Links.{sorted}
 use Rattle.row_machine.specs.Views.{links}
-use Rattle.core_objects.proofs.links.ordered_links.Given as goal
+use Rattle.object_views.proofs.links.ordered_links.Given as goal
 
 abbrev pub invariant-loop-place : goal.invariant-loop-place
 invariant-loop-place l =

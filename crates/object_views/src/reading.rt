@@ -12,7 +12,7 @@ ghost use Rattle.row_machine.specs.Plans.{row_of};
 ghost use Rattle.row_machine.specs.Views.{row_view, rows_reply, list_reply, one, read};
 ghost use Rattle.core_rows.specs.Sound.{state_with};
 ghost use Rattle.records.specs.Built.{is_read_kind};
-ghost use Rattle.core_objects.specs.Reads.{is_built_read};
+ghost use Rattle.object_views.specs.Reads.{is_built_read};
 
 use crate::links::{ordered_links, profile_links, project_links};
 use core_rows::Estate;
@@ -230,12 +230,7 @@ fn read_rows(
 }
 
 /// The answer of a read.
-pub(crate) fn read(
-    alloc: Global,
-    estate: &Estate,
-    project: &Text,
-    what: &What,
-) -> Result<Reply, NoMemory>
+pub fn read(alloc: Global, estate: &Estate, project: &Text, what: &What) -> Result<Reply, NoMemory>
     requires { is_built_read what.now ≡ true }
     ensures { IfOk result (λ r. r ≡ read estate.now.state project.now what.now) }
 {

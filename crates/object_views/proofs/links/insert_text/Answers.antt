@@ -2,7 +2,7 @@ use Rattle.std.proofs.Common.{◌∙◌, ap, unwrap_or, length, List, ℕ}
 use Rattle.std.specs.List.{position, insert}
 use Rattle.row_machine.specs.Rows.{text_before}
 use Rattle.core_rows.proofs.Orders.{inserted-gap}
-use Rattle.core_objects.proofs.links.insert_text.Goals as goal
+use Rattle.object_views.proofs.links.insert_text.Goals as goal
 
 pub returns : goal.returns
 returns c =

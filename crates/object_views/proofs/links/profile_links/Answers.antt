@@ -1,8 +1,8 @@
 use Rattle.std.proofs.Common.{◌≡◌, ◌∙◌, true, false}
 use Rattle.std.specs.Str.{bytes_eq}
-use Rattle.core_objects.proofs.ReadLists.{links-more, links-same}
-use Rattle.core_objects.proofs.links.profile_links.Goals as goal
-use Rattle.core_objects.proofs.links.profile_links.Goals.{then-eq+in_ok-profile_link+in_ok-push, else-eq}
+use Rattle.object_views.proofs.ReadLists.{links-more, links-same}
+use Rattle.object_views.proofs.links.profile_links.Goals as goal
+use Rattle.object_views.proofs.links.profile_links.Goals.{then-eq+in_ok-profile_link+in_ok-push, else-eq}
 
 pub loop-row-preserved : goal.loop-row-preserved
 loop-row-preserved c =

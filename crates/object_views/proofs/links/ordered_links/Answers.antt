@@ -1,7 +1,7 @@
 use Rattle.std.proofs.Common.{◌≡◌, ◌+◌, ◌-◌, ◌<◌, length, true, arith}
 use Rattle.std.specs.Str.{bytes_eq}
-use Rattle.core_objects.proofs.ReadLists.{ordered-more}
-use Rattle.core_objects.proofs.links.ordered_links.Goals as goal
+use Rattle.object_views.proofs.ReadLists.{ordered-more}
+use Rattle.object_views.proofs.links.ordered_links.Goals as goal
 
 pub loop-place-preserved-in_ok-insert_text : goal.loop-place-preserved-in_ok-insert_text
 loop-place-preserved-in_ok-insert_text c =

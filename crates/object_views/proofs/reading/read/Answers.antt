@@ -1,5 +1,5 @@
-use Rattle.core_objects.proofs.ReadLists.{read-alone}
-use Rattle.core_objects.proofs.reading.read.Goals as goal
+use Rattle.object_views.proofs.ReadLists.{read-alone}
+use Rattle.object_views.proofs.reading.read.Goals as goal
 
 pub returns : goal.returns
 returns c =
