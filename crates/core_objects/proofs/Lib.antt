@@ -13,6 +13,5 @@ pub mod CanBeKept
 pub mod Telling
 pub mod Answering
 pub mod PlansReady
-pub mod ReadLists
 pub mod Formed
 pub mod ReadsReady

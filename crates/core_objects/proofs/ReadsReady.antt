@@ -26,7 +26,7 @@ use Rattle.row_machine.specs.Views.{read}
 use Rattle.core_objects.specs.Asked.{answered}
 use Rattle.core_objects.specs.Judged.{asks, project_target, profile_target, profile_missing_in, is_read}
 use Rattle.core_objects.specs.Planned.{Follows, IsAnswered, IsPlanned, reply_for}
-use Rattle.core_objects.specs.Reads.{is_built_read}
+use Rattle.object_views.specs.Reads.{is_built_read}
 use Rattle.core_objects.proofs.Formed.{project_formed, profile_formed, get_stands, list_stands}
 use Rattle.core_objects.proofs.ReadRules.{project-broken, profile-broken, projects-broken, profiles-broken}
 use Rattle.core_objects.proofs.Stepping.{refused-step, read-step}

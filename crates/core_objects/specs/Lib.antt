@@ -3,4 +3,3 @@ pub mod Asked
 pub mod Keeping
 pub mod Planned
 pub mod Told
-pub mod Reads

@@ -14,13 +14,14 @@ ghost use Rattle.row_machine.specs.Refusals.{on_object, on_project};
 ghost use Rattle.row_machine.specs.NewRows.{made_project, default_profile};
 ghost use Rattle.row_machine.specs.NameRules.{malformed, taken, object_missing, project_missing};
 ghost use Rattle.row_machine.specs.SettingRules.{tables_break};
-ghost use Rattle.row_machine.specs.TableRules.{cap_of, too_large};
+ghost use Rattle.row_machine.specs.TableRules.{too_large};
 ghost use Rattle.core_objects.specs.Judged.{asks, project_target, profile_target, profile_missing_in, device_names_missing, names_missing, profile_unsettled, no_room};
 ghost use Rattle.core_objects.specs.Judged.{new_project_refused, new_profile_refused, profile_refused, rename_refused, judged_deletion};
 
 use config_lists::{Device, Devices};
 use core_rows::Estate;
 use estate_rules::good_name;
+use new_rows::{LARGEST_ROW, cap_of};
 use option_tables::{Scope, check_instance};
 use plain_rules::{on_kind, on_object, on_project, tables_break};
 use records::{Profile, Project, Refusal, Rule};
@@ -185,22 +186,6 @@ pub(crate) fn profile_unsettled(alloc: Global, row: &Profile) -> Result<(), Or<R
     names_missing(alloc, &row.devices)
 }
 
-/// How many rows of a kind there may be.
-fn cap_of(kind: ObjectKind) -> u64
-    ensures { result ≡ cap_of kind }
-{
-    match kind {
-        ObjectKind::Project => 1_024,
-        ObjectKind::Profile => 16_384,
-        ObjectKind::Network => 1_024,
-        ObjectKind::Pool => 64,
-        ObjectKind::Volume => 65_536,
-        ObjectKind::Instance => 65_536,
-        ObjectKind::Snapshot => 65_536,
-        ObjectKind::Operation => 1_280,
-    }
-}
-
 /// There is no room for one more row of a kind.
 #[tactic(auto, unfolding(crate::specs::Judged::no_room))]
 pub(crate) fn no_room(alloc: Global, kind: ObjectKind, count: usize) -> Result<(), Or<Refusal>>
@@ -212,9 +197,6 @@ pub(crate) fn no_room(alloc: Global, kind: ObjectKind, count: usize) -> Result<(
     }
     Err(Or::Why(on_kind(alloc, Rule::C1, kind, cap)?))
 }
-
-/// The most bytes that the body of a row may have.
-const LARGEST_ROW: u64 = 65_536;
 
 /// A project is too large.
 pub(crate) fn project_too_large(alloc: Global, row: &Project) -> Result<(), Or<Refusal>>

@@ -3,13 +3,11 @@
 
 mod checks;
 mod keeping;
-mod links;
 mod making;
 mod notices;
 mod objects;
 mod planning;
 mod plans;
-mod reading;
 #[cfg(test)]
 mod tests;
 

@@ -4,65 +4,12 @@ ghost use Rattle.row_machine.specs.NewRows.{new_description, new_config, new_dev
 ghost use Rattle.row_machine.specs.NewRows.{feature_on, with_features, made_project, made_profile, put_profile, patched_profile};
 
 use config_lists::{Config, Devices};
+use new_rows::{
+    new_config, new_description, new_devices, patched_config, patched_description, patched_devices,
+};
 use records::{Body, Profile, Project};
 use size_values::{NoMemory, Text};
 use std::alloc::Global;
-
-fn new_description(alloc: Global, body: &Body) -> Result<Text, NoMemory>
-    ensures { IfOk result (λ t. t ≡ new_description body.now) }
-{
-    match &body.description {
-        Some(text) => text.copy(alloc),
-        None => Ok(Text::new(alloc)),
-    }
-}
-
-fn new_config(alloc: Global, body: &Body) -> Result<Config, NoMemory>
-    ensures { IfOk result (λ c. c ≡ new_config body.now) }
-{
-    match &body.config {
-        Some(changes) => changes.settled(),
-        None => Ok(Config::new(alloc)),
-    }
-}
-
-fn new_devices(alloc: Global, body: &Body) -> Result<Devices, NoMemory>
-    ensures { IfOk result (λ d. d ≡ new_devices body.now) }
-{
-    match &body.devices {
-        Some(devices) => devices.copy(),
-        None => Ok(Devices::new(alloc)),
-    }
-}
-
-fn patched_description(alloc: Global, old: &Text, body: &Body) -> Result<Text, NoMemory>
-    ensures { IfOk result (λ t. t ≡ patched_description old.now body.now) }
-{
-    match &body.description {
-        Some(text) => text.copy(alloc),
-        None => old.copy(alloc),
-    }
-}
-
-/// The old settings, with those of the request over them.
-fn patched_config(old: &Config, body: &Body) -> Result<Config, NoMemory>
-    ensures { IfOk result (λ c. c ≡ patched_config old.now body.now) }
-{
-    match &body.config {
-        Some(changes) => old.patched(changes),
-        None => old.copy(),
-    }
-}
-
-/// The old devices, those of the request whole in place of the ones of their names.
-fn patched_devices(old: &Devices, body: &Body) -> Result<Devices, NoMemory>
-    ensures { IfOk result (λ d. d ≡ patched_devices old.now body.now) }
-{
-    match &body.devices {
-        Some(devices) => old.replaced(devices),
-        None => old.copy(),
-    }
-}
 
 /// Turns a feature on, unless the settings name it.
 fn turn_on(config: &mut Config, feature: &str) -> Result<(), NoMemory>

@@ -9,7 +9,7 @@ ghost use Rattle.row_machine.specs.Homes.{home_of};
 ghost use Rattle.row_machine.specs.Rules.{broken};
 ghost use Rattle.core_rows.specs.Sound.{IsSound};
 ghost use Rattle.core_objects.specs.Judged.{asks};
-ghost use Rattle.core_objects.specs.Reads.{is_built_read};
+ghost use Rattle.object_views.specs.Reads.{is_built_read};
 ghost use Rattle.records.specs.Built.{is_built_command, is_built_request, is_built_creation, is_profile_kind};
 ghost use Rattle.core_objects.specs.Planned.{Follows, IsPlanned, IsAnswered};
 
@@ -19,8 +19,8 @@ use crate::planning::Planned;
 use crate::plans::{
     plan_deletion, plan_gone, plan_move, plan_patch, plan_profile, plan_project, plan_put,
 };
-use crate::reading::read;
 use core_rows::Estate;
+use object_views::read;
 use record_keeper::Keeper;
 use records::{Body, Command, Refusal, Reply, Target, What};
 use size_values::{MOMENT_LIMIT, NoMemory, ObjectKind, Or, Text};

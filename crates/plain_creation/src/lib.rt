@@ -4,8 +4,8 @@
 mod creation;
 #[cfg(test)]
 mod creation_tests;
+mod making;
 mod names;
-mod new_rows;
 mod standing;
 mod tables;
 mod tasks;

@@ -6,8 +6,9 @@ ghost use Rattle.operations.specs.Kept.{enter_fault};
 ghost use Rattle.plain_lists.specs.Firsts.{first_of};
 ghost use Rattle.records.specs.declared.rows.Row.TheVariants as row_of;
 ghost use Rattle.row_machine.specs.Claims.{claimed_instance, claimed_volume, claimed_snapshot};
-ghost use Rattle.row_machine.specs.TableRules.{enter_refusal, cap_of, count_of, row_kinds, too_many, too_large, tables_broken};
+ghost use Rattle.row_machine.specs.TableRules.{enter_refusal, count_of, row_kinds, too_many, too_large, tables_broken};
 
+use new_rows::{LARGEST_ROW, cap_of};
 use operations::{EnterFault, LIVE_LIMIT, NUMBER_LIMIT, Operation};
 use plain_readings::Plain;
 use plain_rules::{claimed_instance, on_kind, on_number};
@@ -27,9 +28,6 @@ const ROW_KINDS: [ObjectKind; 7] = [
     ObjectKind::Instance,
     ObjectKind::Snapshot,
 ];
-
-/// The most bytes that the body of a row may have.
-const LARGEST_ROW: u64 = 65_536;
 
 /// Why no operation can be entered.
 pub(crate) fn enter_fault(plain: &Plain) -> Option<EnterFault>
@@ -52,22 +50,6 @@ pub(crate) fn entry_broken(alloc: Global, fault: Option<EnterFault>) -> Option<R
         Some(EnterFault::Full) => Some(on_number(alloc, Rule::O4, LIVE_LIMIT as u64)),
         Some(EnterFault::Spent) => Some(on_number(alloc, Rule::O5, NUMBER_LIMIT)),
         None => None,
-    }
-}
-
-/// How many rows of a kind there may be, with those that live operations claim.
-fn cap_of(kind: ObjectKind) -> u64
-    ensures { result ≡ cap_of kind }
-{
-    match kind {
-        ObjectKind::Project => 1_024,
-        ObjectKind::Profile => 16_384,
-        ObjectKind::Network => 1_024,
-        ObjectKind::Pool => 64,
-        ObjectKind::Volume => 65_536,
-        ObjectKind::Instance => 65_536,
-        ObjectKind::Snapshot => 65_536,
-        ObjectKind::Operation => 1_280,
     }
 }
 

@@ -10,7 +10,7 @@ ghost use Rattle.row_machine.specs.HostCalls.{place_of, create_calls, copy_calls
 ghost use Rattle.row_machine.specs.Plans.{plain_task, creation, copy, instance_target, snapshot_target, copy_from, instance_creation};
 ghost use Rattle.plain_creation.specs.Creations.{planned};
 
-use crate::new_rows::{Source, copied_instance, image_of, made_instance};
+use crate::making::{Source, copied_instance, image_of, made_instance};
 use host_model::{HostCall, Place};
 use instance_states::plan_of;
 use plain_readings::{Plain, instance_named, snapshot_named};

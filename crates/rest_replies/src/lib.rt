@@ -4,7 +4,6 @@
 
 mod ids;
 mod laws;
-mod links;
 mod moments;
 mod notices;
 mod object;

@@ -7,10 +7,10 @@ ghost use Rattle.serde_json.specs.Data.{string};
 ghost use Rattle.operations.specs.declared.operation.OpFault.TheVariants as fault;
 
 use crate::ids::id_text;
-use crate::links::link_text;
 use crate::moments::moment_text;
 use crate::object::Object;
 use crate::words::{error_text, status_code, status_text};
+use object_links::link_of;
 use records::{OpFault, OpView, Status};
 use serde_json::Value;
 use size_values::{NoMemory, ObjectKind};
@@ -83,7 +83,7 @@ fn one_text(alloc: Global, text: &str) -> Result<Value, NoMemory>
 fn resources_value(alloc: Global, operation: &OpView) -> Result<Value, NoMemory>
     ensures { IfOk result (λ v. view v ≡ resources_data operation.now) }
 {
-    let link = link_text(alloc, operation.project.view(), &operation.target)?;
+    let link = link_of(alloc, operation.project.view(), &operation.target)?;
     let links = one_text(alloc, link.view())?;
     let mut object = Object::new(alloc);
     object.put(resource_key(operation.target.kind), links)?;

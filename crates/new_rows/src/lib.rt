@@ -1,0 +1,13 @@
+//! What a request's body makes of the parts of a row, new or patched, and how many rows of a kind there may be and how large.
+//! The calls that make rows of projects, profiles and instances share it.
+#![tactic(auto)]
+
+mod caps;
+mod parts;
+#[cfg(test)]
+mod tests;
+
+pub use caps::{LARGEST_ROW, cap_of};
+pub use parts::{
+    new_config, new_description, new_devices, patched_config, patched_description, patched_devices,
+};
