@@ -50,8 +50,8 @@ GET /1.0/profiles?project=lab
 GET /1.0/profiles/default?project=lab
 200 {"metadata":{"config":{},"description":"","devices":{},"name":"default","project":"lab","used_by":[]},"status":"Success","status_code":200,"type":"sync"}
 
-# A creation. An empty value stands for an absent key.
-POST /1.0/profiles?project=lab {"name":"web","description":"Front","config":{"user.b":"1","limits.cpu":"2","user.a":"2","user.c":""},"devices":{"eth0":{"type":"nic","parent":"br0","nictype":"bridged","mtu":""},"a":{"type":"none"}}}
+# A creation. An empty value stands for an absent key, and of a key that is given twice the last value counts.
+POST /1.0/profiles?project=lab {"name":"web","description":"Front","config":{"user.a":"9","user.b":"1","limits.cpu":"2","user.a":"2","user.c":""},"devices":{"eth0":{"type":"nic","parent":"br0","nictype":"bridged","mtu":""},"a":{"type":"none"}}}
 200 {"metadata":{},"status":"Success","status_code":200,"type":"sync"}
 GET /1.0/profiles/web?project=lab
 200 {"metadata":{"config":{"limits.cpu":"2","user.a":"2","user.b":"1"},"description":"Front","devices":{"a":{"type":"none"},"eth0":{"nictype":"bridged","parent":"br0","type":"nic"}},"name":"web","project":"lab","used_by":[]},"status":"Success","status_code":200,"type":"sync"}

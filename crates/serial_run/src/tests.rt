@@ -30,6 +30,8 @@ const TOO_LONG_BODY: &str = "POST /1.0/projects HTTP/1.1\r\nContent-Length: 1048
 
 const TWO_LENGTHS: &str = "GET / HTTP/1.1\r\nContent-Length: 3\r\nContent-Length: 4\r\n\r\n";
 
+const NO_COLON: &str = "GET / HTTP/1.1\r\nHost localhost\r\n\r\n";
+
 const MADE: &str =
     "HTTP/1.1 200 OK\r\nContent-Type: application/json\r\nContent-Length: 66\r\n\r\n{\"metadata\":{},\"status\":\"Success\",\"status_code\":200,\"type\":\"sync\"}";
 
@@ -50,6 +52,9 @@ const WITH_LAB: &str =
 
 const NOT_BUILT: &str =
     "HTTP/1.1 501 Not Implemented\r\nContent-Type: application/json\r\nContent-Length: 82\r\n\r\n{\"error\":\"not built yet\",\"error_code\":501,\"metadata\":{\"rule\":\"A0\"},\"type\":\"error\"}";
+
+const BAD_HEAD: &str =
+    "HTTP/1.1 400 Bad Request\r\nContent-Type: application/json\r\nContent-Length: 86\r\nConnection: close\r\n\r\n{\"error\":\"head is malformed\",\"error_code\":400,\"metadata\":{\"rule\":\"H1\"},\"type\":\"error\"}";
 
 const BAD_LENGTH: &str =
     "HTTP/1.1 400 Bad Request\r\nContent-Type: application/json\r\nContent-Length: 88\r\nConnection: close\r\n\r\n{\"error\":\"length is malformed\",\"error_code\":400,\"metadata\":{\"rule\":\"H3\"},\"type\":\"error\"}";
@@ -85,7 +90,7 @@ fn ended_so(
 #[test]
 fn runs_in_whatever_pieces(rt: HostRuntime) -> Result<(), Fail> {
     let alloc = rt.alloc();
-    let cases: [(&str, &[&str], u8, &[&str], usize); 13] = [
+    let cases: [(&str, &[&str], u8, &[&str], usize); 14] = [
         ("nothing", &[], 0, &[], 2),
         ("one", &[ROOT], 0, &[VERSIONS], 2),
         (
@@ -106,6 +111,7 @@ fn runs_in_whatever_pieces(rt: HostRuntime) -> Result<(), Fail> {
         ("cut in a body", &[SERVER, CUT_BODY], 2, &[STABLE], 2),
         ("cut in a large body", &[CUT_LARGEST_BODY], 2, &[], 2),
         ("cut in a head", &[LAB, "GET / HT"], 2, &[MADE], 4),
+        ("no head", &[NO_COLON, LAB], 3, &[BAD_HEAD], 2),
         ("two lengths", &[TWO_LENGTHS], 3, &[BAD_LENGTH], 2),
         (
             "two lengths between",
