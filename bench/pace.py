@@ -6,11 +6,12 @@ Usage: pace.py PROGRAM FOLDER RUNS UNTIL
 `PROGRAM run` reads FOLDER/requests and writes FOLDER/replies, both files, RUNS times, or fewer where a further run would
 not end before the moment UNTIL (of `date +%s`). While it runs, some thousand times a second, the size of FOLDER/replies is
 looked at beside the processor time that the program has used and the memory that it holds. Afterwards the replies are
-split, so for each of them it is known when it was there. Seconds are thus seconds of the program's processor time: it has
-one thread and waits for nothing, and other programs on the machine do not count.
+split, so for each of them it is known when it was there. Seconds are seconds of the program's processor time: it has one
+thread and waits for nothing, and what other programs on the machine use does not count.
 
 Each line of FOLDER/sections tells, with a tab between, how many requests a section has and what is printed of it; nothing
-is printed where that is empty. Of several runs the fastest counts, for each section by itself, and the most memory.
+is printed where that is empty. Of several runs the fastest counts, for each section by itself. A line with ~ may be off by
+more than a twentieth in each run: the looks at the program were too far apart, as on a machine that is busy.
 
 A reply other than a 200, too few of them, another exit status than 0, and a run that has not ended at UNTIL are errors.
 """
@@ -24,32 +25,60 @@ PAGE = os.sysconf("SC_PAGE_SIZE") / 1e6
 OK = b"HTTP/1.1 200 OK\r\n"
 
 
-def run(program, folder, until):
-    """Runs the program once: what was seen at each size of the replies, first and last, its most memory, and the seconds
-    that passed."""
-    seen, begun = [], time.monotonic()
-    with open(f"{folder}/requests", "rb") as requests, open(f"{folder}/replies", "wb") as replies:
-        child = subprocess.Popen([program, "run"], stdin=requests, stdout=replies)
-        clock = ~child.pid << 3 | 2  # the processor time of the process, see clock_getcpuclockid(3)
-        with open(f"/proc/{child.pid}/statm", "rb", buffering=0) as memory:
-            while True:
-                pid, status, usage = os.wait4(child.pid, os.WNOHANG)
-                if pid:
-                    break
-                held = int((os.pread(memory.fileno(), 99, 0).split() or [0, 0])[1]) * PAGE
-                used = time.clock_gettime(clock)
-                size = os.fstat(replies.fileno()).st_size
-                if len(seen) > 1 and seen[-2][0] == seen[-1][0] == size:
-                    seen.pop()
-                seen.append((size, used, held))
-                if time.time() > until:
-                    child.kill()
-                time.sleep(0.00005)
+class Watched:
+    """What was seen of one run: looks (size of the replies, moment, memory held), and clocks (moment, processor time).
+    The system brings the processor time of another process up to date some hundred times a second: a clock is kept where
+    it has changed."""
+
+    def __init__(self, program, folder, until):
+        begun = time.monotonic()
+        self.looks, self.clocks, self.held, self.most = [(0, begun, 0.0)], [(begun, 0.0)], 0.0, 0.0
+        with open(f"{folder}/requests", "rb") as requests, open(f"{folder}/replies", "wb") as replies:
+            child = subprocess.Popen([program, "run"], stdin=requests, stdout=replies)
+            with open(f"/proc/{child.pid}/statm", "rb", buffering=0) as memory:
+                while True:
+                    pid, status, usage = os.wait4(child.pid, os.WNOHANG)
+                    if pid:
+                        break
+                    self.look(child.pid, memory, replies)
+                    if time.time() > until:
+                        child.kill()
+                    time.sleep(0.00005)
+            ended = time.monotonic()
+            self.looks.append((os.fstat(replies.fileno()).st_size, ended, self.held))
+        self.seconds, self.passed = usage.ru_utime + usage.ru_stime, ended - begun
+        self.clocks.append((ended, self.seconds))
         child.returncode = os.waitstatus_to_exitcode(status)
-        seen.append((os.fstat(replies.fileno()).st_size, usage.ru_utime + usage.ru_stime, 0))
-    if child.returncode:
-        sys.exit(f"{program} ended with {child.returncode}" + (": out of time" if time.time() > until else ""))
-    return seen, usage.ru_maxrss * 1024 / 1e6, time.monotonic() - begun
+        if child.returncode:
+            sys.exit(f"{program} ended with {child.returncode}" + (": out of time" if time.time() > until else ""))
+
+    def look(self, pid, memory, replies):
+        self.held = int(os.pread(memory.fileno(), 99, 0).split()[1]) * PAGE or self.held  # an ended one has none
+        self.most = max(self.most, self.held)
+        used = time.clock_gettime(~pid << 3 | 2)  # of the whole process, see clock_getcpuclockid(3)
+        before = time.monotonic()
+        size = os.fstat(replies.fileno()).st_size
+        now = time.monotonic()
+        if now - before > 0.0001:
+            return  # the program may have gone on between the two
+        if self.clocks[-1][1] != used:
+            self.clocks.append((now, used))
+        if len(self.looks) > 1 and self.looks[-2][0] == self.looks[-1][0] == size:
+            self.looks.pop()
+        self.looks.append((size, now, self.held))
+
+    def moments(self, ends):
+        """When each reply was there, in processor time; how far off that may be; and the memory held then."""
+        sizes = [size for size, _, _ in self.looks]
+        walls = [wall for wall, _ in self.clocks]
+        for end in ends:
+            place = bisect.bisect_left(sizes, end)
+            (size, first, _), (next_size, last, held) = self.looks[place - 1:place + 1]
+            wall = first + (last - first) * (end - size) / (next_size - size)
+            place = bisect.bisect_left(walls, wall)
+            (first_wall, used), (last_wall, next_used) = self.clocks[place - 1:place + 1]
+            ran, passed = next_used - used, last_wall - first_wall
+            yield used + ran * (wall - first_wall) / passed, last - first + max(passed - ran, 0.0), held
 
 
 def ends_of(text):
@@ -65,34 +94,36 @@ def ends_of(text):
         yield at
 
 
-def moments(seen, ends):
-    """When each reply was there, and the memory held then."""
-    sizes = [size for size, _, _ in seen]
-    for end in ends:
-        place = bisect.bisect_left(sizes, end)
-        size, used, held = seen[place]
-        size_before, used_before, _ = seen[place - 1] if place else (0, 0.0, 0)
-        yield used_before + (used - used_before) * (end - size_before) / (size - size_before), held
-
-
 def measure(program, folder, until, sections):
-    """For each section its seconds and the memory held at its end. The whole run is told last: its seconds and its most
-    memory, and the seconds that passed."""
-    seen, most, passed = run(program, folder, until)
+    """For each section its seconds, how far off they may be, and the memory held at its end. The whole run is told last:
+    its seconds and its most memory, and the seconds that passed."""
+    watched = Watched(program, folder, until)
     with open(f"{folder}/replies", "rb") as replies:
         text = replies.read()
     ends = list(ends_of(text))
     wanted = sum(count for count, _ in sections)
     if not len(ends) == text.count(OK) == wanted:
         sys.exit(f"{wanted} requests, {len(ends)} replies, {text.count(OK)} times 200")
-    times, place, start = list(moments(seen, ends)), 0, 0.0
+    times, place, start, off_before = list(watched.moments(ends)), 0, 0.0, 0.0
     for count, _ in sections:
         place += count
-        end, held = times[place - 1]
-        yield end - start, held or most
-        start = end
-    yield seen[-1][1], most
-    yield passed, most
+        end, off, held = times[place - 1]
+        yield end - start, off_before + off, held
+        start, off_before = end, off
+    yield watched.seconds, 0.0, watched.most
+    yield watched.passed, 0.0, watched.most
+
+
+def is_rough(result):
+    """Whether seconds may be off by more than a twentieth."""
+    seconds, off, _ = result
+    return 20 * off > seconds
+
+
+def rank(result):
+    """The fastest goes first, and behind all others those that may be far off, the most exact of them first."""
+    seconds, off, _ = result
+    return (True, off / max(seconds, 1e-9)) if is_rough(result) else (False, seconds)
 
 
 def main(program, folder, runs, until):
@@ -104,12 +135,13 @@ def main(program, folder, runs, until):
         begun = time.time()
         results.append(list(measure(program, folder, float(until), sections)))
         longest = max(longest, time.time() - begun)
-    best = [(min(seconds for seconds, _ in each), max(held for _, held in each)) for each in zip(*results)]
-    for (count, shown), (seconds, held) in zip(sections, best):
+    best = [min(each, key=rank) for each in zip(*results)]
+    for (count, shown), result in zip(sections, best):
         if shown:
+            seconds, held = max(result[0], 1e-9), result[2]
             pace = f"{count / seconds:9,.1f} a second {seconds / count * 1e3:10.3f} ms each"
-            print(f"  {shown} {count:6} requests {pace} {held:7.1f} MB held")
-    (seconds, most), (passed, _) = best[-2:]
+            print(f"{'~ ' if is_rough(result) else '  '}{shown} {count:6} requests {pace} {held:7.1f} MB held")
+    (seconds, _, most), (passed, _, _) = best[-2:]
     total = sum(count for count, _ in sections)
     print(f"  in all {total} requests: {seconds:.2f} s ({passed:.2f} s passed), at most {most:.1f} MB")
 
