@@ -1,5 +1,5 @@
 -- One request carried out and answered, from what its parts ensure.
-use Rattle.std.proofs.Common.{◌≡◌, ◌≤◌, ℕ, List, [], ◌∷◌, Option, Some, None, Result, Ok, Err, option_map, refl, ap, sym, ◌∙◌, subst, arith}
+use Rattle.std.proofs.Common.{◌≡◌, ◌≤◌, ℕ, Bool, List, [], ◌∷◌, Option, Some, None, Result, Ok, Err, option_map, refl, ap, sym, ◌∙◌, subst, arith}
 use Rattle.size_values.specs.declared.entry.Entry.{Entry}
 use Rattle.http_heads.specs.declared.request.Request.{Request}
 use Rattle.records.specs.declared.commands.Command.{Command}
@@ -17,8 +17,10 @@ use Rattle.core_objects.specs.Asked.{answered, KeepsRecords}
 use Rattle.core_objects.specs.Planned.{Follows}
 use Rattle.rest_routes.specs.Commands.{command_of}
 use Rattle.rest_service.specs.declared.answers.Answered.{Answered}
-use Rattle.rest_service.specs.Answers.{Answers, HasText, Replies}
-use Rattle.rest_service.specs.Exchanges.{carried_out, unheard, served}
+use Rattle.http_front.specs.Replies.{reply_text}
+use Rattle.rest_replies.specs.Replies.{NoMemoryIsKnown, printed_of}
+use Rattle.rest_service.specs.Answers.{Answers, HasText, Replies, no_memory_text}
+use Rattle.rest_service.specs.Exchanges.{carried_out, printed, unheard, served}
 use Rattle.rest_service.proofs.Dropping.{rows_unheard}
 
 -- a command that was carried out
@@ -71,3 +73,8 @@ reply_answers {s} {m} {s'} {untold} {told} {told'} {before} {now} {request} {r} 
   comes : served s request done.outcome ≡ Some (and_then (answered r) s')
   comes = ap (option_map (λ (after : After). and_then after.answer (unheard after.state))) done.is
       ∙ ap (λ t. Some (and_then (answered r) t)) (ap (λ t. unheard (telling untold t)) (sym same) ∙ rows_unheard untold s' sound)
+
+-- the reply that takes no memory is the one that tells that there is none
+pub no_memory_printed : (last : Bool) → NoMemoryIsKnown → no_memory_text last ≡ printed reply.NoMemory last
+unfolding printed printed_of
+no_memory_printed last known = ap (λ body. reply_text (record { code = 500; body = body; location = []; last = last })) (sym (known 0))

@@ -37,7 +37,7 @@ fn text_of(alloc: Global, reply: &Reply, last: bool) -> Result<Seq<u8>, NoMemory
 }
 
 /// What is to be written for a reply.
-pub(crate) fn answered(alloc: Global, reply: &Reply, last: bool) -> Answered
+pub(crate) fn answer_for(alloc: Global, reply: &Reply, last: bool) -> Answered
     ensures { HasText result reply.now last }
 {
     match reply {
@@ -64,14 +64,21 @@ fn rule_of(fault: HeadFault) -> Rule
     }
 }
 
+/// The refusal of a malformed place.
+fn refusal_of(alloc: Global, fault: HeadFault) -> Refusal
+    ensures { result ≡ plainly (rule_of fault) }
+{
+    Refusal {
+        rule: rule_of(fault),
+        kept: untold(alloc),
+    }
+}
+
 /// The bytes that answer a place in which no request can begin: its rule, and that the connection ends
 /// (RFC 9112, section 9.6).
 pub fn print_malformed(alloc: Global, fault: HeadFault) -> Result<Seq<u8>, NoMemory>
     ensures { IfOk result (λ bytes. bytes ≡ malformed_text fault) }
 {
-    let refusal = Refusal {
-        rule: rule_of(fault),
-        kept: untold(alloc),
-    };
-    text_of(alloc, &Reply::Refused(refusal), true)
+    let reply = Reply::Refused(refusal_of(alloc, fault));
+    text_of(alloc, &reply, true)
 }

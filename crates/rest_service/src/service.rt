@@ -3,7 +3,7 @@ ghost use Rattle.row_machine.specs.State.{State};
 ghost use Rattle.core_rows.specs.Sound.{IsSound};
 ghost use Rattle.rest_service.specs.Answers.{Answers, Opens, Replies};
 
-use crate::answers::{Answered, BOOT, answered};
+use crate::answers::{Answered, BOOT, answer_for};
 use core_objects::do_object;
 use core_rows::{Estate, OpenFault, load_rows};
 use http_front::Request;
@@ -88,6 +88,6 @@ impl Service {
     {
         let reply = reply_to(alloc, &self.router, &mut self.estate, keeper, request);
         drop_told(&mut self.estate);
-        answered(alloc, &reply, request.last)
+        answer_for(alloc, &reply, request.last)
     }
 }
