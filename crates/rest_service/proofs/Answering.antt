@@ -1,5 +1,5 @@
 -- One request carried out and answered, from what its parts ensure.
-use Rattle.std.proofs.Common.{◌≡◌, ◌≤◌, ℕ, Bool, List, [], ◌∷◌, Option, Some, None, Result, Ok, Err, option_map, refl, ap, sym, ◌∙◌, subst, arith}
+use Rattle.std.proofs.Common.{◌≡◌, ℕ, Bool, List, [], Option, Some, Result, Ok, Err, option_map, refl, ap, sym, ◌∙◌, subst, arith}
 use Rattle.size_values.specs.declared.entry.Entry.{Entry}
 use Rattle.http_heads.specs.declared.request.Request.{Request}
 use Rattle.records.specs.declared.commands.Command.{Command}
@@ -11,7 +11,7 @@ use Rattle.row_machine.specs.declared.events.Answer.TheVariants as answer
 use Rattle.row_machine.specs.State.{State}
 use Rattle.row_machine.specs.Accept.{After, and_then}
 use Rattle.row_machine.specs.Notices.{telling}
-use Rattle.row_machine.specs.Step.{Outcome, well, no_memory, step}
+use Rattle.row_machine.specs.Step.{well, no_memory, step}
 use Rattle.core_rows.specs.Sound.{IsSound}
 use Rattle.core_objects.specs.Asked.{answered, KeepsRecords}
 use Rattle.core_objects.specs.Planned.{Follows}

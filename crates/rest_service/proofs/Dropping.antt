@@ -1,9 +1,9 @@
 -- Notices that nobody takes change nothing of the rows.
-use Rattle.std.proofs.Common.{◌≡◌, ℕ, ◌==◌, ◌^◌, ◌-◌, Bool, true, false, List, [], ◌∷◌, refl, ap, sym, ◌∙◌, if◌then◌else◌}
+use Rattle.std.proofs.Common.{◌≡◌, ◌==◌, ◌^◌, ◌-◌, Bool, true, false, List, [], ◌∷◌, refl, ap, sym, ◌∙◌}
 use Rattle.records.specs.declared.notices.Untold.{Untold}
 use Rattle.row_machine.specs.State.{State}
 use Rattle.row_machine.specs.Notices.{push_notice, telling}
-use Rattle.core_rows.specs.Sound.{state_with, IsSound}
+use Rattle.core_rows.specs.Sound.{IsSound}
 use Rattle.rest_service.specs.Exchanges.{unheard}
 
 -- one notice
