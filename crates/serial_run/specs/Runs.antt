@@ -1,11 +1,7 @@
--- A run of the program: its words are read, the projects are opened, and one session follows.
-use Rattle.std.specs.Prelude.{◌≡◌, ◌≢◌, ◌≤◌, ◌⊎◌, ◌==◌, ℕ, List, [], ◌∷◌, Bool, true, false, length, take, map, Option, Some, None, IfSome, option_map, if◌then◌else◌, codes}
-use Rattle.std.specs.List.{list_any}
+-- A run of the program: its words are read, the rows are opened, and one session follows.
+use Rattle.std.specs.Prelude.{◌≡◌, ◌≢◌, ◌≤◌, ℕ, List, [], ◌∷◌, Bool, true, false, Option, IfSome, option_map, codes}
 use Rattle.std.specs.Str.{bytes_eq}
 use Rattle.size_values.specs.Causes.{Rose}
-use Rattle.size_values.specs.declared.entry.Entry.{Entry}
-use Rattle.http_heads.specs.Messages.{Ending, ended, cut, malformed, Splits}
-use Rattle.http_heads.specs.declared.request.Request.{Request}
 use Rattle.row_machine.specs.State.{State}
 use Rattle.row_machine.specs.Records.{records_of}
 use Rattle.core_rows.specs.Opening.{first_state}
@@ -13,7 +9,6 @@ use Rattle.core_rows.specs.declared.opening.OpenFault.{OpenFault}
 use Rattle.core_rows.specs.declared.opening.OpenFault.TheVariants as fault
 use Rattle.serial_run.specs.declared.running.StartFault.{StartFault}
 use Rattle.serial_run.specs.declared.running.StartFault.TheVariants as start
-use Rattle.serial_run.specs.declared.session.TheConstants.{MOST_REQUESTS}
 use Rattle.serial_run.specs.declared.session.SessionEnd.{SessionEnd}
 use Rattle.serial_run.specs.declared.session.SessionEnd.TheVariants as end
 use Rattle.serial_run.specs.Sessions.{Session}

@@ -1,5 +1,5 @@
 -- What a run comes to, told of its whole input: the requests that are answered, the exit status, and what the outside sees.
-use Rattle.std.specs.Prelude.{◌≡◌, ◌++◌, ◌==◌, ℕ, List, [], ◌∷◌, Bool, length, take, map, Option, option_map, if◌then◌else◌}
+use Rattle.std.specs.Prelude.{◌≡◌, ◌++◌, ◌==◌, ℕ, List, [], ◌∷◌, Bool, length, take, Option, option_map, if◌then◌else◌}
 use Rattle.std.specs.List.{list_any}
 use Rattle.std.specs.Io.KnownBytes.{append_known}
 use Rattle.size_values.specs.declared.entry.Entry.{Entry}

@@ -1,5 +1,5 @@
 -- What a session works on, and what taking and answering requests does to it.
-use Rattle.std.specs.Prelude.{◌≡◌, ◌≤◌, ℕ, List, [], ◌∷◌, Bool, true, false, map, Option, Some, None, IfSome}
+use Rattle.std.specs.Prelude.{◌≡◌, ◌≤◌, ℕ, List, [], ◌∷◌, Bool, true, false, map, Option, Some, IfSome}
 use Rattle.std.specs.Io.KnownBytes.{append_known}
 use Rattle.size_values.specs.Causes.{RoseBy}
 use Rattle.size_values.specs.declared.entry.Entry.{Entry}
