@@ -8,7 +8,5 @@ mod notices;
 mod objects;
 mod planning;
 mod plans;
-#[cfg(test)]
-mod tests;
 
 pub use objects::do_object;

@@ -4,7 +4,5 @@
 
 mod links;
 mod reading;
-#[cfg(test)]
-mod tests;
 
 pub use reading::read;

@@ -11,8 +11,6 @@ mod operation;
 mod printing;
 mod refusals;
 mod settings;
-#[cfg(test)]
-mod tests;
 mod views;
 mod words;
 

@@ -12,8 +12,6 @@ mod query;
 mod refusals;
 mod router;
 mod settings;
-#[cfg(test)]
-mod tests;
 
 pub use laws::names_first_bad;
 pub use router::Router;

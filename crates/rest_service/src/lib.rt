@@ -3,6 +3,10 @@
 #![tactic(auto)]
 
 mod answers;
+#[cfg(test)]
+mod reply_tests;
+#[cfg(test)]
+mod route_tests;
 mod service;
 #[cfg(test)]
 mod tests;

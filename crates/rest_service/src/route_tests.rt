@@ -1,7 +1,9 @@
-use crate::{Router, names_first_bad};
+//! Which command a request asks for, or by which rule of its form it is refused.
+
 use config_lists::Config;
 use http_heads::Request;
 use records::{Body, Command, Refusal, Rule, Target, What};
+use rest_routes::{Router, names_first_bad};
 use size_values::{NoMemory, Or, Seq, Text};
 use std::alloc::Global;
 use std::test::Fail;
