@@ -4,7 +4,7 @@ use records::{
     Kept, Life, LimitKeyName, Notice, OpFault, OpView, Refusal, Reply, Rule, Status, Target, Told,
     UsageLine, View,
 };
-use rest_replies::{id_text, number_of, print, print_notice};
+use rest_routes::{id_text, number_of, print, print_notice};
 use size_values::{NoMemory, ObjectKind, Seq, Text};
 use std::alloc::Global;
 
