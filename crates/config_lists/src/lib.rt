@@ -9,8 +9,6 @@ mod devices;
 mod laws;
 mod root;
 mod sorted;
-#[cfg(test)]
-mod tests;
 
 pub use changes::Changes;
 pub use config::{Config, Device};

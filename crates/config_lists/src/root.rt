@@ -4,7 +4,7 @@ ghost use Rattle.config_lists.specs.Devices.{is_root_disk};
 use crate::config::Device;
 
 /// Which device is the root disk of an instance, by its place among the devices.
-#[derive(Clone, Copy, Debug, PartialEq, Eq)]
+#[derive(Clone, Copy, PartialEq, Eq)]
 pub enum Root {
     None,
     One(usize),

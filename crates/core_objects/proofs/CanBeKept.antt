@@ -41,8 +41,8 @@ use Rattle.core_rows.proofs.RiseLemmas.{Rise-replaced}
 use Rattle.core_rows.proofs.TwoLists.{facts, named}
 use Rattle.core_rows.proofs.HomeLemmas.{home_there, project_there}
 use Rattle.core_rows.proofs.StaysSound.{default_good, project-stays, profile-stays, removal-stays, move-stays}
-use Rattle.core_objects.specs.Judged.{asks, project_target, profile_target, profile_there, new_project_rows, profile_unsettled, new_project_refused, new_profile_refused, profile_refused, rename_refused, judged_deletion}
-use Rattle.core_objects.specs.Keeping.{CanKeep}
+use Rattle.object_checks.specs.Judged.{asks, project_target, profile_target, profile_there, new_project_rows, profile_unsettled, new_project_refused, new_profile_refused, profile_refused, rename_refused, judged_deletion}
+use Rattle.change_keeping.specs.Keeping.{CanKeep}
 use Rattle.core_objects.proofs.Unlimited.{plain-unlimited}
 use Rattle.core_objects.proofs.Room.{changed-tables, moved-tables, new_profile-tables, new_project-tables}
 use Rattle.core_objects.proofs.NewProjects.{creation-puts}
@@ -98,6 +98,7 @@ project_put-keeps : (ps : List Project) (rs : List Profile) → IsSound (state_w
     → tables_broken (applied (state_with ps rs) (put_all (new_project_rows name body))) (new_project_rows name body) ≡ None
     → CanKeep (state_with ps rs) (put_all (new_project_rows name body))
 project_put-keeps ps rs sound name body plain good fresh free = record {
+  some = λ e. cc;
   built = refl;
   entries = ((good, tt, Each-head fit.1), (((good, default_good), tt, Each-head (Each-tail fit.1)), tt));
   sound = later;
@@ -145,6 +146,7 @@ put-keeps : (ps : List Project) (rs : List Profile) → IsSound (state_with ps r
     → tables_broken (applied (state_with ps rs) (put_all (row.Profile r ∷ []))) (row.Profile r ∷ []) ≡ None
     → CanKeep (state_with ps rs) (put_all (row.Profile r ∷ []))
 put-keeps ps rs sound r good home free = record {
+  some = λ e. cc;
   built = refl;
   entries = ((good, tt, Each-head fit.1), tt);
   sound = later;
@@ -233,6 +235,7 @@ move-keeps ps rs sound project name to old there free =
         let less = removal-stays ps rs old sound found other in
         let later = move-stays ps rs old to sound found other good fit.0 in
         record {
+          some = λ e. cc;
           built = refl;
           entries = (tt, ((good, tt, Each-head fit.1), tt));
           sound = later;
@@ -251,7 +254,7 @@ delete-keeps ps rs sound project name old there free =
     let protected = none_both (object_protected s c) None is_there.1 in
     let less = removal-stays ps rs old sound (found-again rs (home_of ps project kind.Profile) name old there)
     (λ e. not-default name _ (sym (delete-protected s project name) ∙ protected.0) (sym (found-named rs (home_of ps project kind.Profile) name old there) ∙ e)) in
-    record { built = refl; entries = (tt, tt); sound = less; named = (tt, less.names, tt) }
+    record { some = λ e. cc; built = refl; entries = (tt, tt); sound = less; named = (tt, less.names, tt) }
   where
     s : State
     s = state_with ps rs

@@ -13,7 +13,7 @@ use Rattle.records.specs.declared.commands.Origin.TheVariants as origin
 use Rattle.records.specs.declared.commands.Target.{Target}
 use Rattle.records.specs.declared.commands.What.TheVariants as what
 use Rattle.records.specs.Built.{is_profile_kind}
-use Rattle.core_objects.specs.Judged.{project_target, profile_target}
+use Rattle.object_checks.specs.Judged.{project_target, profile_target}
 
 none : (xs : List ℕ) → is_empty xs ≡ true → xs ≡ []
 none xs h = nil_from_length xs (eqb-true (length xs) 0 h)

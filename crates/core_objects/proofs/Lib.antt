@@ -7,11 +7,9 @@ pub mod ProfileRules
 pub mod Stepping
 pub mod Room
 pub mod Refused
-pub mod Untold
 pub mod Asking
 pub mod CanBeKept
 pub mod Telling
-pub mod Answering
 pub mod PlansReady
 pub mod Formed
 pub mod ReadsReady

@@ -35,7 +35,7 @@ use Rattle.row_machine.specs.PolicyRules.{snapshot_blocked}
 use Rattle.row_machine.specs.TableRules.{tables_broken}
 use Rattle.row_machine.specs.Rules.{broken}
 use Rattle.core_rows.specs.Sound.{state_with, IsUnlimited, IsSound}
-use Rattle.core_objects.specs.Judged.{asks, project_target, names_missing, profile_unsettled, new_project_rows, judged_new_project}
+use Rattle.object_checks.specs.Judged.{asks, project_target, names_missing, profile_unsettled, new_project_rows, judged_new_project}
 use Rattle.core_objects.proofs.Unlimited.{no-config, none-or, plain-unlimited}
 use Rattle.core_objects.proofs.Settled.{or-none, devices-miss, profile-settings, profile_row-settings}
 use Rattle.core_objects.proofs.Plain.{broken-is, changes-broken}

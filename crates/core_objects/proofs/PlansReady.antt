@@ -28,9 +28,9 @@ use Rattle.row_machine.specs.Plans.{plan_of, changes, put_all, moved_row}
 use Rattle.row_machine.specs.Notices.{change_notices}
 use Rattle.row_machine.specs.Rules.{broken}
 use Rattle.core_rows.specs.Sound.{IsSound, state_with}
-use Rattle.core_objects.specs.Judged.{asks, project_target, profile_target, profile_there, new_project_rows, new_project_refused, new_profile_refused, profile_refused, rename_refused, judged_deletion, profile_missing_in}
+use Rattle.object_checks.specs.Judged.{asks, project_target, profile_target, profile_there, new_project_rows, new_project_refused, new_profile_refused, profile_refused, rename_refused, judged_deletion, profile_missing_in}
 use Rattle.core_objects.specs.Told.{new_project_notice, profile_notice}
-use Rattle.core_objects.specs.Keeping.{CanKeep}
+use Rattle.change_keeping.specs.Keeping.{CanKeep}
 use Rattle.core_objects.proofs.Unlimited.{no-config}
 use Rattle.core_objects.proofs.NewProjects.{new_project-plan}
 use Rattle.core_objects.proofs.ProfileRules.{new_profile-plan, put-plan, patch-plan, move-plan, delete-plan, put_gone-broken, patch_gone-broken, move_gone-broken, delete-broken, gone-some}

@@ -35,7 +35,7 @@ use Rattle.row_machine.specs.PolicyRules.{snapshot_blocked}
 use Rattle.row_machine.specs.TableRules.{tables_broken, cancel_broken}
 use Rattle.row_machine.specs.Rules.{broken, plan_broken}
 use Rattle.core_rows.specs.Sound.{state_with, IsSound}
-use Rattle.core_objects.specs.Judged.{asks, profile_target, profile_there, profile_missing_in, rows_overfull, judged_new_profile, judged_profile, judged_rename, judged_deletion}
+use Rattle.object_checks.specs.Judged.{asks, profile_target, profile_there, profile_missing_in, rows_overfull, judged_new_profile, judged_profile, judged_rename, judged_deletion}
 use Rattle.core_objects.proofs.Unlimited.{none-or}
 use Rattle.core_objects.proofs.Settled.{or-none, profile_put-settings, tables-overfull, not-too_many}
 use Rattle.core_objects.proofs.Plain.{broken-is, nothing-broken, changes-broken}

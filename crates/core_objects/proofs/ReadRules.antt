@@ -10,7 +10,7 @@ use Rattle.row_machine.specs.NameRules.{project_missing, what_is_missing, names_
 use Rattle.row_machine.specs.StandingRules.{instance_busy, wrong_state, object_protected, object_used, project_occupied, profile_held, standing_broken}
 use Rattle.row_machine.specs.TableRules.{cancel_broken}
 use Rattle.row_machine.specs.Rules.{broken, plan_broken}
-use Rattle.core_objects.specs.Judged.{asks, project_target, profile_target, profile_missing_in}
+use Rattle.object_checks.specs.Judged.{asks, project_target, profile_target, profile_missing_in}
 use Rattle.core_objects.proofs.Settled.{or-none}
 use Rattle.core_objects.proofs.Plain.{broken-is}
 

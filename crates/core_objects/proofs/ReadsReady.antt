@@ -1,7 +1,7 @@
 -- Reads of the server, of projects and of profiles: what they break, and that they are steps of the machine.
-use Rattle.std.proofs.Common.{◌≡◌, ℕ, Bool, true, List, [], Option, Some, None, Result, Err, refl, ap, sym, ◌∙◌, subst, arith}
+use Rattle.std.proofs.Common.{◌≡◌, ℕ, Bool, true, List, [], Option, Some, None, Result, Err, refl, ap, sym, ◌∙◌, subst}
 use Rattle.size_values.specs.Causes.{Says, Refuses}
-use Rattle.size_values.specs.declared.entry.Entry.{Entry}
+use Rattle.record_keeper.specs.Store.{Store}
 use Rattle.size_values.specs.declared.kinds.ObjectKind.TheVariants as kind
 use Rattle.size_values.specs.declared.memory.Or.{Or}
 use Rattle.size_values.specs.declared.memory.Or.TheVariants as or
@@ -23,14 +23,15 @@ use Rattle.row_machine.specs.Notices.{telling}
 use Rattle.row_machine.specs.Rules.{broken}
 use Rattle.row_machine.specs.Step.{step, well}
 use Rattle.row_machine.specs.Views.{read}
+use Rattle.change_keeping.specs.Stores.{Stores}
 use Rattle.core_objects.specs.Asked.{answered}
-use Rattle.core_objects.specs.Judged.{asks, project_target, profile_target, profile_missing_in, is_read}
+use Rattle.object_checks.specs.Judged.{asks, project_target, profile_target, profile_missing_in, is_read}
 use Rattle.core_objects.specs.Planned.{Follows, IsAnswered, IsPlanned, reply_for}
 use Rattle.object_views.specs.Reads.{is_built_read}
 use Rattle.core_objects.proofs.Formed.{project_formed, profile_formed, get_stands, list_stands}
 use Rattle.core_objects.proofs.ReadRules.{project-broken, profile-broken, projects-broken, profiles-broken}
 use Rattle.core_objects.proofs.Stepping.{refused-step, read-step}
-use Rattle.core_objects.proofs.Asking.{follows-refused, follows-no-memory}
+use Rattle.core_objects.proofs.Asking.{changes_of-read, follows-refused, follows-no-memory}
 
 -- ---- what a read breaks
 
@@ -101,16 +102,21 @@ refused-answered (or.Why r) s c moment h = refused-step s c moment r h
 
 -- ---- as one step, after which nothing is untold
 
-pub answered-follows : (r : Reply) (s : State) (c : Command) (moment : ℕ) (untold : List Untold) (told : Option (List Entry)) (faults : ℕ)
-    → untold ≡ [] → IsAnswered r s c moment → Follows s c moment s untold r told told faults faults
-answered-follows r s c moment untold told faults none h = by r h where
-  plainly : (r : Reply) → step s (event.Ask c moment) well ≡ Some (and_then (answered r) s) → Follows s c moment s untold r told told faults faults
+pub answered-follows : (r : Reply) (s : State) (project : List ℕ) (asked : What) (moment : ℕ) (untold : List Untold) (store : Store)
+    → is_read asked ≡ true → untold ≡ [] → IsAnswered r s (asks project asked) moment → Follows s (asks project asked) moment s untold r store store
+answered-follows r s project asked moment untold store reads none h = by r h where
+  plainly : (r : Reply) → step s (event.Ask (asks project asked) moment) well ≡ Some (and_then (answered r) s) → Follows s (asks project asked) moment s untold r store store
   plainly r h = record {
-    asked = record { outcome = well; caused = omega arith; is = h ∙ ap (λ ns. Some (and_then (answered r) (telling ns s))) (sym none) };
+    asked = record {
+      outcome = well;
+      caused = refl;
+      stored = subst (λ cs. Stores cs well store store) (sym (changes_of-read s project asked moment reads)) refl;
+      is = h ∙ ap (λ ns. Some (and_then (answered r) (telling ns s))) (sym none);
+    };
     kept = λ start is. is;
   }
 
-  by : (r : Reply) → IsAnswered r s c moment → Follows s c moment s untold r told told faults faults
+  by : (r : Reply) → IsAnswered r s (asks project asked) moment → Follows s (asks project asked) moment s untold r store store
   by reply.Empty h = plainly reply.Empty h
   by (reply.Links xs) h = plainly (reply.Links xs) h
   by (reply.One v) h = plainly (reply.One v) h
@@ -119,9 +125,9 @@ answered-follows r s c moment untold told faults none h = by r h where
   by (reply.OpMany xs) h = plainly (reply.OpMany xs) h
   by (reply.Started v) h = plainly (reply.Started v) h
   by (reply.Refused x) h = plainly (reply.Refused x) h
-  by reply.NoMemory h = follows-no-memory s c moment untold told faults none
+  by reply.NoMemory h = follows-no-memory s (asks project asked) moment untold store none
 
-pub follows-why : (why : Or Refusal) (s : State) (c : Command) (moment : ℕ) (untold : List Untold) (told : Option (List Entry)) (faults : ℕ)
-    → untold ≡ [] → IsPlanned (Err why) s c moment → Follows s c moment s untold (reply_for why) told told faults faults
-follows-why or.NoMemory s c moment untold told faults none h = follows-no-memory s c moment untold told faults none
-follows-why (or.Why r) s c moment untold told faults none h = follows-refused s c moment untold r told faults h none
+pub follows-why : (why : Or Refusal) (s : State) (c : Command) (moment : ℕ) (untold : List Untold) (store : Store)
+    → untold ≡ [] → IsPlanned (Err why) s c moment → Follows s c moment s untold (reply_for why) store store
+follows-why or.NoMemory s c moment untold store none h = follows-no-memory s c moment untold store none
+follows-why (or.Why r) s c moment untold store none h = follows-refused s c moment untold r store h none

@@ -27,7 +27,7 @@ use Rattle.row_machine.specs.SettingRules.{profile_settings}
 use Rattle.row_machine.specs.TableRules.{too_large, tables_broken}
 use Rattle.row_machine.specs.Rules.{broken}
 use Rattle.core_rows.specs.Sound.{state_with, IsSound}
-use Rattle.core_objects.specs.Judged.{asks, project_target, profile_target, profile_there, new_project_rows, profile_unsettled, no_room, new_project_refused, new_profile_refused, profile_refused, rename_refused}
+use Rattle.object_checks.specs.Judged.{asks, project_target, profile_target, profile_there, new_project_rows, profile_unsettled, no_room, new_project_refused, new_profile_refused, profile_refused, rename_refused}
 use Rattle.core_objects.proofs.Unlimited.{no-config}
 use Rattle.core_objects.proofs.Settled.{or-none, profile-settings}
 use Rattle.core_objects.proofs.Room.{changed-tables, moved-tables, new_profile-tables, new_project-tables}

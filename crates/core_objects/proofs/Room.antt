@@ -34,7 +34,7 @@ use Rattle.row_machine.specs.Links.{kind_text}
 use Rattle.row_machine.specs.Refusals.{untold}
 use Rattle.row_machine.specs.TableRules.{cap_of, too_many, too_large, tables_broken}
 use Rattle.core_rows.specs.Sound.{state_with, IsSound}
-use Rattle.core_objects.specs.Judged.{rows_overfull, no_room}
+use Rattle.object_checks.specs.Judged.{rows_overfull, no_room}
 use Rattle.core_objects.proofs.Settled.{or-none, tables-overfull, not-too_many}
 
 -- ---- lengths

@@ -22,7 +22,7 @@ use Rattle.row_machine.specs.Refusals.{on_object}
 use Rattle.row_machine.specs.SettingRules.{tables_break, network_missing, disk_misses, device_misses, devices_miss, profile_settings, row_settings, settings_broken}
 use Rattle.row_machine.specs.TableRules.{too_many, too_large, tables_broken}
 use Rattle.core_rows.specs.Sound.{state_with}
-use Rattle.core_objects.specs.Judged.{device_names_missing, names_missing, profile_unsettled, rows_overfull}
+use Rattle.object_checks.specs.Judged.{device_names_missing, names_missing, profile_unsettled, rows_overfull}
 
 -- nothing behind it
 pub or-none : {R : Type 0} (o : Option R) → option_or o None ≡ o

@@ -19,7 +19,7 @@ use Rattle.row_machine.specs.Notices.{telling, change_notices}
 use Rattle.row_machine.specs.Views.{read}
 use Rattle.row_machine.specs.Accept.{and_then, accepted, carried_out}
 use Rattle.row_machine.specs.Step.{well, keeper_failed, no_memory, asked, unavailable, step}
-use Rattle.core_objects.specs.Judged.{asks, is_read}
+use Rattle.object_checks.specs.Judged.{asks, is_read}
 
 -- a request that breaks no rule and makes changes at once
 pub changes-step : (s : State) (c : Command) (moment : ℕ) (cs : List RowChange) → plan_of s c moment ≡ changes cs → broken s c moment ≡ None

@@ -7,7 +7,7 @@ use Rattle.records.specs.declared.commands.What.TheVariants as what
 use Rattle.row_machine.specs.State.{State}
 use Rattle.row_machine.specs.Homes.{home_of}
 use Rattle.row_machine.specs.Notices.{change_notices}
-use Rattle.core_objects.specs.Judged.{asks, project_target, profile_target}
+use Rattle.object_checks.specs.Judged.{asks, project_target, profile_target}
 use Rattle.core_objects.specs.Told.{new_project_notice, profile_notice}
 
 pub new_project-notices : (s : State) (project name : List ℕ) (body : Body) (moment : ℕ)

@@ -1,5 +1,3 @@
-pub mod Judged
 pub mod Asked
-pub mod Keeping
 pub mod Planned
 pub mod Told

@@ -2,7 +2,7 @@
 use Rattle.std.specs.Prelude.{◌≡◌, ℕ, [], ◌∷◌, List, Option, Some, None, Result, Ok, Err}
 use Rattle.size_values.specs.declared.memory.Or.{Or}
 use Rattle.size_values.specs.declared.memory.Or.TheVariants as or
-use Rattle.size_values.specs.declared.entry.Entry.{Entry}
+use Rattle.record_keeper.specs.Store.{Store}
 use Rattle.records.specs.declared.commands.Command.{Command}
 use Rattle.records.specs.declared.notices.Untold.{Untold}
 use Rattle.records.specs.declared.refusals.Refusal.{Refusal}
@@ -16,8 +16,9 @@ use Rattle.records.specs.declared.replies.Reply.TheVariants as reply
 use Rattle.row_machine.specs.declared.events.Event.TheVariants as event
 use Rattle.row_machine.specs.Accept.{and_then}
 use Rattle.row_machine.specs.Step.{well, step}
-use Rattle.core_objects.specs.Asked.{IsAsked, KeepsRecords, answered}
-use Rattle.core_objects.specs.Keeping.{CanKeep}
+use Rattle.change_keeping.specs.Keeping.{CanKeep}
+use Rattle.change_keeping.specs.Stores.{KeepsRecords}
+use Rattle.core_objects.specs.Asked.{IsAsked, answered}
 
 -- the reply that tells a refusal, or that memory was refused
 abbrev pub reply_for : Or Refusal → Reply
@@ -32,9 +33,9 @@ IsPlanned (Err or.NoMemory) s c moment = Unit {0}
 IsPlanned (Err (or.Why refusal)) s c moment = broken s c moment ≡ Some refusal
 
 -- A command was carried out as one step of the machine, and entries that were the records of the rows are so afterwards.
-pub record Follows (s : State) (c : Command) (moment : ℕ) (s' : State) (untold : List Untold) (r : Reply) (told told' : Option (List Entry)) (before now : ℕ) : Type 0 where
-  pub asked : IsAsked s c moment s' untold r before now
-  pub kept : KeepsRecords told s told' s'
+pub record Follows (s : State) (c : Command) (moment : ℕ) (s' : State) (untold : List Untold) (r : Reply) (store store' : Store) : Type 0 where
+  pub asked : IsAsked s c moment s' untold r store store'
+  pub kept : KeepsRecords store.told s store'.told s'
 
 -- A read was answered: it is the answer of the step, the rule that it breaks first, or want of memory.
 abbrev pub IsAnswered : Reply → State → Command → ℕ → Type 0

@@ -5,7 +5,7 @@ use Rattle.records.specs.declared.notices.Life.TheVariants as life
 use Rattle.records.specs.declared.notices.Untold.{Untold}
 use Rattle.row_machine.specs.Rows.{default_name}
 use Rattle.row_machine.specs.Notices.{life_notice}
-use Rattle.core_objects.specs.Judged.{project_target, profile_target}
+use Rattle.object_checks.specs.Judged.{project_target, profile_target}
 
 -- a project of this name was created; a notice of a project belongs to the project `default`
 abbrev pub new_project_notice : ℕ → List ℕ → Untold

@@ -1,8 +1,7 @@
 //! Projects and their profiles over the REST API: which rule a command on them breaks first, and what is then answered.
 #![tactic(auto)]
 
-mod checks;
-mod keeping;
+mod carrying;
 mod making;
 mod notices;
 mod objects;

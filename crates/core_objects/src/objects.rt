@@ -8,18 +8,18 @@ ghost use Rattle.records.specs.declared.commands.What.TheVariants as what;
 ghost use Rattle.row_machine.specs.Homes.{home_of};
 ghost use Rattle.row_machine.specs.Rules.{broken};
 ghost use Rattle.core_rows.specs.Sound.{IsSound};
-ghost use Rattle.core_objects.specs.Judged.{asks};
+ghost use Rattle.object_checks.specs.Judged.{asks};
 ghost use Rattle.object_views.specs.Reads.{is_built_read};
 ghost use Rattle.records.specs.Built.{is_built_command, is_built_request, is_built_creation, is_profile_kind};
 ghost use Rattle.core_objects.specs.Planned.{Follows, IsPlanned, IsAnswered};
 
-use crate::checks::{check_profiles, check_there, project_shown};
-use crate::keeping::{carry_out, refused_reply};
+use crate::carrying::{carry_out, refused_reply};
 use crate::planning::Planned;
 use crate::plans::{
     plan_deletion, plan_gone, plan_move, plan_patch, plan_profile, plan_project, plan_put,
 };
 use core_rows::Estate;
+use object_checks::{check_profiles, check_there, project_shown};
 use object_views::read;
 use record_keeper::Keeper;
 use records::{Body, Command, Refusal, Reply, Target, What};
@@ -207,7 +207,7 @@ pub fn do_object<R: Keeper>(
     requires formed { is_formed command.now ≡ true }
     requires built { is_built_command command.now ≡ true }
     requires moment { moment < MOMENT_LIMIT }
-    ensures { Follows estate.old.state command.now moment estate.new.state estate.new.untold result (R.told keeper.old) (R.told keeper.new) (R.failures keeper.old) (R.failures keeper.new) }
+    ensures { Follows estate.old.state command.now moment estate.new.state estate.new.untold result (R.store keeper.old) (R.store keeper.new) }
 {
     let project = &command.project;
     match &command.what {

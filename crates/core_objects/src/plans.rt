@@ -10,17 +10,17 @@ ghost use Rattle.records.specs.declared.notices.Life.TheVariants as life;
 ghost use Rattle.row_machine.specs.Homes.{home_of};
 ghost use Rattle.row_machine.specs.Changes.{removal};
 ghost use Rattle.row_machine.specs.Plans.{put_all, moved_row};
-ghost use Rattle.core_objects.specs.Judged.{asks, project_target, profile_target, profile_there};
+ghost use Rattle.object_checks.specs.Judged.{asks, project_target, profile_target, profile_there};
 ghost use Rattle.core_objects.specs.Told.{new_project_notice, profile_notice};
 ghost use Rattle.core_objects.specs.Planned.{IsPlanned};
 
-use crate::checks::{
-    check_deletion, check_new_profile, check_new_project, check_profile, check_rename, check_there,
-};
 use crate::making::{made_profile, made_project, patched_profile, put_profile, renamed_profile};
 use crate::notices::life_notice;
 use crate::planning::Planned;
 use core_rows::{Estate, default_profile};
+use object_checks::{
+    check_deletion, check_new_profile, check_new_project, check_profile, check_rename, check_there,
+};
 use records::{Body, Life, Profile, Project, Refusal, Row, Target, Untold};
 use row_codec::key_of;
 use row_machine::RowChange;
@@ -85,8 +85,9 @@ fn removal(alloc: Global, profile: &Profile) -> Result<RowChange, NoMemory>
     ensures { IfOk result (λ c. c ≡ removal (row_of.Profile profile.now)) }
 {
     let row = Row::Profile(profile.copy(alloc)?);
-    let key = key_of(alloc, &row)?;
-    Ok(RowChange::Remove(ObjectKind::Profile, key))
+    let key = key_of(alloc, &row);
+    drop(row);
+    Ok(RowChange::Remove(ObjectKind::Profile, key?))
 }
 
 /// A profile is removed.
@@ -124,10 +125,12 @@ pub(crate) fn plan_project(
     let row = made_project(alloc, name, body)?;
     let default = default_profile(alloc, name)?;
     if let Err(why) = check_new_project(alloc, estate, project, name, &row, &default) {
+        drop(row);
+        drop(default);
         return Err(why);
     }
-    let notice = new_project_notice(alloc, moment, name)?;
     let changes = two_puts(alloc, row, default)?;
+    let notice = new_project_notice(alloc, moment, name)?;
     Ok(Planned { changes, notice })
 }
 
@@ -148,10 +151,11 @@ pub(crate) fn plan_profile(
 {
     let row = made_profile(alloc, home, name, body)?;
     if let Err(why) = check_new_profile(alloc, estate, project, &row) {
+        drop(row);
         return Err(why);
     }
-    let notice = profile_notice(alloc, moment, home, name, Life::ProfileCreated)?;
     let changes = one_put(alloc, row)?;
+    let notice = profile_notice(alloc, moment, home, name, Life::ProfileCreated)?;
     Ok(Planned { changes, notice })
 }
 
@@ -173,10 +177,11 @@ pub(crate) fn plan_put(
 {
     let row = put_profile(alloc, old, body)?;
     if let Err(why) = check_profile(alloc, estate, project, &row) {
+        drop(row);
         return Err(why);
     }
-    let notice = profile_notice(alloc, moment, home, name, Life::ProfileUpdated)?;
     let changes = one_put(alloc, row)?;
+    let notice = profile_notice(alloc, moment, home, name, Life::ProfileUpdated)?;
     Ok(Planned { changes, notice })
 }
 
@@ -198,10 +203,11 @@ pub(crate) fn plan_patch(
 {
     let row = patched_profile(alloc, old, body)?;
     if let Err(why) = check_profile(alloc, estate, project, &row) {
+        drop(row);
         return Err(why);
     }
-    let notice = profile_notice(alloc, moment, home, name, Life::ProfileUpdated)?;
     let changes = one_put(alloc, row)?;
+    let notice = profile_notice(alloc, moment, home, name, Life::ProfileUpdated)?;
     Ok(Planned { changes, notice })
 }
 
@@ -223,10 +229,11 @@ pub(crate) fn plan_move(
 {
     let row = renamed_profile(alloc, old, to)?;
     if let Err(why) = check_rename(alloc, estate, project, name, &row) {
+        drop(row);
         return Err(why);
     }
-    let notice = profile_notice(alloc, moment, home, to, Life::ProfileRenamed)?;
     let changes = one_move(alloc, old, row)?;
+    let notice = profile_notice(alloc, moment, home, to, Life::ProfileRenamed)?;
     Ok(Planned { changes, notice })
 }
 
@@ -248,8 +255,8 @@ pub(crate) fn plan_deletion(
     if let Err(why) = check_deletion(alloc, estate, project, name) {
         return Err(why);
     }
-    let notice = profile_notice(alloc, moment, home, name, Life::ProfileDeleted)?;
     let changes = one_removal(alloc, old)?;
+    let notice = profile_notice(alloc, moment, home, name, Life::ProfileDeleted)?;
     Ok(Planned { changes, notice })
 }
 

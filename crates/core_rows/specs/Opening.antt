@@ -1,9 +1,9 @@
 -- How the rows are opened.
-use Rattle.std.specs.Prelude.{◌≡◌, ◌≢◌, ◌≤◌, ℕ, List, [], Option, IfSome, option_map, Result, Ok, Err}
-use Rattle.size_values.specs.Causes.{Rose}
+use Rattle.std.specs.Prelude.{◌≡◌, ◌≢◌, ◌⊎◌, List, [], Option, IfSome, option_map, Result, Ok, Err}
+use Rattle.size_values.specs.CallCounts.{called}
 use Rattle.size_values.specs.declared.entry.Entry.{Entry}
 use Rattle.size_values.specs.declared.entry.EntryChange.{EntryChange}
-use Rattle.record_keeper.specs.Entries.{after_changes}
+use Rattle.record_keeper.specs.Store.{Store, FailsAtCall, IsAfterUpTo, after_calls, after_commit}
 use Rattle.row_machine.specs.Plans.{put_all}
 use Rattle.core_rows.specs.Entries.{entry_changes}
 use Rattle.row_machine.specs.State.{State}
@@ -17,30 +17,49 @@ use Rattle.core_rows.specs.declared.opening.OpenFault.TheVariants as fault
 abbrev pub first_state : State
 first_state = with_rows first_rows
 
--- an opening that was refused leaves the entries; it failed only where the keeper's count rose, and has entries where there are some
-abbrev pub Refuses : OpenFault → Option (List Entry) → Option (List Entry) → ℕ → ℕ → Type 0
-Refuses fault.KeeperFailed told told' faults faults' = (told' ≡ told) × Rose faults faults'
-Refuses fault.HasEntries told told' faults faults' = (told' ≡ told) × IfSome told (λ entries. entries ≢ [])
-Refuses fault.NoMemory told told' faults faults' = told' ≡ told
+-- ---- one call
 
--- a load found no entries
-abbrev pub IsEmptyKeeper : {T : Type 0} → Result T OpenFault → Option (List Entry) → Option (List Entry) → ℕ → ℕ → Type 0
-IsEmptyKeeper (Ok u) told told' faults faults' = (told' ≡ told) × IfSome told (λ entries. entries ≡ []) × (faults ≤ faults')
-IsEmptyKeeper (Err fault) told told' faults faults' = Refuses fault told told' faults faults' × (faults ≤ faults')
+-- a load found no entries, or it found some, failed or was out of memory
+abbrev pub FindsNothing : {T : Type 0} → Result T OpenFault → Store → Store → Type 0
+FindsNothing (Ok u) store store' = IfSome store.told (λ entries. entries ≡ []) × (store' ≡ after_calls 1 store)
+FindsNothing (Err fault.HasEntries) store store' = IfSome store.told (λ entries. entries ≢ []) × (store' ≡ after_calls 1 store)
+FindsNothing (Err fault.KeeperFailed) store store' = FailsAtCall 1 store store'
+FindsNothing (Err fault.NoMemory) store store' = store' ≡ after_calls 1 store
 
--- these changes were committed
-abbrev pub Commits : {T : Type 0} → Result T OpenFault → List EntryChange → Option (List Entry) → Option (List Entry) → ℕ → ℕ → Type 0
-Commits (Ok u) changes told told' faults faults' = (told' ≡ option_map (after_changes changes) told) × (faults ≤ faults')
-Commits (Err fault) changes told told' faults faults' = Refuses fault told told' faults faults' × (faults ≤ faults')
+-- these changes were committed in one call, or that call failed or was out of memory
+abbrev pub Commits : {T : Type 0} → Result T OpenFault → List EntryChange → Store → Store → Type 0
+Commits (Ok u) changes store store' = store' ≡ after_commit changes store
+Commits (Err fault.KeeperFailed) changes store store' = FailsAtCall 1 store store'
+Commits (Err fault.NoMemory) changes store store' = store' ≡ after_calls 1 store
+Commits (Err fault.HasEntries) changes store store' = ⊥
 
--- the first rows were committed to what was kept
-abbrev pub Begins : Result Kept OpenFault → Option (List Entry) → Option (List Entry) → ℕ → ℕ → Type 0
-Begins (Ok kept) told told' faults faults' =
-    (kept.state ≡ first_state) × (kept.untold ≡ []) × (told' ≡ option_map (after_changes (entry_changes (put_all first_rows))) told) × (faults ≤ faults')
-Begins (Err fault) told told' faults faults' = Refuses fault told told' faults faults' × (faults ≤ faults')
+-- the first rows were committed in one call, which may have failed; or memory was refused before it or in it
+abbrev pub Begins : Result Kept OpenFault → Store → Store → Type 0
+Begins (Ok kept) store store' =
+    (kept.state ≡ first_state) × (kept.untold ≡ []) × (store' ≡ after_commit (entry_changes (put_all first_rows)) store)
+Begins (Err fault.KeeperFailed) store store' = FailsAtCall 1 store store'
+Begins (Err fault.NoMemory) store store' = IsAfterUpTo 1 store store'
+Begins (Err fault.HasEntries) store store' = ⊥
+
+-- ---- an opening
+
+-- a store without entries after an opening: it was loaded once, and the entries of the first rows were committed at once
+abbrev pub opened_store : Store → Store
+opened_store store = record {
+  told = option_map (λ _. records_of first_state) store.told;
+  calls = called 2 store.calls;
+  failures = store.failures;
+}
+
+-- An opening that was refused leaves the entries. It found entries at its load; or its load or its commit failed; or memory was
+-- refused, after two calls at the most.
+abbrev pub Refuses : OpenFault → Store → Store → Type 0
+Refuses fault.HasEntries store store' = IfSome store.told (λ entries. entries ≢ []) × (store' ≡ after_calls 1 store)
+Refuses fault.KeeperFailed store store' = FailsAtCall 1 store store' ⊎ FailsAtCall 2 store store'
+Refuses fault.NoMemory store store' = IsAfterUpTo 2 store store'
 
 -- The keeper had no entries, and has those of the first rows now, which were committed at once; or the opening was refused.
-abbrev pub Opens : Result Kept OpenFault → Option (List Entry) → Option (List Entry) → ℕ → ℕ → Type 0
-Opens (Ok kept) told told' faults faults' =
-    (kept.state ≡ first_state) × (kept.untold ≡ []) × IfSome told (λ entries. entries ≡ []) × (told' ≡ option_map (λ _. records_of first_state) told) × (faults ≤ faults')
-Opens (Err fault) told told' faults faults' = Refuses fault told told' faults faults' × (faults ≤ faults')
+abbrev pub Opens : Result Kept OpenFault → Store → Store → Type 0
+Opens (Ok kept) store store' =
+    (kept.state ≡ first_state) × (kept.untold ≡ []) × IfSome store.told (λ entries. entries ≡ []) × (store' ≡ opened_store store)
+Opens (Err fault) store store' = Refuses fault store store'

@@ -15,7 +15,7 @@ use std::marker::Model;
 
 /// Rows as plain lists, of which no facts are known: in the middle of a list of changes they need not hold. Contracts see the
 /// state with these rows, and how many more rows of each kind can be put without taking memory.
-#[derive(Debug, Drop)]
+#[derive(Drop)]
 pub(crate) struct Draft {
     pub(crate) projects: Vec<Project>,
     pub(crate) profiles: Vec<Profile>,

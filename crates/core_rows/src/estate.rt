@@ -20,7 +20,7 @@ use std::marker::Model;
 /// The rows of the server, of which the facts hold at all times: projects and profiles by now. Contracts see the state of
 /// the row machine with these rows, the notices that were not yet taken, and how many rows of each kind can be put
 /// without taking memory.
-#[derive(Debug, Drop)]
+#[derive(Drop)]
 pub struct Estate {
     draft: Draft,
     untold: Vec<Untold>,

@@ -9,8 +9,6 @@ mod laws;
 mod opening;
 mod order;
 mod records_laws;
-#[cfg(test)]
-mod tests;
 
 pub use entries::{default_profile, entry_changes};
 pub use estate::Estate;

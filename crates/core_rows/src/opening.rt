@@ -2,7 +2,7 @@ ghost use Rattle.std.specs.Prelude.{◌≡◌, [], IfOk};
 ghost use Rattle.row_machine.specs.Opening.{first_rows, default_project};
 ghost use Rattle.row_machine.specs.Plans.{put_all};
 ghost use Rattle.core_rows.specs.Entries.{entry_changes};
-ghost use Rattle.core_rows.specs.Opening.{Opens, Begins, Commits, IsEmptyKeeper, first_state};
+ghost use Rattle.core_rows.specs.Opening.{Opens, Begins, Commits, FindsNothing, first_state};
 
 use crate::draft::Draft;
 use crate::entries::{default_profile, entry_changes};
@@ -97,7 +97,7 @@ fn first_of_all(alloc: Global) -> Result<(Estate, Seq<EntryChange>), NoMemory>
 
 /// Loads the entries, of which there must be none.
 fn load_nothing<R: Keeper>(keeper: &mut R) -> Result<(), OpenFault>
-    ensures { IsEmptyKeeper result (R.told keeper.old) (R.told keeper.new) (R.failures keeper.old) (R.failures keeper.new) }
+    ensures { FindsNothing result (R.store keeper.old) (R.store keeper.new) }
 {
     match keeper.load() {
         Ok(found) => {
@@ -114,7 +114,7 @@ fn load_nothing<R: Keeper>(keeper: &mut R) -> Result<(), OpenFault>
 
 /// Commits changes of entries.
 fn commit<R: Keeper>(keeper: &mut R, changes: &Seq<EntryChange>) -> Result<(), OpenFault>
-    ensures { Commits result changes.now (R.told keeper.old) (R.told keeper.new) (R.failures keeper.old) (R.failures keeper.new) }
+    ensures { Commits result changes.now (R.store keeper.old) (R.store keeper.new) }
 {
     match keeper.commit(changes) {
         Ok(()) => Ok(()),
@@ -125,7 +125,7 @@ fn commit<R: Keeper>(keeper: &mut R, changes: &Seq<EntryChange>) -> Result<(), O
 
 /// Commits the first rows, and then has them.
 fn begin<R: Keeper>(alloc: Global, keeper: &mut R) -> Result<Estate, OpenFault>
-    ensures { Begins result (R.told keeper.old) (R.told keeper.new) (R.failures keeper.old) (R.failures keeper.new) }
+    ensures { Begins result (R.store keeper.old) (R.store keeper.new) }
 {
     let Ok((estate, entries)) = first_of_all(alloc) else {
         return Err(OpenFault::NoMemory);
@@ -139,7 +139,7 @@ fn begin<R: Keeper>(alloc: Global, keeper: &mut R) -> Result<Estate, OpenFault>
 /// The rows of a keeper that has no entries yet: the project `default` with all features and its profile `default`,
 /// which are committed first, at once.
 pub fn load_rows<R: Keeper>(alloc: Global, keeper: &mut R) -> Result<Estate, OpenFault>
-    ensures { Opens result (R.told keeper.old) (R.told keeper.new) (R.failures keeper.old) (R.failures keeper.new) }
+    ensures { Opens result (R.store keeper.old) (R.store keeper.new) }
 {
     match load_nothing(keeper) {
         Ok(()) => begin(alloc, keeper),

@@ -7,7 +7,7 @@ use std::alloc::Global;
 
 /// Layers of settings and devices, laid one over the other. A device of type `none` stays, and stands for no
 /// device in every rule.
-#[derive(Debug, Drop)]
+#[derive(Drop)]
 pub struct Expanded {
     pub config: Config,
     pub devices: Devices,

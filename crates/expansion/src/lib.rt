@@ -4,8 +4,6 @@
 
 mod expanded;
 mod laws;
-#[cfg(test)]
-mod tests;
 
 pub use expanded::Expanded;
 pub use laws::{layers_are_searched_backwards, none_stands_for_no_device};

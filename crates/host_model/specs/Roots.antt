@@ -49,7 +49,9 @@ abbrev pub snapshot_of : List ℕ → HostRoot → Option (List ℕ)
 snapshot_of name root = option_map (λ s. s.1) (find (λ s. bytes_eq s.0 name) root.snapshots)
 
 -- the content of a root, or of its named snapshot, which is empty where it has none of that name
+abbrev pub content_in : List ℕ → HostRoot → List ℕ
+content_in snapshot root = if length snapshot == 0 then root.content else unwrap_or (snapshot_of snapshot root) []
+
+-- the same of the root at a place
 abbrev pub content_of : Place → List ℕ → List HostRoot → List ℕ
-content_of from snapshot roots =
-    if length snapshot == 0 then (root_at from roots).content
-    else unwrap_or (snapshot_of snapshot (root_at from roots)) []
+content_of from snapshot roots = content_in snapshot (root_at from roots)

@@ -3,7 +3,7 @@ use crate::root::Spec;
 use size_values::Text;
 
 /// One call of a host, with all that it needs. A `CopyRoot` with an empty snapshot copies the root itself.
-#[derive(Debug, Drop)]
+#[derive(Drop)]
 pub enum HostCall {
     Clear {
         at: Place,

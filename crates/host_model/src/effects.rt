@@ -27,7 +27,7 @@ pub(crate) fn change(
             clear(roots, at);
             Ok(())
         }
-        HostCall::MakeRoot { at, origin } => make(alloc, roots, at, origin.copy(alloc)?),
+        HostCall::MakeRoot { at, origin } => make_root(alloc, roots, at, origin),
         HostCall::CopyRoot { from, snapshot, to } => copy_content(alloc, roots, from, snapshot, to),
         HostCall::Start { at, spec } => start(alloc, roots, at, spec),
         HostCall::Stop { at } => set_power(alloc, roots, at, Power::Stopped),
@@ -62,6 +62,20 @@ fn make(alloc: Global, roots: &mut Vec<HostRoot>, at: &Place, content: Text) -> 
     put(roots, root)
 }
 
+/// Puts a stopped root with the content of this origin.
+fn make_root(
+    alloc: Global,
+    roots: &mut Vec<HostRoot>,
+    at: &Place,
+    origin: &Text,
+) -> Result<(), NoMemory>
+    ensures ok { OnOk result (roots.new.items ≡ with_root (made at.now origin.now) roots.old.items) }
+    ensures err { OnErr result (roots.new.items ≡ roots.old.items) }
+{
+    let content = origin.copy(alloc)?;
+    make(alloc, roots, at, content)
+}
+
 /// Puts a root with the content of another one, or of its named snapshot.
 fn copy_content(
     alloc: Global,
@@ -81,8 +95,8 @@ fn start(alloc: Global, roots: &mut Vec<HostRoot>, at: &Place, spec: &Spec) -> R
     ensures ok { OnOk result (roots.new.items ≡ with_root (with_power power_of.Running (with_spec spec.now (root_at at.now roots.old.items))) roots.old.items) }
     ensures err { OnErr result (roots.new.items ≡ roots.old.items) }
 {
-    let mut root = root_at(alloc, roots, at)?;
-    root.applied = spec.copy()?;
+    let applied = spec.copy()?;
+    let mut root = root_at(alloc, roots, at)?.with_applied(applied);
     root.power = Power::Running;
     put(roots, root)
 }
@@ -105,8 +119,8 @@ fn apply(alloc: Global, roots: &mut Vec<HostRoot>, at: &Place, spec: &Spec) -> R
     ensures ok { OnOk result (roots.new.items ≡ with_root (with_spec spec.now (root_at at.now roots.old.items)) roots.old.items) }
     ensures err { OnErr result (roots.new.items ≡ roots.old.items) }
 {
-    let mut root = root_at(alloc, roots, at)?;
-    root.applied = spec.copy()?;
+    let applied = spec.copy()?;
+    let root = root_at(alloc, roots, at)?.with_applied(applied);
     put(roots, root)
 }
 
@@ -119,9 +133,9 @@ fn rename(
     ensures ok { OnOk result (roots.new.items ≡ with_root (renamed to.now (root_at from.now roots.old.items)) (without_root from.now roots.old.items)) }
     ensures err { OnErr result (roots.new.items ≡ roots.old.items) }
 {
-    let mut root = root_at(alloc, roots, from)?;
-    root.place = to.copy(alloc)?;
     roots.reserve(1)?;
+    let place = to.copy(alloc)?;
+    let root = root_at(alloc, roots, from)?.at_place(place);
     clear(roots, from);
     put_reserved(roots, root);
     Ok(())
@@ -132,8 +146,8 @@ fn snap(alloc: Global, roots: &mut Vec<HostRoot>, at: &Place, name: &Text) -> Re
     ensures err { OnErr result (roots.new.items ≡ roots.old.items) }
 {
     let root = root_at(alloc, roots, at)?;
-    let root = root.snapped(alloc, name)?;
-    put(roots, root)
+    let snapshots = root.more_snapshots(alloc, name)?;
+    put(roots, root.with_snapshots(snapshots))
 }
 
 fn unsnap(alloc: Global, roots: &mut Vec<HostRoot>, at: &Place, name: &Text) -> Result<(), NoMemory>
@@ -141,8 +155,8 @@ fn unsnap(alloc: Global, roots: &mut Vec<HostRoot>, at: &Place, name: &Text) -> 
     ensures err { OnErr result (roots.new.items ≡ roots.old.items) }
 {
     let root = root_at(alloc, roots, at)?;
-    let root = root.unsnapped(alloc, name)?;
-    put(roots, root)
+    let snapshots = root.fewer_snapshots(alloc, name)?;
+    put(roots, root.with_snapshots(snapshots))
 }
 
 fn restore(
@@ -155,8 +169,8 @@ fn restore(
     ensures err { OnErr result (roots.new.items ≡ roots.old.items) }
 {
     let root = root_at(alloc, roots, at)?;
-    let root = root.restored(alloc, name)?;
-    put(roots, root)
+    let content = root.restored_content(alloc, name)?;
+    put(roots, root.with_content(content))
 }
 
 /// The content of a root, or of its named snapshot.
@@ -168,12 +182,8 @@ fn content_of(
 ) -> Result<Text, NoMemory>
     ensures { IfOk result (λ t. t ≡ content_of from.now snapshot.now roots.now) }
 {
-    let source = root_at(alloc, roots, from)?;
-    if snapshot.is_empty() {
-        return source.content.copy(alloc);
-    }
-    match source.snapshot(snapshot) {
-        Some(content) => content.copy(alloc),
+    match find_root(roots, from) {
+        Some(root) => root.content_in(alloc, snapshot),
         None => Ok(Text::new(alloc)),
     }
 }

@@ -39,6 +39,13 @@ impl ModelHost {
             calls: FailingCalls::new(fails),
         }
     }
+
+    /// The roots so far.
+    pub fn roots(&self) -> &[HostRoot]
+        ensures { result.now ≡ self.now.roots }
+    {
+        &self.roots
+    }
 }
 
 impl Host for ModelHost {
@@ -62,6 +69,3 @@ impl Host for ModelHost {
         self.calls.failed()
     }
 }
-
-#[cfg(test)]
-mod tests;

@@ -5,7 +5,7 @@ use std::alloc::Global;
 
 /// Where a root stands: an instance's by its project and name, with an empty pool, a volume's by its project,
 /// pool and name.
-#[derive(Debug, Drop)]
+#[derive(Drop)]
 pub struct Place {
     pub volume: bool,
     pub project: Text,

@@ -1,7 +1,6 @@
-ghost use Rattle.std.specs.Prelude.{◌≡◌, IfOk};
+ghost use Rattle.std.specs.Prelude.{◌≡◌, ◌∷◌, ◌++◌, [], IfOk, unwrap_or};
 ghost use Rattle.std.specs.Option.{option_copied};
-ghost use Rattle.host_model.specs.Roots.{no_spec, made, others, snapshot_of};
-ghost use Rattle.host_model.specs.Effects.{snapped, unsnapped, restored};
+ghost use Rattle.host_model.specs.Roots.{no_spec, made, others, snapshot_of, content_in};
 
 use crate::place::Place;
 use config_lists::{Config, Devices};
@@ -9,7 +8,7 @@ use size_values::{NoMemory, Power, Seq, Text};
 use std::alloc::Global;
 
 /// What an instance is started with: its expanded settings and devices.
-#[derive(Debug, Drop)]
+#[derive(Drop)]
 pub struct Spec {
     pub config: Config,
     pub devices: Devices,
@@ -17,7 +16,7 @@ pub struct Spec {
 
 /// One root on the host: what it is made of, in which state it is, what was applied to it last, and its
 /// snapshots, each a name and a content.
-#[derive(Debug, Drop)]
+#[derive(Drop)]
 pub struct HostRoot {
     pub place: Place,
     pub power: Power,
@@ -66,12 +65,15 @@ impl HostRoot {
     pub(crate) fn copy(&self, alloc: Global) -> Result<HostRoot, NoMemory>
         ensures { IfOk result (λ r. r ≡ self.now) }
     {
+        let (place, content) = both(self.place.copy(alloc), self.content.copy(alloc))?;
+        let snapshots = copy_snapshots(alloc, self.snapshots.view());
+        let (applied, snapshots) = both(self.applied.copy(), snapshots)?;
         Ok(HostRoot {
-            place: self.place.copy(alloc)?,
+            place,
             power: self.power,
-            content: self.content.copy(alloc)?,
-            applied: self.applied.copy()?,
-            snapshots: copy_snapshots(alloc, self.snapshots.view())?,
+            content,
+            applied,
+            snapshots,
         })
     }
 
@@ -83,37 +85,98 @@ impl HostRoot {
         found.map(|s| &s.1)
     }
 
-    /// The root with a snapshot of its content under this name, in place of an earlier one.
-    pub(crate) fn snapped(mut self, alloc: Global, name: &Text) -> Result<HostRoot, NoMemory>
-        ensures { IfOk result (λ r. r ≡ snapped name.now self) }
+    /// A copy of the content, or of that of the named snapshot, which is empty where there is none.
+    pub(crate) fn content_in(&self, alloc: Global, snapshot: &Text) -> Result<Text, NoMemory>
+        ensures { IfOk result (λ t. t ≡ content_in snapshot.now self.now) }
     {
-        let mut snapshots = other_snapshots(alloc, self.snapshots.view(), name)?;
-        let content = self.content.copy(alloc)?;
-        snapshots.push((name.copy(alloc)?, content))?;
-        self.snapshots = Seq::from_vec(snapshots);
-        Ok(self)
+        if snapshot.is_empty() {
+            return self.content.copy(alloc);
+        }
+        match self.snapshot(snapshot) {
+            Some(content) => content.copy(alloc),
+            None => Ok(Text::new(alloc)),
+        }
     }
 
-    /// The root without the snapshot of this name.
-    pub(crate) fn unsnapped(mut self, alloc: Global, name: &Text) -> Result<HostRoot, NoMemory>
-        ensures { IfOk result (λ r. r ≡ unsnapped name.now self) }
+    /// A copy of the content of the snapshot of this name, or of the root's own where there is none.
+    pub(crate) fn restored_content(&self, alloc: Global, name: &Text) -> Result<Text, NoMemory>
+        ensures { IfOk result (λ t. t ≡ unwrap_or (snapshot_of name.now self.now) self.now.content) }
+    {
+        match self.snapshot(name) {
+            Some(content) => content.copy(alloc),
+            None => self.content.copy(alloc),
+        }
+    }
+
+    /// Copies of the snapshots, with one of the root's content under this name, in place of an earlier one.
+    pub(crate) fn more_snapshots(
+        &self,
+        alloc: Global,
+        name: &Text,
+    ) -> Result<Seq<(Text, Text)>, NoMemory>
+        ensures { IfOk result (λ s. s ≡ others name.now self.now.snapshots ++ (name.now, self.now.content) ∷ []) }
+    {
+        let added = both(name.copy(alloc), self.content.copy(alloc))?;
+        let mut snapshots = other_snapshots(alloc, self.snapshots.view(), name)?;
+        snapshots.push(added)?;
+        Ok(Seq::from_vec(snapshots))
+    }
+
+    /// Copies of the snapshots of other names.
+    pub(crate) fn fewer_snapshots(
+        &self,
+        alloc: Global,
+        name: &Text,
+    ) -> Result<Seq<(Text, Text)>, NoMemory>
+        ensures { IfOk result (λ s. s ≡ others name.now self.now.snapshots) }
     {
         let snapshots = other_snapshots(alloc, self.snapshots.view(), name)?;
-        self.snapshots = Seq::from_vec(snapshots);
-        Ok(self)
+        Ok(Seq::from_vec(snapshots))
     }
 
-    /// The root with the content of the snapshot of this name, where there is one.
-    pub(crate) fn restored(mut self, alloc: Global, name: &Text) -> Result<HostRoot, NoMemory>
-        ensures { IfOk result (λ r. r ≡ restored name.now self) }
+    /// The root at another place.
+    pub(crate) fn at_place(mut self, place: Place) -> HostRoot
+        ensures { result ≡ record self { place = place } }
     {
-        let content = match self.snapshot(name) {
-            Some(content) => content.copy(alloc)?,
-            None => return Ok(self),
-        };
-        self.content = content;
-        Ok(self)
+        self.place = place;
+        self
     }
+
+    /// The root with other content.
+    pub(crate) fn with_content(mut self, content: Text) -> HostRoot
+        ensures { result ≡ record self { content = content } }
+    {
+        self.content = content;
+        self
+    }
+
+    /// The root with this applied to it.
+    pub(crate) fn with_applied(mut self, applied: Spec) -> HostRoot
+        ensures { result ≡ record self { applied = applied } }
+    {
+        self.applied = applied;
+        self
+    }
+
+    /// The root with these snapshots.
+    pub(crate) fn with_snapshots(mut self, snapshots: Seq<(Text, Text)>) -> HostRoot
+        ensures { result ≡ record self { snapshots = snapshots } }
+    {
+        self.snapshots = snapshots;
+        self
+    }
+}
+
+/// Both, where memory was enough for each.
+fn both<A: Drop, B: Drop>(
+    first: Result<A, NoMemory>,
+    second: Result<B, NoMemory>,
+) -> Result<(A, B), NoMemory>
+    ensures { IfOk result (λ x. (first ≡ Ok x.0) × (second ≡ Ok x.1)) }
+{
+    let first = first?;
+    let second = second?;
+    Ok((first, second))
 }
 
 fn copy_snapshots(alloc: Global, snapshots: &[(Text, Text)]) -> Result<Seq<(Text, Text)>, NoMemory>
@@ -145,5 +208,5 @@ fn other_snapshots(
 fn copy_snapshot(alloc: Global, snapshot: &(Text, Text)) -> Result<(Text, Text), NoMemory>
     ensures { IfOk result (λ s. s ≡ snapshot.now) }
 {
-    Ok((snapshot.0.copy(alloc)?, snapshot.1.copy(alloc)?))
+    both(snapshot.0.copy(alloc), snapshot.1.copy(alloc))
 }

@@ -1,6 +1,6 @@
 -- What a buffer takes in, and what one call of `read_request` answers of it.
-use Rattle.std.proofs.Common.{◌≡◌, ℕ, ◌+◌, ◌-◌, ◌<◌, ◌≤◌, Bool, List, ◌++◌, length, take, Option, Some, None, IfSome, refl, sym, ap, ◌∙◌, subst, inr, append_assoc, append-nil}
-use Rattle.std.specs.Io.KnownBytes.{prepend_known}
+use Rattle.std.proofs.Common.{◌≡◌, ℕ, ◌+◌, ◌-◌, ◌<◌, ◌≤◌, Bool, List, ◌++◌, length, take, Option, Some, None, IfSome, refl, sym, ap, ◌∙◌, subst, ◌⊎◌, inl, inr, append_assoc, append-nil}
+use Rattle.std.specs.Io.KnownBytes.{prepend_known, Consumes}
 use Rattle.std.proofs.lemmas.List.{take_all, take-append-le}
 use Rattle.http_heads.specs.Limits.{max_head}
 use Rattle.http_heads.specs.declared.search.Search.{Search}
@@ -9,27 +9,24 @@ use Rattle.http_heads.proofs.SearchLemmas.{HasSearched-append}
 use Rattle.http_heads.proofs.LengthLemmas.{take-append}
 use Rattle.http_front.specs.declared.read.Stop.{Stop}
 use Rattle.http_front.specs.declared.read.Stop.TheVariants as stop
-use Rattle.http_heads.proofs.MessageLemmas.{IsMessage-append, IsMalformed-append}
+use Rattle.http_heads.proofs.MessageLemmas.{IsUnfinished-of_none, IsMessage-append, IsMalformed-append}
 use Rattle.http_front.specs.declared.read.Got.TheVariants as got
-use Rattle.http_front.specs.Reading.{IsUnfinished, ReadsNext}
+use Rattle.http_front.specs.Reading.{IsUnfinished, KeepsHeld, ReadsNext}
+use Rattle.http_front.proofs.StreamLemmas.{consumes_twice}
 use Rattle.http_heads.specs.declared.head.Head.{Head}
 use Rattle.http_heads.specs.declared.request.Request.{Request}
 use Rattle.http_heads.specs.Heads.{head_len, behind_blank, head_bytes}
 use Rattle.http_heads.specs.Messages.{HasHead, IsMessage, IsBlank, IsCut, IsMalformed}
 use Rattle.http_heads.specs.Readings.{Says}
 use Rattle.http_heads.proofs.LengthLemmas.{head_len-append}
-use Rattle.http_front.specs.Held.{TakesIn, IsReadStop, Stops, StopsBefore, Takes, got_of}
-
-prepend_known-append : (xs ys : List ℕ) (o : Option (List ℕ)) → prepend_known xs (prepend_known ys o) ≡ prepend_known (xs ++ ys) o
-prepend_known-append xs ys None = refl
-prepend_known-append xs ys (Some zs) = ap Some (sym (append_assoc xs ys zs))
+use Rattle.http_front.specs.Held.{TakesIn, IsHeadAwaited, IsReadStop, Stops, StopsBefore, Takes, got_of}
 
 -- taking in, and then taking in more
 pub TakesIn-further : {a b c : List ℕ} {l m n : Option (List ℕ)} → TakesIn a b l m → TakesIn b c m n → TakesIn a c l n
-TakesIn-further {a} {n} h k = record {
+TakesIn-further {a} {l} {m} {n} h k = record {
   more = h.more ++ k.more;
   grown = k.grown ∙ ap (λ x. x ++ k.more) h.grown ∙ append_assoc a h.more k.more;
-  from = h.from ∙ ap (prepend_known h.more) k.from ∙ prepend_known-append h.more k.more n;
+  from = consumes_twice l m n h.more k.more h.from k.from;
 }
 
 -- the search goes on where more bytes have come
@@ -81,6 +78,18 @@ StopsBefore-stops end held has_ended left (stop.Malformed fault) h is_cut = absu
 StopsBefore-stops end held has_ended left stop.ReadFault h is_cut = inr (is_cut h)
 StopsBefore-stops end held has_ended left stop.NoMemory h is_cut = tt
 
+-- ---- where the source was read, no message was whole
+
+pub ahead-head : {T : Type 0} {s s' : T} {b b' : List ℕ} → ((s' ≡ s) × (b' ≡ b)) ⊎ IsHeadAwaited b → (s' ≡ s) ⊎ IsUnfinished b
+ahead-head (inl same) = inl same.0
+ahead-head {b} (inr awaited) = inr (IsUnfinished-of_none b awaited.0 awaited.1)
+
+pub ahead-body : {T : Type 0} {s s' s'' : T} {b b' : List ℕ} {head : Head} (len : ℕ) → ((s' ≡ s) × (b' ≡ b)) ⊎ IsHeadAwaited b
+    → head_len b' ≡ Some len → Says (head_bytes len b') head → (s'' ≡ s') ⊎ (length b' < len + head.body) → (s'' ≡ s) ⊎ IsUnfinished b
+ahead-body {b} len (inr awaited) ends says body = inr (IsUnfinished-of_none b awaited.0 awaited.1)
+ahead-body len (inl same) ends says (inl untouched) = inl (untouched ∙ same.0)
+ahead-body len (inl same) ends says (inr short) = inr (subst IsUnfinished same.1 (inr (IsCut-says len ends says short)))
+
 -- a request that is taken out of what was held and taken in
 pub Takes-taken : {old middle new : List ℕ} {l m : Option (List ℕ)} {request : Request} → TakesIn old middle l m → IsMessage middle request new
     → Takes old new l m request
@@ -90,12 +99,13 @@ Takes-taken {new} {request} h is = record { more = h.more; is = subst (λ b. IsM
 
 pub next-request : {old new : List ℕ} {l m : Option (List ℕ)} {request : Request} → Takes old new l m request
     → IfSome (prepend_known old l) (λ bytes. ReadsNext bytes (prepend_known new m) new (got.Request request))
-next-request {old} {new} {l} {m} {request} h = by_left m h.from
+next-request {old} {new} {l} {m} {request} h = by_left l m h.from
   where
-    by_left : (rest : Option (List ℕ)) → l ≡ prepend_known h.more rest
-        → IfSome (prepend_known old l) (λ bytes. ReadsNext bytes (prepend_known new rest) new (got.Request request))
-    by_left None from = rw from tt
-    by_left (Some ys) from =
+    by_left : (known rest : Option (List ℕ)) → Consumes known rest h.more
+        → IfSome (prepend_known old known) (λ bytes. ReadsNext bytes (prepend_known new rest) new (got.Request request))
+    by_left None rest from = tt
+    by_left (Some xs) None from = absurd from
+    by_left (Some xs) (Some ys) from =
         rw from (new ++ ys, subst (λ b. IsMessage b request (new ++ ys)) (append_assoc old h.more ys) (IsMessage-append ys h.is), refl)
 
 stop_next : (held ys bytes : List ℕ) (has_ended : Bool) (s : Stop) → bytes ≡ held ++ ys → Stops held has_ended (Some ys) s
@@ -112,11 +122,24 @@ stop_next held ys bytes has_ended stop.NoMemory e h = ap Some (sym e)
 
 pub next-stop : {old new : List ℕ} {l m : Option (List ℕ)} (has_ended : Bool) (s : Stop) → TakesIn old new l m → Stops new has_ended m s
     → IfSome (prepend_known old l) (λ bytes. ReadsNext bytes (prepend_known new m) new (got_of s))
-next-stop {old} {new} {l} {m} has_ended s h stops = by_left m h.from stops
+next-stop {old} {new} {l} {m} has_ended s h stops = by_left l m h.from stops
   where
-    by_left : (rest : Option (List ℕ)) → l ≡ prepend_known h.more rest → Stops new has_ended rest s
-        → IfSome (prepend_known old l) (λ bytes. ReadsNext bytes (prepend_known new rest) new (got_of s))
-    by_left None from k = rw from tt
-    by_left (Some ys) from k =
+    by_left : (known rest : Option (List ℕ)) → Consumes known rest h.more → Stops new has_ended rest s
+        → IfSome (prepend_known old known) (λ bytes. ReadsNext bytes (prepend_known new rest) new (got_of s))
+    by_left None rest from k = tt
+    by_left (Some xs) None from k = absurd from
+    by_left (Some xs) (Some ys) from k =
         let whole : old ++ (h.more ++ ys) ≡ new ++ ys = sym (append_assoc old h.more ys) ∙ ap (λ b. b ++ ys) (sym h.grown) in
         rw from (stop_next new ys (old ++ (h.more ++ ys)) has_ended s whole k)
+
+-- ---- the answer, told of the bytes held
+
+pub held-request : {old new : List ℕ} {l m : Option (List ℕ)} {request : Request} → Takes old new l m request → KeepsHeld old new (got.Request request)
+held-request h = (h.more, h.is)
+
+pub held-stop : {old new : List ℕ} {l m : Option (List ℕ)} (has_ended : Bool) (s : Stop) → TakesIn old new l m → Stops new has_ended m s → KeepsHeld old new (got_of s)
+held-stop has_ended stop.End h stops = (h.more, h.grown, stops.0)
+held-stop has_ended (stop.Cut n) h stops = (h.more, h.grown, stops.0, stops.1)
+held-stop has_ended (stop.Malformed fault) h stops = (h.more, h.grown, stops)
+held-stop has_ended stop.ReadFault h stops = (h.more, h.grown, stops)
+held-stop has_ended stop.NoMemory h stops = (h.more, h.grown)

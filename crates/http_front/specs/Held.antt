@@ -1,6 +1,6 @@
 -- What a buffer keeps of its parts, and what reading does to what it holds.
-use Rattle.std.specs.Prelude.{◌≡◌, ℕ, ◌+◌, ◌<◌, ◌≤◌, Bool, true, List, [], ◌++◌, length, Option, IfSome, Result, Ok, Err}
-use Rattle.std.specs.Io.KnownBytes.{prepend_known}
+use Rattle.std.specs.Prelude.{◌≡◌, ℕ, ◌+◌, ◌<◌, ◌≤◌, Bool, true, List, ◌++◌, length, Option, None, Result, Ok, Err}
+use Rattle.std.specs.Io.KnownBytes.{Consumes, IsAtEnd}
 use Rattle.http_heads.specs.Limits.{max_head, max_body}
 use Rattle.size_values.specs.declared.memory.Or.{Or}
 use Rattle.size_values.specs.declared.memory.Or.TheVariants as or
@@ -9,6 +9,7 @@ use Rattle.http_heads.specs.declared.request.HeadFault.{HeadFault}
 use Rattle.http_front.specs.declared.source.SourceFailed.{SourceFailed}
 use Rattle.http_front.specs.declared.read.Got.{Got}
 use Rattle.http_front.specs.declared.read.Got.TheVariants as got
+use Rattle.http_heads.specs.Heads.{head_len}
 use Rattle.http_heads.specs.Messages.{IsMessage, IsBlank, IsCut, IsMalformed}
 use Rattle.http_front.specs.declared.read.Stop.{Stop}
 use Rattle.http_front.specs.declared.read.Stop.TheVariants as stop
@@ -32,12 +33,16 @@ pub record IsBuffer (len start piece : ℕ) : Type 0 where
 pub record TakesIn (old new : List ℕ) (left left' : Option (List ℕ)) : Type 0 where
   pub more : List ℕ
   pub grown : new ≡ old ++ more
-  pub from : left ≡ prepend_known more left'
+  pub from : Consumes left left' more
 
 -- the source has ended and has nothing left
 pub record IsOver (has_ended : Bool) (left : Option (List ℕ)) : Type 0 where
   pub ended : has_ended ≡ true
-  pub none : IfSome left (λ xs. xs ≡ [])
+  pub none : IsAtEnd left
+
+-- no head is whole among these bytes, and one may still become whole
+abbrev pub IsHeadAwaited : List ℕ → Type 0
+IsHeadAwaited bytes = (head_len bytes ≡ None) × (length bytes < max_head)
 
 -- the stop of a read that failed or wanted memory, and that of a head with a fault
 abbrev pub read_stop : Or SourceFailed → Stop
@@ -101,4 +106,4 @@ OnFault (Err stop.NoMemory) P = Unit {0}
 pub record Takes (old new : List ℕ) (left left' : Option (List ℕ)) (m : Request) : Type 0 where
   pub more : List ℕ
   pub is : IsMessage (old ++ more) m new
-  pub from : left ≡ prepend_known more left'
+  pub from : Consumes left left' more

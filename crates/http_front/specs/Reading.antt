@@ -1,5 +1,5 @@
 -- What one call of `read_request` answers, told of the bytes that were to come.
-use Rattle.std.specs.Prelude.{◌≡◌, ℕ, ◌⊎◌, List, [], ◌∷◌, length, Option, Some}
+use Rattle.std.specs.Prelude.{◌≡◌, ℕ, ◌⊎◌, List, [], ◌∷◌, ◌++◌, length, Option, Some}
 use Rattle.http_heads.specs.declared.request.Request.{Request}
 use Rattle.http_heads.specs.Messages.{IsMessage, IsBlank, IsCut, IsMalformed, Ending, ended, cut, malformed}
 use Rattle.http_front.specs.declared.read.Got.{Got}
@@ -17,6 +17,16 @@ ReadsNext old new held (got.Cut n) = IsCut old × (new ≡ Some old) × (held �
 ReadsNext old new held (got.Malformed fault) = IsMalformed old fault × (new ≡ Some old)
 ReadsNext old new held got.ReadFault = IsUnfinished held × (new ≡ Some old)
 ReadsNext old new held got.NoMemory = new ≡ Some old
+
+-- What was answered of the bytes held, over any source: they and some more bytes, which the source gave, are what is held
+-- afterwards, and before it the message that was answered.
+abbrev pub KeepsHeld : List ℕ → List ℕ → Got → Type 0
+KeepsHeld old new (got.Request m) = (more : List ℕ) × IsMessage (old ++ more) m new
+KeepsHeld old new got.End = (more : List ℕ) × (new ≡ old ++ more) × IsBlank new
+KeepsHeld old new (got.Cut n) = (more : List ℕ) × (new ≡ old ++ more) × IsCut new × (n ≡ length new)
+KeepsHeld old new (got.Malformed fault) = (more : List ℕ) × (new ≡ old ++ more) × IsMalformed new fault
+KeepsHeld old new got.ReadFault = (more : List ℕ) × (new ≡ old ++ more) × IsUnfinished new
+KeepsHeld old new got.NoMemory = (more : List ℕ) × (new ≡ old ++ more)
 
 -- the fact, where a read failed
 abbrev pub OnReadFault : Got → Type 0 → Type 0

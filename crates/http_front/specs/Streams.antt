@@ -1,12 +1,12 @@
 -- What a read and a write do to the bytes that a source has left and a sink holds, where they tell them.
-use Rattle.std.specs.Prelude.{◌≡◌, ℕ, ◌<◌, ◌≤◌, ◌==◌, Bool, ◌||◌, List, length, take, Option, Result, Ok, Err}
-use Rattle.std.specs.Io.KnownBytes.{prepend_known, append_known}
-use Rattle.size_values.specs.Calls.{Calls, last_number}
+use Rattle.std.specs.Prelude.{◌≡◌, ℕ, ◌+◌, ◌<◌, ◌≤◌, ◌==◌, ◌⊎◌, Bool, true, false, ◌||◌, List, ◌++◌, length, take, min, Option, Result, Ok, Err}
+use Rattle.std.specs.Io.KnownBytes.{Appends, Consumes, Keeps}
+use Rattle.size_values.specs.Calls.{Calls, is_next_failing, after_call, last_number}
 
 -- A read gave the first of the bytes that the source had left, and those are gone; a read that failed took none.
 abbrev pub Delivers : {E : Type 0} → Option (List ℕ) → Option (List ℕ) → Result ℕ E → List ℕ → Type 0
-Delivers old new (Ok n) buf = (n ≤ length buf) × (old ≡ prepend_known (take n buf) new)
-Delivers old new (Err e) buf = new ≡ old
+Delivers old new (Ok n) buf = (n ≤ length buf) × Consumes old new (take n buf)
+Delivers old new (Err e) buf = Keeps old new
 
 -- A source ends at the read that answers 0, and only there.
 abbrev pub Ends : {E : Type 0} → Bool → Bool → Result ℕ E → Type 0
@@ -15,8 +15,8 @@ Ends old new (Err e) = new ≡ old
 
 -- A write appended all of its bytes; one that failed appended some of the first.
 abbrev pub Writes : {E : Type 0} → Option (List ℕ) → Option (List ℕ) → Result (Unit {0}) E → List ℕ → Type 0
-Writes old new (Ok u) bytes = new ≡ append_known old bytes
-Writes old new (Err e) bytes = (n : ℕ) × (new ≡ append_known old (take n bytes))
+Writes old new (Ok u) bytes = Appends old new bytes
+Writes old new (Err e) bytes = (n : ℕ) × Appends old new (take n bytes)
 
 -- A source in memory: the bytes to come, the most that one read gives, the calls of read, and whether it has ended.
 pub record Tape : Type 0 where
@@ -31,13 +31,31 @@ pub record IsTape (len at piece : ℕ) (calls : Calls) : Type 0 where
   pub gives : 0 < piece
   pub counts : calls.failed ≤ last_number
 
--- A sink in memory: the bytes written, the calls of write, and how many of them failed, for want of memory too.
+-- A sink in memory: the bytes written, the calls of write, and how many of them were refused memory.
 pub record Paper : Type 0 where
   pub held : List ℕ
   pub calls : Calls
+  pub refused : ℕ
+
+-- how many writes failed, at a listed call or for lack of memory
+abbrev pub faults_of : Paper → ℕ
+faults_of p = min (p.calls.failed + p.refused) last_number
+
+-- A write to a sink in memory. A listed call fails, and no bytes are taken. Another call takes all of the bytes, or is refused
+-- memory, which is counted apart, and takes none.
+abbrev pub WritesToPaper : {E : Type 0} → Paper → Paper → Result (Unit {0}) E → List ℕ → Type 0
+WritesToPaper p p' (Ok u) bytes = (is_next_failing p.calls ≡ false) × (p' ≡ record p { held = p.held ++ bytes; calls = after_call p.calls })
+WritesToPaper p p' (Err e) bytes =
+    ((is_next_failing p.calls ≡ true) × (p' ≡ record p { calls = after_call p.calls }))
+    ⊎ ((is_next_failing p.calls ≡ false) × (p' ≡ record p { calls = after_call p.calls; refused = min (p.refused + 1) last_number }))
+
+-- A source over a reader: the bytes to come, where the reader tells them, whether the source has ended, and how many reads failed.
+pub record Reading : Type 0 where
+  pub left : Option (List ℕ)
+  pub ended : Bool
   pub faults : ℕ
 
--- A source over a reader: whether it has ended, and how many reads failed.
-pub record Reading : Type 0 where
-  pub ended : Bool
+-- A sink over a writer: the bytes written, where the writer tells them, and how many writes failed.
+pub record Writing : Type 0 where
+  pub held : Option (List ℕ)
   pub faults : ℕ

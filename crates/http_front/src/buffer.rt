@@ -1,4 +1,5 @@
-ghost use Rattle.std.specs.Prelude.{◌≡◌, ◌+◌, ◌<◌, ◌≤◌, [], length, drop, vec_len, vec_capacity, IfOk, IfSome, OnErr};
+ghost use Rattle.std.specs.Prelude.{◌≡◌, ◌+◌, ◌<◌, ◌≤◌, [], length, drop, vec_len, vec_capacity, IfOk, OnErr};
+ghost use Rattle.std.specs.Io.KnownBytes.{IsAtEnd};
 ghost use Rattle.size_values.specs.Causes.{HasCauseOrMemory};
 ghost use Rattle.http_heads.specs.Limits.{max_head, max_body};
 ghost use Rattle.http_front.specs.Streams.{Ends};
@@ -10,7 +11,12 @@ use std::alloc::Global;
 use std::marker::Model;
 
 /// The most bytes that one read asks for.
-const PIECE: usize = 65_536;
+pub const PIECE: usize = 65_536;
+
+/// The constant is the number that definitions speak of.
+pub fn pieces_have_64_kib()
+    ensures { PIECE ≡ max_piece }
+{}
 
 /// The bytes that a source gave and that no message has used yet. Contracts see it as the list of these bytes.
 #[derive(Debug, Drop)]
@@ -67,9 +73,10 @@ impl Buffer {
         requires { length self.old < max_head + max_body }
         ensures takes { TakesIn self.old self.new (S.left source.old) (S.left source.new) }
         ensures count { IfOk result (λ n. length self.new ≡ length self.old + n) }
+        ensures few { length self.new ≤ most_held }
         ensures err { OnErr result (self.new ≡ self.old) }
         ensures end { Ends (S.ended source.old) (S.ended source.new) result }
-        ensures rest { IfOk result (λ n. n ≡ 0 → IfSome (S.left source.new) (λ xs. xs ≡ [])) }
+        ensures rest { IfOk result (λ n. n ≡ 0 → IsAtEnd (S.left source.new)) }
         ensures cause { HasCauseOrMemory (S.failures source.old) (S.failures source.new) result }
     {
         keep_from(&mut self.bytes, self.start);
@@ -106,7 +113,7 @@ fn read_piece<S: Source>(
     ensures err { OnErr result (bytes.new ≡ bytes.old) }
     ensures piece { vec_len piece.new ≡ max_piece }
     ensures end { Ends (S.ended source.old) (S.ended source.new) result }
-    ensures rest { IfOk result (λ n. n ≡ 0 → IfSome (S.left source.new) (λ xs. xs ≡ [])) }
+    ensures rest { IfOk result (λ n. n ≡ 0 → IsAtEnd (S.left source.new)) }
     ensures cause { HasCauseOrMemory (S.failures source.old) (S.failures source.new) result }
 {
     let count = match source.read(piece.as_mut_slice()) {

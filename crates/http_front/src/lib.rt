@@ -8,10 +8,8 @@ mod read;
 mod reply;
 mod sink;
 mod source;
-#[cfg(test)]
-mod tests;
 
-pub use buffer::Buffer;
+pub use buffer::{Buffer, PIECE, pieces_have_64_kib};
 pub use http_heads::{HeadFault, MAX_BODY, MAX_FIELDS, MAX_HEAD, Request};
 pub use laws::{pieces_agree, steps_split};
 pub use read::{Got, read_request};

@@ -1,4 +1,4 @@
-ghost use Rattle.std.specs.Prelude.{◌≡◌, ℕ, ◌+◌, ◌<◌, ◌≤◌, Some, None, true, false, length, take, IfOk, IfErr, OnOk, OnErr, IfSome};
+ghost use Rattle.std.specs.Prelude.{◌≡◌, ℕ, ◌+◌, ◌<◌, ◌≤◌, ◌⊎◌, Some, None, true, false, length, take, IfOk, IfErr, OnOk, OnErr, IfSome};
 ghost use Rattle.std.specs.Io.KnownBytes.{prepend_known};
 ghost use Rattle.size_values.specs.Causes.{Rose};
 ghost use Rattle.http_heads.specs.Heads.{head_len, head_bytes};
@@ -6,8 +6,8 @@ ghost use Rattle.http_heads.specs.Limits.{max_head, max_body};
 ghost use Rattle.http_heads.specs.Messages.{IsMessage};
 ghost use Rattle.http_heads.specs.Readings.{Says};
 ghost use Rattle.http_heads.specs.Search.{HasSearched};
-ghost use Rattle.http_front.specs.Reading.{ReadsNext, OnReadFault, OnEnd};
-ghost use Rattle.http_front.specs.Held.{TakesIn, IsOver, Stops, StopsBefore, OnFault, Takes, IsReadStop, read_stop, head_stop, got_of, EndsWith};
+ghost use Rattle.http_front.specs.Reading.{IsUnfinished, KeepsHeld, ReadsNext, OnReadFault, OnEnd};
+ghost use Rattle.http_front.specs.Held.{TakesIn, IsOver, IsHeadAwaited, most_held, Stops, StopsBefore, OnFault, Takes, IsReadStop, read_stop, head_stop, got_of, EndsWith};
 
 use crate::buffer::Buffer;
 use crate::source::{Source, SourceFailed};
@@ -91,8 +91,15 @@ impl From<Stop> for Got {
 /// Reads the next request of the bytes held and those that the source has left, in whatever pieces it gives them.
 /// At most one head of 16,384 bytes, one body of 1,048,576 and one piece more are ever held.
 pub fn read_request<S: Source>(alloc: Global, buffer: &mut Buffer, source: &mut S) -> Got
+    // What was answered of the bytes to come, where the source tells them, and of the bytes held over any source.
     ensures next { IfSome (prepend_known buffer.old (S.left source.old))
         (λ bytes. ReadsNext bytes (prepend_known buffer.new (S.left source.new)) buffer.new result) }
+    ensures held { KeepsHeld buffer.old buffer.new result }
+
+    // Nothing is read where the bytes held begin with a whole message or with a malformed place, and little is read ahead.
+    ensures ahead { (source.new ≡ source.old) ⊎ IsUnfinished buffer.old }
+    ensures few { length buffer.new ≤ most_held }
+
     ensures later { S.failures source.old ≤ S.failures source.new }
     ensures fault { OnReadFault result (Rose (S.failures source.old) (S.failures source.new)) }
     ensures ended { OnEnd result (S.ended source.new ≡ true) }
@@ -111,6 +118,8 @@ fn next_request<S: Source>(
     ensures ok { IfOk result (Takes buffer.old buffer.new (S.left source.old) (S.left source.new)) }
     ensures held { IfErr result (λ stop. TakesIn buffer.old buffer.new (S.left source.old) (S.left source.new)) }
     ensures err { IfErr result (Stops buffer.new (S.ended source.new) (S.left source.new)) }
+    ensures ahead { (source.new ≡ source.old) ⊎ IsUnfinished buffer.old }
+    ensures few { length buffer.new ≤ most_held }
     ensures later { S.failures source.old ≤ S.failures source.new }
     ensures fault { OnFault result (Rose (S.failures source.old) (S.failures source.new)) }
 {
@@ -132,6 +141,7 @@ fn take_request(
     requires whole { len + head.body ≤ length buffer.old }
     ensures ok { IfOk result (λ m. IsMessage buffer.old m buffer.new) }
     ensures err { OnErr result (buffer.new ≡ buffer.old) }
+    ensures few { length buffer.new ≤ most_held }
 {
     let held = buffer.view();
     let end = len + head.body;
@@ -150,8 +160,10 @@ fn await_head<S: Source>(buffer: &mut Buffer, source: &mut S) -> Result<usize, S
     ensures takes { TakesIn buffer.old buffer.new (S.left source.old) (S.left source.new) }
     ensures ok { IfOk result (λ len. head_len buffer.new ≡ Some len) }
     ensures within { IfOk result (λ len. len ≤ length buffer.new) }
-    ensures few { IfOk result (λ len. len ≤ max_head) }
+    ensures short { IfOk result (λ len. len ≤ max_head) }
     ensures err { IfErr result (Stops buffer.new (S.ended source.new) (S.left source.new)) }
+    ensures ahead { ((source.new ≡ source.old) × (buffer.new ≡ buffer.old)) ⊎ IsHeadAwaited buffer.old }
+    ensures few { length buffer.new ≤ most_held }
     ensures later { S.failures source.old ≤ S.failures source.new }
     ensures fault { OnFault result (Rose (S.failures source.old) (S.failures source.new)) }
 {
@@ -178,6 +190,7 @@ fn read_more<S: Source>(buffer: &mut Buffer, source: &mut S) -> Result<bool, Sto
     ensures over { IfOk result (λ came. came ≡ false → IsOver (S.ended source.new) (S.left source.new)) }
     ensures none { IfOk result (λ came. came ≡ false → buffer.new ≡ buffer.old) }
     ensures err { IfErr result (λ stop. IsReadStop stop × (buffer.new ≡ buffer.old)) }
+    ensures few { length buffer.new ≤ most_held }
     ensures later { S.failures source.old ≤ S.failures source.new }
     ensures fault { OnFault result (Rose (S.failures source.old) (S.failures source.new)) }
 {
@@ -226,6 +239,8 @@ fn await_body<S: Source>(buffer: &mut Buffer, source: &mut S, end: usize) -> Res
     ensures takes { TakesIn buffer.old buffer.new (S.left source.old) (S.left source.new) }
     ensures ok { OnOk result (end ≤ length buffer.new) }
     ensures err { IfErr result (StopsBefore end buffer.new (S.ended source.new) (S.left source.new)) }
+    ensures ahead { (source.new ≡ source.old) ⊎ (length buffer.old < end) }
+    ensures few { length buffer.new ≤ most_held }
     ensures later { S.failures source.old ≤ S.failures source.new }
     ensures fault { OnFault result (Rose (S.failures source.old) (S.failures source.new)) }
 {

@@ -1,11 +1,12 @@
-ghost use Rattle.std.specs.Prelude.{◌≡◌, ℕ, List, [], ◌++◌, Option, OnOk, OnErr, false};
+ghost use Rattle.std.specs.Prelude.{◌≡◌, ℕ, ◌≤◌, List, [], length, take, Option, IfOk, OnErr};
+ghost use Rattle.std.specs.Io.KnownBytes.{Appends, Keeps};
 ghost use Rattle.size_values.specs.Causes.{HasCause};
-ghost use Rattle.size_values.specs.Calls.{is_next_failing, after_call, no_calls};
-ghost use Rattle.http_front.specs.Streams.{Writes};
+ghost use Rattle.size_values.specs.Calls.{no_calls};
+ghost use Rattle.http_front.specs.Streams.{Writes, WritesToPaper};
 
 use size_values::{FailingCalls, Seq};
 use std::alloc::Global;
-use std::io::Write;
+use std::io::{ErrorKind, Write};
 use std::marker::Model;
 use thiserror::Error;
 
@@ -32,12 +33,13 @@ pub trait Sink {
 }
 
 /// A sink in memory. The writes of the listed numbers fail, counted from 1, and take none of the bytes. A write for
-/// which there is no memory fails so too.
+/// which memory is refused fails too, and is counted apart.
 #[derive(Debug, Drop)]
 pub struct ByteSink {
     bytes: Vec<u8>,
     calls: FailingCalls,
-    faults: u64,
+    /// How many writes were refused memory; the count stops at 2^64 - 1.
+    refused: u64,
 }
 
 impl Model for ByteSink {
@@ -45,7 +47,7 @@ impl Model for ByteSink {
 
     ghost Value = { Paper };
 
-    ghost view = { λ s. record { held = s.bytes.items; calls = s.calls; faults = s.faults } };
+    ghost view = { λ s. record { held = s.bytes.items; calls = s.calls; refused = s.refused } };
 }
 
 impl ByteSink {
@@ -53,12 +55,12 @@ impl ByteSink {
     pub fn new(alloc: Global, fails: Seq<u64>) -> ByteSink
         ensures held { result.held ≡ [] }
         ensures calls { result.calls ≡ no_calls fails }
-        ensures faults { result.faults ≡ 0 }
+        ensures refused { result.refused ≡ 0 }
     {
         ByteSink {
             bytes: Vec::new(alloc),
             calls: FailingCalls::new(fails),
-            faults: 0,
+            refused: 0,
         }
     }
 
@@ -68,77 +70,127 @@ impl ByteSink {
     {
         self.bytes.as_slice()
     }
+
+    /// How many writes were refused memory; the count stops at 2^64 - 1.
+    pub fn refused(&self) -> u64
+        ensures { result ≡ self.now.refused }
+    {
+        self.refused
+    }
 }
 
 impl Sink for ByteSink {
     ghost use Rattle.std.specs.Prelude.{Some};
+    ghost use Rattle.http_front.specs.Streams.{faults_of};
 
     ghost held = { λ s. Some s.held };
 
-    ghost failures = { λ s. s.faults };
+    ghost failures = { faults_of };
 
     fn write(&mut self, bytes: &[u8]) -> Result<(), SinkFailed>
         ensures written { Writes (Some self.old.held) (Some self.new.held) result bytes.now }
-        ensures cause { HasCause self.old.faults self.new.faults result }
+        ensures cause { HasCause (faults_of self.old) (faults_of self.new) result }
 
-        // Which call fails, want of memory aside, and what it leaves.
-        ensures fails { OnOk result (is_next_failing self.old.calls ≡ false) }
-        ensures err { OnErr result (self.new.held ≡ self.old.held) }
-        ensures calls { self.new.calls ≡ after_call self.old.calls }
-        ensures faults { OnOk result (self.new.faults ≡ self.old.faults) }
+        // A listed call fails; another one writes all of the bytes, or is refused memory, which is counted apart.
+        ensures paper { WritesToPaper self.old self.new result bytes.now }
     {
-        if !self.calls.next() && self.bytes.extend_from_slice(bytes).is_ok() {
-            return Ok(());
+        if self.calls.next() {
+            return Err(SinkFailed);
         }
-        self.faults = self.faults.saturating_add(1);
-        Err(SinkFailed)
+        match self.bytes.extend_from_slice(bytes) {
+            Ok(()) => Ok(()),
+            Err(_) => {
+                self.refused = self.refused.saturating_add(1);
+                Err(SinkFailed)
+            }
+        }
     }
 
     fn faults(&self) -> u64 {
-        self.faults
+        self.calls.failed().saturating_add(self.refused)
     }
 }
 
-/// A sink over a writer of std, as standard output. It tells nothing of its bytes.
+/// A sink over a writer of std, as standard output. It tells the bytes written where the writer tells them.
 #[derive(Debug, Drop)]
-pub struct WriterSink<W> {
+pub struct WriterSink<W: Write> {
     inner: W,
     faults: u64,
 }
 
-impl<W> Model for WriterSink<W> {
-    ghost use Rattle.std.specs.Prelude.{ℕ};
+impl<W: Write> Model for WriterSink<W> {
+    ghost use Rattle.http_front.specs.Streams.{Writing};
 
-    ghost Value = { ℕ };
+    ghost Value = { Writing };
 
-    ghost view = { λ s. s.faults };
+    ghost view = { λ s. record { held = W.contents s.inner; faults = s.faults } };
 }
 
-impl<W> WriterSink<W> {
-    /// A sink over the writer, to which nothing was written yet.
+impl<W: Write> WriterSink<W> {
+    /// A sink over the writer, which has had no failure yet.
     pub fn new(inner: W) -> WriterSink<W>
-        ensures { result ≡ 0 }
+        ensures held { result.held ≡ W.contents inner }
+        ensures faults { result.faults ≡ 0 }
     {
         WriterSink { inner, faults: 0 }
     }
 }
 
 impl<W: Write> Sink for WriterSink<W> {
-    ghost use Rattle.std.specs.Prelude.{None};
+    ghost held = { λ s. s.held };
 
-    ghost held = { λ _. None };
-
-    ghost failures = { λ s. s };
+    ghost failures = { λ s. s.faults };
 
     fn write(&mut self, bytes: &[u8]) -> Result<(), SinkFailed> {
-        if self.inner.write_all(bytes).is_ok() && self.inner.flush().is_ok() {
-            return Ok(());
+        let written = write_through(&mut self.inner, bytes);
+        if written.is_err() {
+            self.faults = self.faults.saturating_add(1);
         }
-        self.faults = self.faults.saturating_add(1);
-        Err(SinkFailed)
+        written
     }
 
     fn faults(&self) -> u64 {
         self.faults
+    }
+}
+
+/// Writes all of the bytes and flushes. A write is made again where a signal interrupted it.
+fn write_through<W: Write>(writer: &mut W, bytes: &[u8]) -> Result<(), SinkFailed>
+    ensures { Writes (W.contents writer.old) (W.contents writer.new) result bytes.now }
+{
+    let mut done = 0;
+    for _ in 0..u64::MAX {
+        if done == bytes.len() {
+            return flush(writer);
+        }
+        match write_some(writer, &bytes[done..]) {
+            Ok(count) => done += count,
+            Err(fault) => return Err(fault),
+        }
+    }
+    Err(SinkFailed)
+}
+
+/// One write, and how many of the bytes it took: none where a signal interrupted it.
+#[tactic(auto, using(crate::proofs::StreamLemmas::keeps_appends))]
+fn write_some<W: Write>(writer: &mut W, bytes: &[u8]) -> Result<usize, SinkFailed>
+    ensures bound { IfOk result (λ n. n ≤ length bytes.now) }
+    ensures ok { IfOk result (λ n. Appends (W.contents writer.old) (W.contents writer.new) (take n bytes.now)) }
+    ensures err { OnErr result (Appends (W.contents writer.old) (W.contents writer.new) []) }
+{
+    match writer.write(bytes) {
+        Ok(0) => Err(SinkFailed),
+        Ok(count) => Ok(count),
+        Err(error) if error.kind() == ErrorKind::Interrupted => Ok(0),
+        Err(_) => Err(SinkFailed),
+    }
+}
+
+fn flush<W: Write>(writer: &mut W) -> Result<(), SinkFailed>
+    ensures { Keeps (W.contents writer.old) (W.contents writer.new) }
+{
+    match writer.flush() {
+        Ok(()) => Ok(()),
+        Err(_) => Err(SinkFailed),
     }
 }

@@ -1,4 +1,5 @@
-ghost use Rattle.std.specs.Prelude.{◌≡◌, ℕ, ◌<◌, ◌≤◌, ◌-◌, Bool, false, List, [], ◌++◌, length, take, drop, min, Option, IfOk, IfSome, is_ok, not};
+ghost use Rattle.std.specs.Prelude.{◌≡◌, ℕ, ◌<◌, ◌≤◌, ◌-◌, Bool, false, List, ◌++◌, length, take, drop, min, Option, IfOk, is_ok, not};
+ghost use Rattle.std.specs.Io.KnownBytes.{IsAtEnd};
 ghost use Rattle.size_values.specs.Causes.{HasCause};
 ghost use Rattle.size_values.specs.Calls.{is_next_failing, after_call, no_calls};
 ghost use Rattle.http_front.specs.Streams.{Delivers, Ends};
@@ -29,7 +30,7 @@ pub trait Source {
         ensures bound { IfOk result (λ n. n ≤ length into.new) }
         ensures bytes { Delivers (left self.old) (left self.new) result into.new }
         ensures end { Ends (ended self.old) (ended self.new) result }
-        ensures rest { IfOk result (λ n. n ≡ 0 → IfSome (left self.new) (λ xs. xs ≡ [])) }
+        ensures rest { IfOk result (λ n. n ≡ 0 → IsAtEnd (left self.new)) }
         ensures cause { HasCause (failures self.old) (failures self.new) result };
 
     /// How many reads failed; the count stops at 2^64 - 1.
@@ -91,7 +92,7 @@ impl Source for ByteSource {
         ensures bound { IfOk result (λ n. n ≤ length into.new) }
         ensures bytes { Delivers (Some self.old.left) (Some self.new.left) result into.new }
         ensures end { Ends self.old.ended self.new.ended result }
-        ensures rest { IfOk result (λ n. n ≡ 0 → IfSome (Some self.new.left) (λ xs. xs ≡ [])) }
+        ensures rest { IfOk result (λ n. n ≡ 0 → IsAtEnd (Some self.new.left)) }
         ensures cause { HasCause self.old.calls.failed self.new.calls.failed result }
 
         // Which call fails, how many bytes another one gives, and that it leaves the rest of `into`.
@@ -117,25 +118,26 @@ impl Source for ByteSource {
     }
 }
 
-/// A source over a reader of std, as standard input. It tells nothing of its bytes.
+/// A source over a reader of std, as standard input. It tells the bytes to come where the reader tells them.
 #[derive(Debug, Drop)]
-pub struct ReaderSource<R> {
+pub struct ReaderSource<R: Read> {
     inner: R,
     ended: bool,
     faults: u64,
 }
 
-impl<R> Model for ReaderSource<R> {
+impl<R: Read> Model for ReaderSource<R> {
     ghost use Rattle.http_front.specs.Streams.{Reading};
 
     ghost Value = { Reading };
 
-    ghost view = { λ s. record { ended = s.ended; faults = s.faults } };
+    ghost view = { λ s. record { left = R.remaining s.inner; ended = s.ended; faults = s.faults } };
 }
 
-impl<R> ReaderSource<R> {
+impl<R: Read> ReaderSource<R> {
     /// A source over the reader, of which nothing was read yet.
     pub fn new(inner: R) -> ReaderSource<R>
+        ensures left { result.left ≡ R.remaining inner }
         ensures ended { result.ended ≡ false }
         ensures faults { result.faults ≡ 0 }
     {
@@ -148,16 +150,14 @@ impl<R> ReaderSource<R> {
 }
 
 impl<R: Read> Source for ReaderSource<R> {
-    ghost use Rattle.std.specs.Prelude.{None};
-
-    ghost left = { λ _. None };
+    ghost left = { λ s. s.left };
 
     ghost ended = { λ s. s.ended };
 
     ghost failures = { λ s. s.faults };
 
     fn read(&mut self, into: &mut [u8]) -> Result<usize, SourceFailed> {
-        let Some(count) = read_once(&mut self.inner, into) else {
+        let Ok(count) = read_once(&mut self.inner, into) else {
             self.faults = self.faults.saturating_add(1);
             return Err(SourceFailed);
         };
@@ -171,15 +171,18 @@ impl<R: Read> Source for ReaderSource<R> {
 }
 
 /// One read, made again where a signal interrupted it.
-fn read_once<R: Read>(reader: &mut R, into: &mut [u8]) -> Option<usize>
-    ensures { IfSome result (λ n. n ≤ length into.new) }
+fn read_once<R: Read>(reader: &mut R, into: &mut [u8]) -> Result<usize, SourceFailed>
+    requires { 0 < length into.old }
+    ensures bound { IfOk result (λ n. n ≤ length into.new) }
+    ensures bytes { Delivers (R.remaining reader.old) (R.remaining reader.new) result into.new }
+    ensures rest { IfOk result (λ n. n ≡ 0 → IsAtEnd (R.remaining reader.new)) }
 {
     for _ in 0..u64::MAX {
         match reader.read(into) {
-            Ok(count) => return Some(count),
+            Ok(count) => return Ok(count),
             Err(error) if error.kind() == ErrorKind::Interrupted => {}
-            Err(_) => return None,
+            Err(_) => return Err(SourceFailed),
         }
     }
-    None
+    Err(SourceFailed)
 }

@@ -10,5 +10,7 @@ mod search;
 
 pub use head::{Head, read_head};
 pub use laws::{later_bytes, one_ending, one_next_message, one_reading, some_reading};
-pub use request::{HeadFault, MAX_BODY, MAX_FIELDS, MAX_HEAD, Request};
+pub use request::{
+    HeadFault, MAX_BODY, MAX_FIELDS, MAX_HEAD, Request, limits_are_those_of_the_definitions,
+};
 pub use search::{Search, end_of_head, leading_line_bytes};

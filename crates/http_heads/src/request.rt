@@ -1,3 +1,6 @@
+ghost use Rattle.std.specs.Prelude.{◌≡◌};
+ghost use Rattle.http_heads.specs.Limits.{max_head, max_body, max_fields};
+
 use size_values::{Seq, Text};
 
 /// The most bytes that a head has, with the CR and LF bytes before it.
@@ -8,6 +11,13 @@ pub const MAX_BODY: usize = 1_048_576;
 
 /// The most headers that a head has.
 pub const MAX_FIELDS: usize = 64;
+
+/// The constants are the numbers that definitions speak of.
+pub fn limits_are_those_of_the_definitions()
+    ensures head { MAX_HEAD ≡ max_head }
+    ensures body { MAX_BODY ≡ max_body }
+    ensures fields { MAX_FIELDS ≡ max_fields }
+{}
 
 /// One request: the method and the target of its request line (RFC 9112, section 3), and its body of
 /// Content-Length bytes. `last` says that the connection ends behind its reply: it is of HTTP/1.0, or a

@@ -3,13 +3,19 @@
 
 use http_front::{ReaderSource, WriterSink};
 use record_keeper::MapKeeper;
-use serial_run::run_main;
+use serial_run::{StartFault, run_main};
 use size_values::Seq;
+use std::io::ErrorKind;
 use std::process::ExitCode;
 use std::{env, io};
 
-/// The exit status of a run that found no memory for its words.
-const NO_MEMORY: u8 = 9;
+/// Why the words could not be taken: one is no UTF-8, which is not read, or there was no memory for them.
+fn fault_of(error: &io::Error) -> StartFault {
+    match error.kind() {
+        ErrorKind::InvalidData => StartFault::Words,
+        _ => StartFault::NoMemory,
+    }
+}
 
 /// The words behind the program's own name.
 fn words_of(rt: &HostRuntime) -> io::Result<Vec<String>> {
@@ -21,8 +27,9 @@ fn words_of(rt: &HostRuntime) -> io::Result<Vec<String>> {
 }
 
 fn main(rt: HostRuntime) -> ExitCode {
-    let Ok(words) = words_of(&rt) else {
-        return ExitCode::from(NO_MEMORY);
+    let words = match words_of(&rt) {
+        Ok(words) => words,
+        Err(error) => return ExitCode::from(fault_of(&error).status()),
     };
     let mut source = ReaderSource::new(rt.stdin());
     let mut sink = WriterSink::new(rt.stdout());

@@ -4,7 +4,7 @@ ghost use Rattle.instance_states.specs.Plans.{calls_in, calls_of, calls_of_actio
 use size_values::{Action, Deed};
 
 /// The names of a host's calls.
-#[derive(Clone, Copy, Debug, PartialEq, Eq)]
+#[derive(Clone, Copy, PartialEq, Eq)]
 pub enum CallName {
     Clear,
     MakeRoot,
@@ -21,7 +21,7 @@ pub enum CallName {
 }
 
 /// The calls of a deed: one or two, and the one that takes them back where the deed may be cancelled.
-#[derive(Clone, Copy, Debug, PartialEq, Eq)]
+#[derive(Clone, Copy, PartialEq, Eq)]
 pub struct Plan {
     pub first: CallName,
     pub second: Option<CallName>,
@@ -83,72 +83,5 @@ fn lasting(first: CallName, second: Option<CallName>) -> Plan
         first,
         second,
         undo: None,
-    }
-}
-
-#[cfg(test)]
-mod tests {
-    use super::*;
-
-    type Case = (Deed, CallName, Option<CallName>, Option<CallName>);
-
-    const PLANS: &[Case] = &[
-        (
-            Deed::Create,
-            CallName::Clear,
-            Some(CallName::MakeRoot),
-            Some(CallName::Clear),
-        ),
-        (
-            Deed::Copy,
-            CallName::Clear,
-            Some(CallName::CopyRoot),
-            Some(CallName::Clear),
-        ),
-        (Deed::Update, CallName::Apply, None, None),
-        (Deed::Restore, CallName::Restore, None, None),
-        (Deed::Rename, CallName::Rename, None, None),
-        (Deed::Delete, CallName::Clear, None, None),
-        (Deed::Snap, CallName::Snap, None, Some(CallName::Unsnap)),
-        (Deed::Unsnap, CallName::Unsnap, None, None),
-        (
-            Deed::CopyVolume,
-            CallName::Clear,
-            Some(CallName::CopyRoot),
-            Some(CallName::Clear),
-        ),
-    ];
-
-    const ACTS: &[(Action, bool, CallName, Option<CallName>)] = &[
-        (Action::Start, false, CallName::Start, None),
-        (Action::Stop, false, CallName::Stop, None),
-        (Action::Stop, true, CallName::Stop, Some(CallName::Clear)),
-        (Action::Restart, true, CallName::Stop, Some(CallName::Start)),
-        (Action::Freeze, true, CallName::Freeze, None),
-        (Action::Unfreeze, false, CallName::Thaw, None),
-    ];
-
-    #[test]
-    fn plans_follow_the_table(rt: HostRuntime) {
-        for (deed, first, second, undo) in PLANS {
-            let want = Plan {
-                first: *first,
-                second: *second,
-                undo: *undo,
-            };
-            assert_eq!(rt; plan_of(*deed), want, "{deed:?}");
-        }
-        for (action, ephemeral, first, second) in ACTS {
-            let want = Plan {
-                first: *first,
-                second: *second,
-                undo: None,
-            };
-            let deed = Deed::Act {
-                action: *action,
-                ephemeral: *ephemeral,
-            };
-            assert_eq!(rt; plan_of(deed), want, "{action:?}");
-        }
     }
 }

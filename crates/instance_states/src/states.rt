@@ -4,7 +4,7 @@ ghost use Rattle.instance_states.specs.States.{after_of, is_allowed};
 use size_values::{Action, Deed, Power};
 
 /// An action or a deed that the status of the instance does not allow.
-#[derive(Clone, Copy, Debug, PartialEq, Eq)]
+#[derive(Clone, Copy, PartialEq, Eq)]
 pub struct WrongState;
 
 /// The status that an action leads to, from a status that allows it.
@@ -34,59 +34,5 @@ pub fn is_allowed(deed: Deed, power: Power) -> bool
             ephemeral: _,
         } => after(power, action).is_ok(),
         Deed::Create | Deed::Copy | Deed::Update | Deed::Unsnap | Deed::CopyVolume => true,
-    }
-}
-
-#[cfg(test)]
-mod tests {
-    use super::*;
-
-    // What each action leads to from each status, or none where it is not allowed.
-    const TABLE: &[(Power, Action, Option<Power>)] = &[
-        (Power::Stopped, Action::Start, Some(Power::Running)),
-        (Power::Stopped, Action::Stop, None),
-        (Power::Stopped, Action::Restart, None),
-        (Power::Stopped, Action::Freeze, None),
-        (Power::Stopped, Action::Unfreeze, None),
-        (Power::Running, Action::Start, None),
-        (Power::Running, Action::Stop, Some(Power::Stopped)),
-        (Power::Running, Action::Restart, Some(Power::Running)),
-        (Power::Running, Action::Freeze, Some(Power::Frozen)),
-        (Power::Running, Action::Unfreeze, None),
-        (Power::Frozen, Action::Start, None),
-        (Power::Frozen, Action::Stop, Some(Power::Stopped)),
-        (Power::Frozen, Action::Restart, None),
-        (Power::Frozen, Action::Freeze, None),
-        (Power::Frozen, Action::Unfreeze, Some(Power::Running)),
-        (Power::Error, Action::Start, None),
-        (Power::Error, Action::Stop, Some(Power::Stopped)),
-        (Power::Error, Action::Restart, None),
-        (Power::Error, Action::Freeze, None),
-        (Power::Error, Action::Unfreeze, None),
-    ];
-
-    const DEEDS: &[(Power, Deed, bool)] = &[
-        (Power::Stopped, Deed::Restore, true),
-        (Power::Running, Deed::Restore, false),
-        (Power::Stopped, Deed::Rename, true),
-        (Power::Frozen, Deed::Rename, false),
-        (Power::Error, Deed::Rename, false),
-        (Power::Stopped, Deed::Delete, true),
-        (Power::Error, Deed::Delete, true),
-        (Power::Running, Deed::Delete, false),
-        (Power::Running, Deed::Snap, true),
-        (Power::Error, Deed::Snap, false),
-        (Power::Error, Deed::Update, true),
-        (Power::Error, Deed::Unsnap, true),
-    ];
-
-    #[test]
-    fn states_follow_the_table(rt: HostRuntime) {
-        for (power, action, want) in TABLE {
-            assert_eq!(rt; after(*power, *action).ok(), *want, "{power:?} {action:?}");
-        }
-        for (power, deed, want) in DEEDS {
-            assert_eq!(rt; is_allowed(*deed, *power), *want, "{power:?} {deed:?}");
-        }
     }
 }

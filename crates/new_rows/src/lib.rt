@@ -4,10 +4,8 @@
 
 mod caps;
 mod parts;
-#[cfg(test)]
-mod tests;
 
-pub use caps::{LARGEST_ROW, cap_of};
+pub use caps::{LARGEST_ROW, cap_of, largest_row_is_64_kib};
 pub use parts::{
     new_config, new_description, new_devices, patched_config, patched_description, patched_devices,
 };

@@ -1,4 +1,4 @@
-//! Links of objects: the path of an object, and its project where that is not `default`.
+//! Links of objects: the path of an object, and its project where it belongs to one other than `default`.
 ghost use Rattle.std.specs.Prelude.{◌≡◌, ◌++◌, IfOk, string_bytes};
 ghost use Rattle.row_machine.specs.Links.{project_query, path_of, link_of};
 
@@ -74,59 +74,19 @@ fn with_query(path: String, project: &str) -> Result<Text, NoMemory>
     Ok(Text::from_string(link))
 }
 
-/// The link of an object that belongs to a project; pools and projects belong to none.
+/// The link of an object, with its project where it belongs to one. Those of projects, pools and operations name none.
 pub fn link_of(alloc: Global, project: &str, of: &Target) -> Result<Text, NoMemory>
     ensures { IfOk result (λ t. t ≡ link_of project.now of.now) }
 {
     let path = path_text(alloc, of)?;
     match of.kind {
-        ObjectKind::Project | ObjectKind::Pool => Ok(Text::from_string(path)),
+        ObjectKind::Project | ObjectKind::Pool | ObjectKind::Operation => {
+            Ok(Text::from_string(path))
+        }
         ObjectKind::Profile
         | ObjectKind::Network
         | ObjectKind::Volume
         | ObjectKind::Instance
-        | ObjectKind::Snapshot
-        | ObjectKind::Operation => with_query(path, project),
-    }
-}
-
-#[cfg(test)]
-mod tests {
-    use super::*;
-    use std::test::Fail;
-
-    fn target(alloc: Global, kind: ObjectKind, outer: &str) -> Result<Target, NoMemory> {
-        Ok(Target {
-            kind,
-            pool: Text::from_text(alloc, outer)?,
-            instance: Text::from_text(alloc, outer)?,
-            name: Text::from_text(alloc, "x")?,
-        })
-    }
-
-    #[test]
-    fn names_the_project_where_it_matters(rt: HostRuntime) -> Result<(), Fail> {
-        let links = [
-            (ObjectKind::Project, "", "p", "/1.0/projects/x"),
-            (ObjectKind::Profile, "", "default", "/1.0/profiles/x"),
-            (ObjectKind::Profile, "", "p", "/1.0/profiles/x?project=p"),
-            (
-                ObjectKind::Volume,
-                "o",
-                "p",
-                "/1.0/storage-pools/o/volumes/custom/x?project=p",
-            ),
-            (
-                ObjectKind::Snapshot,
-                "o",
-                "default",
-                "/1.0/instances/o/snapshots/x",
-            ),
-        ];
-        for (kind, outer, project, link) in links {
-            let of = target(rt.alloc(), kind, outer)?;
-            assert_eq!(rt; link_of(rt.alloc(), project, &of)?.view(), link);
-        }
-        Ok(())
+        | ObjectKind::Snapshot => with_query(path, project),
     }
 }

@@ -16,8 +16,8 @@ use Rattle.plain_lists.proofs.PutsLemmas.{Each-puts, Each-unputs, Distinct-puts,
 use Rattle.plain_lists.proofs.EditLemmas.{Each-changed, changed-Puts, length-changed, Each-dropped, dropped-Puts}
 use Rattle.plain_lists.proofs.RingLemmas.{ring-few, Each-ring}
 use Rattle.plain_lists.proofs.Searches.{find-some, find-mem}
-use Rattle.size_values.specs.declared.moment.TheConstants.{MOMENT_LIMIT}
-use Rattle.operations.specs.declared.limits.TheConstants.{LIVE_LIMIT, ENDED_LIMIT, NUMBER_LIMIT}
+use Rattle.size_values.specs.Moments.{moment_limit}
+use Rattle.operations.specs.Limits.{most_live, most_ended, number_limit}
 use Rattle.operations.specs.declared.operation.Operation.{Operation}
 use Rattle.operations.specs.declared.operation.OpFault.{OpFault}
 use Rattle.operations.specs.declared.status.Status.{Status}
@@ -30,12 +30,12 @@ use Rattle.operations.specs.Facts.{AreInOrder, AreNumbered, AreKept}
 
 pub AreNumbered-put : {W : Type 0} {o : Operation W} {xs ys : List (Operation W)} {next : ℕ} → Puts o xs ys
     → Each (λ (x : Operation W). x.number ≢ o.number) xs → 1 ≤ o.number → o.number < next
-    → (o.created < MOMENT_LIMIT) × (o.updated < MOMENT_LIMIT) → AreNumbered xs next → AreNumbered ys next
+    → (o.created < moment_limit) × (o.updated < moment_limit) → AreNumbered xs next → AreNumbered ys next
 AreNumbered-put {W} {next} p fresh one below moment h = record {
   distinct = Distinct-puts (λ x. x.number) p fresh h.distinct;
   from_one = Each-puts (λ (x : Operation W). 1 ≤ x.number) p one h.from_one;
   below_next = Each-puts (λ (x : Operation W). x.number < next) p below h.below_next;
-  moments = Each-puts (λ (x : Operation W). (x.created < MOMENT_LIMIT) × (x.updated < MOMENT_LIMIT)) p moment h.moments;
+  moments = Each-puts (λ (x : Operation W). (x.created < moment_limit) × (x.updated < moment_limit)) p moment h.moments;
 }
 
 pub AreNumbered-unput : {W : Type 0} {o : Operation W} {xs ys : List (Operation W)} {next : ℕ}
@@ -49,7 +49,7 @@ AreNumbered-unput p h = record {
 
 pub AreNumbered-swap : {W : Type 0} {o o' : Operation W} {base xs ys : List (Operation W)} {next : ℕ}
     → Puts o base xs → Puts o' base ys → o'.number ≡ o.number
-    → ((o.created < MOMENT_LIMIT) × (o.updated < MOMENT_LIMIT) → (o'.created < MOMENT_LIMIT) × (o'.updated < MOMENT_LIMIT))
+    → ((o.created < moment_limit) × (o.updated < moment_limit) → (o'.created < moment_limit) × (o'.updated < moment_limit))
     → AreNumbered xs next → AreNumbered ys next
 AreNumbered-swap {W} {o} {o'} {base} {next} p q same moment h = AreNumbered-put q
     (subst (λ n. Each (λ (x : Operation W). x.number ≢ n) base) (sym same) (Distinct-unputs (λ x. x.number) p h.distinct).0)
@@ -112,8 +112,8 @@ AreKept-none = record {
   few_ended = omega arith;
 }
 
-pub AreKept-entered : {W : Type 0} (may : Bool) (work : W) (moment : ℕ) {k : Kept W} → length k.live < LIVE_LIMIT → k.next < NUMBER_LIMIT
-    → moment < MOMENT_LIMIT → AreKept k → AreKept (entered may work moment k)
+pub AreKept-entered : {W : Type 0} (may : Bool) (work : W) (moment : ℕ) {k : Kept W} → length k.live < most_live → k.next < number_limit
+    → moment < moment_limit → AreKept k → AreKept (entered may work moment k)
 AreKept-entered {W} may work moment {k} room number moment_is h = record {
   all_live = Each-push (λ (o : Operation W). is_live o.status ≡ true) h.all_live refl;
   all_ended = h.all_ended;
@@ -138,7 +138,7 @@ AreKept-entered {W} may work moment {k} room number moment_is h = record {
 AreKept-changed : {W : Type 0} (n : ℕ) (f : Operation W → Operation W) {k : Kept W} → IsSome (live_at k n)
     → ((o : Operation W) → (f o).number ≡ o.number)
     → ((o : Operation W) → is_live o.status ≡ true → is_live (f o).status ≡ true)
-    → ((o : Operation W) → (o.created < MOMENT_LIMIT) × (o.updated < MOMENT_LIMIT) → ((f o).created < MOMENT_LIMIT) × ((f o).updated < MOMENT_LIMIT))
+    → ((o : Operation W) → (o.created < moment_limit) × (o.updated < moment_limit) → ((f o).created < moment_limit) × ((f o).updated < moment_limit))
     → AreKept k → AreKept (record k { live = changed_first (has_number n) f k.live })
 AreKept-changed {W} n f {k} some keeps stays moment h = at (live_at k n) refl some where
   at : (o : Option (Operation W)) → live_at k n ≡ o → IsSome o → AreKept (record k { live = changed_first (has_number n) f k.live })
@@ -152,12 +152,12 @@ AreKept-changed {W} n f {k} some keeps stays moment h = at (live_at k n) refl so
         numbered = AreNumbered-swap (Puts-left k.ended move.1.0) (Puts-left k.ended move.1.1) (keeps o) (moment o) h.numbered;
         next_from_one = h.next_from_one;
         next_limit = h.next_limit;
-        few_live = subst (λ m. m ≤ LIVE_LIMIT) (sym (length-changed (has_number n) f k.live)) h.few_live;
+        few_live = subst (λ m. m ≤ most_live) (sym (length-changed (has_number n) f k.live)) h.few_live;
         few_ended = h.few_ended;
       }
 
 pub AreKept-moved : {W : Type 0} (n : ℕ) (st : Status) (moment : ℕ) {k : Kept W} → IsSome (live_at k n)
-    → is_live st ≡ true → moment < MOMENT_LIMIT → AreKept k → AreKept (moved n st moment k)
+    → is_live st ≡ true → moment < moment_limit → AreKept k → AreKept (moved n st moment k)
 AreKept-moved {W} n st moment some live moment_is h =
     AreKept-changed n (λ (o : Operation W). record o { status = st; updated = moment }) some (λ o. refl) (λ o is. live) (λ o m. (m.0, moment_is)) h
 
@@ -178,12 +178,12 @@ end-Puts n st why moment o live ended is =
     (Puts-left ended (dropped-Puts (has_number n) o live is), Puts-right (dropped (has_number n) live) (Puts-push ended))
 
 pub AreKept-ends : {W : Type 0} (n : ℕ) (st : Status) (why : OpFault) (moment : ℕ) {k : Kept W} → IsSome (live_at k n)
-    → is_live st ≡ false → moment < MOMENT_LIMIT → AreKept k → AreKept (ends n st why moment k)
+    → is_live st ≡ false → moment < moment_limit → AreKept k → AreKept (ends n st why moment k)
 AreKept-ends {W} n st why moment {k} some over moment_is h = at (live_at k n) refl some where
   Goal : Option (Operation W) → Type 0
   Goal o = AreKept (record k {
     live = dropped (has_number n) k.live;
-    ended = option_map_or (λ o. ring_push ENDED_LIMIT (record o { status = st; fault = why; updated = moment }) k.ended) o k.ended;
+    ended = option_map_or (λ o. ring_push most_ended (record o { status = st; fault = why; updated = moment }) k.ended) o k.ended;
   })
 
   at : (o : Option (Operation W)) → live_at k n ≡ o → IsSome o → Goal o
@@ -193,14 +193,14 @@ AreKept-ends {W} n st why moment {k} some over moment_is h = at (live_at k n) re
       let gone = dropped-Puts (has_number n) o k.live is in
       record {
         all_live = Each-dropped (has_number n) h.all_live;
-        all_ended = Each-ring (λ (x : Operation W). is_live x.status ≡ false) ENDED_LIMIT h.all_ended over;
+        all_ended = Each-ring (λ (x : Operation W). is_live x.status ≡ false) most_ended h.all_ended over;
         in_order = AreInOrder-dropped (has_number n) k.live h.in_order;
-        numbered = AreNumbered-drop (length (k.ended ++ ended_by st why moment o ∷ []) - ENDED_LIMIT) (dropped (has_number n) k.live) (k.ended ++ ended_by st why moment o ∷ [])
+        numbered = AreNumbered-drop (length (k.ended ++ ended_by st why moment o ∷ []) - most_ended) (dropped (has_number n) k.live) (k.ended ++ ended_by st why moment o ∷ [])
             (AreNumbered-swap puts.0 puts.1 refl (λ m. (m.0, moment_is)) h.numbered);
         next_from_one = h.next_from_one;
         next_limit = h.next_limit;
         few_live = omega (arith, length-Puts gone, h.few_live);
-        few_ended = ring-few ENDED_LIMIT (ended_by st why moment o) k.ended;
+        few_ended = ring-few most_ended (ended_by st why moment o) k.ended;
       }
 
 -- what a look-up finds

@@ -15,8 +15,8 @@ use Rattle.plain_lists.proofs.PutsLemmas.{Puts-map, Puts-between, Puts-left, Put
 use Rattle.plain_lists.proofs.EditLemmas.{inserted-Puts, map-changed}
 use Rattle.plain_lists.proofs.RingLemmas.{ring-place}
 use Rattle.plain_lists.proofs.Searches.{find-mem, find-some}
-use Rattle.size_values.specs.declared.moment.TheConstants.{MOMENT_LIMIT}
-use Rattle.operations.specs.declared.limits.TheConstants.{LIVE_LIMIT, ENDED_LIMIT}
+use Rattle.size_values.specs.Moments.{moment_limit}
+use Rattle.operations.specs.Limits.{most_live, most_ended}
 use Rattle.operations.specs.declared.operation.Operation.{Operation}
 use Rattle.operations.specs.declared.slots.Slots.TheInside.{Inside}
 use Rattle.operations.specs.declared.operation.OpFault.{OpFault}
@@ -122,30 +122,30 @@ numbers-gone {W} o xs ys distinct p =
 
 -- what `forget` leaves where `drop_oldest` answered
 pub numbers-forgotten : {W : Type 0} (live ended : List (Operation W)) (ns : List ℕ) → Distinct (λ (o : Operation W). o.number) (live ++ ended)
-    → length ended ≤ ENDED_LIMIT → ns ≡ numbers_of (live ++ ended)
+    → length ended ≤ most_ended → ns ≡ numbers_of (live ++ ended)
     → option_map_or (λ number. dropped (λ n. n == number) ns)
-    (if length ended == ENDED_LIMIT then option_map (λ (o : Operation W). o.number) (slice_get ended 0) else None) ns
-    ≡ numbers_of (live ++ keep_last (ENDED_LIMIT - 1) ended)
+    (if length ended == most_ended then option_map (λ (o : Operation W). o.number) (slice_get ended 0) else None) ns
+    ≡ numbers_of (live ++ keep_last (most_ended - 1) ended)
 numbers-forgotten live [] ns distinct few is = is
-numbers-forgotten {W} live (e ∷ rest) ns distinct few is = at (length (e ∷ rest) == ENDED_LIMIT) refl where
-  at : (b : Bool) → (length (e ∷ rest) == ENDED_LIMIT) ≡ b
+numbers-forgotten {W} live (e ∷ rest) ns distinct few is = at (length (e ∷ rest) == most_ended) refl where
+  at : (b : Bool) → (length (e ∷ rest) == most_ended) ≡ b
       → option_map_or (λ number. dropped (λ n. n == number) ns) (cond b (Some e.number) None) ns
-      ≡ numbers_of (live ++ keep_last (ENDED_LIMIT - 1) (e ∷ rest))
+      ≡ numbers_of (live ++ keep_last (most_ended - 1) (e ∷ rest))
   at true full =
-      let size : length (e ∷ rest) ≡ ENDED_LIMIT = eqb-true (length (e ∷ rest)) ENDED_LIMIT full in
-      let one : length (e ∷ rest) - (ENDED_LIMIT - 1) ≡ 1 = omega arith in
+      let size : length (e ∷ rest) ≡ most_ended = eqb-true (length (e ∷ rest)) most_ended full in
+      let one : length (e ∷ rest) - (most_ended - 1) ≡ 1 = omega arith in
       ap (dropped (λ n. eqb n e.number)) is
       ∙ numbers-gone e (live ++ rest) (live ++ e ∷ rest) distinct (Puts-between live rest)
       ∙ ap (λ n. numbers_of (live ++ drop n (e ∷ rest))) (sym one)
   at false some =
-      let size : length (e ∷ rest) ≢ ENDED_LIMIT = eqb-false (length (e ∷ rest)) ENDED_LIMIT some in
-      let none : length (e ∷ rest) - (ENDED_LIMIT - 1) ≡ 0 = omega arith in
+      let size : length (e ∷ rest) ≢ most_ended = eqb-false (length (e ∷ rest)) most_ended some in
+      let none : length (e ∷ rest) - (most_ended - 1) ≡ 0 = omega arith in
       is ∙ ap (λ n. numbers_of (live ++ drop n (e ∷ rest))) (sym none)
 
 -- what holds of the fields, said of the parts
 pub AreSlots-are : {W : Type 0} (s : Inside W) (k : Kept W) → s.live.items ≡ k.live → s.ended.items ≡ k.ended → s.next ≡ k.next
     → AreKept k → s.numbers.items ≡ numbers_of (k.live ++ k.ended)
-    → LIVE_LIMIT ≤ vec_capacity s.live → ENDED_LIMIT ≤ vec_capacity s.ended → LIVE_LIMIT + ENDED_LIMIT ≤ vec_capacity s.numbers → AreSlots s
+    → most_live ≤ vec_capacity s.live → most_ended ≤ vec_capacity s.ended → most_live + most_ended ≤ vec_capacity s.numbers → AreSlots s
 AreSlots-are {W} s k live ended next h listed room_live room_ended room_numbers = record {
   kept = subst AreKept (λ i. record { live = sym live i; ended = sym ended i; next = sym next i }) h;
   listed = listed ∙ ap numbers_of (λ i. sym live i ++ sym ended i);
@@ -173,36 +173,36 @@ AreSlots-changed n f s now h keeps live room ended numbers next kept =
     live (ap (λ v. v.items) ended) next kept
     (ap (λ v. v.items) numbers ∙ h.listed ∙ sym (numbers-changed n f (kept_in s) keeps))
     (let room_was = h.live_room in omega arith)
-    (subst (λ v. ENDED_LIMIT ≤ vec_capacity v) (sym ended) h.ended_room)
-    (subst (λ v. LIVE_LIMIT + ENDED_LIMIT ≤ vec_capacity v) (sym numbers) h.numbers_room)
+    (subst (λ v. most_ended ≤ vec_capacity v) (sym ended) h.ended_room)
+    (subst (λ v. most_live + most_ended ≤ vec_capacity v) (sym numbers) h.numbers_room)
 
 -- the fields after an end
 pub AreSlots-ended : {W : Type 0} (n : ℕ) (st : Status) (why : OpFault) (moment : ℕ) (o : Operation W) (s now : Inside W) → AreSlots s
-    → find (has_number n) s.live.items ≡ Some o → is_live st ≡ false → moment < MOMENT_LIMIT
+    → find (has_number n) s.live.items ≡ Some o → is_live st ≡ false → moment < moment_limit
     → now.live.items ≡ dropped (has_number n) s.live.items
-    → now.ended.items ≡ keep_last (ENDED_LIMIT - 1) s.ended.items ++ ended_by st why moment o ∷ []
-    → now.numbers.items ≡ numbers_of (s.live.items ++ keep_last (ENDED_LIMIT - 1) s.ended.items)
+    → now.ended.items ≡ keep_last (most_ended - 1) s.ended.items ++ ended_by st why moment o ∷ []
+    → now.numbers.items ≡ numbers_of (s.live.items ++ keep_last (most_ended - 1) s.ended.items)
     → now.next ≡ s.next
     → vec_capacity s.live ≤ vec_capacity now.live → vec_capacity s.ended ≤ vec_capacity now.ended → vec_capacity s.numbers ≤ vec_capacity now.numbers
     → AreSlots now
 AreSlots-ended {W} n st why moment o s now h found over moment_is live ended numbers next room_live room_ended room_numbers =
     AreSlots-are now (ends n st why moment (kept_in s))
     live
-    (ended ∙ ring-place ENDED_LIMIT (ended_by st why moment o) s.ended.items (omega arith) ∙ sym (ap pushed found))
+    (ended ∙ ring-place most_ended (ended_by st why moment o) s.ended.items (omega arith) ∙ sym (ap pushed found))
     next
     (AreKept-ends n st why moment (subst IsSome (sym found) refl) over moment_is h.kept)
     (numbers ∙ sym (numbers-swap puts.0 puts.1 refl) ∙ ap (λ es. numbers_of (dropped (has_number n) s.live.items ++ es))
-    (ring-place ENDED_LIMIT (ended_by st why moment o) s.ended.items (omega arith) ∙ sym (ap pushed found)))
+    (ring-place most_ended (ended_by st why moment o) s.ended.items (omega arith) ∙ sym (ap pushed found)))
     (let was = h.live_room in omega arith)
     (let was = h.ended_room in omega arith)
     (let was = h.numbers_room in omega arith) where
       pushed : Option (Operation W) → List (Operation W)
-      pushed found_is = option_map_or (λ x. ring_push ENDED_LIMIT (ended_by st why moment x) s.ended.items) found_is s.ended.items
+      pushed found_is = option_map_or (λ x. ring_push most_ended (ended_by st why moment x) s.ended.items) found_is s.ended.items
 
-      puts : Puts o (dropped (has_number n) s.live.items ++ keep_last (ENDED_LIMIT - 1) s.ended.items) (s.live.items ++ keep_last (ENDED_LIMIT - 1) s.ended.items)
-          × Puts (ended_by st why moment o) (dropped (has_number n) s.live.items ++ keep_last (ENDED_LIMIT - 1) s.ended.items)
-          (dropped (has_number n) s.live.items ++ (keep_last (ENDED_LIMIT - 1) s.ended.items ++ ended_by st why moment o ∷ []))
-      puts = end-Puts n st why moment o s.live.items (keep_last (ENDED_LIMIT - 1) s.ended.items) found
+      puts : Puts o (dropped (has_number n) s.live.items ++ keep_last (most_ended - 1) s.ended.items) (s.live.items ++ keep_last (most_ended - 1) s.ended.items)
+          × Puts (ended_by st why moment o) (dropped (has_number n) s.live.items ++ keep_last (most_ended - 1) s.ended.items)
+          (dropped (has_number n) s.live.items ++ (keep_last (most_ended - 1) s.ended.items ++ ended_by st why moment o ∷ []))
+      puts = end-Puts n st why moment o s.live.items (keep_last (most_ended - 1) s.ended.items) found
 
 -- what a cancel that is not refused says of the operation
 

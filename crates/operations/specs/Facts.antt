@@ -1,7 +1,7 @@
 use Rattle.std.specs.Prelude.{◌≡◌, ℕ, ◌<◌, ◌≤◌, true, false, List, [], ◌∷◌, ◌++◌, length}
 use Rattle.plain_lists.specs.Members.{Each, Distinct}
-use Rattle.size_values.specs.declared.moment.TheConstants.{MOMENT_LIMIT}
-use Rattle.operations.specs.declared.limits.TheConstants.{LIVE_LIMIT, ENDED_LIMIT, NUMBER_LIMIT}
+use Rattle.size_values.specs.Moments.{moment_limit}
+use Rattle.operations.specs.Limits.{most_live, most_ended, number_limit}
 use Rattle.operations.specs.declared.operation.Operation.{Operation}
 use Rattle.operations.specs.Statuses.{is_live}
 use Rattle.operations.specs.Kept.{Kept}
@@ -16,7 +16,7 @@ pub record AreNumbered {W : Type 0} (os : List (Operation W)) (next : ℕ) : Typ
   pub distinct : Distinct (λ (o : Operation W). o.number) os
   pub from_one : Each (λ (o : Operation W). 1 ≤ o.number) os
   pub below_next : Each (λ (o : Operation W). o.number < next) os
-  pub moments : Each (λ (o : Operation W). (o.created < MOMENT_LIMIT) × (o.updated < MOMENT_LIMIT)) os
+  pub moments : Each (λ (o : Operation W). (o.created < moment_limit) × (o.updated < moment_limit)) os
 
 -- what is true of the kept operations at all times
 pub record AreKept {W : Type 0} (k : Kept W) : Type 0 where
@@ -25,6 +25,6 @@ pub record AreKept {W : Type 0} (k : Kept W) : Type 0 where
   pub in_order : AreInOrder k.live
   pub numbered : AreNumbered (k.live ++ k.ended) k.next
   pub next_from_one : 1 ≤ k.next
-  pub next_limit : k.next ≤ NUMBER_LIMIT
-  pub few_live : length k.live ≤ LIVE_LIMIT
-  pub few_ended : length k.ended ≤ ENDED_LIMIT
+  pub next_limit : k.next ≤ number_limit
+  pub few_live : length k.live ≤ most_live
+  pub few_ended : length k.ended ≤ most_ended

@@ -1,6 +1,6 @@
 use Rattle.std.specs.Prelude.{◌≡◌, ℕ, ◌+◌, ◌≤◌, nat_lt, List, [], ◌∷◌, ◌++◌, map, vec_capacity}
 use Rattle.plain_lists.specs.Edits.{inserted}
-use Rattle.operations.specs.declared.limits.TheConstants.{LIVE_LIMIT, ENDED_LIMIT}
+use Rattle.operations.specs.Limits.{most_live, most_ended}
 use Rattle.operations.specs.declared.operation.Operation.{Operation}
 use Rattle.operations.specs.declared.slots.Slots.TheInside.{Inside}
 use Rattle.operations.specs.Kept.{Kept}
@@ -23,6 +23,6 @@ kept_in s = record { live = s.live.items; ended = s.ended.items; next = s.next }
 pub record AreSlots {W : Type 0} (s : Inside W) : Type 0 where
   pub kept : AreKept (kept_in s)
   pub listed : s.numbers.items ≡ numbers_of (s.live.items ++ s.ended.items)
-  pub live_room : LIVE_LIMIT ≤ vec_capacity s.live
-  pub ended_room : ENDED_LIMIT ≤ vec_capacity s.ended
-  pub numbers_room : LIVE_LIMIT + ENDED_LIMIT ≤ vec_capacity s.numbers
+  pub live_room : most_live ≤ vec_capacity s.live
+  pub ended_room : most_ended ≤ vec_capacity s.ended
+  pub numbers_room : most_live + most_ended ≤ vec_capacity s.numbers

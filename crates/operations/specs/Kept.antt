@@ -3,7 +3,7 @@ use Rattle.std.specs.List.{find}
 use Rattle.std.specs.Option.{option_map, option_map_or}
 use Rattle.plain_lists.specs.Edits.{changed_first, dropped, inserted}
 use Rattle.plain_lists.specs.Rings.{ring_push}
-use Rattle.operations.specs.declared.limits.TheConstants.{LIVE_LIMIT, ENDED_LIMIT, NUMBER_LIMIT}
+use Rattle.operations.specs.Limits.{most_live, most_ended, number_limit}
 use Rattle.operations.specs.declared.operation.Operation.{Operation}
 use Rattle.operations.specs.declared.operation.OpFault.{OpFault}
 use Rattle.operations.specs.declared.operation.OpFault.TheVariants as fault
@@ -54,8 +54,8 @@ by_number (o ∷ os) = inserted (λ other. nat_lt o.number other.number) o (by_n
 -- why nothing may be entered
 abbrev pub enter_fault : {W : Type 0} → Kept W → Option EnterFault
 enter_fault k =
-    if length k.live == LIVE_LIMIT then Some Full
-    else if k.next == NUMBER_LIMIT then Some Spent
+    if length k.live == most_live then Some Full
+    else if k.next == number_limit then Some Spent
     else None
 
 -- the number of the operation that is entered, or the work given back with the reason
@@ -98,7 +98,7 @@ ends number now why moment k =
     record k {
       live = dropped (has_number number) k.live;
       ended = option_map_or
-          (λ o. ring_push ENDED_LIMIT (record o { status = now; fault = why; updated = moment }) k.ended)
+          (λ o. ring_push most_ended (record o { status = now; fault = why; updated = moment }) k.ended)
           (live_at k number)
           k.ended;
     }

@@ -9,7 +9,7 @@ mod slots;
 mod status;
 
 pub use faults::{CancelFault, EnterFault};
-pub use limits::{ENDED_LIMIT, LIVE_LIMIT, NUMBER_LIMIT};
+pub use limits::{ENDED_LIMIT, LIVE_LIMIT, NUMBER_LIMIT, limits_are_the_defined_numbers};
 pub use operation::{OpFault, Operation};
 pub use size_values::MOMENT_LIMIT;
 pub use slots::Slots;

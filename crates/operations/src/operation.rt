@@ -12,7 +12,7 @@ pub enum OpFault {
 
 /// One background operation, with the work that it does. `created` and `updated` are moments, in seconds since
 /// 1970; `updated` is that of the last change of the status.
-#[derive(Debug, Drop)]
+#[derive(Drop)]
 pub struct Operation<W> {
     pub number: u64,
     pub created: u64,

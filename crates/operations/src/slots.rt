@@ -6,6 +6,8 @@ ghost use Rattle.plain_lists.specs.Rings.{keep_last};
 ghost use Rattle.operations.specs.Statuses.{is_live, is_pending, cancel_of};
 ghost use Rattle.operations.specs.Kept.{no_operations, has_number, live_at, kept_at, live_status, first_pending_of, by_number, enter_answer, after_enter, with_work, moved, ends, cancel_answer, after_cancel};
 ghost use Rattle.operations.specs.Facts.{AreKept};
+ghost use Rattle.operations.specs.Limits.{most_ended};
+ghost use Rattle.size_values.specs.Moments.{moment_limit};
 ghost use Rattle.operations.specs.declared.status.Status.TheVariants as status;
 
 use crate::faults::{CancelFault, EnterFault};
@@ -13,14 +15,14 @@ use crate::limits::{ENDED_LIMIT, LIVE_LIMIT, NUMBER_LIMIT};
 use crate::operation::{OpFault, Operation};
 use crate::status::Status;
 use plain_lists::push_reserved;
-use size_values::{MOMENT_LIMIT, NoMemory};
+use size_values::NoMemory;
 use std::alloc::Global;
 use std::marker::Model;
 use std::mem;
 
 /// The kept background operations: all live ones, and the last that ended. Contracts see the two lists and the
 /// next number. Only `new` takes memory.
-#[derive(Debug, Drop)]
+#[derive(Drop)]
 pub struct Slots<W> {
     live: Vec<Operation<W>>,
     ended: Vec<Operation<W>>,
@@ -108,7 +110,7 @@ impl<W: Drop> Slots<W> {
 
     /// Adds a `Pending` operation with the next number, which is answered. A refusal gives the work back.
     pub fn enter(&mut self, may_cancel: bool, work: W, moment: u64) -> Result<u64, (W, EnterFault)>
-        requires { moment < MOMENT_LIMIT }
+        requires { moment < moment_limit }
         ensures answer { result ≡ enter_answer self.old work }
         ensures state { self.new ≡ after_enter may_cancel work moment self.old }
     {
@@ -146,7 +148,7 @@ impl<W: Drop> Slots<W> {
     /// A `Pending` operation becomes `Running`.
     pub fn begin(&mut self, number: u64, moment: u64)
         requires pending { live_status self.old number ≡ Some status.Pending }
-        requires moment { moment < MOMENT_LIMIT }
+        requires moment { moment < moment_limit }
         ensures { self.new ≡ moved number status.Running moment self.old }
     {
         set_status(&mut self.live, number, Status::Running, moment);
@@ -155,7 +157,7 @@ impl<W: Drop> Slots<W> {
     /// Cancels an operation: a `Pending` one ends as `Cancelled`, a `Running` one becomes `Cancelling`. The new
     /// status is answered. A refusal changes nothing.
     pub fn mark_cancel(&mut self, number: u64, moment: u64) -> Result<Status, CancelFault>
-        requires { moment < MOMENT_LIMIT }
+        requires { moment < moment_limit }
         ensures answer { result ≡ cancel_answer (kept_at self.old number) }
         ensures state { self.new ≡ after_cancel number moment result self.old }
     {
@@ -181,7 +183,7 @@ impl<W: Drop> Slots<W> {
     pub fn end(&mut self, number: u64, status: Status, fault: OpFault, moment: u64)
         requires live { IsSome (live_at self.old number) }
         requires ended { is_live status ≡ false }
-        requires moment { moment < MOMENT_LIMIT }
+        requires moment { moment < moment_limit }
         ensures { self.new ≡ ends number status fault moment self.old }
     {
         let oldest = drop_oldest(&mut self.ended);
@@ -289,9 +291,9 @@ fn take_out<W>(operations: &mut Vec<Operation<W>>, number: u64) -> Operation<W>
 
 /// Drops the oldest ended operation where the most are kept, and answers its number.
 fn drop_oldest<W: Drop>(ended: &mut Vec<Operation<W>>) -> Option<u64>
-    requires { length ended.old.items ≤ ENDED_LIMIT }
-    ensures rest { ended.new.items ≡ keep_last (ENDED_LIMIT - 1) ended.old.items }
-    ensures number { result ≡ (if length ended.old.items == ENDED_LIMIT then option_map (λ (o : Operation W). o.number) (slice_get ended.old.items 0) else None) }
+    requires { length ended.old.items ≤ most_ended }
+    ensures rest { ended.new.items ≡ keep_last (most_ended - 1) ended.old.items }
+    ensures number { result ≡ (if length ended.old.items == most_ended then option_map (λ (o : Operation W). o.number) (slice_get ended.old.items 0) else None) }
     ensures capacity { vec_capacity ended.old ≤ vec_capacity ended.new }
 {
     if ended.len() < ENDED_LIMIT {
@@ -322,88 +324,4 @@ fn place_in(numbers: &[u64], number: u64) -> Option<usize>
     ensures { result ≡ position (λ n. n == number) numbers.now }
 {
     numbers.iter().position(|n| *n == number)
-}
-
-#[cfg(test)]
-mod tests {
-    use super::*;
-    use std::test::Fail;
-
-    fn status_of(slots: &Slots<u64>, number: u64) -> Option<Status>
-        ensures { IfSome result (λ st. is_live st ≡ true → live_status slots.now number ≡ Some st) }
-    {
-        match slots.get(number) {
-            Some(operation) => Some(operation.status),
-            None => None,
-        }
-    }
-
-    fn begin(slots: &mut Slots<u64>, number: u64) {
-        match status_of(slots, number) {
-            Some(Status::Pending) => slots.begin(number, 2_000),
-            _ => {}
-        }
-    }
-
-    fn finish(slots: &mut Slots<u64>, number: u64) {
-        let Some(status) = status_of(slots, number) else {
-            return;
-        };
-        if status.is_live() {
-            slots.end(number, Status::Success, OpFault::None, 3_000);
-        }
-    }
-
-    fn swap(slots: &mut Slots<u64>, number: u64, work: u64) -> Option<u64> {
-        match status_of(slots, number) {
-            Some(Status::Pending) => Some(slots.swap_work(number, work)),
-            _ => None,
-        }
-    }
-
-    #[test]
-    fn fills_cancels_and_ends(rt: HostRuntime) -> Result<(), Fail> {
-        let mut slots: Slots<u64> = Slots::new(rt.alloc())?;
-        for number in 1..=1_024u64 {
-            assert_eq!(rt; slots.enter(number % 2 == 0, number * 10, number)?, number);
-        }
-        assert_eq!(rt; slots.enter(true, 7, 0), Err((7, EnterFault::Full)));
-        assert_eq!(rt; slots.live(), 1_024);
-        assert_eq!(rt; slots.next(), 1_025);
-        assert_eq!(rt; slots.first_pending(), Some(1));
-        begin(&mut slots, 1);
-        begin(&mut slots, 2);
-        assert_eq!(rt; slots.first_pending(), Some(3));
-        for (number, want) in [
-            (1, Err(CancelFault::Fixed)),
-            (9_999, Err(CancelFault::Unknown)),
-            (2, Ok(Status::Cancelling)),
-            (2, Err(CancelFault::Already)),
-            (3, Err(CancelFault::Fixed)),
-            (4, Ok(Status::Cancelled)),
-            (4, Err(CancelFault::Ended(Status::Cancelled))),
-        ] {
-            assert_eq!(rt; slots.mark_cancel(number, 2_500), want, "{number}");
-        }
-        for number in 5..=259 {
-            finish(&mut slots, number);
-        }
-        assert_eq!(rt; status_of(&slots, 4), Some(Status::Cancelled));
-        assert_eq!(rt; slots.kept(), 1_024);
-        finish(&mut slots, 260);
-        assert_eq!(rt; status_of(&slots, 4), None);
-        assert_eq!(rt; status_of(&slots, 5), Some(Status::Success));
-        assert_eq!(rt; slots.kept(), 1_023);
-        assert_eq!(rt; slots.live(), 767);
-        assert_eq!(rt; swap(&mut slots, 300, 1), Some(3_000));
-        assert_eq!(rt; swap(&mut slots, 300, 2), Some(1));
-        let mut last = 0;
-        for place in 0..slots.kept() {
-            let number = slots.at(place).number;
-            assert!(rt; last < number, "{number}");
-            last = number;
-        }
-        assert_eq!(rt; last, 1_024);
-        Ok(())
-    }
 }

@@ -2,7 +2,7 @@ use size_values::ValueFault;
 
 /// The first setting or device that a table refuses. A place counts from 0 in the order of the keys, or of
 /// the names of devices.
-#[derive(Clone, Copy, Debug, PartialEq, Eq)]
+#[derive(Clone, Copy, PartialEq, Eq)]
 pub enum SettingFault {
     /// The key at this place is in no line of the table.
     Unknown(usize),
@@ -14,7 +14,7 @@ pub enum SettingFault {
 
 /// Why a device is refused, answered in this order; but the first faulty key decides between an unknown key
 /// and a bad value. A place counts the device's keys.
-#[derive(Clone, Copy, Debug, PartialEq, Eq)]
+#[derive(Clone, Copy, PartialEq, Eq)]
 pub enum DeviceFault {
     /// The name has not 1 to 64 bytes of letters, digits, `-`, `_`, `.`, `:` and `/`.
     BadName,
@@ -29,7 +29,7 @@ pub enum DeviceFault {
 }
 
 /// The first key that a table refuses.
-#[derive(Clone, Copy, Debug, PartialEq, Eq)]
+#[derive(Clone, Copy, PartialEq, Eq)]
 pub enum KeyFault {
     Unknown(usize),
     Bad(usize, ValueFault),

@@ -9,7 +9,7 @@ use size_values::{
 };
 
 /// What values a key takes.
-#[derive(Clone, Copy, Debug, PartialEq, Eq)]
+#[derive(Clone, Copy, PartialEq, Eq)]
 pub enum Form {
     /// Any text.
     Text,
@@ -37,7 +37,7 @@ pub enum Form {
 }
 
 /// Lists of words, each named by its words.
-#[derive(Clone, Copy, Debug, PartialEq, Eq)]
+#[derive(Clone, Copy, PartialEq, Eq)]
 pub enum Words {
     None,
     HardSoft,

@@ -10,8 +10,6 @@ mod form;
 mod laws;
 mod names;
 mod tables;
-#[cfg(test)]
-mod tests;
 
 pub use checks::{check_instance, check_network, check_pool, check_project, check_volume};
 pub use devices::check_devices;

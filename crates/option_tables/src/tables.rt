@@ -4,7 +4,7 @@ ghost use Rattle.option_tables.specs.Tables.{form_of, instance_lines, project_li
 use crate::form::{Form, Words};
 
 /// Which kind of instance an option is for, or is checked for. `Any` stands for both, as in a profile.
-#[derive(Clone, Copy, Debug, PartialEq, Eq)]
+#[derive(Clone, Copy, PartialEq, Eq)]
 pub enum Scope {
     Any,
     Container,
@@ -12,7 +12,7 @@ pub enum Scope {
 }
 
 /// The tables, one of which each set of settings is checked by.
-#[derive(Clone, Copy, Debug, PartialEq, Eq)]
+#[derive(Clone, Copy, PartialEq, Eq)]
 pub enum Table {
     Instance(Scope),
     Project,
@@ -23,7 +23,7 @@ pub enum Table {
 }
 
 /// The types of devices that have keys of their own.
-#[derive(Clone, Copy, Debug, PartialEq, Eq)]
+#[derive(Clone, Copy, PartialEq, Eq)]
 pub enum DeviceType {
     None,
     Disk,

@@ -1,4 +1,2 @@
-pub mod Counts
 pub mod Created
 pub mod Ends
-pub mod Tellings

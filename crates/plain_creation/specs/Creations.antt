@@ -1,4 +1,4 @@
--- The creation of an instance: what it begins, and the rules that are asked of it.
+-- The creation of an instance: the rules that are asked of it.
 use Rattle.std.specs.Prelude.{ℕ, List, [], ◌∷◌, Option, Some, None, is_none, if◌then◌else◌, option_and_then}
 use Rattle.plain_lists.specs.Firsts.{first}
 use Rattle.size_values.specs.declared.kinds.ObjectKind.TheVariants as kind
@@ -8,23 +8,17 @@ use Rattle.records.specs.declared.rows.Instance.{Instance}
 use Rattle.records.specs.declared.rows.Row.TheVariants as row
 use Rattle.records.specs.declared.commands.Target.{Target}
 use Rattle.records.specs.declared.commands.Body.{Body}
-use Rattle.row_machine.specs.Task.{Task}
 use Rattle.row_machine.specs.State.{State}
 use Rattle.row_machine.specs.Rows.{project_named}
 use Rattle.row_machine.specs.Asked.{copied_from}
 use Rattle.row_machine.specs.Refusals.{on_project}
-use Rattle.row_machine.specs.Plans.{Plan, nothing, starts, instance_target}
+use Rattle.row_machine.specs.Plans.{instance_target}
 use Rattle.row_machine.specs.NameRules.{source_missing, name_broken}
 use Rattle.row_machine.specs.StandingRules.{busy}
 use Rattle.row_machine.specs.SettingRules.{settings_broken}
 use Rattle.row_machine.specs.PolicyRules.{policy_broken}
 use Rattle.row_machine.specs.LimitRules.{counts_broken, limits_broken}
 use Rattle.row_machine.specs.TableRules.{entry_broken, tables_broken}
-
--- the plan that begins a task, where there is one
-abbrev pub planned : Option Task → Plan
-planned None = nothing
-planned (Some task) = starts task
 
 -- the rules on the names of a new instance and of what it is copied from
 abbrev pub instance_names : State → List ℕ → Target → Body → Option Refusal

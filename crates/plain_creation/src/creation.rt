@@ -18,19 +18,20 @@ ghost use Rattle.row_machine.specs.Work.{claiming};
 ghost use Rattle.row_machine.specs.SettingRules.{settings_broken};
 ghost use Rattle.row_machine.specs.PolicyRules.{policy_broken};
 ghost use Rattle.row_machine.specs.LimitRules.{counts_broken, limits_broken};
-ghost use Rattle.row_machine.specs.Rules.{broken};
+ghost use Rattle.row_machine.specs.Plans.{instance_creation};
+ghost use Rattle.row_machine.specs.Rules.{plan_broken, broken};
 ghost use Rattle.plain_creation.specs.Creations.{instance_names, claim_broken};
 ghost use Rattle.plain_readings.specs.Loads.{AreSmall};
 
-use crate::names::{name_broken, project_missing, source_missing};
-use crate::standing::source_busy;
-use crate::tables::{enter_fault, entry_broken, tables_broken};
-use crate::tasks::{instance_creation, may_cancel};
-use operations::{EnterFault, OpFault, Operation, Status};
-use plain_readings::{Load, Plain, loads};
-use plain_rules::{
-    claimed_instance, counts_broken, instance_settings, limits_broken, policy_broken,
+use new_instance_rules::{
+    enter_fault, entry_broken, name_broken, project_missing, source_busy, source_missing,
+    tables_broken,
 };
+use new_instance_tasks::{instance_creation, may_cancel};
+use operations::{EnterFault, OpFault, Operation, Status};
+use plain_limits::{counts_broken, limits_broken};
+use plain_readings::{Load, Plain, claimed_instance, loads};
+use plain_rules::{instance_settings, policy_broken};
 use records::{Body, Instance, Refusal, Target};
 use row_machine::Work;
 use size_values::{NoMemory, Text};
@@ -180,6 +181,29 @@ fn claim_broken(
     answer
 }
 
+/// The first rule that what a creation begins breaks, by what counted before: none, where what the instance is copied from
+/// is missing. Nothing changes.
+fn plan_broken(
+    alloc: Global,
+    plain: &mut Plain,
+    before: &[Load],
+    project: &Text,
+    of: &Target,
+    body: &Body,
+    moment: u64,
+) -> Result<Option<Refusal>, NoMemory>
+    requires kind { of.now.kind ≡ kind.Instance }
+    requires small { AreSmall before.now }
+    ensures ok { before.now ≡ loads plain.old → IfOk result (λ r. r ≡ plan_broken plain.old (record { project = project.now; what = what.Create of.now body.now }) (instance_creation plain.old project.now of.now body.now moment body.now.origin) moment) }
+    ensures same { plain.new ≡ plain.old }
+{
+    let fault = enter_fault(plain);
+    let Some(work) = instance_creation(alloc, plain, project, of, body, moment)? else {
+        return Ok(None);
+    };
+    claim_broken(alloc, plain, before, fault, work, moment)
+}
+
 /// The first rule that the creation of an instance in a project breaks, or none: from nothing, from an image, or as a
 /// copy. The moment is that at which the instance would be made, in seconds since 1970. Nothing changes.
 pub fn creation_broken(
@@ -198,9 +222,7 @@ pub fn creation_broken(
         return Ok(Some(refusal));
     }
     let before = loads(alloc, plain)?;
-    let fault = enter_fault(plain);
-    let Some(work) = instance_creation(alloc, plain, project, of, body, moment)? else {
-        return Ok(None);
-    };
-    claim_broken(alloc, plain, &before, fault, work, moment)
+    let broken = plan_broken(alloc, plain, &before, project, of, body, moment);
+    drop(before);
+    broken
 }

@@ -2,12 +2,5 @@
 #![tactic(auto)]
 
 mod creation;
-#[cfg(test)]
-mod creation_tests;
-mod making;
-mod names;
-mod standing;
-mod tables;
-mod tasks;
 
 pub use creation::creation_broken;

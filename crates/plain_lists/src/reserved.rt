@@ -10,20 +10,3 @@ pub fn push_reserved<T: Drop>(items: &mut Vec<T>, item: T)
         unreachable!();
     }
 }
-
-#[cfg(test)]
-mod tests {
-    use super::*;
-    use std::test::Fail;
-
-    #[test]
-    fn keeps_order(rt: HostRuntime) -> Result<(), Fail> {
-        let mut items: Vec<u8> = Vec::new(rt.alloc());
-        for item in [7u8, 3, 9] {
-            items.reserve(1)?;
-            push_reserved(&mut items, item);
-        }
-        assert_eq!(rt; items.as_slice(), [7u8, 3, 9].as_slice());
-        Ok(())
-    }
-}

@@ -18,7 +18,7 @@ use std::alloc::Global;
 use std::marker::Model;
 
 /// What counts for the limits of a project.
-#[derive(Debug, Drop)]
+#[derive(Drop)]
 pub struct Load {
     project: Text,
     amounts: Amounts,
@@ -55,7 +55,9 @@ pub(crate) fn amounts_of_instance(
     ensures { IfOk result (λ a. a ≡ amounts_of_instance plain.now row.now) }
 {
     let expanded = plain.expansion(alloc, row)?;
-    Ok(project_limits::amounts_of(row.kind, &expanded.config, &expanded.devices))
+    let amounts = project_limits::amounts_of(row.kind, &expanded.config, &expanded.devices);
+    drop(expanded);
+    Ok(amounts)
 }
 
 /// What a row counts for. Only instances and volumes do.

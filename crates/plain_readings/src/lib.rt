@@ -3,13 +3,13 @@
 #![tactic(auto)]
 
 mod amounts;
+mod claims;
 mod lookups;
 mod plain;
 mod readings;
-#[cfg(test)]
-mod readings_tests;
 
 pub use amounts::{Load, loads, project_of_row, usage_in};
+pub use claims::{claimed_instance, claimed_snapshot, claimed_volume};
 pub use lookups::{
     instance_named, network_home, network_named, pool_named, profile_home, profile_named,
     project_named, snapshot_named, volume_home, volume_named,

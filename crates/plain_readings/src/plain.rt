@@ -8,7 +8,7 @@ use std::marker::Model;
 /// The rows of each kind, in the order of project, pool or instance, and name, and the kept operations: those that live
 /// in the order of their numbers, those that ended in the order of their ends, and the number of the next one. Contracts
 /// see the state of the row machine with these rows and operations, in which nothing else was told or granted yet.
-#[derive(Debug, Drop)]
+#[derive(Drop)]
 pub struct Plain {
     pub projects: Vec<Project>,
     pub profiles: Vec<Profile>,

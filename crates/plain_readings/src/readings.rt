@@ -29,7 +29,9 @@ impl Plain {
         ensures { IfOk result (λ a. a ≡ usage_of self.now project.now) }
     {
         let all = loads(alloc, self)?;
-        Ok(usage_in(&all, project.view()))
+        let used = usage_in(&all, project.view());
+        drop(all);
+        Ok(used)
     }
 }
 

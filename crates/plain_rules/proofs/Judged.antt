@@ -1,5 +1,5 @@
 -- Instances of a project that there are or would be, asked one list after the other.
-use Rattle.std.proofs.Common.{◌≡◌, ℕ, Bool, true, false, cond, if◌then◌else◌, List, [], ◌∷◌, ◌++◌, filter, Option, Some, None, option_and_then, refl, ap, ◌∙◌}
+use Rattle.std.proofs.Common.{◌≡◌, ℕ, Bool, if◌then◌else◌, List, ◌++◌, filter, Option, None, option_and_then, ap, ◌∙◌}
 use Rattle.std.specs.List.{filter_map}
 use Rattle.std.specs.Option.{option_or}
 use Rattle.std.specs.Str.{bytes_eq}
@@ -9,16 +9,8 @@ use Rattle.records.specs.declared.rows.Project.{Project}
 use Rattle.row_machine.specs.State.{State}
 use Rattle.row_machine.specs.Claims.{claimed_instance, judged_instances}
 use Rattle.row_machine.specs.PolicyRules.{forbids_profile, forbids_instance, project_forbids}
-
--- a rule over those that pass a test
-pub first_of-filter : {X R : Type 0} (rule : X → Option R) (test : X → Bool) (xs : List X)
-    → first_of rule (filter test xs) ≡ first_of (λ x. if test x then rule x else None) xs
-first_of-filter rule test [] = refl
-first_of-filter {X} {R} rule test (x ∷ xs) = at (test x) (first_of-filter rule test xs) where
-  at : (b : Bool) → first_of rule (filter test xs) ≡ first_of (λ y. if test y then rule y else None) xs
-      → first_of rule (cond b (x ∷ filter test xs) (filter test xs)) ≡ option_or (cond b (rule x) None) (first_of (λ y. if test y then rule y else None) xs)
-  at true more = ap (option_or (rule x)) more
-  at false more = more
+use Rattle.rule_refusals.proofs.Chains.{or-none}
+use Rattle.rule_refusals.proofs.Loops.{first_of-filter}
 
 -- of two lists, of which the second is read
 pub first_of-judged : {X Y R : Type 0} (rule : X → Option R) (test : X → Bool) (read : Y → Option X) (xs : List X) (ys : List Y)
@@ -28,10 +20,6 @@ first_of-judged rule test read xs ys =
     first_of-filter rule test (xs ++ filter_map read ys)
     ∙ first_of-append (λ x. if test x then rule x else None) xs (filter_map read ys)
     ∙ ap (option_or (first_of (λ x. if test x then rule x else None) xs)) (first_of-read read (λ x. if test x then rule x else None) ys)
-
-or-none : {R : Type 0} (o : Option R) → option_or o None ≡ o
-or-none None = refl
-or-none (Some r) = refl
 
 -- the profiles of a project, its instances, and those that live operations would put
 pub forbids_split : (s : State) (number : ℕ) (p : Project) → project_forbids s number p

@@ -1,5 +1,1 @@
-pub mod Chains
-pub mod Countables
 pub mod Judged
-pub mod Limited
-pub mod Loops

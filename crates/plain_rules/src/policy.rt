@@ -1,18 +1,17 @@
+//! Rules on policy: F1 to F7.
 ghost use Rattle.std.specs.Prelude.{◌≡◌, IfOk, if◌then◌else◌, None, option_and_then};
-ghost use Rattle.std.specs.Option.{option_copied};
 ghost use Rattle.std.specs.Str.{bytes_eq};
 ghost use Rattle.plain_lists.specs.Firsts.{first_of};
 ghost use Rattle.row_machine.specs.Claims.{claimed_instance};
 ghost use Rattle.row_machine.specs.PolicyRules.{policy_rule, subject_of, forbidden_key, forbids, forbids_profile, forbids_instance, project_forbids, policy_broken};
 
-use crate::refusals::on_key_of;
-use crate::settings::{key_at, name_at};
 use config_lists::{Config, Devices};
 use operations::Operation;
-use plain_readings::Plain;
-use records::{Instance, Profile, Project, Refusal, Row, Rule};
+use plain_readings::{Plain, claimed_instance};
+use records::{Instance, Profile, Project, Refusal, Rule};
 use restrictions::{Forbidden, Subject, first_forbidden, policy_of};
 use row_machine::Work;
+use rule_refusals::{key_at, name_at, on_key_of};
 use size_values::{Kind, NoMemory};
 use std::alloc::Global;
 
@@ -43,7 +42,8 @@ fn subject_of(kind: Kind) -> Subject
     }
 }
 
-/// The setting or the device that is forbidden.
+/// The setting or the device that is forbidden. One line of the table demands a key.
+#[tactic(auto, unfolding(restrictions::specs::Forbids::setting_lines))]
 fn forbidden_key<'x>(config: &'x Config, devices: &'x Devices, found: Forbidden) -> &'x str
     ensures { result.now ≡ forbidden_key config.now devices.now found }
 {
@@ -136,7 +136,7 @@ fn instance_forbids(
         return Ok(None);
     }
     let expanded = plain.expansion(alloc, row)?;
-    forbids(
+    let forbidden = forbids(
         alloc,
         project,
         number,
@@ -144,7 +144,9 @@ fn instance_forbids(
         row.name.view(),
         &expanded.config,
         &expanded.devices,
-    )
+    );
+    drop(expanded);
+    forbidden
 }
 
 /// The first instance of the project that breaks the rule.
@@ -163,16 +165,6 @@ fn instances_forbid(
         }
     }
     Ok(None)
-}
-
-/// The instance that a live operation would put.
-pub fn claimed_instance(work: &Work) -> Option<&Instance>
-    ensures { option_copied result ≡ claimed_instance work.now }
-{
-    match &work.claim {
-        Some(Row::Instance(row)) => Some(row),
-        _ => None,
-    }
 }
 
 /// A live operation would put an instance of the project that breaks the rule.

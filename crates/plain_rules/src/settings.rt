@@ -1,156 +1,24 @@
-//! Rules on settings: V1 to V5, of an instance.
-ghost use Rattle.std.specs.Prelude.{◌≡◌, IfOk, if◌then◌else◌, None, Some, is_none, find};
-ghost use Rattle.std.specs.Map.{keys_of, values_of};
+//! Rules on the settings of an instance: V1 to V5.
+ghost use Rattle.std.specs.Prelude.{◌≡◌, ◌∷◌, [], IfOk, if◌then◌else◌, None, Some, is_none, find};
 ghost use Rattle.std.specs.Option.{option_copied};
-ghost use Rattle.std.specs.Result.{result_err};
-ghost use Rattle.plain_lists.specs.Firsts.{first_of};
+ghost use Rattle.plain_lists.specs.Firsts.{first};
 ghost use Rattle.config_lists.specs.Devices.{root_of};
 ghost use Rattle.records.specs.declared.refusals.Rule.TheVariants as rule;
 ghost use Rattle.row_machine.specs.Rows.{profile_named};
-ghost use Rattle.row_machine.specs.Refusals.{untold, on_name};
-ghost use Rattle.row_machine.specs.SettingRules.{text_at, device_at, device_fault_number, faulty_key, setting_refusal, tables_break, scope_of, is_one};
+ghost use Rattle.row_machine.specs.Refusals.{on_name};
+ghost use Rattle.row_machine.specs.SettingRules.{scope_of, is_one};
 ghost use Rattle.row_machine.specs.SettingRules.{profile_missing, network_missing, pool_missing, volume_missing, disk_misses, device_misses, devices_miss, instance_settings};
 
-use crate::refusals::{on_name, on_object, untold};
-use config_lists::{Config, Device, Devices, Root};
-use option_tables::{DeviceFault, Scope, SettingFault, check_devices, check_instance};
+use config_lists::{Device, Devices, Root};
+use option_tables::{Scope, check_instance};
 use plain_readings::{
     Plain, network_home, network_named, pool_named, profile_home, profile_named, volume_home,
     volume_named,
 };
 use records::{Instance, Profile, Refusal, Rule};
+use rule_refusals::{on_name, on_object, tables_break};
 use size_values::{Kind, NoMemory, ObjectKind, Text};
 use std::alloc::Global;
-
-/// The key of settings at a place, or nothing behind all of them.
-pub(crate) fn key_at(config: &Config, place: usize) -> &str
-    ensures { result.now ≡ text_at (keys_of config.now) place }
-{
-    if place < config.len() {
-        config.key_at(place)
-    } else {
-        ""
-    }
-}
-
-/// The name of devices at a place, or nothing behind all of them.
-pub(crate) fn name_at(devices: &Devices, place: usize) -> &str
-    ensures { result.now ≡ text_at (keys_of devices.now) place }
-{
-    if place < devices.len() {
-        devices.name_at(place)
-    } else {
-        ""
-    }
-}
-
-/// The numbers by which V3 tells a device's fault.
-fn device_fault_number(why: DeviceFault) -> u64
-    ensures { result ≡ device_fault_number why }
-{
-    match why {
-        DeviceFault::BadName => 1,
-        DeviceFault::NoType => 2,
-        DeviceFault::UnknownType => 3,
-        DeviceFault::UnknownKey(_) => 4,
-        DeviceFault::BadValue(_, _) => 5,
-        DeviceFault::NicSource => 6,
-        DeviceFault::DiskShape => 7,
-    }
-}
-
-fn device_key_at(devices: &Devices, place: usize, key: usize) -> &str
-    ensures { result.now ≡ text_at (keys_of (device_at devices.now place)) key }
-{
-    if place < devices.len() {
-        key_at(devices.device_at(place), key)
-    } else {
-        ""
-    }
-}
-
-/// The key of the device at a place at which the fault is.
-fn faulty_key(devices: &Devices, place: usize, why: DeviceFault) -> &str
-    ensures { result.now ≡ faulty_key (device_at devices.now place) why }
-{
-    match why {
-        DeviceFault::UnknownKey(key) => device_key_at(devices, place, key),
-        DeviceFault::BadValue(key, _) => device_key_at(devices, place, key),
-        DeviceFault::BadName => "",
-        DeviceFault::NoType => "",
-        DeviceFault::UnknownType => "",
-        DeviceFault::NicSource => "",
-        DeviceFault::DiskShape => "",
-    }
-}
-
-/// The rule, a key of an object and the number of a fault.
-fn on_setting(
-    alloc: Global,
-    rule: Rule,
-    key: &str,
-    name: &str,
-    number: u64,
-) -> Result<Refusal, NoMemory>
-    ensures { IfOk result (λ r. r ≡ record { rule = rule; kept = record untold { key = key.now; name = name.now; number = number } }) }
-{
-    let key = Text::from_text(alloc, key)?;
-    let name = Text::from_text(alloc, name)?;
-    let mut kept = untold(alloc);
-    kept.key = key;
-    kept.name = name;
-    kept.number = number;
-    Ok(Refusal { rule, kept })
-}
-
-fn setting_refusal(
-    alloc: Global,
-    config: &Config,
-    devices: &Devices,
-    fault: SettingFault,
-) -> Result<Refusal, NoMemory>
-    ensures { IfOk result (λ r. r ≡ setting_refusal config.now devices.now fault) }
-{
-    match fault {
-        SettingFault::Unknown(place) => on_setting(alloc, Rule::V1, key_at(config, place), "", 0),
-        SettingFault::Bad(place, why) => on_setting(
-            alloc,
-            Rule::V2,
-            key_at(config, place),
-            "",
-            why.number(),
-        ),
-        SettingFault::Device(place, why) => on_setting(
-            alloc,
-            Rule::V3,
-            faulty_key(devices, place, why),
-            name_at(devices, place),
-            device_fault_number(why),
-        ),
-    }
-}
-
-/// Settings and devices against the tables, V1 to V3: the first fault of the settings, or else of the devices.
-pub fn tables_break(
-    alloc: Global,
-    config: &Config,
-    settings: Result<(), SettingFault>,
-    devices: &Devices,
-) -> Result<Option<Refusal>, NoMemory>
-    ensures { IfOk result (λ r. r ≡ tables_break config.now (result_err settings) devices.now) }
-{
-    if let Err(fault) = settings {
-        let refusal = setting_refusal(alloc, config, devices, fault)?;
-        return Ok(Some(refusal));
-    }
-    match check_devices(devices) {
-        Ok(()) => Ok(None),
-        Err(fault) => {
-            let refusal = setting_refusal(alloc, config, devices, fault)?;
-            Ok(Some(refusal))
-        }
-    }
-}
 
 fn scope_of(kind: Kind) -> Scope
     ensures { result ≡ scope_of kind }
@@ -310,6 +178,24 @@ fn devices_miss(
     Ok(None)
 }
 
+/// The first rule that an instance breaks with the devices that it has, those of its profiles among them.
+fn expansion_broken(
+    alloc: Global,
+    plain: &Plain,
+    row: &Instance,
+    devices: &Devices,
+) -> Result<Option<Refusal>, NoMemory>
+    ensures { IfOk result (λ r. r ≡ first ((if is_one (root_of devices.now) then None else Some (on_name rule.V4 row.now.name)) ∷ profile_missing plain.now row.now ∷ devices_miss plain.now row.now.project devices.now ∷ [])) }
+{
+    if let Some(refusal) = root_missing(alloc, devices, row.name.view())? {
+        return Ok(Some(refusal));
+    }
+    if let Some(refusal) = profile_missing(alloc, plain, row)? {
+        return Ok(Some(refusal));
+    }
+    devices_miss(alloc, plain, row.project.view(), devices)
+}
+
 /// The first rule on settings that an instance breaks: its own settings and devices, and what its expansion names.
 #[tactic(auto, unfolding(row_machine::specs::SettingRules::instance_settings, row_machine::specs::SettingRules::root_missing))]
 pub fn instance_settings(
@@ -324,11 +210,7 @@ pub fn instance_settings(
         return Ok(Some(refusal));
     }
     let expanded = plain.expansion(alloc, row)?;
-    if let Some(refusal) = root_missing(alloc, &expanded.devices, row.name.view())? {
-        return Ok(Some(refusal));
-    }
-    if let Some(refusal) = profile_missing(alloc, plain, row)? {
-        return Ok(Some(refusal));
-    }
-    devices_miss(alloc, plain, row.project.view(), &expanded.devices)
+    let broken = expansion_broken(alloc, plain, row, &expanded.devices);
+    drop(expanded);
+    broken
 }

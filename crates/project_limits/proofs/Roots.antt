@@ -1,5 +1,5 @@
 -- The place of the root disk is among the devices.
-use Rattle.std.proofs.Common.{◌≡◌, ℕ, ◌+◌, ◌<◌, ◌≤◌, Bool, true, false, cond, List, [], ◌∷◌, length, suc, subst, sym, arith}
+use Rattle.std.proofs.Common.{◌≡◌, ℕ, ◌+◌, ◌<◌, Bool, true, false, cond, List, [], ◌∷◌, length, suc, subst, sym, arith}
 use Rattle.config_lists.specs.Devices.{NamedDevices, is_root_disk, root_places, one_of, root_of}
 use Rattle.config_lists.specs.declared.root.Root.{Root}
 use Rattle.config_lists.specs.declared.root.Root.TheVariants as root

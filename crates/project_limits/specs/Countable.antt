@@ -1,5 +1,5 @@
 -- Where a limit on a sum is set, each instance and volume has to give a number for it.
-use Rattle.std.specs.Prelude.{ℕ, ◌&&◌, Bool, if◌then◌else◌, List, [], ◌∷◌, Option, Some, None, is_some, is_none, codes}
+use Rattle.std.specs.Prelude.{ℕ, ◌&&◌, if◌then◌else◌, List, [], ◌∷◌, Option, Some, None, is_some, is_none, codes}
 use Rattle.size_values.specs.declared.kinds.Kind.{Kind}
 use Rattle.plain_lists.specs.Firsts.{first_of}
 use Rattle.config_lists.specs.Devices.{NamedDevices}

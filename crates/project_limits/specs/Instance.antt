@@ -1,5 +1,5 @@
 -- What an instance or a volume counts for in its project, by its expanded settings and devices.
-use Rattle.std.specs.Prelude.{ℕ, List, Option, Some, None, codes, option_and_then, unwrap_or, slice_get}
+use Rattle.std.specs.Prelude.{ℕ, Option, Some, None, codes, option_and_then, unwrap_or, slice_get}
 use Rattle.std.specs.Map.{values_of}
 use Rattle.std.specs.Result.{result_ok}
 use Rattle.size_values.specs.Cpu.{cpu_of}

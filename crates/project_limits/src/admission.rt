@@ -8,7 +8,7 @@ use crate::limits::Limits;
 use size_values::Amounts;
 
 /// The keys of limits, in the order in which they are judged.
-#[derive(Clone, Copy, Debug, PartialEq, Eq)]
+#[derive(Clone, Copy, PartialEq, Eq)]
 pub enum LimitKey {
     Instances,
     Containers,
@@ -21,7 +21,7 @@ pub enum LimitKey {
 }
 
 /// A limit that would be exceeded: what is used, what is asked for beside it, and the limit.
-#[derive(Clone, Copy, Debug, PartialEq, Eq)]
+#[derive(Clone, Copy, PartialEq, Eq)]
 pub struct Over {
     pub key: LimitKey,
     pub used: u128,

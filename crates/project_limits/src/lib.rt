@@ -11,6 +11,3 @@ pub use admission::{LimitKey, Over, admit, admit_networks};
 pub use amounts::{amounts_of, volume_amounts};
 pub use limits::{Limits, limits_of};
 pub use sums::{SumKey, countable, volume_countable};
-
-#[cfg(test)]
-mod tests;

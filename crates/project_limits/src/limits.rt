@@ -6,7 +6,7 @@ use size_values::{read_count, read_size};
 
 /// The limits of a project on its sums, each None where it is not set: numbers of instances, containers,
 /// virtual machines and networks, processors, bytes of memory, processes, and bytes of disk.
-#[derive(Clone, Copy, Debug, PartialEq, Eq)]
+#[derive(Clone, Copy, PartialEq, Eq)]
 pub struct Limits {
     pub instances: Option<u64>,
     pub containers: Option<u64>,

@@ -8,7 +8,7 @@ use config_lists::{Config, Devices};
 use size_values::Kind;
 
 /// The sums that settings of instances add to.
-#[derive(Clone, Copy, Debug, PartialEq, Eq)]
+#[derive(Clone, Copy, PartialEq, Eq)]
 pub enum SumKey {
     Cpu,
     Memory,

@@ -1,3 +1,4 @@
 pub mod Entries
 pub mod MapKeeper
 pub mod Places
+pub mod Store

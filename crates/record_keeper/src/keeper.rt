@@ -1,7 +1,7 @@
-ghost use Rattle.std.specs.Prelude.{◌≡◌, ℕ, List, Option, option_map, IfOk, IfSome, OnOk, OnErr};
-ghost use Rattle.size_values.specs.Causes.{HasCauseOrMemory};
-ghost use Rattle.size_values.specs.declared.entry.Entry.{Entry as EntryValue};
+ghost use Rattle.std.specs.Prelude.{◌≡◌, option_map, IfOk, IfSome, OnOk, OnErr};
+ghost use Rattle.size_values.specs.CallCounts.{CountsFailure, called};
 ghost use Rattle.record_keeper.specs.Entries.{IsOrderedEntries, after_changes};
+ghost use Rattle.record_keeper.specs.Store.{Store};
 
 use size_values::{Entry, EntryChange, Or, Seq};
 use thiserror::Error;
@@ -11,29 +11,29 @@ use thiserror::Error;
 #[error("the keeper failed")]
 pub struct KeeperFailed;
 
-/// Keeps entries beyond a run: at most one for each kind and key. A failure is answered only where the
-/// keeper's count of faults rose in that call. Want of memory may be answered by any call and is no failure.
+/// Keeps entries beyond a run: at most one for each kind and key. Each call of `load` and `commit` is counted. A failure is
+/// answered only where the keeper's count of failures rose in that call, and any other answer leaves that count as it
+/// was. Any call may be out of memory, which is no failure.
 pub trait Keeper {
-    /// The entries, sorted by kind and key, each pair once; None where the keeper doesn't tell them.
-    ghost told: { Self → Option (List EntryValue) };
-
-    /// How many calls failed. The count stops at 2^64 - 1.
-    ghost failures: { Self → ℕ };
+    /// What is seen of the keeper. Its entries are sorted by kind and key, each pair once; None where it doesn't tell them.
+    ghost store: { Self → Store };
 
     /// The kept entries, sorted by kind and key, each pair once. Whatever it answers, they stay.
     fn load(&mut self) -> Result<Seq<Entry>, Or<KeeperFailed>>
-        ensures found { IfOk result (λ found. IfSome (told self.old) (λ kept. found ≡ kept)) }
+        ensures found { IfOk result (λ found. IfSome (store self.old).told (λ kept. found ≡ kept)) }
         ensures ordered { IfOk result IsOrderedEntries }
-        ensures same { told self.new ≡ told self.old }
-        ensures cause { HasCauseOrMemory (failures self.old) (failures self.new) result };
+        ensures same { (store self.new).told ≡ (store self.old).told }
+        ensures calls { (store self.new).calls ≡ called 1 (store self.old).calls }
+        ensures failures { CountsFailure (store self.old).failures (store self.new).failures result };
 
     /// Makes all the changes, in their order, or none of them: where it is refused, the entries stay.
     fn commit(&mut self, changes: &Seq<EntryChange>) -> Result<(), Or<KeeperFailed>>
-        ensures ok { OnOk result (told self.new ≡ option_map (after_changes changes.now) (told self.old)) }
-        ensures err { OnErr result (told self.new ≡ told self.old) }
-        ensures cause { HasCauseOrMemory (failures self.old) (failures self.new) result };
+        ensures ok { OnOk result ((store self.new).told ≡ option_map (after_changes changes.now) (store self.old).told) }
+        ensures err { OnErr result ((store self.new).told ≡ (store self.old).told) }
+        ensures calls { (store self.new).calls ≡ called 1 (store self.old).calls }
+        ensures failures { CountsFailure (store self.old).failures (store self.new).failures result };
 
     /// The count of failures so far.
     fn faults(&self) -> u64
-        ensures { result ≡ failures self.now };
+        ensures { result ≡ (store self.now).failures };
 }

@@ -1,5 +1,5 @@
 ghost use Rattle.std.specs.Prelude.{◌≡◌, [], is_ok, if◌then◌else◌, Some, option_map, IfOk, IfSome, OnOk, OnErr, vec_len, vec_capacity, ◌+◌, ◌≤◌};
-ghost use Rattle.size_values.specs.Causes.{HasCauseOrMemory};
+ghost use Rattle.size_values.specs.CallCounts.{CountsFailure, called};
 ghost use Rattle.size_values.specs.Calls.{no_calls, after_call, is_next_failing, has_failed};
 ghost use Rattle.record_keeper.specs.Entries.{IsOrderedEntries, after_changes, entries_put};
 
@@ -60,14 +60,12 @@ impl MapKeeper {
 }
 
 impl Keeper for MapKeeper {
-    ghost told = { λ k. Some k.entries };
-
-    ghost failures = { λ k. k.calls.failed };
+    ghost store = { λ k. record { told = Some k.entries; calls = k.calls.made; failures = k.calls.failed } };
 
     fn load(&mut self) -> Result<Seq<Entry>, Or<KeeperFailed>>
         ensures found { IfOk result (λ found. found ≡ self.old.entries) }
         ensures ordered { IfOk result IsOrderedEntries }
-        ensures cause { HasCauseOrMemory self.old.calls.failed self.new.calls.failed result }
+        ensures failures { CountsFailure self.old.calls.failed self.new.calls.failed result }
         ensures kept { self.new ≡ record self.old { calls = after_call self.old.calls } }
         ensures fails { has_failed result ≡ is_next_failing self.old.calls }
     {
@@ -79,7 +77,7 @@ impl Keeper for MapKeeper {
     }
 
     fn commit(&mut self, changes: &Seq<EntryChange>) -> Result<(), Or<KeeperFailed>>
-        ensures cause { HasCauseOrMemory self.old.calls.failed self.new.calls.failed result }
+        ensures failures { CountsFailure self.old.calls.failed self.new.calls.failed result }
         ensures kept { self.new ≡ record { entries = if is_ok result then after_changes changes.now self.old.entries else self.old.entries; calls = after_call self.old.calls } }
         ensures fails { has_failed result ≡ is_next_failing self.old.calls }
     {
@@ -155,6 +153,3 @@ fn put_all(alloc: Global, entries: &[Entry]) -> Result<Vec<Entry>, NoMemory>
     }
     Ok(kept)
 }
-
-#[cfg(test)]
-mod tests;

@@ -170,9 +170,13 @@ abbrev pub are_distinct : List (List ℕ) → Bool
 are_distinct [] = true
 are_distinct (text ∷ texts) = not (list_any (bytes_eq text) texts) && are_distinct texts
 
--- at most 64 profiles, each once
+-- the most profiles that an instance may name
+abbrev pub most_profiles : ℕ
+most_profiles = 64
+
+-- no more profiles than that, each once
 abbrev pub are_profiles : List (List ℕ) → Bool
-are_profiles profiles = nat_le (length profiles) 64 && are_distinct profiles
+are_profiles profiles = nat_le (length profiles) most_profiles && are_distinct profiles
 
 -- each field that is there has its form
 abbrev pub has_forms : Body → Bool
@@ -216,9 +220,13 @@ is_creation kind body =
 abbrev pub is_change : ObjectKind → Body → Bool
 is_change kind body = has_only (changed_fields kind) body && has_forms body && is_none_origin body.origin
 
+-- the longest time to wait, in seconds
+abbrev pub longest_wait : ℕ
+longest_wait = 1000000
+
 -- seconds to wait, or -1 for no end
 abbrev pub is_timeout : ℤ → Bool
-is_timeout (pos n) = nat_le n 1000000
+is_timeout (pos n) = nat_le n longest_wait
 is_timeout (negsuc n) = n == 0
 
 -- ---- the requests

@@ -8,7 +8,7 @@ use std::alloc::Global;
 /// The object that a command is about, or the objects of a list. A volume has its pool and a snapshot its
 /// instance beside its name; the parts that a kind does not use are empty. A list has no name, and operations
 /// are named by number elsewhere.
-#[derive(Debug, Drop)]
+#[derive(Drop)]
 pub struct Target {
     pub kind: ObjectKind,
     pub pool: Text,
@@ -17,9 +17,10 @@ pub struct Target {
 }
 
 /// Where a new instance or volume gets its content: from nothing, from the image of this alias or fingerprint,
-/// or from another object. A copy of an instance may be one of its snapshot, else `snapshot` is empty; a copy of
-/// a volume names the pool of that volume, else `pool` is empty.
-#[derive(Debug, Drop)]
+/// or from another object. A copy of an instance may be one of its snapshot, else `snapshot` is empty, and its
+/// `pool` is empty. A copy of a volume names the pool of that volume: where a request leaves the pool out or gives
+/// `null`, the route fills in the pool of its path. An empty `pool` is a text like any other, and names no pool (N2).
+#[derive(Drop)]
 pub enum Origin {
     None,
     Image(Text),
@@ -31,7 +32,7 @@ pub enum Origin {
 }
 
 /// The fields of a request's body that speak of the object itself. `kind` is the field `type` of an instance.
-#[derive(Debug, Drop)]
+#[derive(Drop)]
 pub struct Body {
     pub description: Option<Text>,
     pub config: Option<Changes>,
@@ -44,7 +45,7 @@ pub struct Body {
 }
 
 /// What a request asks for, in the project that its query names.
-#[derive(Debug, Drop)]
+#[derive(Drop)]
 pub struct Command {
     pub project: Text,
     pub what: What,
@@ -53,7 +54,7 @@ pub struct Command {
 /// The requests of the REST API. `Root` and `Server` are `GET /` and `GET /1.0`; `State` is the state of an
 /// instance or the usage of a project; `Move` renames; `Act` changes the state of an instance, and `Restore`
 /// takes an instance back to its snapshot. Operations go by number, and `timeout` is in seconds, -1 for none.
-#[derive(Debug, Drop)]
+#[derive(Drop)]
 pub enum What {
     Root,
     Server,

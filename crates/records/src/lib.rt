@@ -8,8 +8,6 @@ mod notices;
 mod refusals;
 mod replies;
 mod rows;
-#[cfg(test)]
-mod tests;
 mod texts;
 
 pub use commands::{Body, Command, Origin, Target, What};

@@ -6,7 +6,7 @@ use std::alloc::Global;
 
 /// What an event tells: an action of a lifecycle event with the link of its object, or an operation as it is
 /// after a change of its status.
-#[derive(Debug, Drop)]
+#[derive(Drop)]
 pub enum Told {
     Life { action: Life, source: Text },
     Op(OpView),
@@ -14,7 +14,7 @@ pub enum Told {
 
 /// The actions of lifecycle events. Those of pools and volumes are written `storage-pool-` and
 /// `storage-volume-`, and those of snapshots `instance-snapshot-`.
-#[derive(Clone, Copy, Debug, PartialEq, Eq)]
+#[derive(Clone, Copy, PartialEq, Eq)]
 pub enum Life {
     ProjectCreated,
     ProjectUpdated,
@@ -51,7 +51,7 @@ pub enum Life {
 
 /// An event of `GET /1.0/events`, numbered from 1, with the project that it belongs to. `moment` is in seconds
 /// since 1970.
-#[derive(Debug, Drop)]
+#[derive(Drop)]
 pub struct Notice {
     pub number: u64,
     pub moment: u64,
@@ -60,7 +60,7 @@ pub struct Notice {
 }
 
 /// Which events a listener takes: those of one project, of the types `lifecycle` and `operation` that it wants.
-#[derive(Debug, Drop)]
+#[derive(Drop)]
 pub struct Filter {
     pub life: bool,
     pub op: bool,
@@ -68,7 +68,7 @@ pub struct Filter {
 }
 
 /// An event that has no number yet.
-#[derive(Debug, Drop)]
+#[derive(Drop)]
 pub struct Untold {
     pub moment: u64,
     pub project: Text,

@@ -7,7 +7,7 @@ use std::alloc::Global;
 /// form (A), names (N), what stands in the way (B), settings (V), the policy of a restricted project (F), its limits (L),
 /// operations (O), the size of tables and rows (C), the store (K) and memory (M). That a request is not built yet (A0) is
 /// judged behind its path and method (A1, A2) and before the rest of its form.
-#[derive(Clone, Copy, Debug, PartialEq, Eq)]
+#[derive(Clone, Copy, PartialEq, Eq)]
 pub enum Rule {
     H1,
     H2,
@@ -66,7 +66,7 @@ pub enum Rule {
 
 /// What a refusal tells of its rule: the kind and name of an object, its project, a key, a number, or the used,
 /// asked and allowed amounts of a limit. The parts that a rule does not tell are empty or 0.
-#[derive(Debug, Drop)]
+#[derive(Drop)]
 pub struct Kept {
     pub kind: Text,
     pub project: Text,
@@ -79,7 +79,7 @@ pub struct Kept {
 }
 
 /// Why a request is refused: the rule, and what is told of it.
-#[derive(Debug, Drop)]
+#[derive(Drop)]
 pub struct Refusal {
     pub rule: Rule,
     pub kept: Kept,

@@ -10,7 +10,7 @@ use std::alloc::Global;
 
 /// A background operation as `GET /1.0/operations/{id}` shows it, with the project and the object that it is
 /// about. `created` and `updated` are in seconds since 1970.
-#[derive(Debug, Drop)]
+#[derive(Drop)]
 pub struct OpView {
     pub number: u64,
     pub status: Status,
@@ -23,7 +23,7 @@ pub struct OpView {
 }
 
 /// The limits of a project, each named after its key without `limits.`.
-#[derive(Clone, Copy, Debug, PartialEq, Eq)]
+#[derive(Clone, Copy, PartialEq, Eq)]
 pub enum LimitKeyName {
     Instances,
     Containers,
@@ -36,7 +36,7 @@ pub enum LimitKeyName {
 }
 
 /// One line of a project's state: how much of a limit is used, and the limit where one is set.
-#[derive(Debug, Drop)]
+#[derive(Drop)]
 pub struct UsageLine {
     pub key: LimitKeyName,
     pub used: u128,
@@ -46,7 +46,7 @@ pub struct UsageLine {
 /// One object as a reply shows it. The lists of texts are `used_by`, the links of the objects that use it. An
 /// instance has its expanded settings and devices beside its row, and its status. `Usage` is the state of a
 /// project, and `Power` that of an instance.
-#[derive(Debug, Drop)]
+#[derive(Drop)]
 pub enum View {
     Server,
     Project(Project, Seq<Text>),
@@ -68,7 +68,7 @@ pub enum View {
 
 /// The answer to a command. `Links` and `Many` are lists without and with recursion; `OpLinks` and `OpMany` are
 /// the operations of a project by status, by number or whole. `Started` is the operation that a command began.
-#[derive(Debug, Drop)]
+#[derive(Drop)]
 pub enum Reply {
     Empty,
     Links(Seq<Text>),

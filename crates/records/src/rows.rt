@@ -6,7 +6,7 @@ use size_values::{Kind, NoMemory, Seq, Text};
 use std::alloc::Global;
 
 /// The driver of a storage pool.
-#[derive(Clone, Copy, Debug, PartialEq, Eq)]
+#[derive(Clone, Copy, PartialEq, Eq)]
 pub enum Driver {
     Dir,
     Btrfs,
@@ -16,7 +16,7 @@ pub enum Driver {
 
 /// A project, by which instances, profiles, networks and storage volumes are kept apart, with its features,
 /// limits and restrictions among its settings.
-#[derive(Debug, Drop)]
+#[derive(Drop)]
 pub struct Project {
     pub name: Text,
     pub description: Text,
@@ -24,7 +24,7 @@ pub struct Project {
 }
 
 /// A profile: settings and devices that the instances which name it have in common.
-#[derive(Debug, Drop)]
+#[derive(Drop)]
 pub struct Profile {
     pub project: Text,
     pub name: Text,
@@ -34,7 +34,7 @@ pub struct Profile {
 }
 
 /// A managed network, which is a bridge.
-#[derive(Debug, Drop)]
+#[derive(Drop)]
 pub struct Network {
     pub project: Text,
     pub name: Text,
@@ -43,7 +43,7 @@ pub struct Network {
 }
 
 /// A storage pool, which belongs to no project.
-#[derive(Debug, Drop)]
+#[derive(Drop)]
 pub struct Pool {
     pub name: Text,
     pub driver: Driver,
@@ -52,7 +52,7 @@ pub struct Pool {
 }
 
 /// A custom storage volume of a pool. `created` is in seconds since 1970.
-#[derive(Debug, Drop)]
+#[derive(Drop)]
 pub struct Volume {
     pub project: Text,
     pub pool: Text,
@@ -65,7 +65,7 @@ pub struct Volume {
 /// An instance: a system container or a virtual machine, with the profiles that it names in their order and its
 /// own settings and devices. `origin` is the alias or the fingerprint of the image that it was made from, or
 /// empty; `created` is in seconds since 1970.
-#[derive(Debug, Drop)]
+#[derive(Drop)]
 pub struct Instance {
     pub project: Text,
     pub name: Text,
@@ -81,7 +81,7 @@ pub struct Instance {
 
 /// A snapshot of an instance, with the profiles, settings and devices that the instance had. `created` and
 /// `expires` are in seconds since 1970, and `expires` is 0 for one that does not expire.
-#[derive(Debug, Drop)]
+#[derive(Drop)]
 pub struct Snapshot {
     pub project: Text,
     pub instance: Text,
@@ -94,7 +94,7 @@ pub struct Snapshot {
 }
 
 /// One kept object of any kind.
-#[derive(Debug, Drop)]
+#[derive(Drop)]
 pub enum Row {
     Project(Project),
     Profile(Profile),

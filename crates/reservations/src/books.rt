@@ -1,7 +1,7 @@
 use size_values::Amounts;
 
 /// The share that an operation holds of the limits of a project, which a number stands for.
-#[derive(Clone, Copy, Debug, PartialEq, Eq)]
+#[derive(Clone, Copy, PartialEq, Eq)]
 pub struct Hold {
     pub op: u64,
     pub project: u32,
@@ -10,7 +10,7 @@ pub struct Hold {
 
 /// The sums of all shares: those granted to operations; those converted, since the operation succeeded and they
 /// became its object's; and those returned, since it failed or was cancelled.
-#[derive(Clone, Copy, Debug, PartialEq, Eq)]
+#[derive(Clone, Copy, PartialEq, Eq)]
 pub struct Books {
     pub granted: Amounts,
     pub converted: Amounts,

@@ -16,7 +16,7 @@ use std::marker::Model;
 
 /// The shares that live operations hold, and the books. Contracts see the list of what is held, the greatest
 /// operation held so far (0 where none was), the books, and how many more can be held without memory.
-#[derive(Debug, Drop)]
+#[derive(Drop)]
 pub struct Ledger {
     holds: Vec<Hold>,
     greatest: u64,
@@ -192,72 +192,5 @@ fn with_hold(total: Amounts, hold: &Hold, project: u32) -> Amounts
         total.plus(&hold.share)
     } else {
         total
-    }
-}
-
-#[cfg(test)]
-mod tests {
-    use super::*;
-    use std::test::Fail;
-
-    fn share(cpu: u32, disk: u64) -> Amounts
-        ensures { (k : Part) → part k result < 2 ^ 80 }
-    {
-        Amounts {
-            instances: 1,
-            containers: 1,
-            machines: 0,
-            cpu: cpu as u128,
-            memory: 1_073_741_824,
-            processes: 100,
-            disk: disk as u128,
-        }
-    }
-
-    fn convert(ledger: &mut Ledger, op: u64) {
-        match ledger.share_of(op) {
-            Some(_) => ledger.convert(op),
-            None => {}
-        }
-    }
-
-    fn give_back(ledger: &mut Ledger, op: u64) {
-        match ledger.share_of(op) {
-            Some(_) => ledger.give_back(op),
-            None => {}
-        }
-    }
-
-    #[test]
-    fn books_every_share(rt: HostRuntime) -> Result<(), Fail> {
-        let (small, large) = (share(2, 10), share(4, 20));
-        let mut ledger = Ledger::new(rt.alloc());
-        ledger.reserve_one()?;
-        ledger.hold(3, 0, small);
-        ledger.reserve_one()?;
-        ledger.hold(5, 1, large);
-        ledger.reserve_one()?;
-        ledger.hold(9, 0, large);
-        assert_eq!(rt; ledger.share_of(5), Some(large));
-        assert_eq!(rt; ledger.share_of(4), None);
-        assert_eq!(rt; (ledger.held(0).cpu, ledger.held(0).disk), (6, 30));
-        assert_eq!(rt; (ledger.held(1).cpu, ledger.held(1).disk), (4, 20));
-        assert_eq!(rt; ledger.held(2), Amounts::zero());
-        convert(&mut ledger, 9);
-        give_back(&mut ledger, 3);
-        assert_eq!(rt; ledger.held(0), Amounts::zero());
-        assert_eq!(rt; ledger.share_of(9), None);
-        let books = ledger.books();
-        assert_eq!(rt;
-            (
-                books.granted.instances,
-                books.granted.cpu,
-                books.granted.disk
-            ),
-            (3, 10, 50)
-        );
-        assert_eq!(rt; books.converted, large);
-        assert_eq!(rt; books.returned, small);
-        Ok(())
     }
 }

@@ -3,7 +3,6 @@ ghost use Rattle.std.specs.Prelude.{◌≡◌, IfOk};
 ghost use Rattle.serde_json.specs.View.{view};
 ghost use Rattle.rest_replies.specs.Notices.{life_text, told_type, life_data, told_data, notice_data, notice_text};
 
-use crate::moments::moment_text;
 use crate::object::Object;
 use crate::operation::operation_value;
 use records::{Life, Notice, Told};
@@ -86,11 +85,10 @@ fn told_value(alloc: Global, boot: u64, told: &Told) -> Result<Value, NoMemory>
 fn notice_value(alloc: Global, notice: &Notice, boot: u64) -> Result<Value, NoMemory>
     ensures { IfOk result (λ v. view v ≡ notice_data boot notice.now) }
 {
-    let moment = moment_text(alloc, notice.moment)?;
     let mut object = Object::new(alloc);
     object.put("metadata", told_value(alloc, boot, &notice.told)?)?;
     object.put_text("project", notice.project.view())?;
-    object.put_text("timestamp", moment.view())?;
+    object.put_moment("timestamp", notice.moment)?;
     object.put_text("type", told_type(&notice.told))?;
     Ok(object.into_value())
 }
@@ -101,5 +99,7 @@ pub fn print_notice(alloc: Global, notice: &Notice, boot: u64) -> Result<Text, N
     ensures { IfOk result (λ t. t ≡ notice_text notice.now boot) }
 {
     let value = notice_value(alloc, notice, boot)?;
-    Ok(Text::from_string(value.to_string(alloc)?))
+    let text = value.to_string(alloc);
+    drop(value);
+    Ok(Text::from_string(text?))
 }

@@ -6,8 +6,6 @@ ghost use Rattle.rest_replies.specs.Objects.{list_of};
 ghost use Rattle.serde_json.specs.Data.{string};
 ghost use Rattle.operations.specs.declared.operation.OpFault.TheVariants as fault;
 
-use crate::ids::id_text;
-use crate::moments::moment_text;
 use crate::object::Object;
 use crate::words::{error_text, status_code, status_text};
 use object_links::link_of;
@@ -109,20 +107,17 @@ pub(crate) fn operation_value(
 ) -> Result<Value, NoMemory>
     ensures { IfOk result (λ v. view v ≡ operation_data boot operation.now) }
 {
-    let created = moment_text(alloc, operation.created)?;
-    let updated = moment_text(alloc, operation.updated)?;
-    let id = id_text(alloc, boot, operation.number)?;
     let status = operation.status;
     let mut object = Object::new(alloc);
     object.put_text("class", "task")?;
-    object.put_text("created_at", created.view())?;
+    object.put_moment("created_at", operation.created)?;
     object.put_text("err", error_text(status, operation.fault))?;
-    object.put_text("id", id.view())?;
+    object.put_id("id", boot, operation.number)?;
     object.put_truth("may_cancel", operation.may_cancel && may_stop(status))?;
     object.put("metadata", fault_value(alloc, operation.fault)?)?;
     object.put("resources", resources_value(alloc, operation)?)?;
     object.put_text("status", status_text(status))?;
     object.put_number("status_code", status_code(status))?;
-    object.put_text("updated_at", updated.view())?;
+    object.put_moment("updated_at", operation.updated)?;
     Ok(object.into_value())
 }

@@ -39,10 +39,9 @@ fn success_value(alloc: Global, told: Value) -> Result<Value, NoMemory>
 fn started_value(alloc: Global, boot: u64, operation: &OpView) -> Result<Value, NoMemory>
     ensures { IfOk result (λ v. view v ≡ started_data boot operation.now) }
 {
-    let link = operation_link(alloc, boot, operation.number)?;
     let mut object = Object::new(alloc);
     object.put("metadata", operation_value(alloc, boot, operation)?)?;
-    object.put_text("operation", link.view())?;
+    object.put_link("operation", boot, operation.number)?;
     object.put_text("status", "Operation created")?;
     object.put_number("status_code", 100)?;
     object.put_text("type", "async")?;
@@ -192,8 +191,9 @@ fn reply_body(alloc: Global, boot: u64, reply: &Reply) -> Result<Seq<u8>, NoMemo
     ensures { IfOk result (λ b. b ≡ compact_text (reply_data boot reply.now)) }
 {
     let value = reply_value(alloc, boot, reply)?;
-    let text = value.to_string(alloc)?;
-    Ok(Seq::from_vec(text.into_bytes()))
+    let text = value.to_string(alloc);
+    drop(value);
+    Ok(Seq::from_vec(text?.into_bytes()))
 }
 
 /// A reply as it is printed: its code, its body as JSON, and its Location. The boot word is that of the ids of

@@ -6,7 +6,6 @@ ghost use Rattle.rest_replies.specs.Views.{server_data, project_data, profile_da
 use crate::moments::moment_text;
 use crate::object::Object;
 use crate::operation::operation_value;
-use crate::settings::{devices_value, settings_value, texts_value};
 use crate::words::{driver_text, instance_kind, limit_name, power_code, power_text};
 use config_lists::{Config, Devices};
 use records::{Instance, Network, Pool, Profile, Project, Snapshot, UsageLine, View, Volume};
@@ -37,10 +36,10 @@ fn project_value(alloc: Global, row: &Project, used: &Seq<Text>) -> Result<Value
     ensures { IfOk result (λ v. view v ≡ project_data row.now used.now) }
 {
     let mut object = Object::new(alloc);
-    object.put("config", settings_value(alloc, &row.config)?)?;
+    object.put_settings("config", &row.config)?;
     object.put_text("description", row.description.view())?;
     object.put_text("name", row.name.view())?;
-    object.put("used_by", texts_value(alloc, used)?)?;
+    object.put_texts("used_by", used)?;
     Ok(object.into_value())
 }
 
@@ -50,12 +49,12 @@ fn profile_value(alloc: Global, row: &Profile, used: &Seq<Text>) -> Result<Value
     ensures { IfOk result (λ v. view v ≡ profile_data row.now used.now) }
 {
     let mut object = Object::new(alloc);
-    object.put("config", settings_value(alloc, &row.config)?)?;
+    object.put_settings("config", &row.config)?;
     object.put_text("description", row.description.view())?;
-    object.put("devices", devices_value(alloc, &row.devices)?)?;
+    object.put_devices("devices", &row.devices)?;
     object.put_text("name", row.name.view())?;
     object.put_text("project", row.project.view())?;
-    object.put("used_by", texts_value(alloc, used)?)?;
+    object.put_texts("used_by", used)?;
     Ok(object.into_value())
 }
 
@@ -65,13 +64,13 @@ fn network_value(alloc: Global, row: &Network, used: &Seq<Text>) -> Result<Value
     ensures { IfOk result (λ v. view v ≡ network_data row.now used.now) }
 {
     let mut object = Object::new(alloc);
-    object.put("config", settings_value(alloc, &row.config)?)?;
+    object.put_settings("config", &row.config)?;
     object.put_text("description", row.description.view())?;
     object.put_truth("managed", true)?;
     object.put_text("name", row.name.view())?;
     object.put_text("project", row.project.view())?;
     object.put_text("type", "bridge")?;
-    object.put("used_by", texts_value(alloc, used)?)?;
+    object.put_texts("used_by", used)?;
     Ok(object.into_value())
 }
 
@@ -81,11 +80,11 @@ fn pool_value(alloc: Global, row: &Pool, used: &Seq<Text>) -> Result<Value, NoMe
     ensures { IfOk result (λ v. view v ≡ pool_data row.now used.now) }
 {
     let mut object = Object::new(alloc);
-    object.put("config", settings_value(alloc, &row.config)?)?;
+    object.put_settings("config", &row.config)?;
     object.put_text("description", row.description.view())?;
     object.put_text("driver", driver_text(row.driver))?;
     object.put_text("name", row.name.view())?;
-    object.put("used_by", texts_value(alloc, used)?)?;
+    object.put_texts("used_by", used)?;
     Ok(object.into_value())
 }
 
@@ -94,16 +93,15 @@ fn pool_value(alloc: Global, row: &Pool, used: &Seq<Text>) -> Result<Value, NoMe
 fn volume_value(alloc: Global, row: &Volume, used: &Seq<Text>) -> Result<Value, NoMemory>
     ensures { IfOk result (λ v. view v ≡ volume_data row.now used.now) }
 {
-    let created = moment_text(alloc, row.created)?;
     let mut object = Object::new(alloc);
-    object.put("config", settings_value(alloc, &row.config)?)?;
-    object.put_text("created_at", created.view())?;
+    object.put_settings("config", &row.config)?;
+    object.put_moment("created_at", row.created)?;
     object.put_text("description", row.description.view())?;
     object.put_text("name", row.name.view())?;
     object.put_text("pool", row.pool.view())?;
     object.put_text("project", row.project.view())?;
     object.put_text("type", "custom")?;
-    object.put("used_by", texts_value(alloc, used)?)?;
+    object.put_texts("used_by", used)?;
     Ok(object.into_value())
 }
 
@@ -118,17 +116,16 @@ fn instance_value(
 ) -> Result<Value, NoMemory>
     ensures { IfOk result (λ v. view v ≡ instance_data row.now config.now devices.now power) }
 {
-    let created = moment_text(alloc, row.created)?;
     let mut object = Object::new(alloc);
-    object.put("config", settings_value(alloc, &row.config)?)?;
-    object.put_text("created_at", created.view())?;
+    object.put_settings("config", &row.config)?;
+    object.put_moment("created_at", row.created)?;
     object.put_text("description", row.description.view())?;
-    object.put("devices", devices_value(alloc, &row.devices)?)?;
+    object.put_devices("devices", &row.devices)?;
     object.put_truth("ephemeral", row.ephemeral)?;
-    object.put("expanded_config", settings_value(alloc, config)?)?;
-    object.put("expanded_devices", devices_value(alloc, devices)?)?;
+    object.put_settings("expanded_config", config)?;
+    object.put_devices("expanded_devices", devices)?;
     object.put_text("name", row.name.view())?;
-    object.put("profiles", texts_value(alloc, &row.profiles)?)?;
+    object.put_texts("profiles", &row.profiles)?;
     object.put_text("project", row.project.view())?;
     object.put_truth("stateful", false)?;
     object.put_text("status", power_text(power))?;
@@ -153,15 +150,14 @@ fn expiry_text(alloc: Global, expires: u64) -> Result<Text, NoMemory>
 fn snapshot_value(alloc: Global, row: &Snapshot) -> Result<Value, NoMemory>
     ensures { IfOk result (λ v. view v ≡ snapshot_data row.now) }
 {
-    let created = moment_text(alloc, row.created)?;
     let expires = expiry_text(alloc, row.expires)?;
     let mut object = Object::new(alloc);
-    object.put("config", settings_value(alloc, &row.config)?)?;
-    object.put_text("created_at", created.view())?;
-    object.put("devices", devices_value(alloc, &row.devices)?)?;
+    object.put_settings("config", &row.config)?;
+    object.put_moment("created_at", row.created)?;
+    object.put_devices("devices", &row.devices)?;
     object.put_text("expires_at", expires.view())?;
     object.put_text("name", row.name.view())?;
-    object.put("profiles", texts_value(alloc, &row.profiles)?)?;
+    object.put_texts("profiles", &row.profiles)?;
     object.put_truth("stateful", false)?;
     Ok(object.into_value())
 }

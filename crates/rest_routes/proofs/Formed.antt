@@ -21,22 +21,24 @@ use Rattle.records.specs.declared.commands.Command.{Command}
 use Rattle.records.specs.declared.commands.What.{What}
 use Rattle.records.specs.declared.commands.What.TheVariants as what
 use Rattle.records.specs.declared.refusals.Refusal.{Refusal}
+use Rattle.records.specs.declared.refusals.Rule.TheVariants as rule
 use Rattle.size_values.specs.declared.memory.Or.{Or}
-use Rattle.rest_routes.specs.Answers.{Gives, mapped, followed}
-use Rattle.rest_routes.specs.Bodies.{object_in, body_of, text_at, config_at, devices_at}
+use Rattle.rest_paths.specs.Answers.{Gives, mapped, followed}
+use Rattle.rest_bodies.specs.Bodies.{body_of, config_at, devices_at}
+use Rattle.rest_bodies.specs.Members.{object_in, text_at, given}
 use Rattle.records.specs.Built.{is_built_request, is_built_command}
-use Rattle.rest_routes.specs.Commands.{named, one_asked, what_asked, judged, created, replaced, patched, renamed, creation_of, change_of, what_sent, is_unbuilt_creation, in_project, command_asked, command_with, command_without, command_sent, command_built, command_offered, command_by, command_at, command_in}
-use Rattle.rest_routes.specs.Fields.{given}
-use Rattle.rest_routes.specs.Paths.{name_of, path_of, query_of}
-use Rattle.rest_routes.specs.Places.{verb_of, has_body, offers, is_built, is_built_list, is_built_one}
-use Rattle.rest_routes.specs.Queries.{query_said}
-use Rattle.rest_routes.specs.Settings.{is_empty, with_change, changes_after, changes_of, with_setting, settings_after, device_of, devices_after, devices_of}
-use Rattle.rest_routes.specs.declared.fields.Shape.TheVariants as shape
-use Rattle.rest_routes.specs.declared.places.Place.{Place}
-use Rattle.rest_routes.specs.declared.places.Place.TheVariants as place
-use Rattle.rest_routes.specs.declared.places.Verb.{Verb}
-use Rattle.rest_routes.specs.declared.places.Verb.TheVariants as verb
-use Rattle.rest_routes.specs.declared.query.Query.{Query}
+use Rattle.rest_routes.specs.Commands.{needed, named, one_read, what_read, shape_of, unless_fault, what_said, what_sent, makes_unbuilt, sent_body, what_of, command_built, command_of}
+use Rattle.rest_paths.specs.Paths.{name_of, path_of, query_of}
+use Rattle.rest_paths.specs.Places.{line_of, verb_offered, has_body, is_built, is_built_list, is_built_one}
+use Rattle.rest_paths.specs.Queries.{query_said, project_of, recursion_asked}
+use Rattle.rest_bodies.specs.Settings.{is_empty, with_change, changes_after, changes_of, with_setting, settings_after, device_of, devices_after, devices_of}
+use Rattle.rest_bodies.specs.Fields.{fields_of, first_fault}
+use Rattle.rest_bodies.specs.declared.fields.Shape.{Shape}
+use Rattle.rest_bodies.specs.declared.fields.Shape.TheVariants as shape
+use Rattle.rest_paths.specs.declared.places.Place.{Place}
+use Rattle.rest_paths.specs.declared.places.Place.TheVariants as place
+use Rattle.rest_paths.specs.declared.places.Verb.{Verb}
+use Rattle.rest_paths.specs.declared.places.Verb.TheVariants as verb
 
 -- ---- settings and devices
 
@@ -195,47 +197,29 @@ mapped_passes : {A : Type 0} (f : A → What) → ((x : A) → Passes (f x)) →
 mapped_passes f fine (Ok x) = fine x
 mapped_passes f fine (Err e) = tt
 
-project_passes : (body : Data) → AnswerPasses (created kind.Project shape.NewProject body)
-unfolding created body_of
-project_passes body =
-    mapped_passes _ (λ fine. record { formed = project_parts (text_at (codes "description") body); built = refl }) (judged shape.NewProject body)
+followed_passes : {A : Type 0} (r : Result A Refusal) (f : A → Result What Refusal) → ((x : A) → AnswerPasses (f x)) → AnswerPasses (followed r f)
+followed_passes (Ok x) f fine = fine x
+followed_passes (Err e) f fine = tt
 
-profile_passes : (body : Data) → AnswerPasses (created kind.Profile shape.NewProfile body)
-unfolding created body_of
-profile_passes body =
-    mapped_passes _ (λ fine. record { formed = creation_parts (text_at (codes "description") body) (config_at body) (devices_at body) (config_formed body) (devices_at_formed body); built = refl }) (judged shape.NewProfile body)
+said_passes : (shape : Shape) (name : List ℕ) (body : Data) → Passes (what_said shape name body)
+unfolding body_of
+said_passes shape.NewProject name body = record { formed = project_parts (text_at (codes "description") body); built = refl }
+said_passes shape.NewProfile name body =
+    record { formed = creation_parts (text_at (codes "description") body) (config_at body) (devices_at body) (config_formed body) (devices_at_formed body); built = refl }
+said_passes shape.ProfilePut name body =
+    record { formed = change_parts (text_at (codes "description") body) (config_at body) (devices_at body) (config_formed body) (devices_at_formed body); built = refl }
+said_passes shape.ProfilePatch name body =
+    record { formed = change_parts (text_at (codes "description") body) (config_at body) (devices_at body) (config_formed body) (devices_at_formed body); built = refl }
+said_passes shape.ProfileRename name body = record { formed = refl; built = refl }
 
-replaced_passes : (name : List ℕ) (body : Data) → AnswerPasses (replaced (named kind.Profile name) shape.ProfileChange body)
-unfolding replaced body_of
-replaced_passes name body =
-    mapped_passes _ (λ fine. record { formed = change_parts (text_at (codes "description") body) (config_at body) (devices_at body) (config_formed body) (devices_at_formed body); built = refl }) (judged shape.ProfileChange body)
+sent_passes : (place : Place) (verb : Verb) (name : List ℕ) (sent : Option Data) → AnswerPasses (what_sent place verb name sent)
+unfolding what_sent
+sent_passes place verb name sent =
+    followed_passes (needed rule.A4 sent) _ (λ body.
+    followed_passes (needed rule.A0 (shape_of place verb)) _ (λ shape.
+    mapped_passes _ (λ fine. said_passes shape name body) (unless_fault (first_fault (fields_of shape) body))))
 
-patched_passes : (name : List ℕ) (body : Data) → AnswerPasses (patched (named kind.Profile name) shape.ProfileChange body)
-unfolding patched body_of
-patched_passes name body =
-    mapped_passes _ (λ fine. record { formed = change_parts (text_at (codes "description") body) (config_at body) (devices_at body) (config_formed body) (devices_at_formed body); built = refl }) (judged shape.ProfileChange body)
-
-renamed_passes : (name : List ℕ) (body : Data) → AnswerPasses (renamed (named kind.Profile name) body)
-unfolding renamed
-renamed_passes name body = mapped_passes _ (λ fine. record { formed = refl; built = refl }) (judged shape.Rename body)
-
-creation_passes : (kind : ObjectKind) (body : Data) → AnswerPasses (creation_of kind body)
-creation_passes kind.Project body = project_passes body
-creation_passes kind.Profile body = profile_passes body
-creation_passes other body = tt
-
-change_passes : (kind : ObjectKind) (verb : Verb) (name : List ℕ) (body : Data) → AnswerPasses (change_of kind verb (named kind name) body)
-change_passes kind.Profile verb.Put name body = replaced_passes name body
-change_passes kind.Profile verb.Patch name body = patched_passes name body
-change_passes kind.Profile other name body = renamed_passes name body
-change_passes other verb name body = tt
-
-sent_passes : (place : Place) (verb : Verb) (path : List ℕ) (body : Data) → AnswerPasses (what_sent place verb path body)
-sent_passes (place.List kind) verb path body = creation_passes kind body
-sent_passes (place.One kind) verb path body = change_passes kind verb (name_of path) body
-sent_passes other verb path body = tt
-
-one_passes : (kind : ObjectKind) (verb : Verb) (name : List ℕ) → is_built_one kind verb ≡ true → Passes (one_asked verb (named kind name))
+one_passes : (kind : ObjectKind) (verb : Verb) (name : List ℕ) → is_built_one kind verb ≡ true → Passes (one_read verb (named kind name))
 one_passes kind.Project verb.Get name h = record { formed = refl; built = refl }
 one_passes kind.Project verb.Post name h = cc
 one_passes kind.Project verb.Put name h = cc
@@ -253,12 +237,21 @@ list_passes kind.Project recursion h = record { formed = refl; built = refl }
 list_passes kind.Profile recursion h = record { formed = refl; built = refl }
 list_passes other recursion h = cc
 
-asked_passes : (place : Place) (verb : Verb) (path : List ℕ) (query : Query) → is_built place verb ≡ true → AnswerPasses (what_asked place verb path query)
-asked_passes place.Root verb path query h = record { formed = refl; built = refl }
-asked_passes place.Server verb path query h = record { formed = refl; built = refl }
-asked_passes (place.List kind) verb path query h = list_passes kind _ h
-asked_passes (place.One kind) verb path query h = one_passes kind verb (name_of path) h
-asked_passes other verb path query h = tt
+read_passes : (place : Place) (verb : Verb) (name : List ℕ) (recursion : Bool) → is_built place verb ≡ true → AnswerPasses (what_read place verb name recursion)
+read_passes place.Root verb name recursion h = record { formed = refl; built = refl }
+read_passes place.Server verb name recursion h = record { formed = refl; built = refl }
+read_passes (place.List kind) verb name recursion h = list_passes kind recursion h
+read_passes (place.One kind) verb name recursion h = one_passes kind verb name h
+read_passes other verb name recursion h = tt
+
+-- the branch that a test takes passes
+either_passes : (test : Bool) (a b : Result What Refusal) → AnswerPasses a → AnswerPasses b → AnswerPasses (cond test a b)
+either_passes true a b h k = h
+either_passes false a b h k = k
+
+of_passes : (place : Place) (verb : Verb) (name : List ℕ) (recursion : Bool) (sent : Option Data) → is_built place verb ≡ true → AnswerPasses (what_of place verb name recursion sent)
+of_passes place verb name recursion sent h =
+    either_passes (has_body verb) _ _ (sent_passes place verb name sent) (read_passes place verb name recursion h)
 
 -- ---- requests
 
@@ -271,65 +264,45 @@ record IsGood (command : Command) : Type 0 where
 abbrev AnswerIsGood : Result Command Refusal → Type 0
 AnswerIsGood answer = IfOk answer IsGood
 
-in_project_good : (query : Query) (answer : Result What Refusal) → AnswerPasses answer → AnswerIsGood (mapped (in_project query) answer)
-in_project_good query (Ok asked) h = record { formed = h.formed; built = h.built }
-in_project_good query (Err refusal) h = tt
+in_project_good : (project : List ℕ) (answer : Result What Refusal) → AnswerPasses answer → AnswerIsGood (mapped (λ asked. record { project = project; what = asked }) answer)
+in_project_good project (Ok asked) h = record { formed = h.formed; built = h.built }
+in_project_good project (Err refusal) h = tt
 
-followed_good : (said : Result Query Refusal) (next : Query → Result Command Refusal) → ((query : Query) → AnswerIsGood (next query)) → AnswerIsGood (followed said next)
-followed_good (Ok query) next h = h query
-followed_good (Err refusal) next h = tt
+followed_good : {A : Type 0} (r : Result A Refusal) (f : A → Result Command Refusal) → ((x : A) → AnswerIsGood (f x)) → AnswerIsGood (followed r f)
+followed_good (Ok x) f fine = fine x
+followed_good (Err refusal) f fine = tt
 
--- the branch that a test takes is good
-either_good : (test : Bool) (a b : Result Command Refusal) → (test ≡ true → AnswerIsGood a) → (test ≡ false → AnswerIsGood b) → AnswerIsGood (cond test a b)
-either_good true a b h k = h refl
-either_good false a b h k = k refl
-
-asked_good : (place : Place) (verb : Verb) (target : List ℕ) → is_built place verb ≡ true → AnswerIsGood (command_asked place verb target)
-unfolding command_asked
-asked_good place verb target h = followed_good (query_said (query_of target)) _ (λ query. in_project_good query _ (asked_passes place verb (path_of target) query h))
-
-with_good : (place : Place) (verb : Verb) (target : List ℕ) (body : Data) → AnswerIsGood (command_with place verb target body)
-unfolding command_with
-with_good place verb target body = followed_good (query_said (query_of target)) _ (λ query. in_project_good query _ (sent_passes place verb (path_of target) body))
-
-without_good : (target : List ℕ) → AnswerIsGood (command_without target)
-unfolding command_without
-without_good target = followed_good (query_said (query_of target)) _ (λ query. tt)
-
-sent_good : (place : Place) (verb : Verb) (target : List ℕ) (body : Option Data) → AnswerIsGood (command_sent place verb target body)
-sent_good place verb target None = without_good target
-sent_good place verb target (Some body) = either_good (is_unbuilt_creation place body) _ _ (λ is. tt) (λ is. with_good place verb target body)
-
-built_good : (place : Place) (verb : Verb) (request : Request) → is_built place verb ≡ true → AnswerIsGood (command_built place verb request)
+built_good : (place : Place) (verb : Verb) (target : List ℕ) (sent : Option Data) → is_built place verb ≡ true → AnswerIsGood (command_built place verb target sent)
 unfolding command_built
-built_good place verb request h = either_good (has_body verb) _ _ (λ is. sent_good place verb request.target (object_in request.body)) (λ is. asked_good place verb request.target h)
+built_good place verb target sent h =
+    followed_good (query_said (query_of target)) _ (λ query.
+    in_project_good (project_of query) _ (of_passes place verb (name_of (path_of target)) (recursion_asked query) sent h))
 
-offered_good : (place : Place) (verb : Verb) (request : Request) → AnswerIsGood (command_offered place verb request)
-unfolding command_offered
-offered_good place verb request = either_good (is_built place verb) _ _ (λ is. built_good place verb request is) (λ is. tt)
+-- what is not built is refused
+unless_unbuilt_good : (built unbuilt : Bool) (refusal : Refusal) (answer : Result Command Refusal) → (built ≡ true → AnswerIsGood answer)
+    → AnswerIsGood (cond (not built || unbuilt) (Err refusal) answer)
+unless_unbuilt_good true true refusal answer fine = tt
+unless_unbuilt_good true false refusal answer fine = fine refl
+unless_unbuilt_good false unbuilt refusal answer fine = tt
 
-by_good : (place : Place) (verb : Verb) (request : Request) → AnswerIsGood (command_by place verb request)
-unfolding command_by
-by_good place verb request = either_good (offers place verb) _ _ (λ is. offered_good place verb request) (λ is. tt)
-
-at_good : (place : Place) (verb : Option Verb) (request : Request) → AnswerIsGood (command_at place verb request)
-at_good place None request = tt
-at_good place (Some verb) request = by_good place verb request
-
-in_good : (place : Option Place) (request : Request) → AnswerIsGood (command_in place request)
-in_good None request = tt
-in_good (Some place) request = at_good place (verb_of request.method) request
+command_good : (request : Request) (boot : ℕ) → AnswerIsGood (command_of request boot)
+unfolding command_of
+command_good request boot =
+    followed_good (needed rule.A1 (line_of (path_of request.target))) _ (λ line.
+    followed_good (needed rule.A2 (verb_offered line request.method)) _ (λ verb.
+    unless_unbuilt_good (is_built line.place verb) (makes_unbuilt line.place (sent_body verb request.body)) _ _
+    (built_good line.place verb request.target (sent_body verb request.body))))
 
 -- the command that is due is good
 good_due : (command : Command) (due : Result Command Refusal) → due ≡ Ok command → AnswerIsGood due → IsGood command
 good_due command due is h = rw is at h
 
 -- a command that a function returns is formed
-pub formed_due : (result : Result Command (Or Refusal)) (place : Option Place) (request : Request) → Gives result (command_in place request) → IfOk result (λ c. IsTrue (is_formed c))
-formed_due (Ok command) place request h = (good_due command _ h (in_good place request)).formed
-formed_due (Err refusal) place request h = tt
+pub formed_due : (result : Result Command (Or Refusal)) (request : Request) (boot : ℕ) → Gives result (command_of request boot) → IfOk result (λ c. IsTrue (is_formed c))
+formed_due (Ok command) request boot h = (good_due command _ h (command_good request boot)).formed
+formed_due (Err refusal) request boot h = tt
 
 -- a command that a function returns is built
-pub built_due : (result : Result Command (Or Refusal)) (place : Option Place) (request : Request) → Gives result (command_in place request) → IfOk result (λ c. IsTrue (is_built_command c))
-built_due (Ok command) place request h = (good_due command _ h (in_good place request)).built
-built_due (Err refusal) place request h = tt
+pub built_due : (result : Result Command (Or Refusal)) (request : Request) (boot : ℕ) → Gives result (command_of request boot) → IfOk result (λ c. IsTrue (is_built_command c))
+built_due (Ok command) request boot h = (good_due command _ h (command_good request boot)).built
+built_due (Err refusal) request boot h = tt

@@ -1,4 +1,1 @@
-pub mod FirstBad
 pub mod Formed
-pub mod Members
-pub mod Rows

@@ -1,9 +1,1 @@
-pub mod Answers
-pub mod Bodies
 pub mod Commands
-pub mod Fields
-pub mod Paths
-pub mod Places
-pub mod Queries
-pub mod Refusals
-pub mod Settings

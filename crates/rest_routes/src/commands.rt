@@ -1,45 +1,35 @@
 ghost use Rattle.std.specs.Prelude.{◌≡◌, IfOk, option_map};
 ghost use Rattle.serde_json.specs.View.{view};
-ghost use Rattle.rest_routes.specs.Answers.{Gives};
-ghost use Rattle.rest_routes.specs.Places.{verb_of};
-ghost use Rattle.rest_routes.specs.Commands.{named, all_of, one_asked, what_asked, judged, created, replaced, patched, renamed, creation_of, profile_changed, change_of, what_sent, has_unbuilt_config, is_unbuilt_creation, in_project, command_asked, command_with, command_without, command_sent, command_built, command_offered, command_by, command_at, command_in};
+ghost use Rattle.records.specs.declared.commands.What.TheVariants as what;
+ghost use Rattle.rest_bodies.specs.Bodies.{body_of};
+ghost use Rattle.rest_bodies.specs.Members.{name_at};
+ghost use Rattle.rest_paths.specs.Answers.{Gives};
+ghost use Rattle.rest_routes.specs.Commands.{named, one_read, what_read, creation_shape, profile_shape, change_shape, shape_of, what_said, what_sent, is_unbuilt, makes_unbuilt, sent_body, what_of, command_built, command_of};
 
-use crate::bodies::{body_of, name_at, object_in};
-use crate::fields::{Shape, fields_of, first_fault, given};
-use crate::paths::{name_of, path_of, query_of};
-use crate::places::{Place, Verb, has_body, is_built, offers, verb_of};
-use crate::query::{Query, project_of, query_said, recursion_asked};
-use crate::refusals::{plainly, refused};
 use http_heads::Request;
 use records::{Command, Refusal, Rule, Target, What};
+use rest_bodies::{Shape, body_of, given, judge_fields, name_at, object_in};
+use rest_paths::{
+    PathTable, Place, Verb, has_body, is_built, name_of, path_of, plainly, project_of, query_of,
+    query_said, recursion_asked, refused, verb_offered,
+};
 use serde_json::Value;
 use size_values::{NoMemory, ObjectKind, Or, Text};
 use std::alloc::Global;
 
-fn named(alloc: Global, kind: ObjectKind, name: &str) -> Result<Target, NoMemory>
-    ensures { IfOk result (λ t. t ≡ named kind name.now) }
-{
-    Ok(Target {
-        kind,
-        pool: Text::new(alloc),
-        instance: Text::new(alloc),
-        name: Text::from_text(alloc, name)?,
-    })
-}
-
-fn all_of(alloc: Global, kind: ObjectKind) -> Target
-    ensures { result ≡ all_of kind }
+fn named(alloc: Global, kind: ObjectKind, name: Text) -> Target
+    ensures { result ≡ named kind name }
 {
     Target {
         kind,
         pool: Text::new(alloc),
         instance: Text::new(alloc),
-        name: Text::new(alloc),
+        name,
     }
 }
 
-fn one_asked(verb: Verb, of: Target) -> What
-    ensures { result ≡ one_asked verb of }
+fn one_read(verb: Verb, of: Target) -> What
+    ensures { result ≡ one_read verb of }
 {
     match verb {
         Verb::Delete => What::Delete { of },
@@ -47,138 +37,137 @@ fn one_asked(verb: Verb, of: Target) -> What
     }
 }
 
-/// What a request without a body asks for.
-fn what_asked(
+/// What GET and DELETE ask for.
+fn what_read(
     alloc: Global,
     place: Place,
     verb: Verb,
-    path: &str,
-    query: &Query,
+    name: &str,
+    recursion: bool,
 ) -> Result<What, Or<Refusal>>
-    ensures { Gives result (what_asked place verb path.now query.now) }
+    ensures { Gives result (what_read place verb name.now recursion) }
 {
     match place {
         Place::Root => Ok(What::Root),
         Place::Server => Ok(What::Server),
         Place::List(kind) => Ok(What::List {
-            of: all_of(alloc, kind),
-            recursion: recursion_asked(query),
+            of: named(alloc, kind, Text::new(alloc)),
+            recursion,
         }),
-        Place::One(kind) => Ok(one_asked(verb, named(alloc, kind, name_of(path))?)),
+        Place::One(kind) => {
+            let name = Text::from_text(alloc, name)?;
+            Ok(one_read(verb, named(alloc, kind, name)))
+        }
         Place::State(_) => Err(plainly(alloc, Rule::A0)),
         Place::Wait => Err(plainly(alloc, Rule::A0)),
         Place::Events => Err(plainly(alloc, Rule::A6)),
     }
 }
 
-/// Judges the fields of a body.
-#[tactic(auto, unfolding(crate::specs::Commands::judged))]
-fn judge(alloc: Global, shape: Shape, body: &Value) -> Result<(), Or<Refusal>>
-    ensures { Gives result (judged shape (view body.now)) }
-{
-    match first_fault(fields_of(shape), body) {
-        Some(key) => Err(refused(alloc, Rule::A5, key)),
-        None => Ok(()),
-    }
-}
-
-#[tactic(auto, unfolding(crate::specs::Commands::created))]
-fn created(alloc: Global, kind: ObjectKind, shape: Shape, body: &Value) -> Result<What, Or<Refusal>>
-    ensures { Gives result (created kind shape (view body.now)) }
-{
-    judge(alloc, shape, body)?;
-    let name = name_at(alloc, body)?;
-    let of = named(alloc, kind, name.view())?;
-    let body = body_of(alloc, shape, body)?;
-    Ok(What::Create { of, body })
-}
-
-#[tactic(auto, unfolding(crate::specs::Commands::replaced))]
-fn replaced(alloc: Global, of: Target, shape: Shape, body: &Value) -> Result<What, Or<Refusal>>
-    ensures { Gives result (replaced of shape (view body.now)) }
-{
-    judge(alloc, shape, body)?;
-    let body = body_of(alloc, shape, body)?;
-    Ok(What::Put { of, body })
-}
-
-#[tactic(auto, unfolding(crate::specs::Commands::patched))]
-fn patched(alloc: Global, of: Target, shape: Shape, body: &Value) -> Result<What, Or<Refusal>>
-    ensures { Gives result (patched of shape (view body.now)) }
-{
-    judge(alloc, shape, body)?;
-    let body = body_of(alloc, shape, body)?;
-    Ok(What::Patch { of, body })
-}
-
-#[tactic(auto, unfolding(crate::specs::Commands::renamed))]
-fn renamed(alloc: Global, of: Target, body: &Value) -> Result<What, Or<Refusal>>
-    ensures { Gives result (renamed of (view body.now)) }
-{
-    judge(alloc, Shape::Rename, body)?;
-    let to = name_at(alloc, body)?;
-    Ok(What::Move { of, to })
-}
-
-/// What is made in the list of a kind.
-fn creation_of(alloc: Global, kind: ObjectKind, body: &Value) -> Result<What, Or<Refusal>>
-    ensures { Gives result (creation_of kind (view body.now)) }
+fn creation_shape(kind: ObjectKind) -> Option<Shape>
+    ensures { result ≡ creation_shape kind }
 {
     match kind {
-        ObjectKind::Project => created(alloc, ObjectKind::Project, Shape::NewProject, body),
-        ObjectKind::Profile => created(alloc, ObjectKind::Profile, Shape::NewProfile, body),
-        _ => Err(plainly(alloc, Rule::A0)),
+        ObjectKind::Project => Some(Shape::NewProject),
+        ObjectKind::Profile => Some(Shape::NewProfile),
+        _ => None,
     }
 }
 
-fn profile_changed(alloc: Global, verb: Verb, of: Target, body: &Value) -> Result<What, Or<Refusal>>
-    ensures { Gives result (profile_changed verb of (view body.now)) }
+fn profile_shape(verb: Verb) -> Shape
+    ensures { result ≡ profile_shape verb }
 {
     match verb {
-        Verb::Put => replaced(alloc, of, Shape::ProfileChange, body),
-        Verb::Patch => patched(alloc, of, Shape::ProfileChange, body),
-        _ => renamed(alloc, of, body),
+        Verb::Put => Shape::ProfilePut,
+        Verb::Patch => Shape::ProfilePatch,
+        _ => Shape::ProfileRename,
     }
 }
 
-/// How an object of a kind is changed.
-fn change_of(
-    alloc: Global,
-    kind: ObjectKind,
-    verb: Verb,
-    of: Target,
-    body: &Value,
-) -> Result<What, Or<Refusal>>
-    ensures { Gives result (change_of kind verb of (view body.now)) }
+fn change_shape(kind: ObjectKind, verb: Verb) -> Option<Shape>
+    ensures { result ≡ change_shape kind verb }
 {
     match kind {
-        ObjectKind::Profile => profile_changed(alloc, verb, of, body),
-        _ => Err(plainly(alloc, Rule::A0)),
+        ObjectKind::Profile => Some(profile_shape(verb)),
+        _ => None,
     }
 }
 
-/// What a request with a body asks for.
+/// The shape of the body that a method sends to a place, as far as that is built.
+fn shape_of(place: Place, verb: Verb) -> Option<Shape>
+    ensures { result ≡ shape_of place verb }
+{
+    match place {
+        Place::List(kind) => creation_shape(kind),
+        Place::One(kind) => change_shape(kind, verb),
+        _ => None,
+    }
+}
+
+fn created(alloc: Global, kind: ObjectKind, shape: Shape, body: &Value) -> Result<What, NoMemory>
+    ensures { IfOk result (λ w. w ≡ what.Create (named kind (name_at (view body.now))) (body_of shape (view body.now))) }
+{
+    let name = name_at(alloc, body)?;
+    let body = body_of(alloc, shape, body)?;
+    Ok(What::Create {
+        of: named(alloc, kind, name),
+        body,
+    })
+}
+
+/// What a body of a shape asks for.
+fn what_said(alloc: Global, shape: Shape, name: &str, body: &Value) -> Result<What, NoMemory>
+    ensures { IfOk result (λ w. w ≡ what_said shape name.now (view body.now)) }
+{
+    match shape {
+        Shape::NewProject => created(alloc, ObjectKind::Project, shape, body),
+        Shape::NewProfile => created(alloc, ObjectKind::Profile, shape, body),
+        Shape::ProfilePut => {
+            let name = Text::from_text(alloc, name)?;
+            let body = body_of(alloc, shape, body)?;
+            let of = named(alloc, ObjectKind::Profile, name);
+            Ok(What::Put { of, body })
+        }
+        Shape::ProfilePatch => {
+            let name = Text::from_text(alloc, name)?;
+            let body = body_of(alloc, shape, body)?;
+            let of = named(alloc, ObjectKind::Profile, name);
+            Ok(What::Patch { of, body })
+        }
+        Shape::ProfileRename => {
+            let name = Text::from_text(alloc, name)?;
+            let to = name_at(alloc, body)?;
+            let of = named(alloc, ObjectKind::Profile, name);
+            Ok(What::Move { of, to })
+        }
+    }
+}
+
+/// What POST, PUT and PATCH ask for.
+#[tactic(auto, unfolding(crate::specs::Commands::what_sent))]
 fn what_sent(
     alloc: Global,
     place: Place,
     verb: Verb,
-    path: &str,
-    body: &Value,
+    name: &str,
+    sent: &Option<Value>,
 ) -> Result<What, Or<Refusal>>
-    ensures { Gives result (what_sent place verb path.now (view body.now)) }
+    ensures { Gives result (what_sent place verb name.now (option_map view sent.now)) }
 {
-    match place {
-        Place::List(kind) => creation_of(alloc, kind, body),
-        Place::One(kind) => {
-            let of = named(alloc, kind, name_of(path))?;
-            change_of(alloc, kind, verb, of, body)
-        }
-        _ => Err(plainly(alloc, Rule::A0)),
+    let Some(body) = sent else {
+        return Err(plainly(alloc, Rule::A4));
+    };
+    let Some(shape) = shape_of(place, verb) else {
+        return Err(plainly(alloc, Rule::A0));
+    };
+    match judge_fields(shape, body) {
+        Some(key) => Err(refused(alloc, Rule::A5, key)),
+        None => Ok(what_said(alloc, shape, name, body)?),
     }
 }
 
-fn has_unbuilt_config(kind: ObjectKind, body: &Value) -> bool
-    ensures { result ≡ has_unbuilt_config kind (view body.now) }
+fn is_unbuilt(kind: ObjectKind, body: &Value) -> bool
+    ensures { result ≡ is_unbuilt kind (view body.now) }
 {
     match kind {
         ObjectKind::Project => given("config", body).is_some(),
@@ -187,144 +176,88 @@ fn has_unbuilt_config(kind: ObjectKind, body: &Value) -> bool
 }
 
 /// Whether an object is made with settings that are not built yet.
-fn is_unbuilt_creation(place: Place, body: &Value) -> bool
-    ensures { result ≡ is_unbuilt_creation place (view body.now) }
+fn makes_unbuilt(place: Place, sent: &Option<Value>) -> bool
+    ensures { result ≡ makes_unbuilt place (option_map view sent.now) }
 {
+    let Some(body) = sent else {
+        return false;
+    };
     match place {
-        Place::List(kind) => has_unbuilt_config(kind, body),
+        Place::List(kind) => is_unbuilt(kind, body),
         _ => false,
     }
 }
 
-fn in_project(alloc: Global, query: Query, what: What) -> Result<Command, NoMemory>
-    ensures { IfOk result (λ c. c ≡ in_project query what) }
+/// The object that a body spells, if the method sends one.
+fn sent_body(alloc: Global, verb: Verb, body: &[u8]) -> Result<Option<Value>, NoMemory>
+    ensures { IfOk result (λ sent. option_map view sent ≡ sent_body verb body.now) }
 {
-    let project = project_of(alloc, query)?;
-    Ok(Command { project, what })
-}
-
-#[tactic(auto, unfolding(crate::specs::Commands::command_asked))]
-fn command_asked(
-    alloc: Global,
-    place: Place,
-    verb: Verb,
-    target: &str,
-) -> Result<Command, Or<Refusal>>
-    ensures { Gives result (command_asked place verb target.now) }
-{
-    let query = query_said(alloc, query_of(target))?;
-    let what = what_asked(alloc, place, verb, path_of(target), &query)?;
-    Ok(in_project(alloc, query, what)?)
-}
-
-#[tactic(auto, unfolding(crate::specs::Commands::command_with))]
-fn command_with(
-    alloc: Global,
-    place: Place,
-    verb: Verb,
-    target: &str,
-    body: &Value,
-) -> Result<Command, Or<Refusal>>
-    ensures { Gives result (command_with place verb target.now (view body.now)) }
-{
-    let query = query_said(alloc, query_of(target))?;
-    let what = what_sent(alloc, place, verb, path_of(target), body)?;
-    Ok(in_project(alloc, query, what)?)
-}
-
-/// Refuses a request whose body is no JSON object, but its query first.
-#[tactic(auto, unfolding(crate::specs::Commands::command_without))]
-fn command_without(alloc: Global, target: &str) -> Result<Command, Or<Refusal>>
-    ensures { Gives result (command_without target.now) }
-{
-    let _query = query_said(alloc, query_of(target))?;
-    Err(plainly(alloc, Rule::A4))
-}
-
-fn command_sent(
-    alloc: Global,
-    place: Place,
-    verb: Verb,
-    target: &str,
-    body: Option<Value>,
-) -> Result<Command, Or<Refusal>>
-    ensures { Gives result (command_sent place verb target.now (option_map view body)) }
-{
-    let Some(body) = body else {
-        return command_without(alloc, target);
-    };
-    if is_unbuilt_creation(place, &body) {
-        return Err(plainly(alloc, Rule::A0));
+    if has_body(verb) {
+        return object_in(alloc, body);
     }
-    command_with(alloc, place, verb, target, &body)
+    Ok(None)
 }
 
+fn what_of(
+    alloc: Global,
+    place: Place,
+    verb: Verb,
+    name: &str,
+    recursion: bool,
+    sent: &Option<Value>,
+) -> Result<What, Or<Refusal>>
+    ensures { Gives result (what_of place verb name.now recursion (option_map view sent.now)) }
+{
+    if has_body(verb) {
+        return what_sent(alloc, place, verb, name, sent);
+    }
+    what_read(alloc, place, verb, name, recursion)
+}
+
+/// The command of a request that is built.
 #[tactic(auto, unfolding(crate::specs::Commands::command_built))]
 fn command_built(
     alloc: Global,
     place: Place,
     verb: Verb,
-    request: &Request,
+    target: &str,
+    sent: &Option<Value>,
 ) -> Result<Command, Or<Refusal>>
-    ensures { Gives result (command_built place verb request.now) }
+    ensures { Gives result (command_built place verb target.now (option_map view sent.now)) }
 {
-    let target = request.target.view();
-    if has_body(verb) {
-        let body = object_in(alloc, request.body.view())?;
-        return command_sent(alloc, place, verb, target, body);
+    let query = query_said(alloc, query_of(target))?;
+    let name = name_of(path_of(target));
+    let what = what_of(alloc, place, verb, name, recursion_asked(&query), sent)?;
+    match project_of(alloc, query) {
+        Ok(project) => Ok(Command { project, what }),
+        Err(NoMemory) => {
+            drop(what);
+            Err(Or::NoMemory)
+        }
     }
-    command_asked(alloc, place, verb, target)
 }
 
-#[tactic(auto, unfolding(crate::specs::Commands::command_offered))]
-fn command_offered(
+/// The command that a request asks for, by the table of paths.
+#[tactic(auto, unfolding(crate::specs::Commands::command_of))]
+pub(crate) fn command_of(
     alloc: Global,
-    place: Place,
-    verb: Verb,
+    table: &PathTable,
     request: &Request,
+    boot: u64,
 ) -> Result<Command, Or<Refusal>>
-    ensures { Gives result (command_offered place verb request.now) }
+    ensures { Gives result (command_of request.now boot) }
 {
-    if !is_built(place, verb) {
+    let _ = boot;
+    let target = request.target.view();
+    let Some(line) = table.line_of(path_of(target)) else {
+        return Err(plainly(alloc, Rule::A1));
+    };
+    let Some(verb) = verb_offered(line, request.method.view()) else {
+        return Err(plainly(alloc, Rule::A2));
+    };
+    let sent = sent_body(alloc, verb, request.body.view())?;
+    if !is_built(line.place, verb) || makes_unbuilt(line.place, &sent) {
         return Err(plainly(alloc, Rule::A0));
     }
-    command_built(alloc, place, verb, request)
-}
-
-#[tactic(auto, unfolding(crate::specs::Commands::command_by))]
-fn command_by(
-    alloc: Global,
-    place: Place,
-    verb: Verb,
-    request: &Request,
-) -> Result<Command, Or<Refusal>>
-    ensures { Gives result (command_by place verb request.now) }
-{
-    if !offers(place, verb) {
-        return Err(plainly(alloc, Rule::A2));
-    }
-    command_offered(alloc, place, verb, request)
-}
-
-fn command_at(alloc: Global, place: Place, request: &Request) -> Result<Command, Or<Refusal>>
-    ensures { Gives result (command_at place (verb_of request.now.method) request.now) }
-{
-    match verb_of(request.method.view()) {
-        Some(verb) => command_by(alloc, place, verb, request),
-        None => Err(plainly(alloc, Rule::A2)),
-    }
-}
-
-/// The command that a request asks for, by what stands at its path.
-pub(crate) fn command_in(
-    alloc: Global,
-    place: Option<Place>,
-    request: &Request,
-) -> Result<Command, Or<Refusal>>
-    ensures { Gives result (command_in place request.now) }
-{
-    match place {
-        Some(place) => command_at(alloc, place, request),
-        None => Err(plainly(alloc, Rule::A1)),
-    }
+    command_built(alloc, line.place, verb, target, &sent)
 }

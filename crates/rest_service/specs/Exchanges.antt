@@ -5,19 +5,22 @@ use Rattle.http_heads.specs.declared.request.Request.{Request}
 use Rattle.http_heads.specs.declared.request.HeadFault.{HeadFault}
 use Rattle.http_heads.specs.declared.request.HeadFault.TheVariants as fault
 use Rattle.http_front.specs.Replies.{reply_text}
+use Rattle.record_keeper.specs.Store.{Store}
 use Rattle.records.specs.declared.commands.Command.{Command}
 use Rattle.records.specs.declared.refusals.Rule.{Rule}
 use Rattle.records.specs.declared.refusals.Rule.TheVariants as rule
 use Rattle.records.specs.declared.refusals.Refusal.{Refusal}
 use Rattle.records.specs.declared.replies.Reply.{Reply}
 use Rattle.records.specs.declared.replies.Reply.TheVariants as reply
+use Rattle.row_machine.specs.declared.changes.RowChange.{RowChange}
 use Rattle.row_machine.specs.declared.events.Answer.TheVariants as answer
 use Rattle.row_machine.specs.declared.events.Event.TheVariants as event
 use Rattle.row_machine.specs.State.{State}
 use Rattle.row_machine.specs.Refusals.{plainly}
 use Rattle.row_machine.specs.Accept.{After, and_then}
 use Rattle.row_machine.specs.Step.{Outcome, well, keeper_failed, no_memory, step}
-use Rattle.core_objects.specs.Asked.{answered}
+use Rattle.change_keeping.specs.Stores.{Stores}
+use Rattle.core_objects.specs.Asked.{answered, changes_of}
 use Rattle.rest_replies.specs.Replies.{printed_of}
 use Rattle.rest_routes.specs.Commands.{command_of}
 
@@ -52,12 +55,27 @@ unheard s = record s { notices = []; next_notice = 1 }
 unfoldable pub served : State → Request → Outcome → Option After
 served s request outcome = option_map (λ after. and_then after.answer (unheard after.state)) (carried_out s outcome (command_of request 0))
 
+-- the changes of rows that a request is to commit: those of the command that it asks for, and none where its form is refused
+abbrev pub asked_changes : State → Result Command Refusal → List RowChange
+asked_changes s (Ok command) = changes_of s command 0
+asked_changes s (Err refusal) = []
+
+unfoldable pub request_changes : State → Request → List RowChange
+request_changes s request = asked_changes s (command_of request 0)
+
 -- ---- one after the other
 
--- Exchanges lead from one state to another: each request comes to its reply, and to the state in which the next one is taken.
-abbrev pub LeadTo : State → List Exchange → State → Type 0
-LeadTo s [] s' = s ≡ s'
-LeadTo s (e ∷ more) s' = (next : State) × (served s e.request e.outcome ≡ Some (and_then (answered e.reply) next)) × LeadTo next more s'
+-- One request comes to its reply, and from one state and store to the next: its changes go to the store in one call, and
+-- without changes the keeper is not called.
+pub record Leads (s : State) (store : Store) (e : Exchange) (s' : State) (store' : Store) : Type 0 where
+  pub comes : served s e.request e.outcome ≡ Some (and_then (answered e.reply) s')
+  pub stored : Stores (request_changes s e.request) e.outcome store store'
+
+-- Exchanges lead from one state and store to another: each request comes to its reply, and to the state and the store in which
+-- the next one is taken.
+abbrev pub LeadTo : State → Store → List Exchange → State → Store → Type 0
+LeadTo s store [] s' store' = (s ≡ s') × (store ≡ store')
+LeadTo s store (e ∷ more) s' store' = (next : State) × (kept : Store) × Leads s store e next kept × LeadTo next kept more s' store'
 
 -- how often the keeper failed: at most once for a request
 abbrev pub failure_of : Outcome → ℕ

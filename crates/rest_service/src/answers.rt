@@ -7,9 +7,9 @@ ghost use Rattle.rest_service.specs.Answers.{HasText};
 ghost use Rattle.rest_service.specs.Exchanges.{printed, rule_of, malformed_text};
 
 use http_front::{HeadFault, reply_bytes};
-use plain_rules::untold;
 use records::{Refusal, Reply, Rule};
 use rest_replies::{no_memory_is_known, print};
+use rule_refusals::untold;
 use size_values::{NoMemory, Seq};
 use std::alloc::Global;
 
@@ -17,7 +17,7 @@ use std::alloc::Global;
 pub(crate) const BOOT: u64 = 0;
 
 /// What is to be written for a request.
-#[derive(Debug, Drop)]
+#[derive(Drop)]
 pub enum Answered {
     /// These bytes.
     Printed(Seq<u8>),
@@ -80,5 +80,7 @@ pub fn print_malformed(alloc: Global, fault: HeadFault) -> Result<Seq<u8>, NoMem
     ensures { IfOk result (λ bytes. bytes ≡ malformed_text fault) }
 {
     let reply = Reply::Refused(refusal_of(alloc, fault));
-    text_of(alloc, &reply, true)
+    let text = text_of(alloc, &reply, true);
+    drop(reply);
+    text
 }

@@ -3,13 +3,7 @@
 #![tactic(auto)]
 
 mod answers;
-#[cfg(test)]
-mod reply_tests;
-#[cfg(test)]
-mod route_tests;
 mod service;
-#[cfg(test)]
-mod tests;
 
 pub use answers::{Answered, print_malformed};
 pub use core_rows::OpenFault;

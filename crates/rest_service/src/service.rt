@@ -1,6 +1,7 @@
 ghost use Rattle.std.specs.Prelude.{◌≡◌, []};
 ghost use Rattle.row_machine.specs.State.{State};
 ghost use Rattle.core_rows.specs.Sound.{IsSound};
+ghost use Rattle.core_objects.specs.Planned.{reply_for};
 ghost use Rattle.rest_service.specs.Answers.{Answers, Opens, Replies};
 
 use crate::answers::{Answered, BOOT, answer_for};
@@ -8,7 +9,7 @@ use core_objects::do_object;
 use core_rows::{Estate, OpenFault, load_rows};
 use http_front::Request;
 use record_keeper::Keeper;
-use records::Reply;
+use records::{Refusal, Reply};
 use rest_routes::Router;
 use size_values::Or;
 use std::alloc::Global;
@@ -45,6 +46,16 @@ fn drop_told(estate: &mut Estate)
     while let Some(_notice) = estate.take_told() {}
 }
 
+/// The reply to a request that asks for no command: how its form is refused, or that memory was.
+fn refused_reply(why: Or<Refusal>) -> Reply
+    ensures { result ≡ reply_for why }
+{
+    match why {
+        Or::NoMemory => Reply::NoMemory,
+        Or::Why(refusal) => Reply::Refused(refusal),
+    }
+}
+
 /// Carries a request out. The notices of its change are left in the estate.
 fn reply_to<R: Keeper>(
     alloc: Global,
@@ -54,12 +65,15 @@ fn reply_to<R: Keeper>(
     request: &Request,
 ) -> Reply
     requires quiet { estate.old.untold ≡ [] }
-    ensures { Replies estate.old.state estate.new.state estate.new.untold (R.told keeper.old) (R.told keeper.new) (R.failures keeper.old) (R.failures keeper.new) request.now result }
+    ensures { Replies estate.old.state estate.new.state estate.new.untold (R.store keeper.old) (R.store keeper.new) request.now result }
 {
     match router.route(alloc, request, BOOT) {
-        Ok(command) => do_object(alloc, estate, keeper, &command, MOMENT),
-        Err(Or::Why(refusal)) => Reply::Refused(refusal),
-        Err(Or::NoMemory) => Reply::NoMemory,
+        Ok(command) => {
+            let reply = do_object(alloc, estate, keeper, &command, MOMENT);
+            drop(command);
+            reply
+        }
+        Err(why) => refused_reply(why),
     }
 }
 
@@ -67,7 +81,7 @@ impl Service {
     /// A service over the rows of a keeper, which must have no entries yet: it gets the project `default` and its
     /// profile `default`, in one commit.
     pub fn new<R: Keeper>(alloc: Global, keeper: &mut R) -> Result<Service, OpenFault>
-        ensures { Opens result (R.told keeper.old) (R.told keeper.new) (R.failures keeper.old) (R.failures keeper.new) }
+        ensures { Opens result (R.store keeper.old) (R.store keeper.new) }
     {
         let Ok(router) = Router::new(alloc) else {
             return Err(OpenFault::NoMemory);
@@ -84,10 +98,12 @@ impl Service {
         keeper: &mut R,
         request: &Request,
     ) -> Answered
-        ensures { Answers self.old self.new (R.told keeper.old) (R.told keeper.new) (R.failures keeper.old) (R.failures keeper.new) request.now result }
+        ensures { Answers self.old self.new (R.store keeper.old) (R.store keeper.new) request.now result }
     {
         let reply = reply_to(alloc, &self.router, &mut self.estate, keeper, request);
         drop_told(&mut self.estate);
-        answer_for(alloc, &reply, request.last)
+        let answered = answer_for(alloc, &reply, request.last);
+        drop(reply);
+        answered
     }
 }

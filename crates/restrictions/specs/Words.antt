@@ -1,5 +1,5 @@
 -- The words of restrictions, truths, and which subjects a line judges.
-use Rattle.std.specs.Prelude.{ℕ, ◌==◌, Bool, true, false, not, List, [], ◌∷◌, Option, Some, None, Ok, Err, Result, find, codes, unwrap_or}
+use Rattle.std.specs.Prelude.{ℕ, ◌==◌, Bool, true, false, List, [], ◌∷◌, Option, Ok, Err, Result, find, codes, unwrap_or}
 use Rattle.std.specs.Option.{option_map, option_and_then}
 use Rattle.std.specs.Str.{bytes_eq}
 use Rattle.size_values.specs.declared.fault.ValueFault.{ValueFault}

@@ -13,7 +13,7 @@ use option_tables::takes_key;
 
 /// What a policy forbids: the number of the rule, and the place of the setting or device, counted from 0 in the
 /// order of the keys or of the names. Where a demanded key is not set, the place is the number of settings.
-#[derive(Clone, Copy, Debug, PartialEq, Eq)]
+#[derive(Clone, Copy, PartialEq, Eq)]
 pub struct Forbidden {
     pub rule: u8,
     pub place: usize,

@@ -5,8 +5,6 @@
 mod forbidden;
 mod policy;
 mod rows;
-#[cfg(test)]
-mod tests;
 
 pub use forbidden::{Forbidden, first_forbidden, snapshots_forbidden};
 pub use policy::{Policy, policy_of};

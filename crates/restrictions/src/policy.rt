@@ -10,7 +10,7 @@ use size_values::read_truth;
 
 /// The restrictions of a project, each with its word. They act only where the project is restricted. `access`
 /// lists the names of the networks that may be used, joined by commas; without it any may.
-#[derive(Clone, Copy, Debug)]
+#[derive(Clone, Copy)]
 pub struct Policy<'a> {
     pub restricted: bool,
     pub nesting: Word,

@@ -6,7 +6,7 @@ use crate::policy::is_true;
 use config_lists::{Device, is_root_disk};
 
 /// What a restriction says.
-#[derive(Clone, Copy, Debug, PartialEq, Eq)]
+#[derive(Clone, Copy, PartialEq, Eq)]
 pub enum Word {
     Block,
     Allow,
@@ -17,7 +17,7 @@ pub enum Word {
 }
 
 /// What is judged: the settings of a profile by themselves, or what an instance of that kind has in all.
-#[derive(Clone, Copy, Debug, PartialEq, Eq)]
+#[derive(Clone, Copy, PartialEq, Eq)]
 pub enum Subject {
     Profile,
     Container,
@@ -25,7 +25,7 @@ pub enum Subject {
 }
 
 /// The restrictions on settings and devices.
-#[derive(Clone, Copy, Debug, PartialEq, Eq)]
+#[derive(Clone, Copy, PartialEq, Eq)]
 pub enum Restriction {
     Nesting,
     Privilege,
@@ -42,7 +42,7 @@ pub enum Restriction {
 }
 
 /// Which subjects a line is for.
-#[derive(Clone, Copy, Debug, PartialEq, Eq)]
+#[derive(Clone, Copy, PartialEq, Eq)]
 pub enum Judged {
     /// Containers and profiles.
     Containers,
@@ -53,7 +53,7 @@ pub enum Judged {
 }
 
 /// What a line is against in a setting.
-#[derive(Clone, Copy, Debug, PartialEq, Eq)]
+#[derive(Clone, Copy, PartialEq, Eq)]
 pub enum Against {
     /// Any value.
     Any,
@@ -64,7 +64,7 @@ pub enum Against {
 }
 
 /// Which devices of its type a line is against.
-#[derive(Clone, Copy, Debug, PartialEq, Eq)]
+#[derive(Clone, Copy, PartialEq, Eq)]
 pub enum Which {
     Any,
     /// Those without `pool`.

@@ -13,7 +13,7 @@ use Rattle.records.specs.declared.rows.Pool.{Pool}
 use Rattle.records.specs.declared.rows.Volume.{Volume}
 use Rattle.records.specs.declared.rows.Instance.{Instance}
 use Rattle.records.specs.declared.rows.Snapshot.{Snapshot}
-use Rattle.row_codec.specs.declared.parts.Shape.{Shape}
+use Rattle.row_parts.specs.declared.parts.Shape.{Shape}
 use Rattle.row_codec.specs.Rows.{IsMoment}
 use Rattle.row_codec.specs.Spelling.{text_bytes, number_bytes, truth_byte, kind_byte, driver_byte, settings_bytes, devices_bytes, texts_bytes, project_bytes, profile_bytes, network_bytes, pool_bytes, volume_bytes, instance_bytes, snapshot_bytes}
 use Rattle.row_codec.specs.Reading.{◌>>=◌, stops_at, code_at, truth_of, instance_kind_of, driver_of, text_at, moment_at, settings_at, texts_at, devices_at, shape_at, version_at, ended, project_in, profile_in, network_in, pool_in, volume_in, instance_in, snapshot_in}

@@ -18,7 +18,7 @@ use Rattle.records.specs.declared.rows.Row.TheVariants as row
 use Rattle.estate_rules.specs.Names.{good_name_of}
 use Rattle.row_codec.specs.declared.damage.Damaged.{Damaged}
 use Rattle.row_codec.specs.declared.damage.Damaged.TheVariants as damaged
-use Rattle.row_codec.specs.declared.damage.Unreadable.{Unreadable}
+use Rattle.row_parts.specs.declared.unreadable.Unreadable.{Unreadable}
 use Rattle.row_codec.specs.Spelling.{two_names, three_names, entry_of, project_bytes, profile_bytes, network_bytes, pool_bytes, volume_bytes, instance_bytes, snapshot_bytes}
 use Rattle.row_codec.specs.Rows.{IsGood, IsRow, Spells}
 use Rattle.row_codec.specs.Reading.{Gives, placed, mapped, two_names_in, three_names_in, project_in, profile_in, network_in, pool_in, volume_in, instance_in, snapshot_in, project_of, profile_of, network_of, pool_of, volume_of, instance_of, snapshot_of, row_at, row_of}

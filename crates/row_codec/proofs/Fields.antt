@@ -6,8 +6,8 @@ use Rattle.std.proofs.lemmas.Bool.{cases_lt, ltb-false, ltb-true, le-ltb, lt-ltb
 use Rattle.std.proofs.lemmas.List.{take_at, drop_at, take-append-drop, length-append, length-take, get_or-drop, get_or-take, get_or_past}
 use Rattle.std.proofs.lemmas.Nat.{be_bytes_4, be_bytes_8, from_be_bytes-to_be_bytes_4, from_be_bytes-to_be_bytes_8}
 use Rattle.std.proofs.lemmas.Str.{IsUtf8-from_is_utf8, is_utf8-from_IsUtf8}
-use Rattle.size_values.specs.declared.moment.TheConstants.{MOMENT_LIMIT}
-use Rattle.row_codec.specs.declared.damage.Unreadable.{Unreadable}
+use Rattle.size_values.specs.Moments.{moment_limit}
+use Rattle.row_parts.specs.declared.unreadable.Unreadable.{Unreadable}
 use Rattle.row_codec.specs.Spelling.{text_bytes, number_bytes}
 use Rattle.row_codec.specs.Rows.{IsShort, IsMoment}
 use Rattle.row_codec.specs.Reading.{◌>>=◌, Read, stops_at, count_at, number_at, moment_at, meant_at, code_at, text_at}
@@ -129,20 +129,20 @@ pub moment_part : IsPart moment_at number_bytes IsMoment
 unfolding moment_at
 moment_part = record { takes = takes; fits = fits; again = again }
   where
-    test : (bytes : List ℕ) (x : ℕ × List ℕ) → (number_at bytes >>= λ m. cond (ltb m.0 MOMENT_LIMIT) (Ok m) (stops_at bytes)) ≡ Ok x → (number_at bytes ≡ Ok x) × (x.0 < MOMENT_LIMIT)
+    test : (bytes : List ℕ) (x : ℕ × List ℕ) → (number_at bytes >>= λ m. cond (ltb m.0 moment_limit) (Ok m) (stops_at bytes)) ≡ Ok x → (number_at bytes ≡ Ok x) × (x.0 < moment_limit)
     test bytes x e =
-        let s = went (number_at bytes) (λ m. cond (ltb m.0 MOMENT_LIMIT) (Ok m) (stops_at bytes)) x e in
-        let p = passed (ltb s.got.0 MOMENT_LIMIT) s.got x (record { left = length bytes }) s.next_is in
-        (s.read_is ∙ ap Ok p.1, subst (λ (y : ℕ × List ℕ). y.0 < MOMENT_LIMIT) p.1 (ltb-true _ _ p.0))
+        let s = went (number_at bytes) (λ m. cond (ltb m.0 moment_limit) (Ok m) (stops_at bytes)) x e in
+        let p = passed (ltb s.got.0 moment_limit) s.got x (record { left = length bytes }) s.next_is in
+        (s.read_is ∙ ap Ok p.1, subst (λ (y : ℕ × List ℕ). y.0 < moment_limit) p.1 (ltb-true _ _ p.0))
 
-    takes : (bytes : List ℕ) (x : ℕ × List ℕ) → IsBytes bytes → (number_at bytes >>= λ m. cond (ltb m.0 MOMENT_LIMIT) (Ok m) (stops_at bytes)) ≡ Ok x → Takes bytes (number_bytes x.0) x.1
+    takes : (bytes : List ℕ) (x : ℕ × List ℕ) → IsBytes bytes → (number_at bytes >>= λ m. cond (ltb m.0 moment_limit) (Ok m) (stops_at bytes)) ≡ Ok x → Takes bytes (number_bytes x.0) x.1
     takes bytes x fits e = number_part.takes bytes x fits (test bytes x e).0
 
-    fits : (bytes : List ℕ) (x : ℕ × List ℕ) → IsBytes bytes → (number_at bytes >>= λ m. cond (ltb m.0 MOMENT_LIMIT) (Ok m) (stops_at bytes)) ≡ Ok x → IsMoment x.0
+    fits : (bytes : List ℕ) (x : ℕ × List ℕ) → IsBytes bytes → (number_at bytes >>= λ m. cond (ltb m.0 moment_limit) (Ok m) (stops_at bytes)) ≡ Ok x → IsMoment x.0
     fits bytes x all e = (test bytes x e).1
 
-    again : (n : ℕ) (rest : List ℕ) → IsMoment n → (number_at (number_bytes n ++ rest) >>= λ m. cond (ltb m.0 MOMENT_LIMIT) (Ok m) (stops_at (number_bytes n ++ rest))) ≡ Ok (n, rest)
-    again n rest lt = rw (number_part.again n rest (omega arith), lt-ltb n MOMENT_LIMIT lt) refl
+    again : (n : ℕ) (rest : List ℕ) → IsMoment n → (number_at (number_bytes n ++ rest) >>= λ m. cond (ltb m.0 moment_limit) (Ok m) (stops_at (number_bytes n ++ rest))) ≡ Ok (n, rest)
+    again n rest lt = rw (number_part.again n rest (omega arith), lt-ltb n moment_limit lt) refl
 
 -- ---- bytes that stand for something
 

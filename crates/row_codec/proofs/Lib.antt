@@ -1,11 +1,8 @@
-pub mod Texts
 pub mod Rising
-pub mod Items
 pub mod Fields
 pub mod Listed
 pub mod Settings
 pub mod Bodies
 pub mod Names
 pub mod Entries
-pub mod Written
 pub mod Alone

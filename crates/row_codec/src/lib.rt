@@ -2,14 +2,11 @@
 //! first damage where an entry is no spelling.
 #![tactic(auto)]
 
+mod body_rows;
 mod damage;
 mod keys;
 mod laws;
-mod lists;
-mod parts;
 mod reading;
-#[cfg(test)]
-mod tests;
 mod writing;
 
 pub use damage::Damaged;

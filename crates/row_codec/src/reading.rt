@@ -2,15 +2,17 @@
 ghost use Rattle.std.specs.Prelude.{◌≡◌, length, IfOk, IfErr};
 ghost use Rattle.records.specs.declared.rows.Row.{Row};
 ghost use Rattle.row_codec.specs.Rows.{Spells};
-ghost use Rattle.row_codec.specs.Reading.{Gives, project_in, profile_in, network_in, pool_in, volume_in, instance_in, snapshot_in, project_of, profile_of, network_of, pool_of, volume_of, instance_of, snapshot_of, row_at, row_of, damage_of};
+ghost use Rattle.row_codec.specs.Reading.{Gives, project_of, profile_of, network_of, pool_of, volume_of, instance_of, snapshot_of, row_at, row_of, damage_of};
 
-use crate::damage::{Damaged, Unreadable};
+use crate::body_rows::{
+    instance_in, network_in, pool_in, profile_in, project_in, snapshot_in, volume_in,
+};
+use crate::damage::Damaged;
 use crate::keys::{three_names_in, two_names_in};
-use crate::lists::{devices_at, settings_at, shape_at};
-use crate::parts::{driver_at, ended, kind_at, moment_at, text_at, truth_at, version_at};
 use estate_rules::good_name;
 use records::{Instance, Network, Pool, Profile, Project, Row, Snapshot, Volume};
-use size_values::{Entry, ObjectKind, Or, Text};
+use row_parts::Unreadable;
+use size_values::{Entry, ObjectKind, Or};
 use std::alloc::Global;
 
 /// The damage of a body in which a part cannot be read.
@@ -34,165 +36,6 @@ fn placed<T>(body: &[u8], read: Result<T, Or<Unreadable>>) -> Result<T, Or<Damag
         Ok(row) => Ok(row),
         Err(why) => Err(damage_of(body, why)),
     }
-}
-
-#[tactic(auto, unfolding(crate::specs::Reading::project_in))]
-fn project_in(alloc: Global, name: &str, body: &[u8]) -> Result<Project, Or<Unreadable>>
-    ensures { Gives (λ x. x) result (project_in name.now body.now) }
-{
-    let rest = version_at(body)?;
-    let (description, rest) = text_at(alloc, rest)?;
-    let (config, rest) = settings_at(alloc, rest)?;
-    ended(rest)?;
-    Ok(Project {
-        name: Text::from_text(alloc, name)?,
-        description,
-        config,
-    })
-}
-
-#[tactic(auto, unfolding(crate::specs::Reading::profile_in))]
-fn profile_in(
-    alloc: Global,
-    project: &str,
-    name: &str,
-    body: &[u8],
-) -> Result<Profile, Or<Unreadable>>
-    ensures { Gives (λ x. x) result (profile_in project.now name.now body.now) }
-{
-    let rest = version_at(body)?;
-    let (description, rest) = text_at(alloc, rest)?;
-    let (config, rest) = settings_at(alloc, rest)?;
-    let (devices, rest) = devices_at(alloc, rest)?;
-    ended(rest)?;
-    Ok(Profile {
-        project: Text::from_text(alloc, project)?,
-        name: Text::from_text(alloc, name)?,
-        description,
-        config,
-        devices,
-    })
-}
-
-#[tactic(auto, unfolding(crate::specs::Reading::network_in))]
-fn network_in(
-    alloc: Global,
-    project: &str,
-    name: &str,
-    body: &[u8],
-) -> Result<Network, Or<Unreadable>>
-    ensures { Gives (λ x. x) result (network_in project.now name.now body.now) }
-{
-    let rest = version_at(body)?;
-    let (description, rest) = text_at(alloc, rest)?;
-    let (config, rest) = settings_at(alloc, rest)?;
-    ended(rest)?;
-    Ok(Network {
-        project: Text::from_text(alloc, project)?,
-        name: Text::from_text(alloc, name)?,
-        description,
-        config,
-    })
-}
-
-#[tactic(auto, unfolding(crate::specs::Reading::pool_in))]
-fn pool_in(alloc: Global, name: &str, body: &[u8]) -> Result<Pool, Or<Unreadable>>
-    ensures { Gives (λ x. x) result (pool_in name.now body.now) }
-{
-    let rest = version_at(body)?;
-    let (driver, rest) = driver_at(rest)?;
-    let (description, rest) = text_at(alloc, rest)?;
-    let (config, rest) = settings_at(alloc, rest)?;
-    ended(rest)?;
-    Ok(Pool {
-        name: Text::from_text(alloc, name)?,
-        driver,
-        description,
-        config,
-    })
-}
-
-#[tactic(auto, unfolding(crate::specs::Reading::volume_in))]
-fn volume_in(
-    alloc: Global,
-    project: &str,
-    pool: &str,
-    name: &str,
-    body: &[u8],
-) -> Result<Volume, Or<Unreadable>>
-    ensures { Gives (λ x. x) result (volume_in project.now pool.now name.now body.now) }
-{
-    let rest = version_at(body)?;
-    let (description, rest) = text_at(alloc, rest)?;
-    let (config, rest) = settings_at(alloc, rest)?;
-    let (created, rest) = moment_at(rest)?;
-    ended(rest)?;
-    Ok(Volume {
-        project: Text::from_text(alloc, project)?,
-        pool: Text::from_text(alloc, pool)?,
-        name: Text::from_text(alloc, name)?,
-        description,
-        config,
-        created,
-    })
-}
-
-#[tactic(auto, unfolding(crate::specs::Reading::instance_in))]
-fn instance_in(
-    alloc: Global,
-    project: &str,
-    name: &str,
-    body: &[u8],
-) -> Result<Instance, Or<Unreadable>>
-    ensures { Gives (λ x. x) result (instance_in project.now name.now body.now) }
-{
-    let rest = version_at(body)?;
-    let (kind, rest) = kind_at(rest)?;
-    let (ephemeral, rest) = truth_at(rest)?;
-    let (description, rest) = text_at(alloc, rest)?;
-    let (origin, rest) = text_at(alloc, rest)?;
-    let (created, rest) = moment_at(rest)?;
-    let (shape, rest) = shape_at(alloc, rest)?;
-    ended(rest)?;
-    Ok(Instance {
-        project: Text::from_text(alloc, project)?,
-        name: Text::from_text(alloc, name)?,
-        kind,
-        ephemeral,
-        description,
-        origin,
-        created,
-        profiles: shape.profiles,
-        config: shape.config,
-        devices: shape.devices,
-    })
-}
-
-#[tactic(auto, unfolding(crate::specs::Reading::snapshot_in))]
-fn snapshot_in(
-    alloc: Global,
-    project: &str,
-    instance: &str,
-    name: &str,
-    body: &[u8],
-) -> Result<Snapshot, Or<Unreadable>>
-    ensures { Gives (λ x. x) result (snapshot_in project.now instance.now name.now body.now) }
-{
-    let rest = version_at(body)?;
-    let (created, rest) = moment_at(rest)?;
-    let (expires, rest) = moment_at(rest)?;
-    let (shape, rest) = shape_at(alloc, rest)?;
-    ended(rest)?;
-    Ok(Snapshot {
-        project: Text::from_text(alloc, project)?,
-        instance: Text::from_text(alloc, instance)?,
-        name: Text::from_text(alloc, name)?,
-        created,
-        expires,
-        profiles: shape.profiles,
-        config: shape.config,
-        devices: shape.devices,
-    })
 }
 
 #[tactic(auto, unfolding(crate::specs::Reading::project_of))]

@@ -1,100 +1,16 @@
 //! Rows, written as entries.
-ghost use Rattle.std.specs.Prelude.{◌≡◌, ◌++◌, length, IfOk, OnOk};
-ghost use Rattle.std.specs.Str.{IsUtf8};
+ghost use Rattle.std.specs.Prelude.{◌≡◌, ◌++◌, IfOk, OnOk};
 ghost use Rattle.records.specs.declared.rows.Row.{Row};
 ghost use Rattle.records.specs.declared.rows.Row.TheVariants as row;
-ghost use Rattle.row_codec.specs.Rows.{IsShort, AreShortTexts, AreShortSettings, AreShortDevices, AreUtf8, AreTypedSettings, AreTypedDevices, HasGoodKey, HasMoments, HasShortParts, HasTypedParts, Spells};
-ghost use Rattle.row_codec.specs.Spelling.{text_bytes, number_bytes, texts_bytes, setting_bytes, settings_bytes, device_bytes, devices_bytes, truth_byte, kind_byte, driver_byte, project_bytes, profile_bytes, network_bytes, pool_bytes, volume_bytes, instance_bytes, snapshot_bytes, body_of, kind_of, key_of, two_names, three_names};
+ghost use Rattle.row_codec.specs.Rows.{HasGoodKey, HasMoments, HasShortParts, HasTypedParts, Spells};
+ghost use Rattle.row_codec.specs.Spelling.{project_bytes, profile_bytes, network_bytes, pool_bytes, volume_bytes, instance_bytes, snapshot_bytes, body_of, kind_of, key_of, two_names, three_names};
 
-use config_lists::{Config, Devices};
-use records::{Driver, Instance, Network, Pool, Profile, Project, Row, Snapshot, Volume};
-use size_values::{Entry, Kind, NoMemory, Seq, Text};
+use records::{Instance, Network, Pool, Profile, Project, Row, Snapshot, Volume};
+use row_parts::{
+    driver_byte, kind_byte, put_devices, put_number, put_settings, put_text, put_texts, truth_byte,
+};
+use size_values::{Entry, NoMemory, Seq, Text};
 use std::alloc::Global;
-
-#[tactic(auto, unfolding(crate::specs::Spelling::text_bytes))]
-fn put_text(out: &mut Vec<u8>, text: &str) -> Result<(), NoMemory>
-    requires { IsShort text.now }
-    ensures bytes { OnOk result (out.new.items ≡ out.old.items ++ text_bytes text.now) }
-    ensures utf8 { IsUtf8 text.now }
-{
-    out.extend_from_slice(&(text.len() as u32).to_be_bytes())?;
-    out.extend_from_slice(text.as_bytes())?;
-    Ok(())
-}
-
-#[tactic(auto, unfolding(crate::specs::Spelling::number_bytes))]
-fn put_number(out: &mut Vec<u8>, number: u64) -> Result<(), NoMemory>
-    ensures { OnOk result (out.new.items ≡ out.old.items ++ number_bytes number) }
-{
-    out.extend_from_slice(&number.to_be_bytes())?;
-    Ok(())
-}
-
-fn put_texts(out: &mut Vec<u8>, texts: &Seq<Text>) -> Result<(), NoMemory>
-    requires { AreShortTexts texts.now }
-    ensures bytes { OnOk result (out.new.items ≡ out.old.items ++ texts_bytes texts.now) }
-    ensures typed { OnOk result (AreUtf8 texts.now) }
-{
-    out.extend_from_slice(&(texts.len() as u32).to_be_bytes())?;
-    for text in texts.view() {
-        put_text(out, text.view())?;
-    }
-    Ok(())
-}
-
-fn put_settings(out: &mut Vec<u8>, config: &Config) -> Result<(), NoMemory>
-    requires { AreShortSettings config.now }
-    ensures bytes { OnOk result (out.new.items ≡ out.old.items ++ settings_bytes config.now) }
-    ensures typed { OnOk result (AreTypedSettings config.now) }
-{
-    let count = config.len();
-    out.extend_from_slice(&(count as u32).to_be_bytes())?;
-    for place in 0..count {
-        put_text(out, config.key_at(place))?;
-        put_text(out, config.value_at(place))?;
-    }
-    Ok(())
-}
-
-fn put_devices(out: &mut Vec<u8>, devices: &Devices) -> Result<(), NoMemory>
-    requires { AreShortDevices devices.now }
-    ensures bytes { OnOk result (out.new.items ≡ out.old.items ++ devices_bytes devices.now) }
-    ensures typed { OnOk result (AreTypedDevices devices.now) }
-{
-    let count = devices.len();
-    out.extend_from_slice(&(count as u32).to_be_bytes())?;
-    for place in 0..count {
-        put_text(out, devices.name_at(place))?;
-        put_settings(out, devices.device_at(place))?;
-    }
-    Ok(())
-}
-
-fn truth_byte(truth: bool) -> u8
-    ensures { result ≡ truth_byte truth }
-{
-    if truth { 1 } else { 0 }
-}
-
-fn kind_byte(kind: Kind) -> u8
-    ensures { result ≡ kind_byte kind }
-{
-    match kind {
-        Kind::Container => 0,
-        Kind::Machine => 1,
-    }
-}
-
-fn driver_byte(driver: Driver) -> u8
-    ensures { result ≡ driver_byte driver }
-{
-    match driver {
-        Driver::Dir => 0,
-        Driver::Btrfs => 1,
-        Driver::Lvm => 2,
-        Driver::Zfs => 3,
-    }
-}
 
 fn put_project(out: &mut Vec<u8>, project: &Project) -> Result<(), NoMemory>
     requires { HasShortParts (row.Project project.now) }

@@ -1,13 +1,12 @@
 -- The facts hold of a new server, computed.
-use Rattle.std.proofs.Common.{◌≡◌, ◌≢◌, ℕ, ◌≤◌, Bool, true, false, Option, Some, None, List, [], ◌∷◌, length, refl, arith}
-use Rattle.plain_lists.specs.Members.{Mem, Each, Distinct}
+use Rattle.std.proofs.Common.{◌≤◌, [], ◌∷◌, refl, arith}
+use Rattle.plain_lists.specs.Members.{Each}
 use Rattle.plain_lists.proofs.Elements.{Each-none, Each-cons}
 use Rattle.size_values.specs.declared.amounts.Part.{Part}
 use Rattle.size_values.specs.declared.amounts.Part.TheVariants.{Instances, Containers, Machines, Cpu, Memory, Processes, Disk}
 use Rattle.operations.proofs.KeptLemmas.{AreKept-none}
-use Rattle.row_machine.specs.State.{State}
 use Rattle.row_machine.specs.Laws.{NewIsWhole}
-use Rattle.row_machine.specs.Whole.{IsWhole, AreNamed, AreLinked, HasDefaults, AreSettled, AreOperations, AreWithin, IsWithin, IsClean, AreBalanced, AreFew}
+use Rattle.row_machine.specs.Whole.{AreNamed, AreLinked, HasDefaults, AreSettled, AreOperations, AreWithin, AreBalanced, AreFew}
 use Rattle.row_machine.specs.Scenes.{begin}
 use Rattle.std.specs.Prelude.{IfSome}
 use Rattle.project_limits.specs.Admission.{limit_on}
@@ -198,7 +197,7 @@ unfolding
     devices_miss instance_settings profile_settings row_settings settings_broken instance_busy wrong_state
     object_protected object_used project_occupied profile_held standing_broken step cancel_broken entry_broken
     tables_broken loads usage_of networks_of used_by usage_view read entered succeeded failed cancelled
-operations = record { kept = AreKept-none; busy = λ project instance. omega arith; claims = Each-none }
+operations = record { kept = AreKept-none; busy = λ project instance. omega arith; deeds = Each-none }
 
 limits : AreWithin begin
 unfolding

@@ -1,5 +1,6 @@
 -- The examples, computed: every definition that is otherwise one word is unfolded here.
-use Rattle.std.specs.Prelude.{refl}
+use Rattle.std.proofs.Common.{◌≡◌, Option, Some, None, refl, sym, subst}
+use Rattle.std.specs.Option.{option_map}
 use Rattle.size_values.specs.Address.{address_of, cidr_of}
 use Rattle.size_values.specs.Amounts.{plus_of, minus_of, excess_of, fits_in}
 use Rattle.size_values.specs.Count.{count_of}
@@ -47,7 +48,19 @@ use Rattle.row_machine.specs.Usage.{loads, usage_of, networks_of}
 use Rattle.row_machine.specs.Views.{used_by, usage_view, read}
 use Rattle.row_machine.specs.Work.{entered, succeeded, failed, cancelled}
 use Rattle.std.specs.Fmt.{digits}
-use Rattle.row_machine.specs.Worked.{AreWorked}
+use Rattle.row_machine.specs.Worked.{AreWorked, a, s, snapshot_of_s}
+use Rattle.row_machine.specs.Scenes.{default, state_after}
+use Rattle.row_machine.specs.State.{State}
+use Rattle.row_machine.specs.Plans.{snapshot_target, deletion}
+use Rattle.row_machine.specs.Whole.{IsWhole}
+use Rattle.row_machine.proofs.Deeds.{deletes-instances}
+
+-- wherever such a deletion was entered, the facts do not hold
+not-whole : (before : Option State) (now : State) → option_map (λ x. entered x (deletion default (snapshot_target a s)) 0) before ≡ Some now → IsWhole now → ⊥
+not-whole None now is whole = cc
+not-whole (Some x) now is whole = deletes-instances x default (snapshot_target a s) 0 (λ same. cc) (subst IsWhole (some-is (sym is)) whole) where
+  some-is : {x y : State} → Some x ≡ Some y → x ≡ y
+  some-is same = cc
 
 pub are_worked : AreWorked
 unfolding
@@ -87,5 +100,7 @@ are_worked = record {
   snapshots_are_blocked = record { blocked = refl; allowed = refl };
   changes_hold_the_excess = record { live = refl; over = refl };
   restore_frees = record { above = refl; restoring = refl; restored = refl; copied = refl };
+  source_names_its_pool = record { named = refl; unnamed = refl };
   cancel_undoes = record { cancelling = refl; undone = refl; no_row = refl; ended = refl };
+  deletion_goes_astray = record { not_whole = not-whole (state_after snapshot_of_s); removed = refl; under_way = refl };
 }

@@ -1,5 +1,9 @@
+pub mod Deeds
 pub mod Computed
 pub mod Moving
 pub mod Following
 pub mod Running
 pub mod Beginning
+pub mod Opened
+pub mod Faulty
+pub mod Busy

@@ -10,7 +10,7 @@ use Rattle.plain_lists.proofs.Keys.{Distinct-push, Distinct-left, Distinct-right
 use Rattle.plain_lists.proofs.EditLemmas.{Each-changed, Distinct-changed, Each-dropped, Distinct-dropped}
 use Rattle.plain_lists.proofs.RingLemmas.{Each-ring}
 use Rattle.plain_lists.proofs.Searches.{find-some}
-use Rattle.operations.specs.declared.limits.TheConstants.{ENDED_LIMIT}
+use Rattle.operations.specs.Limits.{most_ended}
 use Rattle.operations.specs.declared.operation.Operation.{Operation}
 use Rattle.operations.specs.declared.operation.OpFault.{OpFault}
 use Rattle.operations.specs.declared.status.Status.{Status}
@@ -106,9 +106,9 @@ moves-settled {W} {k} o (over n st why moment) h = record {
 } where
   at : (found : Option (Operation W)) → live_at k n ≡ found
       → Each (λ (x : Operation W). x.number ≡ o.number → x ≡ o)
-      (option_map_or (λ (x : Operation W). ring_push ENDED_LIMIT (record x { status = st; fault = why; updated = moment }) k.ended) found k.ended)
+      (option_map_or (λ (x : Operation W). ring_push most_ended (record x { status = st; fault = why; updated = moment }) k.ended) found k.ended)
   at None is = h.same
-  at (Some x) is = Each-ring (λ (y : Operation W). y.number ≡ o.number → y ≡ o) ENDED_LIMIT h.same
+  at (Some x) is = Each-ring (λ (y : Operation W). y.number ≡ o.number → y ≡ o) most_ended h.same
       (λ same. absurd (h.over.gone.at x (find-some (has_number n) k.live x is).0 same))
 moves-settled o (both a b) h = moves-settled o b (moves-settled o a h)
 

@@ -32,3 +32,5 @@ pub mod Whole
 pub mod Laws
 pub mod Scenes
 pub mod Worked
+pub mod Openings
+pub mod Faults

@@ -1,4 +1,4 @@
--- Links of objects: the path of an object, and its project where that is not `default`.
+-- Links of objects: the path of an object, and its project where it belongs to one other than `default`.
 use Rattle.std.specs.Prelude.{ℕ, List, [], ◌∷◌, ◌++◌, if◌then◌else◌, codes}
 use Rattle.std.specs.Str.{bytes_eq}
 use Rattle.plain_lists.specs.Edits.{inserted}
@@ -26,12 +26,13 @@ path_of of = path of.kind where
   path Snapshot = codes "/1.0/instances/" ++ of.instance ++ codes "/snapshots/" ++ of.name
   path Operation = codes "/1.0/operations/" ++ of.name
 
--- the link of an object that belongs to a project; pools and projects belong to none
+-- the link of an object, with its project where it belongs to one; those of projects, pools and operations name none
 abbrev pub link_of : List ℕ → Target → List ℕ
 link_of project of = path_of of ++ query of.kind where
   query : ObjectKind → List ℕ
   query Project = []
   query Pool = []
+  query Operation = []
   query other = project_query project
 
 -- what names a row

@@ -71,9 +71,9 @@ parent_missing s project of = missing of.kind where
 abbrev pub object_missing : State → List ℕ → Target → Option Refusal
 object_missing s project of = first (parent_missing s project of ∷ missing_unless (is_there s project of) of.kind of.name ∷ [])
 
--- the volume that a volume is copied from: in the pool that is named, or else in that of the new volume
+-- the volume that a volume is copied from, in the pool that the command names; the route fills it in where a body names none
 abbrev pub volume_source : Target → List ℕ → List ℕ → Target
-volume_source of from pool = record of { name = from; pool = if length pool == 0 then of.pool else pool }
+volume_source of from pool = record of { name = from; pool = pool }
 
 -- the snapshot of an instance
 abbrev pub snapshot_missing : State → List ℕ → List ℕ → List ℕ → Option Refusal

@@ -1,6 +1,7 @@
 -- Rules on policy: F1 to F8. What a restricted project forbids of its profiles, its instances, and those that live
 -- operations would put.
-use Rattle.std.specs.Prelude.{ℕ, ◌==◌, nat_lt, List, [], ◌∷◌, filter, length, Option, Some, None, if◌then◌else◌, codes, option_and_then}
+use Rattle.std.specs.Prelude.{ℕ, ◌==◌, nat_lt, List, [], ◌∷◌, filter, find, length, Option, Some, None, if◌then◌else◌, option_and_then}
+use Rattle.std.specs.Option.{option_map_or}
 use Rattle.std.specs.Map.{keys_of}
 use Rattle.std.specs.Str.{bytes_eq}
 use Rattle.plain_lists.specs.Firsts.{first, first_of}
@@ -15,7 +16,7 @@ use Rattle.restrictions.specs.declared.forbidden.Forbidden.{Forbidden}
 use Rattle.restrictions.specs.declared.rows.Subject.{Subject}
 use Rattle.restrictions.specs.declared.rows.Subject.TheVariants as subject
 use Rattle.restrictions.specs.Policies.{policy_of}
-use Rattle.restrictions.specs.Forbids.{first_forbidden, snapshots_forbidden}
+use Rattle.restrictions.specs.Forbids.{demands, setting_lines, first_forbidden, snapshots_forbidden}
 use Rattle.records.specs.declared.refusals.Rule.{Rule}
 use Rattle.records.specs.declared.refusals.Rule.TheVariants as rule
 use Rattle.records.specs.declared.refusals.Refusal.{Refusal}
@@ -48,11 +49,15 @@ abbrev pub subject_of : Kind → Subject
 subject_of kind_of.Container = subject.Container
 subject_of kind_of.Machine = subject.Machine
 
--- the setting or the device that is forbidden; a demanded key that is absent has the place behind all settings
+-- the key that the table demands: that of its line against an absent key
+abbrev pub demanded_key : List ℕ
+demanded_key = option_map_or (λ line. line.4) (find (λ line. demands line.5) setting_lines) []
+
+-- the setting or the device that is forbidden; a demanded key that is absent has the place after all settings
 abbrev pub forbidden_key : Settings → NamedDevices → Forbidden → List ℕ
 forbidden_key config devices f =
     if nat_lt f.rule 6
-    then (if nat_lt f.place (length config) then text_at (keys_of config) f.place else codes "security.idmap.isolated")
+    then (if nat_lt f.place (length config) then text_at (keys_of config) f.place else demanded_key)
     else text_at (keys_of devices) f.place
 
 -- the rule of this number, where it is the first one that the settings and devices of a subject break

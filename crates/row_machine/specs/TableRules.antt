@@ -11,8 +11,8 @@ use Rattle.operations.specs.declared.faults.CancelFault.{CancelFault}
 use Rattle.operations.specs.declared.faults.CancelFault.TheVariants as cancel_fault
 use Rattle.operations.specs.declared.faults.EnterFault.{EnterFault}
 use Rattle.operations.specs.declared.faults.EnterFault.TheVariants.{Full, Spent}
-use Rattle.operations.specs.declared.limits.TheConstants.{LIVE_LIMIT, NUMBER_LIMIT}
 use Rattle.operations.specs.Kept.{kept_at, enter_fault, cancel_answer}
+use Rattle.operations.specs.Limits.{most_live, number_limit}
 use Rattle.records.specs.declared.refusals.Rule.TheVariants as rule
 use Rattle.records.specs.declared.refusals.Refusal.{Refusal}
 use Rattle.records.specs.declared.rows.Row.{Row}
@@ -51,8 +51,8 @@ cancel_broken s other = None
 
 -- why no operation can be entered
 abbrev pub enter_refusal : EnterFault → Refusal
-enter_refusal Full = on_number rule.O4 LIVE_LIMIT
-enter_refusal Spent = on_number rule.O5 NUMBER_LIMIT
+enter_refusal Full = on_number rule.O4 most_live
+enter_refusal Spent = on_number rule.O5 number_limit
 
 -- no operation can be entered
 unfoldable pub entry_broken : State → Option Refusal
@@ -60,7 +60,7 @@ entry_broken s = option_map enter_refusal (enter_fault s.operations)
 
 -- ---- C1: a table is full
 
--- how many rows of a kind there may be, with those that live operations claim
+-- how many rows of a kind there may be, with those that live operations claim; operations are no rows
 abbrev pub cap_of : ObjectKind → ℕ
 cap_of kind.Project = 1024
 cap_of kind.Profile = 16384
@@ -69,9 +69,9 @@ cap_of kind.Pool = 64
 cap_of kind.Volume = 65536
 cap_of kind.Instance = 65536
 cap_of kind.Snapshot = 65536
-cap_of kind.Operation = 1280
+cap_of kind.Operation = 0
 
--- how many rows of a kind there are and are claimed
+-- how many rows of a kind there are and are claimed; operations are no rows
 abbrev pub count_of : State → ObjectKind → ℕ
 count_of s kind.Project = length s.projects
 count_of s kind.Profile = length s.profiles
@@ -80,7 +80,7 @@ count_of s kind.Pool = length s.pools
 count_of s kind.Volume = length s.volumes + length (of_live claimed_volume s)
 count_of s kind.Instance = length s.instances + length (of_live claimed_instance s)
 count_of s kind.Snapshot = length s.snapshots + length (of_live claimed_snapshot s)
-count_of s kind.Operation = length s.operations.live + length s.operations.ended
+count_of s kind.Operation = 0
 
 -- the kinds of rows, in their order
 abbrev pub row_kinds : List ObjectKind
@@ -110,6 +110,6 @@ too_large r =
     then Some (record { rule = rule.C2; kept = record untold { kind = kind_text (target_of r).kind; number = min (size_of r) (2 ^ 64 - 1) } })
     else None
 
--- the first table that is full after a change, and then the first row of it that is too large
+-- the first kind of which there are too many rows after a change, and then the first of the rows put that is too large
 unfoldable pub tables_broken : State → List Row → Option Refusal
 tables_broken after rows = first (first_of (too_many after) row_kinds ∷ first_of too_large rows ∷ [])

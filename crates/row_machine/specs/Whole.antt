@@ -1,7 +1,7 @@
 -- What is true of the state at all times: ten facts, each kept by every step.
-use Rattle.std.specs.Prelude.{◌≡◌, ◌≢◌, ℕ, ◌+◌, ◌<◌, ◌≤◌, ◌^◌, Bool, true, false, List, [], ◌∷◌, ◌++◌, map, length, Option, Some, None, is_some, IfSome, if◌then◌else◌, codes, filter, drop}
+use Rattle.std.specs.Prelude.{◌≡◌, ◌≢◌, ℕ, ◌+◌, ◌<◌, ◌≤◌, ◌^◌, Bool, true, false, List, [], ◌∷◌, ◌++◌, map, length, Option, Some, None, is_some, is_none, IfSome, if◌then◌else◌, codes, filter, drop}
 use Rattle.std.specs.List.{sum_by}
-use Rattle.std.specs.Option.{option_map}
+use Rattle.std.specs.Option.{option_map, option_map_or}
 use Rattle.plain_lists.specs.Members.{Each, Distinct}
 use Rattle.size_values.specs.Amounts.{part}
 use Rattle.size_values.specs.declared.amounts.Part.{Part}
@@ -97,13 +97,13 @@ has_target deed.Copy = false
 has_target deed.CopyVolume = false
 has_target other = true
 
--- the instance of a target: itself, or that of a snapshot
+-- the instance of a target is there: itself, or that of a snapshot; no other kind has an instance
 abbrev pub instance_there : State → List ℕ → Target → Type 0
 instance_there s project of = there of.kind where
   there : ObjectKind → Type 0
   there kind.Instance = is_some (instance_named s.instances project of.name) ≡ true
   there kind.Snapshot = is_some (instance_named s.instances project of.instance) ≡ true
-  there other = Unit {0}
+  there other = ⊥
 
 -- a rename claims its target's row under another name
 abbrev pub IsRenamed : State → Task → Type 0
@@ -170,8 +170,40 @@ replaces_target deed.Restore = true
 replaces_target deed.Rename = true
 replaces_target other = false
 
--- what an operation claims, by its deed
-pub record ClaimsByDeed (task : Task) : Type 0 where
+-- the kind of object that a deed is about
+abbrev pub target_kind : Deed → ObjectKind
+target_kind deed.Create = kind.Instance
+target_kind deed.Copy = kind.Instance
+target_kind deed.Update = kind.Instance
+target_kind deed.Restore = kind.Instance
+target_kind deed.Rename = kind.Instance
+target_kind deed.Delete = kind.Instance
+target_kind (deed.Act does ephemeral) = kind.Instance
+target_kind deed.Snap = kind.Snapshot
+target_kind deed.Unsnap = kind.Snapshot
+target_kind deed.CopyVolume = kind.Volume
+
+-- whether an object is an instance or a snapshot
+abbrev pub is_instance_or_snapshot : ObjectKind → Bool
+is_instance_or_snapshot kind.Instance = true
+is_instance_or_snapshot kind.Snapshot = true
+is_instance_or_snapshot other = false
+
+-- whether an object is a volume
+abbrev pub is_volume_kind : ObjectKind → Bool
+is_volume_kind kind.Volume = true
+is_volume_kind other = false
+
+-- a copy has an instance or a snapshot as its source, a volume copy a volume, and no other deed has a source
+abbrev pub has_source : Deed → Option Target → Bool
+has_source deed.Copy source = option_map_or (λ of. is_instance_or_snapshot of.kind) source false
+has_source deed.CopyVolume source = option_map_or (λ of. is_volume_kind of.kind) source false
+has_source other source = is_none source
+
+-- the object that an operation is about, its source and what it claims, by its deed
+pub record IsByDeed (task : Task) : Type 0 where
+  pub target : task.target.kind ≡ target_kind task.deed
+  pub source : has_source task.deed task.source ≡ true
   pub kind : option_map (λ r. (target_of r).kind) task.claim ≡ claim_kind task.deed
   pub named : task.deed ≢ deed.Rename → IfSome task.claim (λ r. target_of r ≡ task.target)
   pub replaces : task.replaces ≡ (if replaces_target task.deed then Some (task.project, task.target.name) else None)
@@ -180,11 +212,11 @@ pub record ClaimsByDeed (task : Task) : Type 0 where
 abbrev pub IsBusyOnce : State → Type 0
 IsBusyOnce s = (project instance : List ℕ) → length (filter (λ o. keeps_busy project instance o.work) s.operations.live) ≤ 1
 
--- operations are numbered, few, and claim what their deeds claim
+-- operations are numbered, few, and are about, copy from and claim what their deeds do
 pub record AreOperations (s : State) : Type 0 where
   pub kept : AreKept s.operations
   pub busy : IsBusyOnce s
-  pub claims : Each (λ o. ClaimsByDeed o.work) s.operations.live
+  pub deeds : Each (λ o. IsByDeed o.work) s.operations.live
 
 -- ---- 6: what is under way
 
@@ -194,7 +226,7 @@ calls_out status.Running = 1
 calls_out status.Cancelling = 1
 calls_out other = 0
 
--- an operation with the calls that are done, out and left
+-- an operation with the calls that are done, out and left, and the call that takes its deed back
 pub record IsUnderWay (o : Operation Task) : Type 0 where
   pub calls : o.work.done + calls_out o.status + length o.work.calls ≡ length (calls_of o.work.deed)
   pub left : map name_of o.work.calls ≡ drop (o.work.done + calls_out o.status) (calls_of o.work.deed)
@@ -202,6 +234,7 @@ pub record IsUnderWay (o : Operation Task) : Type 0 where
   pub cancellable : o.may_cancel ≡ is_some (undo_of o.work.deed)
   pub undo : o.status ≢ status.Cancelling → option_map name_of o.work.undo ≡ undo_of o.work.deed
   pub cancelling : o.status ≡ status.Cancelling → o.may_cancel ≡ true
+  pub undoing : IfSome o.work.undo (λ c. Some (name_of c) ≡ undo_of o.work.deed)
 
 -- ---- 7: shares
 
@@ -253,9 +286,9 @@ pub record AreFew (s : State) : Type 0 where
 -- ---- all of them
 
 -- What is true of the state at all times: names are good and distinct; what is named exists; the defaults are there; the
--- tables accept all settings; operations are numbered, few, and keep their instances to themselves; the calls of each are
--- in order; each holds the share that its claim needs; each project stands within its limits and its policy; the books
--- balance; and nothing is too large.
+-- tables accept all settings; operations are numbered, few, by their deeds, and keep their instances to themselves; the
+-- calls of each are in order; each holds the share that its claim needs; each project stands within its limits and its
+-- policy; the books balance; and nothing is too large.
 pub record IsWhole (s : State) : Type 0 where
   pub names : AreNamed s
   pub links : AreLinked s

@@ -1,18 +1,22 @@
 -- Examples that the machine itself computes: lists of events from a new server, and the exact answer, refusal or usage.
-use Rattle.std.specs.Prelude.{◌≡◌, ℕ, true, false, List, [], ◌∷◌, ◌++◌, map, Option, Some, None, codes, option_map, option_and_then}
+use Rattle.std.specs.Prelude.{◌≡◌, ℕ, true, false, List, [], ◌∷◌, ◌++◌, map, Option, Some, None, IfSome, codes, option_map, option_and_then}
 use Rattle.size_values.specs.Amounts.{nothing}
 use Rattle.size_values.specs.declared.amounts.Amounts.{Amounts}
 use Rattle.size_values.specs.declared.kinds.Action.TheVariants as action
+use Rattle.size_values.specs.declared.kinds.Deed.{Deed}
+use Rattle.size_values.specs.declared.kinds.Deed.TheVariants as deed
 use Rattle.size_values.specs.declared.kinds.Kind.TheVariants.{Container}
 use Rattle.size_values.specs.declared.kinds.ObjectKind.TheVariants as kind
 use Rattle.config_lists.specs.Settings.{Settings}
 use Rattle.config_lists.specs.Devices.{NamedDevices}
 use Rattle.estate_rules.specs.Uses.{names_volume}
 use Rattle.expansion.specs.declared.expanded.Expanded.{Expanded}
+use Rattle.operations.specs.declared.operation.Operation.{Operation}
 use Rattle.operations.specs.declared.status.Status.{Status}
 use Rattle.operations.specs.declared.status.Status.TheVariants as status
 use Rattle.operations.specs.Kept.{kept_at}
 use Rattle.records.specs.declared.commands.Origin.TheVariants as origin
+use Rattle.records.specs.declared.commands.Target.{Target}
 use Rattle.records.specs.declared.commands.What.TheVariants as what
 use Rattle.records.specs.declared.refusals.Rule.{Rule}
 use Rattle.records.specs.declared.refusals.Rule.TheVariants as rule
@@ -23,7 +27,13 @@ use Rattle.records.specs.declared.rows.Instance.{Instance}
 use Rattle.records.specs.declared.rows.Profile.{Profile}
 use Rattle.row_machine.specs.declared.events.Answer.{Answer}
 use Rattle.row_machine.specs.declared.events.Answer.TheVariants as answer
+use Rattle.row_machine.specs.Task.{Task}
+use Rattle.row_machine.specs.State.{State}
 use Rattle.row_machine.specs.Refusals.{untold, on_project, on_key_of, on_object}
+use Rattle.row_machine.specs.Plans.{snapshot_target, deletion}
+use Rattle.row_machine.specs.Work.{entered}
+use Rattle.row_machine.specs.Runs.{run}
+use Rattle.row_machine.specs.Whole.{IsWhole}
 use Rattle.row_machine.specs.Expansions.{expanded_of}
 use Rattle.row_machine.specs.Scenes.{Events, default, named, no_body, ask, make_project, patch_project, make_pool, root_disk, make_profile, put_profile, put_default, make_instance, make_snapshot, delete_snapshot, act, cancel, take, done, work, work_twice, begin, last_answer, last_refusal, last_started, state_after, usage_after}
 
@@ -362,6 +372,23 @@ pub record RestoreFrees : Type 0 where
   pub restored : option_map (λ u. u.memory) (usage_after (grown ++ restore_snapshot ++ work 4) lab) ≡ Some 536870912
   pub copied : last_started (grown ++ restore_snapshot ++ work 4 ++ copy_snapshot) ≡ Some 5
 
+-- ---- the pool that a volume is copied from
+
+-- this volume of the pool `p0`
+abbrev pub volume : List ℕ → Target
+volume name = record { kind = kind.Volume; pool = codes "p0"; instance = []; name = name }
+
+-- the volume `v` is made in the pool `p0`, and then `w` as a copy of the `v` of this pool
+abbrev pub copy_volume : List ℕ → Events
+copy_volume pool =
+    make_pool ++ ask default (what.Create (volume (codes "v")) no_body)
+    ++ ask default (what.Create (volume (codes "w")) (record no_body { origin = origin.Copy (codes "v") [] pool }))
+
+-- the command names the pool, and an empty text names none that there is
+pub record SourceNamesItsPool : Type 0 where
+  pub named : last_started (copy_volume (codes "p0")) ≡ Some 1
+  pub unnamed : last_refusal (copy_volume []) ≡ Some (on_object rule.N2 kind.Pool [])
+
 -- ---- a cancel that crosses the last call
 
 -- the first call of a creation was done, and the second is out when the cancel comes
@@ -374,6 +401,61 @@ pub record CancelUndoes : Type 0 where
   pub undone : status_after (crossing ++ done 1 ++ done 1) 1 ≡ Some status.Cancelled
   pub no_row : option_map (λ s. s.instances) (state_after (crossing ++ done 1 ++ done 1)) ≡ Some []
   pub ended : last_refusal (crossing ++ done 1 ++ done 1 ++ cancel 1) ≡ Some (record { rule = rule.O1; kept = record untold { key = codes "Cancelled"; number = 1 } })
+
+-- ---- a deletion whose target is a snapshot
+
+-- the name of an instance, and of a snapshot of another one
+abbrev pub s : List ℕ
+s = codes "s"
+
+-- the instances `a` and `s`, the snapshot `s` of `a`, and a snapshot of `s` that is being made
+abbrev pub snapshot_of_s : Events
+snapshot_of_s =
+    make_pool ++ put_default default ++ make_instance default a [] ++ work_twice 1 ++ make_instance default s [] ++ work_twice 2
+    ++ ask default (what.Create (snapshot_target a s) no_body) ++ work 3
+    ++ make_snapshot default s
+
+-- and a deletion is entered whose target is the snapshot `s` of `a`; no command makes such a one
+abbrev pub astray : Option State
+astray = option_map (λ before. entered before (deletion default (snapshot_target a s)) 0) (state_after snapshot_of_s)
+
+-- the state after that deletion
+abbrev pub gone_astray : Option State
+gone_astray = option_and_then (λ before. option_map (λ ran. ran.state) (run before (take ++ take ++ done 5))) astray
+
+-- the targets of the live operations
+abbrev pub targets_in : State → List Target
+targets_in now = map (λ (o : Operation Task). o.work.target) now.operations.live
+
+-- The facts do not hold where such a deletion is live: it removes the instance `s` while a snapshot of `s` is being made.
+pub record DeletionGoesAstray : Type 0 where
+  pub not_whole : (before : State) → astray ≡ Some before → IsWhole before → ⊥
+  pub removed : option_map (λ now. map (λ i. i.name) now.instances) gone_astray ≡ Some (a ∷ [])
+  pub under_way : option_map targets_in gone_astray ≡ Some (snapshot_target s (codes "snap0") ∷ [])
+
+-- ---- a busy server
+
+-- a fourth name
+abbrev pub d : List ℕ
+d = codes "d"
+
+-- The instances `a` and `b` are there. An instance `c` is being made, and its second call is out; `a` is copied to `d`, and `b`
+-- is to be deleted, both of which wait.
+abbrev pub busy_server : Events
+busy_server =
+    make_pool ++ put_default default ++ make_instance default a [] ++ work_twice 1 ++ make_instance default b [] ++ work_twice 2
+    ++ make_instance default c [] ++ take ++ done 3
+    ++ ask default (what.Create (named kind.Instance d) (record no_body { origin = origin.Copy a [] [] }))
+    ++ delete_instance default b
+
+-- the deeds and statuses of live operations
+abbrev pub deeds_in : State → List (Deed × Status)
+deeds_in now = map (λ (o : Operation Task). (o.work.deed, o.status)) now.operations.live
+
+-- all facts hold while a creation, a copy and a deletion are live
+pub record BusyIsWhole : Type 0 where
+  pub live : option_map deeds_in (state_after busy_server) ≡ Some ((deed.Create, status.Running) ∷ (deed.Copy, status.Pending) ∷ (deed.Delete, status.Pending) ∷ [])
+  pub whole : IfSome (state_after busy_server) IsWhole
 
 -- ---- all of them
 
@@ -396,4 +478,6 @@ pub record AreWorked : Type 0 where
   pub snapshots_are_blocked : SnapshotsAreBlocked
   pub changes_hold_the_excess : ChangesHoldTheExcess
   pub restore_frees : RestoreFrees
+  pub source_names_its_pool : SourceNamesItsPool
   pub cancel_undoes : CancelUndoes
+  pub deletion_goes_astray : DeletionGoesAstray

@@ -4,7 +4,7 @@ use size_values::Seq;
 
 /// What happens to the server, one thing at a time. The last number of `Ask`, `Take` and `Done` is the moment, in
 /// seconds since 1970.
-#[derive(Debug, Drop)]
+#[derive(Drop)]
 pub enum Event {
     /// A client asks for this.
     Ask(Command, u64),
@@ -22,14 +22,14 @@ pub enum Event {
 
 /// The events that a listener gets, with the number of the next one; or that some are no longer kept, since it asks
 /// from a number below the oldest kept one.
-#[derive(Debug, Drop)]
+#[derive(Drop)]
 pub enum Fetched {
     Notices(Seq<Notice>, u64),
     Lagged { cursor: u64, oldest: u64 },
 }
 
 /// What the server answers to an event.
-#[derive(Debug, Drop)]
+#[derive(Drop)]
 pub enum Answer {
     Reply(Reply),
     /// To a wait: the operation is live, so look again.

@@ -6,14 +6,14 @@
 mod changes;
 mod events;
 mod laws;
-#[cfg(test)]
-mod tests;
 mod work;
 
 pub use changes::RowChange;
 pub use events::{Answer, Event, Fetched};
 pub use laws::{
-    a_new_server_is_whole, a_refused_request_stays, an_empty_run_stays, an_ended_operation_stays,
-    each_operation_ends_once, examples, runs_join,
+    a_busy_server_is_whole, a_deletion_is_of_an_instance, a_new_server_is_whole,
+    a_refused_request_stays, a_success_tells_what_is_fixed_at_its_entry, an_empty_run_stays,
+    an_ended_operation_stays, each_operation_ends_once, examples, examples_of_faults,
+    examples_of_opening, runs_join,
 };
-pub use work::Work;
+pub use work::{Work, target_kind};

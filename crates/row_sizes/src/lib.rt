@@ -3,8 +3,6 @@
 
 mod laws;
 mod sizes;
-#[cfg(test)]
-mod tests;
 
 pub use laws::{capped_large, capped_small, small_rows_are_short};
 pub use sizes::{instance_size, profile_size, project_size};

@@ -1,29 +1,143 @@
 -- Requests that are served one after the other are served together.
-use Rattle.std.proofs.Common.{◌≡◌, ◌≢◌, ◌==◌, ◌<◌, ◌+◌, ◌++◌, ℕ, List, [], ◌∷◌, length, Bool, true, false, Option, Some, None, IfSome, refl, ap, sym, ◌∙◌, subst, arith, inl, inr, eqb-true}
+use Rattle.std.proofs.Common.{◌≡◌, ◌≢◌, ◌==◌, ◌<◌, ◌≤◌, ◌+◌, ◌++◌, ◌⊎◌, ℕ, List, [], ◌∷◌, length, Bool, true, false, Option, Some, None, IfSome, refl, ap, sym, ◌∙◌, subst, arith, inl, inr, eqb-true, append_assoc}
 use Rattle.std.proofs.lemmas.Bool.Decides.{nat_tests}
-use Rattle.std.proofs.lemmas.Grind.{flat_map-append}
-use Rattle.std.proofs.lemmas.List.{append-nil, append_assoc, length-append, map-append}
-use Rattle.std.proofs.lemmas.List.Sums.{sum_by-append}
-use Rattle.std.specs.Io.KnownBytes.{append_known}
+use Rattle.std.proofs.lemmas.List.{append-nil, length-append}
+use Rattle.std.proofs.lemmas.List.Sums.{sum_by-cons}
+use Rattle.std.specs.Io.KnownBytes.{Appends}
+use Rattle.size_values.specs.Causes.{RoseBy}
 use Rattle.http_heads.specs.Messages.{Begins}
-use Rattle.http_heads.specs.declared.request.Request.{Request}
-use Rattle.row_machine.specs.State.{State}
-use Rattle.rest_service.specs.Exchanges.{Exchange, LeadTo, printed, printed_replies, failure_of}
-use Rattle.serial_run.specs.Worlds.{World, Reads, Changes, IsLater, Serves, AllGoOn, OnlyFinalEnds, requests_of}
+use Rattle.http_front.specs.Held.{most_held}
+use Rattle.http_front.specs.Reading.{ReadsNext}
+use Rattle.http_front.specs.declared.read.Got.TheVariants as got
+use Rattle.row_machine.specs.Step.{Outcome, well, keeper_failed, no_memory}
+use Rattle.change_keeping.specs.Stores.{IsCaused, KeepsRecords}
+use Rattle.rest_service.specs.Exchanges.{Exchange, LeadTo, printed, printed_replies, failure_of, failures_in}
 use Rattle.serial_run.specs.declared.session.SessionEnd.{SessionEnd}
 use Rattle.serial_run.specs.declared.session.SessionEnd.TheVariants as end
-use Rattle.serial_run.specs.declared.session.TheConstants.{MOST_REQUESTS}
-use Rattle.serial_run.specs.Sessions.{Session, Stops, CountsAt, end_behind}
+use Rattle.serial_run.specs.Most.{most_requests}
+use Rattle.serial_run.specs.Sessions.{Session, Serves, ServesAll, Stops, CountsAt, StopsBehindFinal, AllGoOn, OnlyFinalEnds, end_behind}
+use Rattle.serial_run.specs.Texts.{requests_of}
+use Rattle.serial_run.specs.Worlds.{World, input}
 
--- requests, and then more of them, are all of them together
-pub begins_append : (a b c : List ℕ) (ms ns : List Request) → Begins a ms b → Begins b ns c → Begins a (ms ++ ns) c
-begins_append a b c [] ns first then = subst (λ bytes. Begins bytes ns c) first then
-begins_append a b c (m ∷ ms) ns first then = (first.0, first.1, begins_append first.0 b c ms ns first.2 then)
+-- ---- what a sink takes
 
--- exchanges, and then more of them, lead where all of them together do
-pub leads_append : (a b c : State) (xs ys : List Exchange) → LeadTo a xs b → LeadTo b ys c → LeadTo a (xs ++ ys) c
-leads_append a b c [] ys first then = subst (λ s. LeadTo s ys c) (sym first) then
-leads_append a b c (x ∷ xs) ys first then = (first.0, first.1, leads_append first.0 b c xs ys first.2 then)
+-- no more bytes are appended to those known so far
+pub appends_nothing : (known : Option (List ℕ)) → Appends known known []
+appends_nothing None = tt
+appends_nothing (Some xs) = sym (append-nil xs)
+
+-- some bytes are appended, and then more
+pub appends_twice : (a b c : Option (List ℕ)) (bs cs : List ℕ) → Appends a b bs → Appends b c cs → Appends a c (bs ++ cs)
+appends_twice None b c bs cs first then = tt
+appends_twice (Some x) None c bs cs first then = absurd first
+appends_twice (Some x) (Some y) None bs cs first then = absurd then
+appends_twice (Some x) (Some y) (Some z) bs cs first then = then ∙ ap (λ l. l ++ cs) first ∙ append_assoc x bs cs
+
+-- ---- what the keeper's count tells of an outcome
+
+-- it does not fall
+pub caused_later : (o : Outcome) (before now : ℕ) → IsCaused o before now → before ≤ now
+caused_later well before now caused = omega (arith, caused)
+caused_later (keeper_failed rise) before now caused = caused.2
+caused_later no_memory before now caused = omega (arith, caused)
+
+-- it rose where the keeper failed
+pub caused_rose : (o : Outcome) (before now : ℕ) → IsCaused o before now → RoseBy (failure_of o) before now
+caused_rose well before now caused = omega (arith, caused)
+caused_rose (keeper_failed rise) before now caused = omega (arith, rise.rose, caused.0, caused.1)
+caused_rose no_memory before now caused = omega (arith, caused)
+
+-- ---- all requests together
+
+-- What serving requests comes to in all: the bytes to come began with them, the sink took their replies in order, and they led from
+-- the rows and the store before to those after. No count of failures fell.
+pub record Together (w : World) (exchanges : List Exchange) (w' : World) : Type 0 where
+  pub read : IfSome (input w) (λ bytes. (rest : List ℕ) × Begins bytes (requests_of exchanges) rest × (input w' ≡ Some rest))
+  pub written : Appends w.sink.held w'.sink.held (printed_replies exchanges)
+  pub leads : LeadTo w.state w.keeper exchanges w'.state w'.keeper
+  pub kept : KeepsRecords w.keeper.told w.state w'.keeper.told w'.state
+  pub failed : RoseBy (failures_in exchanges) w.keeper.failures w'.keeper.failures
+  pub reads : w.source.failures ≤ w'.source.failures
+  pub writes : w.sink.failures ≤ w'.sink.failures
+  pub keeps : w.keeper.failures ≤ w'.keeper.failures
+
+-- the bytes to come are as before
+same_input : (known : Option (List ℕ)) (w : World) → input w ≡ known → IfSome known (λ bytes. (rest : List ℕ) × Begins bytes [] rest × (input w ≡ Some rest))
+same_input None w is = tt
+same_input (Some bytes) w is = (bytes, refl, is)
+
+-- no requests
+none_together : (w : World) → Together w [] w
+none_together w = record {
+  read = same_input (input w) w refl;
+  written = appends_nothing w.sink.held;
+  leads = (refl, refl);
+  kept = λ start is. is;
+  failed = omega arith;
+  reads = omega arith;
+  writes = omega arith;
+  keeps = omega arith;
+}
+
+-- the bytes to come began with a request, and then with more of them
+reads_first : (next w' : World) (e : Exchange) (more : List Exchange) (known : Option (List ℕ)) → IfSome known (λ bytes. ReadsNext bytes (input next) next.held (got.Request e.request))
+    → IfSome (input next) (λ bytes. (rest : List ℕ) × Begins bytes (requests_of more) rest × (input w' ≡ Some rest))
+    → IfSome known (λ bytes. (rest : List ℕ) × Begins bytes (requests_of (e ∷ more)) rest × (input w' ≡ Some rest))
+reads_first next w' e more None first then = tt
+reads_first next w' e more (Some bytes) first then =
+    let rests : (rest : List ℕ) × Begins first.0 (requests_of more) rest × (input w' ≡ Some rest) =
+    subst (λ known. IfSome known (λ bytes. (rest : List ℕ) × Begins bytes (requests_of more) rest × (input w' ≡ Some rest))) first.2 then in
+    (rests.0, (first.0, first.1, rests.1), rests.2)
+
+-- one request, and then more of them
+first_together : (w next w' : World) (e : Exchange) (more : List Exchange) → Serves w next e → Together next more w' → Together w (e ∷ more) w'
+first_together w next w' e more serves then = record {
+  read = reads_first next w' e more (input w) serves.carried.asked.next then.read;
+  written = appends_twice w.sink.held next.sink.held w'.sink.held (printed e.reply e.request.last) (printed_replies more) serves.replied.written then.written;
+  leads = (next.state, next.keeper, serves.carried.leads, then.leads);
+  kept = λ start is. then.kept start (serves.carried.kept start is);
+  failed = rose (failures_in (e ∷ more)) (sum_by-cons (λ x. failure_of x.outcome) e more);
+  reads = omega (arith, serves.carried.asked.later, then.reads);
+  writes = omega (arith, serves.replied.later, then.writes);
+  keeps = omega (arith, caused_later e.outcome w.keeper.failures next.keeper.failures serves.carried.caused, then.keeps);
+} where
+  rose : (n : ℕ) → n ≡ failure_of e.outcome + failures_in more → RoseBy n w.keeper.failures w'.keeper.failures
+  rose n is = omega (arith, is, caused_rose e.outcome w.keeper.failures next.keeper.failures serves.carried.caused, then.failed)
+
+-- all of them
+pub together : (w w' : World) (exchanges : List Exchange) → ServesAll w exchanges w' → Together w exchanges w'
+together w w' [] same = subst (Together w []) same (none_together w)
+together w w' (e ∷ more) serves = first_together w serves.0 w' e more serves.1 (together serves.0 w' more serves.2)
+
+-- the buffer never holds more than it may
+pub few_along : (w w' : World) (exchanges : List Exchange) → length w.held ≤ most_held → ServesAll w exchanges w' → length w'.held ≤ most_held
+few_along w w' [] few same = subst (λ v. length v.held ≤ most_held) same few
+few_along w w' (e ∷ more) few serves = few_along serves.0 w' more serves.1.carried.asked.few serves.2
+
+few_at : (ends : SessionEnd) (w w' : World) → Stops ends w w' → length w.held ≤ most_held → length w'.held ≤ most_held
+few_at end.Ended w w' stops few = stops.0.few
+few_at end.Cut w w' stops few = stops.1.few
+few_at (end.Malformed fault) w w' stops few = stops.0.few
+few_at end.ReadFault w w' stops few = stops.0.few
+few_at end.WriteFault w w' (inl stops) few = stops.1.asked.few
+few_at end.WriteFault w w' (inr stops) few = stops.1.few
+few_at end.Spent w w' same few = subst (λ v. length v.held ≤ most_held) (sym same) few
+few_at end.NoMemory w w' (inl stops) few = stops.0.few
+few_at end.NoMemory w w' (inr (inl stops)) few = stops.1.few
+few_at end.NoMemory w w' (inr (inr stops)) few = stops.1.asked.few
+
+pub session_few : (w w' : World) (ends : SessionEnd) → length w.held ≤ most_held → Session w w' ends → length w'.held ≤ most_held
+session_few w w' ends few s = by s.stops where
+  by : (AllGoOn s.exchanges × Stops ends s.behind w') ⊎ (OnlyFinalEnds s.exchanges × StopsBehindFinal ends × (w' ≡ s.behind)) → length w'.held ≤ most_held
+  by (inl (going, stops)) = few_at ends s.behind w' stops (few_along w s.behind s.exchanges few s.serves)
+  by (inr (only, is, same)) = subst (λ v. length v.held ≤ most_held) (sym same) (few_along w s.behind s.exchanges few s.serves)
+
+-- ---- one more request
+
+-- requests are served, and then one more
+serves_one_more : (a b c : World) (xs : List Exchange) (e : Exchange) → ServesAll a xs b → Serves b c e → ServesAll a (xs ++ e ∷ []) c
+serves_one_more a b c [] e same serves = (c, subst (λ v. Serves v c e) (sym same) serves, refl)
+serves_one_more a b c (x ∷ xs) e all serves = (all.0, all.1, serves_one_more all.0 b c xs e all.2 serves)
 
 -- requests that go on, and then more of them, all go on
 go_on_append : (xs ys : List Exchange) → AllGoOn xs → AllGoOn ys → AllGoOn (xs ++ ys)
@@ -36,89 +150,30 @@ only_final_append [] y first last = last
 only_final_append (x ∷ []) y first last = (first.0, last)
 only_final_append (x ∷ z ∷ xs) y first last = (first.0, only_final_append (z ∷ xs) y first.1 last)
 
--- bytes known so far, and then twice more bytes
-pub append_twice : (known : Option (List ℕ)) (a b : List ℕ) → append_known (append_known known a) b ≡ append_known known (a ++ b)
-append_twice None a b = refl
-append_twice (Some xs) a b = ap Some (append_assoc xs a b)
-
--- bytes known so far, and then no more
-pub append_nothing : (known : Option (List ℕ)) → known ≡ append_known known []
-append_nothing None = refl
-append_nothing (Some xs) = ap Some (sym (append-nil xs))
-
--- what one list of exchanges changed, and then another, both together changed
-pub changes_append : (a b c : World) (xs ys : List Exchange) → Changes a b xs → Changes b c ys → Changes a c (xs ++ ys)
-changes_append a b c xs ys first then = record {
-  leads = leads_append a.state b.state c.state xs ys first.leads then.leads;
-  kept = λ start is. then.kept start (first.kept start is);
-  failed = omega (arith, first.failed, then.failed, sum_by-append (λ e. failure_of e.outcome) xs ys);
-}
-
--- what is later than a later moment is later
-later_both : (a b c : World) → IsLater a b → IsLater b c → IsLater a c
-later_both a b c first then = record {
-  reads = omega (arith, first.reads, then.reads);
-  writes = omega (arith, first.writes, then.writes);
-  keeps = omega (arith, first.keeps, then.keeps);
-}
-
--- nothing is changed from any world to itself
-pub changes_none : (w : World) → Changes w w []
-changes_none w = record { leads = refl; kept = λ start is. is; failed = omega arith }
-
--- no requests are served from any world to itself
-pub serves_none : (w : World) → Serves w w []
-serves_none w = record {
-  read = reads w.input refl;
-  written = append_nothing w.output;
-  changes = changes_none w;
-  later = record { reads = omega arith; writes = omega arith; keeps = omega arith };
-} where
-  reads : (input : Option (List ℕ)) → w.input ≡ input → Reads w [] (λ rest. w.input ≡ Some rest)
-  reads None is = rw is tt
-  reads (Some bytes) is = rw is (bytes, refl, refl)
-
--- the bytes to come begin with both lists of requests
-pub reads_append : (a b : World) (xs ys : List Exchange) (P : List ℕ → Type 0) → Reads a xs (λ rest. b.input ≡ Some rest) → Reads b ys P → Reads a (xs ++ ys) P
-reads_append a b xs ys P first then = by a.input first where
-  by : (input : Option (List ℕ)) → IfSome input (λ bytes. (rest : List ℕ) × Begins bytes (requests_of xs) rest × (b.input ≡ Some rest)) → IfSome input (λ bytes. (rest : List ℕ) × Begins bytes (requests_of (xs ++ ys)) rest × P rest)
-  by None first = tt
-  by (Some bytes) first =
-      let then_some : (rest : List ℕ) × Begins first.0 (requests_of ys) rest × P rest = subst (λ input. IfSome input (λ bytes. (rest : List ℕ) × Begins bytes (requests_of ys) rest × P rest)) first.2 then in
-      (then_some.0, subst (λ ms. Begins bytes ms then_some.0) (sym (map-append (λ e. e.request) xs ys)) (begins_append bytes first.0 then_some.0 (requests_of xs) (requests_of ys) first.1 then_some.1), then_some.2)
-
--- requests that are served, and then more of them, are all served
-pub serves_more : (a b c : World) (xs ys : List Exchange) → Serves a b xs → Serves b c ys → Serves a c (xs ++ ys)
-serves_more a b c xs ys first then = record {
-  read = reads_append a b xs ys (λ rest. c.input ≡ Some rest) first.read then.read;
-  written = then.written ∙ ap (λ known. append_known known (printed_replies ys)) first.written ∙ append_twice a.output (printed_replies xs) (printed_replies ys)
-      ∙ sym (ap (append_known a.output) (flat_map-append (λ e. printed e.reply e.request.last) xs ys));
-  changes = changes_append a b c xs ys first.changes then.changes;
-  later = later_both a b c first.later then.later;
-}
-
 -- so far this many requests were served, and none of them was the last on its connection
 pub record ServesSoFar (w w' : World) (count : ℕ) : Type 0 where
   pub exchanges : List Exchange
-  pub serves : Serves w w' exchanges
+  pub serves : ServesAll w exchanges w'
   pub going : AllGoOn exchanges
   pub counted : length exchanges ≡ count
 
 -- none were served from any world to itself
 pub none_so_far : (w : World) → ServesSoFar w w 0
-none_so_far w = record { exchanges = []; serves = serves_none w; going = tt; counted = refl }
+none_so_far w = record { exchanges = []; serves = refl; going = tt; counted = refl }
 
 -- one more request was served, and goes on
-pub one_more : (a b c : World) (count : ℕ) → ServesSoFar a b count → (e : Exchange) × Serves b c (e ∷ []) × (e.request.last ≡ false) → ServesSoFar a c (count + 1)
+pub one_more : (a b c : World) (count : ℕ) → ServesSoFar a b count → (e : Exchange) × Serves b c e × (e.request.last ≡ false) → ServesSoFar a c (count + 1)
 one_more a b c count far next = record {
   exchanges = far.exchanges ++ next.0 ∷ [];
-  serves = serves_more a b c far.exchanges (next.0 ∷ []) far.serves next.1;
+  serves = serves_one_more a b c far.exchanges next.0 far.serves next.1;
   going = go_on_append far.exchanges (next.0 ∷ []) far.going (next.2, tt);
   counted = length-append far.exchanges (next.0 ∷ []) ∙ ap (λ n. n + 1) far.counted;
 }
 
+-- ---- stops
+
 -- a session stops behind requests that go on
-pub session_stops : (a b c : World) (count : ℕ) (ends : SessionEnd) → ServesSoFar a b count → count < MOST_REQUESTS → Stops ends b c × (ends ≢ end.Spent) → Session a c ends
+pub session_stops : (a b c : World) (count : ℕ) (ends : SessionEnd) → ServesSoFar a b count → count < most_requests → Stops ends b c × (ends ≢ end.Spent) → Session a c ends
 session_stops a b c count ends far few stops = record {
   exchanges = far.exchanges;
   behind = b;
@@ -126,8 +181,8 @@ session_stops a b c count ends far few stops = record {
   counted = by ends stops.1;
   stops = inl (far.going, stops.0);
 } where
-  enough : length far.exchanges < MOST_REQUESTS
-  enough = subst (λ n. n < MOST_REQUESTS) (sym far.counted) few
+  enough : length far.exchanges < most_requests
+  enough = subst (λ n. n < most_requests) (sym far.counted) few
 
   by : (ends : SessionEnd) → (ends ≢ end.Spent) → CountsAt ends (length far.exchanges)
   by end.Ended isnt = enough
@@ -139,13 +194,13 @@ session_stops a b c count ends far few stops = record {
   by end.Spent isnt = absurd (isnt refl)
 
 -- a session stops behind a final request
-pub session_final : (a b c : World) (count : ℕ) (ends : SessionEnd) → ServesSoFar a b count → count < MOST_REQUESTS → (e : Exchange) × Serves b c (e ∷ []) × (e.request.last ≡ true) → ends ≡ end_behind count → Session a c ends
-session_final a b c count ends far few next is = subst (λ e. Session a c e) (sym is) (by (count + 1 == MOST_REQUESTS) refl) where
+pub session_final : (a b c : World) (count : ℕ) (ends : SessionEnd) → ServesSoFar a b count → count < most_requests → (e : Exchange) × Serves b c e × (e.request.last ≡ true) → ends ≡ end_behind count → Session a c ends
+session_final a b c count ends far few next is = subst (λ e. Session a c e) (sym is) (by (count + 1 == most_requests) refl) where
   all : List Exchange
   all = far.exchanges ++ next.0 ∷ []
 
-  all_served : Serves a c all
-  all_served = serves_more a b c far.exchanges (next.0 ∷ []) far.serves next.1
+  all_served : ServesAll a all c
+  all_served = serves_one_more a b c far.exchanges next.0 far.serves next.1
 
   length_all : length all ≡ count + 1
   length_all = length-append far.exchanges (next.0 ∷ []) ∙ ap (λ n. n + 1) far.counted
@@ -153,12 +208,12 @@ session_final a b c count ends far few next is = subst (λ e. Session a c e) (sy
   only : OnlyFinalEnds all
   only = only_final_append far.exchanges next.0 far.going next.2
 
-  by : (full : Bool) → (count + 1 == MOST_REQUESTS) ≡ full → Session a c (end_behind count)
+  by : (full : Bool) → (count + 1 == most_requests) ≡ full → Session a c (end_behind count)
   by true is = rw is (record { exchanges = all; behind = c; serves = all_served; counted = length_all ∙ eqb-true _ _ is; stops = inr (only, tt, refl) })
-  by false is = rw is (record { exchanges = all; behind = c; serves = all_served; counted = subst (λ n. n < MOST_REQUESTS) (sym length_all) (below is); stops = inr (only, tt, refl) }) where
-    below : (count + 1 == MOST_REQUESTS) ≡ false → count + 1 < MOST_REQUESTS
+  by false is = rw is (record { exchanges = all; behind = c; serves = all_served; counted = subst (λ n. n < most_requests) (sym length_all) (below is); stops = inr (only, tt, refl) }) where
+    below : (count + 1 == most_requests) ≡ false → count + 1 < most_requests
     below no_full = grind (arith, nat_tests)
 
 -- a session stops where it has answered all that it may
-pub session_spent : (a b : World) → ServesSoFar a b MOST_REQUESTS → Session a b end.Spent
+pub session_spent : (a b : World) → ServesSoFar a b most_requests → Session a b end.Spent
 session_spent a b far = record { exchanges = far.exchanges; behind = b; serves = far.serves; counted = far.counted; stops = inl (far.going, refl) }

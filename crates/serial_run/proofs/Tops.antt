@@ -1,46 +1,54 @@
 -- The clauses of the top call, from what a run comes to.
 use Rattle.std.proofs.Common.{◌≡◌, ◌≢◌, ◌<◌, ◌≤◌, ◌++◌, ◌⊎◌, ℕ, List, [], ◌∷◌, length, Bool, true, false, Option, Some, None, IfSome, option_map, refl, ap, sym, ◌∙◌, subst, arith, inl, inr}
-use Rattle.std.proofs.lemmas.List.{length-take}
+use Rattle.std.proofs.lemmas.List.{length-take, append-nil}
 use Rattle.std.proofs.lemmas.Bool.{false≢true}
-use Rattle.std.specs.Io.KnownBytes.{append_known}
-use Rattle.size_values.specs.Causes.{Rose}
+use Rattle.std.specs.Io.KnownBytes.{Appends, prepend_known}
+use Rattle.size_values.specs.Causes.{Rose, RoseBy}
 use Rattle.size_values.specs.declared.entry.Entry.{Entry}
 use Rattle.http_heads.specs.Messages.{Splits, Ending, ended}
 use Rattle.http_heads.specs.declared.request.Request.{Request}
 use Rattle.row_machine.specs.Records.{records_of}
-use Rattle.core_rows.specs.Opening.{first_state}
-use Rattle.rest_service.specs.Exchanges.{LeadTo, printed_replies}
+use Rattle.core_rows.specs.Opening.{Refuses, first_state, opened_store}
+use Rattle.core_rows.specs.declared.opening.OpenFault.TheVariants as fault
+use Rattle.record_keeper.specs.Store.{Store}
+use Rattle.rest_service.specs.Exchanges.{LeadTo, printed_replies, failures_in}
 use Rattle.serial_run.specs.declared.running.StartFault.{StartFault}
 use Rattle.serial_run.specs.declared.running.StartFault.TheVariants as start
 use Rattle.serial_run.specs.declared.session.SessionEnd.{SessionEnd}
 use Rattle.serial_run.specs.declared.session.SessionEnd.TheVariants as end
-use Rattle.serial_run.specs.Runs.{are_run, status_of, start_status, opened, Ran, Refused, HasCauseToRefuse}
-use Rattle.serial_run.specs.Sessions.{Session, Stops, StopsBehindFinal}
-use Rattle.serial_run.specs.declared.session.TheConstants.{MOST_REQUESTS}
+use Rattle.serial_run.specs.Most.{most_requests}
+use Rattle.serial_run.specs.Runs.{are_run, status_of, start_status, Ran, Refused, Runs, HasCauseToRefuse}
+use Rattle.serial_run.specs.Sessions.{Session, Stops, StopsBehindFinal, AllGoOn, OnlyFinalEnds}
 use Rattle.serial_run.specs.Texts.{through_last, has_last, answered, end_due, RunsText, is_fault}
-use Rattle.serial_run.specs.Worlds.{World, Changes, AllGoOn, OnlyFinalEnds}
-use Rattle.serial_run.proofs.Served.{append_twice, append_nothing, changes_none}
+use Rattle.serial_run.specs.Worlds.{Outside, World, world, input}
+use Rattle.serial_run.proofs.Served.{Together, together, appends_nothing, appends_twice}
 use Rattle.serial_run.proofs.Whole.{IsSettled, IsDue, session_due, text_at, not_full}
 
--- What a settled stop wrote and changed behind the requests: no row, and with them no record.
+-- ---- what a settled session did
+
+-- what a settled stop wrote behind the replies; the rows and the store are as before
 record StopsQuietly (ends : SessionEnd) (w w' : World) : Type 0 where
-  written : w'.output ≡ append_known w.output (text_at ends)
-  changes : Changes w w' []
-  keeps : w.keeper_faults ≤ w'.keeper_faults
+  written : Appends w.sink.held w'.sink.held (text_at ends)
+  keeper : w'.keeper ≡ w.keeper
+  state : w'.state ≡ w.state
+
+-- where nothing is written
+nothing_written : (w w' : World) → w'.sink ≡ w.sink → Appends w.sink.held w'.sink.held []
+nothing_written w w' same = subst (λ sink. Appends w.sink.held sink.held []) (sym same) (appends_nothing w.sink.held)
 
 -- where a session does nothing more
 same_quietly : (ends : SessionEnd) (w w' : World) → w' ≡ w → text_at ends ≡ [] → StopsQuietly ends w w'
 same_quietly ends w w' same none = subst (λ v. StopsQuietly ends w v) (sym same) (record {
-  written = append_nothing w.output ∙ ap (append_known w.output) (sym none);
-  changes = changes_none w;
-  keeps = omega arith;
+  written = subst (Appends w.sink.held w.sink.held) (sym none) (appends_nothing w.sink.held);
+  keeper = refl;
+  state = refl;
 })
 
 -- where it stops behind requests that go on
 stops_quietly : (ends : SessionEnd) (w w' : World) → Stops ends w w' → IsSettled ends → StopsQuietly ends w w'
-stops_quietly end.Ended w w' stops settled = record { written = stops.0.output ∙ append_nothing w.output; changes = stops.0.changes; keeps = stops.0.later.keeps }
-stops_quietly end.Cut w w' stops settled = record { written = stops.0.output ∙ append_nothing w.output; changes = stops.0.changes; keeps = stops.0.later.keeps }
-stops_quietly (end.Malformed fault) w w' stops settled = record { written = stops.1; changes = stops.2; keeps = stops.3.keeps }
+stops_quietly end.Ended w w' stops settled = record { written = nothing_written w w' stops.2; keeper = stops.1.keeper; state = stops.1.state }
+stops_quietly end.Cut w w' stops settled = record { written = nothing_written w w' stops.3; keeper = stops.2.keeper; state = stops.2.state }
+stops_quietly (end.Malformed fault) w w' stops settled = record { written = stops.2.written; keeper = stops.1.keeper; state = stops.1.state }
 stops_quietly end.Spent w w' stops settled = same_quietly end.Spent w w' stops refl
 stops_quietly end.ReadFault w w' stops settled = absurd settled
 stops_quietly end.WriteFault w w' stops settled = absurd settled
@@ -63,39 +71,198 @@ session_quietly w w' ends s settled = by s.stops where
   by (inl (going, stops)) = stops_quietly ends s.behind w' stops settled
   by (inr (only, is, same)) = behind_final ends s.behind w' is same
 
+-- the world of a session at its begin, behind an opening
+abbrev opened : Outside → World
+opened before = world [] (record before { keeper = opened_store before.keeper }) first_state
+
 -- a settled session over a known text, from the first rows and their records on, does what the text asks
-session_text : (w w' : World) (ends : SessionEnd) (told : Option (List Entry)) (before : ℕ) (text : List ℕ) (messages : List Request) (ending : Ending) → Session w w' ends
-    → w.state ≡ first_state → w.kept ≡ option_map (λ _. records_of w.state) told → before ≤ w.keeper_faults
-    → w.input ≡ Some text → Splits text messages ending → IsSettled ends → RunsText messages ending (status_of ends) w.output w'.output told w'.kept before w'.keeper_faults
-session_text w w' ends told before text messages ending s first kept later input splits settled = record {
+session_text : (before : Outside) (w' : World) (ends : SessionEnd) (text : List ℕ) (messages : List Request) (ending : Ending) → Session (opened before) w' ends
+    → before.source.left ≡ Some text → Splits text messages ending → IsSettled ends → RunsText messages ending (status_of ends) before.sink.held w'.sink.held before.keeper w'.keeper
+session_text before w' ends text messages ending s known splits settled = record {
   exchanges = s.exchanges;
   state = w'.state;
   requests_are = due.requests_are;
-  leads = subst (λ start. LeadTo start s.exchanges w'.state) first (subst (LeadTo w.state s.exchanges) quiet.changes.leads s.serves.changes.leads);
+  leads = subst (λ kept. LeadTo first_state (opened_store before.keeper) s.exchanges w'.state kept) (sym quiet.keeper)
+      (subst (λ rows. LeadTo first_state (opened_store before.keeper) s.exchanges rows s.behind.keeper) (sym quiet.state) all.leads);
   status_is = sym (ap (λ e. e.status) due.end_is);
-  written = quiet.written ∙ ap (λ known. append_known known (text_at ends)) s.serves.written ∙ append_twice w.output (printed_replies s.exchanges) (text_at ends)
-      ∙ ap (λ t. append_known w.output (printed_replies s.exchanges ++ t)) (sym (ap (λ e. e.text) due.end_is));
-  kept = quiet.changes.kept told (s.serves.changes.kept told kept);
-  failed = omega (arith, later, s.serves.changes.failed, quiet.keeps);
+  written = subst (λ t. Appends before.sink.held w'.sink.held (printed_replies s.exchanges ++ t)) (sym (ap (λ e. e.text) due.end_is))
+      (appends_twice before.sink.held s.behind.sink.held w'.sink.held (printed_replies s.exchanges) (text_at ends) all.written quiet.written);
+  kept = ap (λ kept. kept.told) quiet.keeper ∙ all.kept before.keeper.told refl ∙ ap (λ rows. option_map (λ _. records_of rows) before.keeper.told) (sym quiet.state);
+  failed = subst (λ kept. RoseBy (failures_in s.exchanges) before.keeper.failures kept.failures) (sym quiet.keeper) all.failed;
 } where
+  all : Together (opened before) s.exchanges s.behind
+  all = together (opened before) s.behind s.exchanges s.serves
+
   due : IsDue messages ending ends s.exchanges
-  due = session_due w w' ends text messages ending s input splits settled
+  due = session_due (opened before) w' ends text messages ending s (ap (prepend_known []) known) splits settled
 
   quiet : StopsQuietly ends s.behind w'
-  quiet = session_quietly w w' ends s settled
+  quiet = session_quietly (opened before) w' ends s settled
 
--- a run with a session ends with a fault, or does what its text asks
-ran_text : (words : List (List ℕ)) (w w' : World) (status : ℕ) (r : Ran words w w' status) (text : List ℕ) (messages : List Request) (ending : Ending) → w.input ≡ Some text → Splits text messages ending
-    → (is_fault status ≡ true) ⊎ RunsText messages ending status w.output w'.output w.kept w'.kept w.keeper_faults w'.keeper_faults
-ran_text words w w' status r text messages ending input splits = subst (λ n. (is_fault n ≡ true) ⊎ RunsText messages ending n w.output w'.output w.kept w'.kept w.keeper_faults w'.keeper_faults) (sym r.status_is) (by r.ends r.session) where
-  by : (ends : SessionEnd) → Session (opened w r.faults) (record w' { input = r.input; state = r.state }) ends → (is_fault (status_of ends) ≡ true) ⊎ RunsText messages ending (status_of ends) w.output w'.output w.kept w'.kept w.keeper_faults w'.keeper_faults
-  by end.Ended s = inr (session_text _ _ end.Ended w.kept w.keeper_faults text messages ending s refl refl r.later input splits tt)
-  by end.Cut s = inr (session_text _ _ end.Cut w.kept w.keeper_faults text messages ending s refl refl r.later input splits tt)
-  by (end.Malformed fault) s = inr (session_text _ _ (end.Malformed fault) w.kept w.keeper_faults text messages ending s refl refl r.later input splits tt)
-  by end.Spent s = inr (session_text _ _ end.Spent w.kept w.keeper_faults text messages ending s refl refl r.later input splits tt)
-  by end.ReadFault s = inl refl
-  by end.WriteFault s = inl refl
-  by end.NoMemory s = inl refl
+-- ---- what the exit status tells
+
+-- what a session tells of the outside where it stops so: a source that has ended, or a count that rose
+abbrev Tells : SessionEnd → World → World → Type 0
+Tells end.Ended w w' = Unit {0}
+Tells end.Cut w w' = w'.source.ended ≡ true
+Tells (end.Malformed fault) w w' = Unit {0}
+Tells end.ReadFault w w' = Rose w.source.failures w'.source.failures
+Tells end.WriteFault w w' = Rose w.sink.failures w'.sink.failures
+Tells end.Spent w w' = Unit {0}
+Tells end.NoMemory w w' = Unit {0}
+
+-- a count that rose later rose since before
+rose_from : (a b c : ℕ) → a ≤ b → Rose b c → Rose a c
+rose_from a b c later rose = omega (arith, later, rose)
+
+stop_tells : (ends : SessionEnd) (w v w' : World) → w.source.failures ≤ v.source.failures → w.sink.failures ≤ v.sink.failures → Stops ends v w' → Tells ends w w'
+stop_tells end.Ended w v w' reads writes stops = tt
+stop_tells end.Cut w v w' reads writes stops = stops.1.ended
+stop_tells (end.Malformed fault) w v w' reads writes stops = tt
+stop_tells end.ReadFault w v w' reads writes stops = rose_from _ _ _ reads stops.0.fault
+stop_tells end.WriteFault w v w' reads writes (inl stops) = rose_from _ _ _ writes stops.2.rose
+stop_tells end.WriteFault w v w' reads writes (inr stops) = rose_from _ _ _ writes stops.3.rose
+stop_tells end.Spent w v w' reads writes stops = tt
+stop_tells end.NoMemory w v w' reads writes stops = tt
+
+final_tells : (ends : SessionEnd) (w w' : World) → StopsBehindFinal ends → Tells ends w w'
+final_tells end.Ended w w' is = tt
+final_tells end.Spent w w' is = tt
+final_tells end.Cut w w' is = absurd is
+final_tells (end.Malformed fault) w w' is = absurd is
+final_tells end.ReadFault w w' is = absurd is
+final_tells end.WriteFault w w' is = absurd is
+final_tells end.NoMemory w w' is = absurd is
+
+session_tells : (w w' : World) (ends : SessionEnd) → Session w w' ends → Tells ends w w'
+session_tells w w' ends s = by s.stops where
+  all : Together w s.exchanges s.behind
+  all = together w s.behind s.exchanges s.serves
+
+  by : (AllGoOn s.exchanges × Stops ends s.behind w') ⊎ (OnlyFinalEnds s.exchanges × StopsBehindFinal ends × (w' ≡ s.behind)) → Tells ends w w'
+  by (inl (going, stops)) = stop_tells ends w s.behind w' all.reads all.writes stops
+  by (inr (only, is, same)) = final_tells ends w w' is
+
+-- none of these statuses is that of a run without a session
+no_start : {P : Type 0} (why : StartFault) (n : ℕ) → start_status why ≡ n → n < 6 → P
+no_start start.Words n is small = let none : ⊥ = omega (arith, is, small) in absurd none
+no_start start.KeeperFailed n is small = let none : ⊥ = omega (arith, is, small) in absurd none
+no_start start.HasEntries n is small = let none : ⊥ = omega (arith, is, small) in absurd none
+no_start start.NoMemory n is small = let none : ⊥ = omega (arith, is, small) in absurd none
+
+-- status 2: the source has ended
+pub top_cut : (words : List (List ℕ)) (before after : Outside) (status : ℕ) → Runs words before after status → status ≡ 2 → after.source.ended ≡ true
+top_cut words before after status (inr refused) two = no_start refused.why 2 (sym refused.status_is ∙ two) (omega arith)
+top_cut words before after status (inl ran) two = by ran.ends (session_tells (opened before) (world ran.follows.held after ran.follows.state) ran.ends ran.follows.session) (sym ran.status_is ∙ two) where
+  by : (ends : SessionEnd) → Tells ends (opened before) (world ran.follows.held after ran.follows.state) → status_of ends ≡ 2 → after.source.ended ≡ true
+  by end.Cut tells is = tells
+  by end.Ended tells is = let none : ⊥ = omega (arith, is) in absurd none
+  by (end.Malformed fault) tells is = let none : ⊥ = omega (arith, is) in absurd none
+  by end.ReadFault tells is = let none : ⊥ = omega (arith, is) in absurd none
+  by end.WriteFault tells is = let none : ⊥ = omega (arith, is) in absurd none
+  by end.Spent tells is = let none : ⊥ = omega (arith, is) in absurd none
+  by end.NoMemory tells is = let none : ⊥ = omega (arith, is) in absurd none
+
+-- status 4: a read failed
+pub top_read_fault : (words : List (List ℕ)) (before after : Outside) (status : ℕ) → Runs words before after status → status ≡ 4 → Rose before.source.failures after.source.failures
+top_read_fault words before after status (inr refused) four = no_start refused.why 4 (sym refused.status_is ∙ four) (omega arith)
+top_read_fault words before after status (inl ran) four = by ran.ends (session_tells (opened before) (world ran.follows.held after ran.follows.state) ran.ends ran.follows.session) (sym ran.status_is ∙ four) where
+  by : (ends : SessionEnd) → Tells ends (opened before) (world ran.follows.held after ran.follows.state) → status_of ends ≡ 4 → Rose before.source.failures after.source.failures
+  by end.ReadFault tells is = tells
+  by end.Ended tells is = let none : ⊥ = omega (arith, is) in absurd none
+  by end.Cut tells is = let none : ⊥ = omega (arith, is) in absurd none
+  by (end.Malformed fault) tells is = let none : ⊥ = omega (arith, is) in absurd none
+  by end.WriteFault tells is = let none : ⊥ = omega (arith, is) in absurd none
+  by end.Spent tells is = let none : ⊥ = omega (arith, is) in absurd none
+  by end.NoMemory tells is = let none : ⊥ = omega (arith, is) in absurd none
+
+-- status 5: a write failed
+pub top_write_fault : (words : List (List ℕ)) (before after : Outside) (status : ℕ) → Runs words before after status → status ≡ 5 → Rose before.sink.failures after.sink.failures
+top_write_fault words before after status (inr refused) five = no_start refused.why 5 (sym refused.status_is ∙ five) (omega arith)
+top_write_fault words before after status (inl ran) five = by ran.ends (session_tells (opened before) (world ran.follows.held after ran.follows.state) ran.ends ran.follows.session) (sym ran.status_is ∙ five) where
+  by : (ends : SessionEnd) → Tells ends (opened before) (world ran.follows.held after ran.follows.state) → status_of ends ≡ 5 → Rose before.sink.failures after.sink.failures
+  by end.WriteFault tells is = tells
+  by end.Ended tells is = let none : ⊥ = omega (arith, is) in absurd none
+  by end.Cut tells is = let none : ⊥ = omega (arith, is) in absurd none
+  by (end.Malformed fault) tells is = let none : ⊥ = omega (arith, is) in absurd none
+  by end.ReadFault tells is = let none : ⊥ = omega (arith, is) in absurd none
+  by end.Spent tells is = let none : ⊥ = omega (arith, is) in absurd none
+  by end.NoMemory tells is = let none : ⊥ = omega (arith, is) in absurd none
+
+-- no session ends with a status that tells why there was none
+not_of_session : {P : Type 0} (ends : SessionEnd) (n : ℕ) → status_of ends ≡ n → 5 < n → n ≢ 9 → n ≢ 10 → P
+not_of_session end.Ended n is large nine ten = let none : ⊥ = omega (arith, is, large) in absurd none
+not_of_session end.Cut n is large nine ten = let none : ⊥ = omega (arith, is, large) in absurd none
+not_of_session (end.Malformed fault) n is large nine ten = let none : ⊥ = omega (arith, is, large) in absurd none
+not_of_session end.ReadFault n is large nine ten = let none : ⊥ = omega (arith, is, large) in absurd none
+not_of_session end.WriteFault n is large nine ten = let none : ⊥ = omega (arith, is, large) in absurd none
+not_of_session end.Spent n is large nine ten = absurd (ten (sym is))
+not_of_session end.NoMemory n is large nine ten = absurd (nine (sym is))
+
+six≢nine : ◌≢◌ {A = ℕ} 6 9
+six≢nine e = omega (arith, e)
+
+six≢ten : ◌≢◌ {A = ℕ} 6 10
+six≢ten e = omega (arith, e)
+
+eight≢nine : ◌≢◌ {A = ℕ} 8 9
+eight≢nine e = omega (arith, e)
+
+eight≢ten : ◌≢◌ {A = ℕ} 8 10
+eight≢ten e = omega (arith, e)
+
+thirteen≢nine : ◌≢◌ {A = ℕ} 13 9
+thirteen≢nine e = omega (arith, e)
+
+thirteen≢ten : ◌≢◌ {A = ℕ} 13 10
+thirteen≢ten e = omega (arith, e)
+
+-- the keeper failed at the opening
+refuses_rose : (store store' : Store) → Refuses fault.KeeperFailed store store' → Rose store.failures store'.failures
+refuses_rose store store' (inl fails) = fails.rose
+refuses_rose store store' (inr fails) = fails.rose
+
+-- status 6: the keeper failed
+pub top_keeper_fault : (words : List (List ℕ)) (before after : Outside) (status : ℕ) → Runs words before after status → status ≡ 6 → Rose before.keeper.failures after.keeper.failures
+top_keeper_fault words before after status (inl ran) six = not_of_session ran.ends 6 (sym ran.status_is ∙ six) (omega arith) six≢nine six≢ten
+top_keeper_fault words before after status (inr refused) six = by refused.why refused.cause (sym refused.status_is ∙ six) where
+  by : (why : StartFault) → HasCauseToRefuse why words before.keeper after.keeper → start_status why ≡ 6 → Rose before.keeper.failures after.keeper.failures
+  by start.KeeperFailed cause is = refuses_rose before.keeper after.keeper cause.1
+  by start.Words cause is = let none : ⊥ = omega (arith, is) in absurd none
+  by start.HasEntries cause is = let none : ⊥ = omega (arith, is) in absurd none
+  by start.NoMemory cause is = let none : ⊥ = omega (arith, is) in absurd none
+
+-- status 8: the words are not read
+pub top_words : (words : List (List ℕ)) (before after : Outside) (status : ℕ) → Runs words before after status → status ≡ 8 → are_run words ≡ false
+top_words words before after status (inl ran) eight = not_of_session ran.ends 8 (sym ran.status_is ∙ eight) (omega arith) eight≢nine eight≢ten
+top_words words before after status (inr refused) eight = by refused.why refused.cause (sym refused.status_is ∙ eight) where
+  by : (why : StartFault) → HasCauseToRefuse why words before.keeper after.keeper → start_status why ≡ 8 → are_run words ≡ false
+  by start.Words cause is = cause.0
+  by start.KeeperFailed cause is = let none : ⊥ = omega (arith, is) in absurd none
+  by start.HasEntries cause is = let none : ⊥ = omega (arith, is) in absurd none
+  by start.NoMemory cause is = let none : ⊥ = omega (arith, is) in absurd none
+
+-- and where they are not read, that is the status
+pub top_not_read : (words : List (List ℕ)) (before after : Outside) (status : ℕ) → Runs words before after status → are_run words ≡ false → status ≡ 8
+top_not_read words before after status (inl ran) other = absurd (false≢true (sym other ∙ ran.read))
+top_not_read words before after status (inr refused) other = by refused.why refused.cause refused.status_is where
+  by : (why : StartFault) → HasCauseToRefuse why words before.keeper after.keeper → status ≡ start_status why → status ≡ 8
+  by start.Words cause is = is
+  by start.KeeperFailed cause is = absurd (false≢true (sym other ∙ cause.0))
+  by start.HasEntries cause is = absurd (false≢true (sym other ∙ cause.0))
+  by start.NoMemory cause is = absurd (false≢true (sym other ∙ cause.0))
+
+-- status 13: the keeper has entries
+pub top_has_entries : (words : List (List ℕ)) (before after : Outside) (status : ℕ) → Runs words before after status → status ≡ 13 → IfSome before.keeper.told (λ entries. entries ≢ [])
+top_has_entries words before after status (inl ran) thirteen = not_of_session ran.ends 13 (sym ran.status_is ∙ thirteen) (omega arith) thirteen≢nine thirteen≢ten
+top_has_entries words before after status (inr refused) thirteen = by refused.why refused.cause (sym refused.status_is ∙ thirteen) where
+  by : (why : StartFault) → HasCauseToRefuse why words before.keeper after.keeper → start_status why ≡ 13 → IfSome before.keeper.told (λ entries. entries ≢ [])
+  by start.HasEntries cause is = cause.1.0
+  by start.Words cause is = let none : ⊥ = omega (arith, is) in absurd none
+  by start.KeeperFailed cause is = let none : ⊥ = omega (arith, is) in absurd none
+  by start.NoMemory cause is = let none : ⊥ = omega (arith, is) in absurd none
+
+-- ---- a run over a known text
 
 -- a run that has no session ends with a fault
 start_fault_is : (why : StartFault) → is_fault (start_status why) ≡ true
@@ -104,20 +271,28 @@ start_fault_is start.KeeperFailed = refl
 start_fault_is start.HasEntries = refl
 start_fault_is start.NoMemory = refl
 
--- there was a session, or there was none
-abbrev pub Done : List (List ℕ) → World → World → ℕ → Type 0
-Done words w w' status = Ran words w w' status ⊎ Refused words w w' status
+-- a run with a session ends with a fault, or does what its text asks
+ran_text : (words : List (List ℕ)) (before after : Outside) (status : ℕ) → Ran words before after status → (text : List ℕ) (messages : List Request) (ending : Ending) → before.source.left ≡ Some text → Splits text messages ending
+    → (is_fault status ≡ true) ⊎ RunsText messages ending status before.sink.held after.sink.held before.keeper after.keeper
+ran_text words before after status r text messages ending known splits = subst (λ n. (is_fault n ≡ true) ⊎ RunsText messages ending n before.sink.held after.sink.held before.keeper after.keeper) (sym r.status_is) (by r.ends r.follows.session) where
+  does : (ends : SessionEnd) → Session (opened before) (world r.follows.held after r.follows.state) ends → IsSettled ends → RunsText messages ending (status_of ends) before.sink.held after.sink.held before.keeper after.keeper
+  does ends s settled = session_text before (world r.follows.held after r.follows.state) ends text messages ending s known splits settled
 
--- a run over a known text ends with a fault, or does what the text asks
-pub top_text : (words : List (List ℕ)) (w w' : World) (status : ℕ) (known : Option (List ℕ)) → Done words w w' status → w.input ≡ known
-    → IfSome known (λ text. (messages : List Request) (ending : Ending) → Splits text messages ending → (is_fault status ≡ true) ⊎ RunsText messages ending status w.output w'.output w.kept w'.kept w.keeper_faults w'.keeper_faults)
-top_text words w w' status None done is = tt
-top_text words w w' status (Some text) (inl ran) is = λ messages ending splits. ran_text words w w' status ran text messages ending is splits
-top_text words w w' status (Some text) (inr refused) is = λ messages ending splits. inl (ap is_fault refused.status_is ∙ start_fault_is refused.why)
+  by : (ends : SessionEnd) → Session (opened before) (world r.follows.held after r.follows.state) ends → (is_fault (status_of ends) ≡ true) ⊎ RunsText messages ending (status_of ends) before.sink.held after.sink.held before.keeper after.keeper
+  by end.Ended s = inr (does end.Ended s tt)
+  by end.Cut s = inr (does end.Cut s tt)
+  by (end.Malformed fault) s = inr (does (end.Malformed fault) s tt)
+  by end.Spent s = inr (does end.Spent s tt)
+  by end.ReadFault s = inl refl
+  by end.WriteFault s = inl refl
+  by end.NoMemory s = inl refl
 
--- a count that rose later rose since before
-rose_from : (a b c : ℕ) → a ≤ b → Rose b c → Rose a c
-rose_from a b c later rose = omega (arith, later, rose)
+-- any run over a known text
+pub top_text : (words : List (List ℕ)) (before after : Outside) (status : ℕ) (known : Option (List ℕ)) → Runs words before after status → before.source.left ≡ known
+    → IfSome known (λ text. (messages : List Request) (ending : Ending) → Splits text messages ending → (is_fault status ≡ true) ⊎ RunsText messages ending status before.sink.held after.sink.held before.keeper after.keeper)
+top_text words before after status None done is = tt
+top_text words before after status (Some text) (inl ran) is = λ messages ending splits. ran_text words before after status ran text messages ending is splits
+top_text words before after status (Some text) (inr refused) is = λ messages ending splits. inl (ap is_fault refused.status_is ∙ start_fault_is refused.why)
 
 -- no more requests than there are come up to the first last one
 through_last_few : (ms : List Request) → length (through_last ms) ≤ length ms
@@ -128,59 +303,53 @@ through_last_few (m ∷ ms) = at m.last refl (through_last_few ms) where
   at false is few = rw is (omega (arith, few))
 
 -- the end that is due behind whole messages, of which there are fewer than a session may answer
-due_whole : (messages : List Request) → length messages < MOST_REQUESTS → (end_due messages ended).status ≡ 0
+due_whole : (messages : List Request) → length messages < most_requests → (end_due messages ended).status ≡ 0
 due_whole messages few = by (has_last (answered messages)) refl where
-  fewer : length (answered messages) < MOST_REQUESTS
-  fewer = omega (arith, few, through_last_few messages, length-take MOST_REQUESTS (through_last messages))
+  fewer : length (answered messages) < most_requests
+  fewer = omega (arith, few, through_last_few messages, length-take most_requests (through_last messages))
 
   by : (last : Bool) → has_last (answered messages) ≡ last → (end_due messages ended).status ≡ 0
   by true is = rw (not_full (length (answered messages)) fewer, is) refl
   by false is = rw (not_full (length (answered messages)) fewer, is) refl
 
 -- a run over whole messages, in which nothing failed, answered all of them or was refused memory
-ran_complete : (words : List (List ℕ)) (w w' : World) (status : ℕ) (r : Ran words w w' status) (text : List ℕ) (messages : List Request) → w.input ≡ Some text → Splits text messages ended → length messages < MOST_REQUESTS
-    → ¬ (Rose w.read_faults w'.read_faults) → ¬ (Rose w.write_faults w'.write_faults) → (status ≡ 0) ⊎ (status ≡ 9)
-ran_complete words w w' status r text messages input splits few reads writes = subst (λ n. (n ≡ 0) ⊎ (n ≡ 9)) (sym r.status_is) (by r.ends r.session) where
-  settled : (ends : SessionEnd) → Session (opened w r.faults) (record w' { input = r.input; state = r.state }) ends → IsSettled ends → (status_of ends ≡ 0) ⊎ (status_of ends ≡ 9)
-  settled ends s is = inl ((session_text _ _ ends w.kept w.keeper_faults text messages ended s refl refl r.later input splits is).status_is ∙ due_whole messages few)
+ran_complete : (words : List (List ℕ)) (before after : Outside) (status : ℕ) → Ran words before after status → (text : List ℕ) (messages : List Request) → before.source.left ≡ Some text → Splits text messages ended → length messages < most_requests
+    → ¬ (Rose before.source.failures after.source.failures) → ¬ (Rose before.sink.failures after.sink.failures) → (status ≡ 0) ⊎ (status ≡ 9)
+ran_complete words before after status r text messages known splits few reads writes = subst (λ n. (n ≡ 0) ⊎ (n ≡ 9)) (sym r.status_is) (by r.ends r.follows.session) where
+  settled : (ends : SessionEnd) → Session (opened before) (world r.follows.held after r.follows.state) ends → IsSettled ends → (status_of ends ≡ 0) ⊎ (status_of ends ≡ 9)
+  settled ends s is = inl ((session_text before (world r.follows.held after r.follows.state) ends text messages ended s known splits is).status_is ∙ due_whole messages few)
 
-  by : (ends : SessionEnd) → Session (opened w r.faults) (record w' { input = r.input; state = r.state }) ends → (status_of ends ≡ 0) ⊎ (status_of ends ≡ 9)
+  by : (ends : SessionEnd) → Session (opened before) (world r.follows.held after r.follows.state) ends → (status_of ends ≡ 0) ⊎ (status_of ends ≡ 9)
   by end.Ended s = inl refl
   by end.Cut s = settled end.Cut s tt
   by (end.Malformed fault) s = settled (end.Malformed fault) s tt
   by end.Spent s = settled end.Spent s tt
   by end.NoMemory s = inr refl
-  by end.ReadFault s = at s.stops where
-    at : (AllGoOn s.exchanges × Stops end.ReadFault s.behind (record w' { input = r.input; state = r.state })) ⊎ (OnlyFinalEnds s.exchanges × ⊥ × (record w' { input = r.input; state = r.state } ≡ s.behind)) → (status_of end.ReadFault ≡ 0) ⊎ (status_of end.ReadFault ≡ 9)
-    at (inl (going, stops)) = absurd (reads (rose_from w.read_faults s.behind.read_faults w'.read_faults s.serves.later.reads stops.2))
-    at (inr (only, none, same)) = absurd none
-  by end.WriteFault s = at s.stops where
-    at : (AllGoOn s.exchanges × Stops end.WriteFault s.behind (record w' { input = r.input; state = r.state })) ⊎ (OnlyFinalEnds s.exchanges × ⊥ × (record w' { input = r.input; state = r.state } ≡ s.behind)) → (status_of end.WriteFault ≡ 0) ⊎ (status_of end.WriteFault ≡ 9)
-    at (inl (going, stops)) = absurd (writes (rose_from w.write_faults s.behind.write_faults w'.write_faults s.serves.later.writes stops.2))
-    at (inr (only, none, same)) = absurd none
+  by end.ReadFault s = absurd (reads (session_tells (opened before) (world r.follows.held after r.follows.state) end.ReadFault s))
+  by end.WriteFault s = absurd (writes (session_tells (opened before) (world r.follows.held after r.follows.state) end.WriteFault s))
 
 -- the same of any run
-pub top_complete : (words : List (List ℕ)) (w w' : World) (status : ℕ) (known : Option (List ℕ)) → Done words w w' status → w.input ≡ known
-    → IfSome known (λ text. (messages : List Request) → Splits text messages ended → length messages < MOST_REQUESTS → are_run words ≡ true → w.kept ≡ Some []
-    → ¬ (Rose w.read_faults w'.read_faults) → ¬ (Rose w.write_faults w'.write_faults) → ¬ (Rose w.keeper_faults w'.keeper_faults) → (status ≡ 0) ⊎ (status ≡ 9))
-top_complete words w w' status None done is = tt
-top_complete words w w' status (Some text) (inl ran) is = λ messages splits few read none reads writes keeps. ran_complete words w w' status ran text messages is splits few reads writes
-top_complete words w w' status (Some text) (inr refused) is = λ messages splits few read none reads writes keeps. by refused.why refused.cause refused.status_is read none keeps where
-  by : (why : StartFault) → HasCauseToRefuse why words w w' → status ≡ start_status why → are_run words ≡ true → w.kept ≡ Some [] → ¬ (Rose w.keeper_faults w'.keeper_faults) → (status ≡ 0) ⊎ (status ≡ 9)
-  by start.Words cause is read none keeps = absurd (false≢true (sym cause ∙ read))
-  by start.KeeperFailed cause is read none keeps = absurd (keeps cause.1)
+pub top_complete : (words : List (List ℕ)) (before after : Outside) (status : ℕ) (known : Option (List ℕ)) → Runs words before after status → before.source.left ≡ known
+    → IfSome known (λ text. (messages : List Request) → Splits text messages ended → length messages < most_requests → are_run words ≡ true → before.keeper.told ≡ Some []
+    → ¬ (Rose before.source.failures after.source.failures) → ¬ (Rose before.sink.failures after.sink.failures) → ¬ (Rose before.keeper.failures after.keeper.failures) → (status ≡ 0) ⊎ (status ≡ 9))
+top_complete words before after status None done is = tt
+top_complete words before after status (Some text) (inl ran) is = λ messages splits few read none reads writes keeps. ran_complete words before after status ran text messages is splits few reads writes
+top_complete words before after status (Some text) (inr refused) is = λ messages splits few read none reads writes keeps. by refused.why refused.cause refused.status_is read none keeps where
+  by : (why : StartFault) → HasCauseToRefuse why words before.keeper after.keeper → status ≡ start_status why → are_run words ≡ true → before.keeper.told ≡ Some [] → ¬ (Rose before.keeper.failures after.keeper.failures) → (status ≡ 0) ⊎ (status ≡ 9)
+  by start.Words cause is read none keeps = absurd (false≢true (sym cause.0 ∙ read))
+  by start.KeeperFailed cause is read none keeps = absurd (keeps (refuses_rose before.keeper after.keeper cause.1))
   by start.HasEntries cause is read none keeps =
-      let some : [] ≢ [] = subst (λ known. IfSome known (λ entries. entries ≢ [])) none cause.1 in absurd (some refl)
+      let some : [] ≢ [] = subst (λ known. IfSome known (λ entries. entries ≢ [])) none cause.1.0 in absurd (some refl)
   by start.NoMemory cause is read none keeps = inr is
 
 -- a run over a keeper that has entries ends with the status that says so, or is refused memory, and writes nothing
-pub top_entries : (words : List (List ℕ)) (w w' : World) (status : ℕ) (known : Option (List Entry)) → Done words w w' status → w.kept ≡ known
-    → IfSome known (λ entries. entries ≢ [] → are_run words ≡ true → ¬ (Rose w.keeper_faults w'.keeper_faults) → (w'.output ≡ w.output) × ((status ≡ 13) ⊎ (status ≡ 9)))
-top_entries words w w' status None done is = tt
-top_entries words w w' status (Some entries) (inl ran) is = λ some read keeps. absurd (some (subst (λ known. IfSome known (λ es. es ≡ [])) is ran.empty))
-top_entries words w w' status (Some entries) (inr refused) is = λ some read keeps. (refused.output, by refused.why refused.cause refused.status_is read keeps) where
-  by : (why : StartFault) → HasCauseToRefuse why words w w' → status ≡ start_status why → are_run words ≡ true → ¬ (Rose w.keeper_faults w'.keeper_faults) → (status ≡ 13) ⊎ (status ≡ 9)
-  by start.Words cause is read keeps = absurd (false≢true (sym cause ∙ read))
-  by start.KeeperFailed cause is read keeps = absurd (keeps cause.1)
+pub top_entries : (words : List (List ℕ)) (before after : Outside) (status : ℕ) (known : Option (List Entry)) → Runs words before after status → before.keeper.told ≡ known
+    → IfSome known (λ entries. entries ≢ [] → are_run words ≡ true → ¬ (Rose before.keeper.failures after.keeper.failures) → (after.sink.held ≡ before.sink.held) × ((status ≡ 13) ⊎ (status ≡ 9)))
+top_entries words before after status None done is = tt
+top_entries words before after status (Some entries) (inl ran) is = λ some read keeps. absurd (some (subst (λ known. IfSome known (λ es. es ≡ [])) is ran.empty))
+top_entries words before after status (Some entries) (inr refused) is = λ some read keeps. (ap (λ sink. sink.held) refused.sink, by refused.why refused.cause refused.status_is read keeps) where
+  by : (why : StartFault) → HasCauseToRefuse why words before.keeper after.keeper → status ≡ start_status why → are_run words ≡ true → ¬ (Rose before.keeper.failures after.keeper.failures) → (status ≡ 13) ⊎ (status ≡ 9)
+  by start.Words cause is read keeps = absurd (false≢true (sym cause.0 ∙ read))
+  by start.KeeperFailed cause is read keeps = absurd (keeps (refuses_rose before.keeper after.keeper cause.1))
   by start.HasEntries cause is read keeps = inl is
   by start.NoMemory cause is read keeps = inr is

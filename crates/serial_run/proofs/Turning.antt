@@ -1,43 +1,25 @@
--- A turn that takes a request, from what its parts ensure.
-use Rattle.std.proofs.Common.{◌≡◌, ◌≤◌, ℕ, List, [], ◌∷◌, take, Bool, Option, Some, None, IfSome, refl, ap, sym, ◌∙◌, arith, inl, inr}
-use Rattle.std.proofs.lemmas.List.{append-nil}
-use Rattle.std.specs.Io.KnownBytes.{append_known}
-use Rattle.size_values.specs.Causes.{RoseBy}
-use Rattle.http_heads.specs.Messages.{IsMessage}
+-- A turn, from what its parts ensure.
+use Rattle.std.proofs.Common.{◌≡◌, ◌≢◌, ◌⊎◌, List, ℕ, [], ◌∷◌, Bool, refl, ap, sym, subst, inl, inr}
+use Rattle.http_heads.specs.declared.request.HeadFault.{HeadFault}
 use Rattle.http_heads.specs.declared.request.Request.{Request}
+use Rattle.http_front.specs.declared.read.Got.TheVariants as got
 use Rattle.records.specs.declared.replies.Reply.{Reply}
-use Rattle.row_machine.specs.Step.{Outcome, well, keeper_failed, no_memory}
-use Rattle.core_objects.specs.Asked.{IsCaused}
+use Rattle.records.specs.declared.replies.Reply.TheVariants as reply
 use Rattle.rest_service.specs.Answers.{Answers, HasText}
-use Rattle.rest_service.specs.Exchanges.{Exchange, exchange, failure_of, printed, printed_replies}
+use Rattle.rest_service.specs.Exchanges.{Exchange, Leads, exchange, printed}
 use Rattle.rest_service.specs.declared.answers.Answered.{Answered}
 use Rattle.rest_service.specs.declared.answers.Answered.TheVariants as written
+use Rattle.serial_run.specs.declared.session.SessionEnd.{SessionEnd}
 use Rattle.serial_run.specs.declared.session.SessionEnd.TheVariants as end
 use Rattle.serial_run.specs.declared.session.Turn.{Turn}
 use Rattle.serial_run.specs.declared.session.Turn.TheVariants as turn
-use Rattle.serial_run.specs.Worlds.{World, Reads, Changes, IsLater, Serves}
-use Rattle.serial_run.specs.Sessions.{AnswersInPart, IsUnprinted, Turns, WritesAnswer, text_for}
-use Rattle.serial_run.proofs.Served.{append_nothing}
+use Rattle.serial_run.specs.Worlds.{Inlet, World}
+use Rattle.serial_run.specs.Sessions.{Asks, BreaksOff, CarriesOut, IsUnprinted, KeepsRows, RefusesPlace, Serves, Stops, Takes, Turns, WritesAnswer, text_for}
 
--- one request was answered, between two worlds
-abbrev pub AnswersWorld : World → World → Request → Answered → Type 0
-AnswersWorld w w' request result = Answers w.state w'.state w.kept w'.kept w.keeper_faults w'.keeper_faults request result
-
--- the request next among the bytes to come, and what comes behind it
-abbrev pub TakesNext : World → World → Request → Type 0
-TakesNext w w' request = IfSome w.input (λ bytes. (rest : List ℕ) × IsMessage bytes request rest × (w'.input ≡ Some rest))
-
--- the keeper's count does not fall
-caused_later : (o : Outcome) (before now : ℕ) → IsCaused o before now → before ≤ now
-caused_later well before now caused = caused
-caused_later (keeper_failed rise) before now caused = caused.2
-caused_later no_memory before now caused = caused
-
--- the keeper's count rose where the keeper failed
-caused_rose : (o : Outcome) (before now : ℕ) → IsCaused o before now → RoseBy (failure_of o) before now
-caused_rose well before now caused = omega (arith, caused)
-caused_rose (keeper_failed rise) before now caused = omega (arith, rise.rose, caused.0, caused.1)
-caused_rose no_memory before now caused = omega (arith, caused)
+-- what is seen of a source that was not touched is the same
+pub unread : {S : Type 0} (see : S → Inlet) (a b : S) (P : Type 0) → (b ≡ a) ⊎ P → (see b ≡ see a) ⊎ P
+unread see a b P (inl same) = inl (ap see same)
+unread see a b P (inr other) = inr other
 
 -- what is written for an answer is the text of its reply, unless memory for it was refused
 text_is : (a : Answered) (r : Reply) (last : Bool) → HasText a r last → ¬ IsUnprinted a → text_for a last ≡ printed r last
@@ -45,49 +27,55 @@ text_is (written.Printed bytes) r last has printed = has
 text_is written.NoMemory r last has printed = has
 text_is written.Unprinted r last has printed = absurd (printed tt)
 
--- the one request was read, and what was to come behind it still is
-reads_one : (w w' : World) (e : Exchange) (P : List ℕ → Type 0) → ((rest : List ℕ) → w'.input ≡ Some rest → P rest) → (input : Option (List ℕ)) → w.input ≡ input
-    → IfSome input (λ bytes. (rest : List ℕ) × IsMessage bytes e.request rest × (w'.input ≡ Some rest)) → Reads w (e ∷ []) P
-reads_one w w' e P keep None is next = rw is tt
-reads_one w w' e P keep (Some bytes) is next = rw is (next.0, (next.0, next.1, refl), keep next.0 next.2)
+-- memory for a reply is refused only to one that takes memory
+takes_memory : (a : Answered) (r : Reply) (last : Bool) → HasText a r last → IsUnprinted a → r ≢ reply.NoMemory
+takes_memory (written.Printed bytes) r last has refused = absurd refused
+takes_memory written.NoMemory r last has refused = absurd refused
+takes_memory written.Unprinted r last has refused = has
 
 -- A turn that takes the next request and has it answered goes on behind its reply, or ends behind it, or stops at a failed write,
 -- or where memory for the reply was refused.
 pub turn_answers : (w w' : World) (request : Request) (result : Answered) (comes : Turn)
-    → TakesNext w w' request → AnswersWorld w w' request result → w.read_faults ≤ w'.read_faults
-    → WritesAnswer comes result request.last w.output w'.output w.write_faults w'.write_faults → Turns comes w w'
-turn_answers w w' request result comes takes answers later writes = by comes writes where
+    → Asks w w' (got.Request request) → Answers w.state w'.state w.keeper w'.keeper request result
+    → WritesAnswer comes result request.last w.sink w'.sink → Turns comes w w'
+turn_answers w w' request result comes asks answers writes = by comes writes where
   e : Exchange
   e = exchange request answers.outcome answers.reply
 
-  changes : Changes w w' (e ∷ [])
-  changes = record { leads = answers.leads; kept = answers.kept; failed = omega (arith, caused_rose answers.outcome w.keeper_faults w'.keeper_faults answers.caused) }
+  leads : Leads w.state w.keeper e w'.state w'.keeper
+  leads = subst (λ kept. Leads w.state w.keeper e w'.state kept) answers.leads.3.1
+      (subst (λ next. Leads w.state w.keeper e next answers.leads.1) answers.leads.3.0 answers.leads.2)
 
-  is_later : w.write_faults ≤ w'.write_faults → IsLater w w'
-  is_later writes = record { reads = later; writes = writes; keeps = caused_later answers.outcome w.keeper_faults w'.keeper_faults answers.caused }
+  carried : CarriesOut w w' e
+  carried = record { asked = asks; leads = leads; caused = answers.caused; kept = answers.kept }
 
-  reply_is : ¬ IsUnprinted result → text_for result request.last ≡ printed_replies (e ∷ [])
-  reply_is has = text_is result answers.reply request.last answers.text has ∙ sym (append-nil (printed answers.reply request.last))
+  text : ¬ IsUnprinted result → text_for result request.last ≡ printed answers.reply request.last
+  text has = text_is result answers.reply request.last answers.text has
 
-  serves : w'.output ≡ append_known w.output (text_for result request.last) → ¬ IsUnprinted result → w.write_faults ≤ w'.write_faults → Serves w w' (e ∷ [])
-  serves is has more = record {
-    read = reads_one w w' e (λ rest. w'.input ≡ Some rest) (λ rest e. e) w.input refl takes;
-    written = is ∙ ap (append_known w.output) (reply_is has);
-    changes = changes;
-    later = is_later more;
-  }
+  serves : ¬ IsUnprinted result → Takes w.sink w'.sink (text_for result request.last) → Serves w w' e
+  serves has takes = record { carried = carried; replied = subst (Takes w.sink w'.sink) (text has) takes }
 
-  in_part : (count : ℕ) → w'.output ≡ append_known w.output (take count (printed_replies (e ∷ []))) → AnswersInPart w w' count
-  in_part count is = record { exchange = e; read = reads_one w w' e (λ rest. Unit {0}) (λ rest e. tt) w.input refl takes; written = is; changes = changes }
-
-  by : (comes : Turn) → WritesAnswer comes result request.last w.output w'.output w.write_faults w'.write_faults → Turns comes w w'
-  by turn.GoOn writes = (e, serves writes.1 writes.2 writes.3, writes.0)
-  by turn.Final writes = (e, serves writes.1 writes.2 writes.3, writes.0)
-  by (turn.Stop end.WriteFault) writes =
-      ((inl (writes.0, in_part writes.0 (writes.1 ∙ ap (λ text. append_known w.output (take writes.0 text)) (reply_is writes.2))), is_later writes.3, writes.4), λ e. cc)
-  by (turn.Stop end.NoMemory) writes = (inr (in_part 0 (writes.1 ∙ append_nothing w.output), is_later (omega (arith, writes.2))), λ e. cc)
+  by : (comes : Turn) → WritesAnswer comes result request.last w.sink w'.sink → Turns comes w w'
+  by turn.GoOn writes = (e, serves writes.1 writes.2, writes.0)
+  by turn.Final writes = (e, serves writes.1 writes.2, writes.0)
+  by (turn.Stop end.WriteFault) writes = (inl (e, carried, subst (BreaksOff w.sink w'.sink) (text writes.0) writes.1), λ e. cc)
+  by (turn.Stop end.NoMemory) writes =
+      (inr (inr (e, carried, takes_memory result answers.reply request.last answers.text writes.0, writes.1)), λ e. cc)
   by (turn.Stop end.Ended) writes = absurd writes
   by (turn.Stop end.Cut) writes = absurd writes
   by (turn.Stop (end.Malformed fault)) writes = absurd writes
   by (turn.Stop end.ReadFault) writes = absurd writes
   by (turn.Stop end.Spent) writes = absurd writes
+
+-- a turn that refuses a malformed place
+pub turn_refuses : (w w' : World) (fault : HeadFault) (ends : SessionEnd) → Asks w w' (got.Malformed fault) → KeepsRows w w'
+    → RefusesPlace fault ends w.sink w'.sink → Turns (turn.Stop ends) w w'
+turn_refuses w w' fault ends asks rows refuses = by ends refuses where
+  by : (ends : SessionEnd) → RefusesPlace fault ends w.sink w'.sink → Turns (turn.Stop ends) w w'
+  by (end.Malformed other) refuses = (subst (λ f. Stops (end.Malformed f) w w') (sym refuses.0) (asks, rows, refuses.1), λ e. cc)
+  by end.WriteFault refuses = (inr (fault, asks, rows, refuses), λ e. cc)
+  by end.NoMemory refuses = (inr (inl (fault, asks, rows, refuses)), λ e. cc)
+  by end.Ended refuses = absurd refuses
+  by end.Cut refuses = absurd refuses
+  by end.ReadFault refuses = absurd refuses
+  by end.Spent refuses = absurd refuses

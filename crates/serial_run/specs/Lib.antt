@@ -1,3 +1,4 @@
+pub mod Most
 pub mod Runs
 pub mod Sessions
 pub mod Texts

@@ -1,10 +1,10 @@
 -- A run of the program: its words are read, the rows are opened, and one session follows.
-use Rattle.std.specs.Prelude.{◌≡◌, ◌≢◌, ◌≤◌, ℕ, List, [], ◌∷◌, Bool, true, false, Option, IfSome, option_map, codes}
+use Rattle.std.specs.Prelude.{◌≡◌, ◌≤◌, ◌⊎◌, ℕ, List, [], ◌∷◌, length, Bool, true, false, IfSome, codes}
 use Rattle.std.specs.Str.{bytes_eq}
-use Rattle.size_values.specs.Causes.{Rose}
+use Rattle.http_front.specs.Held.{most_held}
+use Rattle.record_keeper.specs.Store.{Store}
 use Rattle.row_machine.specs.State.{State}
-use Rattle.row_machine.specs.Records.{records_of}
-use Rattle.core_rows.specs.Opening.{first_state}
+use Rattle.core_rows.specs.Opening.{Refuses, first_state, opened_store}
 use Rattle.core_rows.specs.declared.opening.OpenFault.{OpenFault}
 use Rattle.core_rows.specs.declared.opening.OpenFault.TheVariants as fault
 use Rattle.serial_run.specs.declared.running.StartFault.{StartFault}
@@ -12,7 +12,7 @@ use Rattle.serial_run.specs.declared.running.StartFault.TheVariants as start
 use Rattle.serial_run.specs.declared.session.SessionEnd.{SessionEnd}
 use Rattle.serial_run.specs.declared.session.SessionEnd.TheVariants as end
 use Rattle.serial_run.specs.Sessions.{Session}
-use Rattle.serial_run.specs.Worlds.{World}
+use Rattle.serial_run.specs.Worlds.{Outside, World, world}
 
 -- whether the words are the one word `run`
 abbrev pub are_run : List (List ℕ) → Bool
@@ -37,38 +37,40 @@ start_status start.Words = 8
 start_status start.NoMemory = 9
 start_status start.HasEntries = 13
 
--- the world behind an opening that was accepted: the first rows and their entries, and a count of the keeper's failures
-abbrev pub opened : World → ℕ → World
-opened w faults = record w { kept = option_map (λ _. records_of first_state) w.kept; state = first_state; keeper_faults = faults }
-
--- The words were read, the rows of a keeper without entries were opened, and there was one session. At its end some bytes may
--- still be to come, and there are rows; nobody outside sees either.
-pub record Ran (words : List (List ℕ)) (w w' : World) (status : ℕ) : Type 0 where
-  pub read : are_run words ≡ true
-  pub empty : IfSome w.kept (λ entries. entries ≡ [])
-  pub faults : ℕ
-  pub later : w.keeper_faults ≤ faults
-  pub input : Option (List ℕ)
+-- A session from this world on, with the outside seen so at its end, and rows that nobody sees. What is still to come is what its
+-- buffer holds, at most one head, one body and one piece, and what the source has left.
+pub record SessionFrom (w : World) (after : Outside) (ends : SessionEnd) : Type 0 where
+  pub held : List ℕ
+  pub few : length held ≤ most_held
   pub state : State
+  pub session : Session w (world held after state) ends
+
+-- the words were read, the rows of a keeper without entries were opened, and there was one session, from an empty buffer on
+pub record Ran (words : List (List ℕ)) (before after : Outside) (status : ℕ) : Type 0 where
+  pub read : are_run words ≡ true
+  pub empty : IfSome before.keeper.told (λ entries. entries ≡ [])
   pub ends : SessionEnd
-  pub session : Session (opened w faults) (record w' { input = input; state = state }) ends
+  pub follows : SessionFrom (world [] (record before { keeper = opened_store before.keeper }) first_state) after ends
   pub status_is : status ≡ status_of ends
 
--- why there was no session
-abbrev pub HasCauseToRefuse : StartFault → List (List ℕ) → World → World → Type 0
-HasCauseToRefuse start.Words words w w' = are_run words ≡ false
-HasCauseToRefuse start.KeeperFailed words w w' = (are_run words ≡ true) × Rose w.keeper_faults w'.keeper_faults
-HasCauseToRefuse start.HasEntries words w w' = (are_run words ≡ true) × IfSome w.kept (λ entries. entries ≢ [])
-HasCauseToRefuse start.NoMemory words w w' = are_run words ≡ true
+-- Why there was no session. Words that are not read leave the keeper as it was, and a refused opening does what it may do to it.
+abbrev pub HasCauseToRefuse : StartFault → List (List ℕ) → Store → Store → Type 0
+HasCauseToRefuse start.Words words keeper keeper' = (are_run words ≡ false) × (keeper' ≡ keeper)
+HasCauseToRefuse start.KeeperFailed words keeper keeper' = (are_run words ≡ true) × Refuses fault.KeeperFailed keeper keeper'
+HasCauseToRefuse start.HasEntries words keeper keeper' = (are_run words ≡ true) × Refuses fault.HasEntries keeper keeper'
+HasCauseToRefuse start.NoMemory words keeper keeper' = (are_run words ≡ true) × Refuses fault.NoMemory keeper keeper'
 
--- The run had no session. The source and the sink are as before, and so are the kept entries.
-pub record Refused (words : List (List ℕ)) (w w' : World) (status : ℕ) : Type 0 where
+-- The run had no session. No call of the source or of the sink was made.
+pub record Refused (words : List (List ℕ)) (before after : Outside) (status : ℕ) : Type 0 where
   pub why : StartFault
-  pub cause : HasCauseToRefuse why words w w'
+  pub cause : HasCauseToRefuse why words before.keeper after.keeper
   pub status_is : status ≡ start_status why
-  pub output : w'.output ≡ w.output
-  pub left : w'.left ≡ w.left
-  pub kept : w'.kept ≡ w.kept
+  pub source : after.source ≡ before.source
+  pub sink : after.sink ≡ before.sink
+
+-- there was a session, or there was none
+abbrev pub Runs : List (List ℕ) → Outside → Outside → ℕ → Type 0
+Runs words before after status = Ran words before after status ⊎ Refused words before after status
 
 -- a refused opening as a reason for no session
 abbrev pub start_fault : OpenFault → StartFault

@@ -1,74 +1,121 @@
 -- A session: it serves requests, and then it stops for one reason.
-use Rattle.std.specs.Prelude.{◌≡◌, ◌≢◌, ◌<◌, ◌≤◌, ◌⊎◌, ℕ, List, [], ◌∷◌, Bool, true, false, length, take, Option, Some, IfSome, Result, Ok, Err, ◌+◌, ◌==◌, if◌then◌else◌}
-use Rattle.std.specs.Io.KnownBytes.{prepend_known, append_known}
+use Rattle.std.specs.Prelude.{◌≡◌, ◌≢◌, ◌<◌, ◌≤◌, ◌⊎◌, ℕ, List, [], ◌∷◌, Bool, true, false, length, take, IfSome, Result, Ok, Err, ◌+◌, ◌==◌, if◌then◌else◌}
+use Rattle.std.specs.Io.KnownBytes.{Appends}
 use Rattle.size_values.specs.Causes.{Rose}
-use Rattle.http_heads.specs.Messages.{IsBlank, IsCut, IsMalformed}
 use Rattle.http_heads.specs.declared.request.HeadFault.{HeadFault}
-use Rattle.http_front.specs.Reading.{IsUnfinished}
-use Rattle.rest_service.specs.Exchanges.{Exchange, printed_replies, malformed_text}
+use Rattle.http_front.specs.Held.{most_held}
+use Rattle.http_front.specs.Reading.{IsUnfinished, KeepsHeld, OnEnd, OnReadFault, ReadsNext}
+use Rattle.http_front.specs.declared.read.Got.{Got}
+use Rattle.http_front.specs.declared.read.Got.TheVariants as got
+use Rattle.records.specs.declared.replies.Reply.TheVariants as reply
+use Rattle.change_keeping.specs.Stores.{IsCaused, KeepsRecords}
+use Rattle.rest_service.specs.Exchanges.{Exchange, Leads, printed, malformed_text}
 use Rattle.rest_service.specs.Answers.{no_memory_text}
 use Rattle.rest_service.specs.declared.answers.Answered.{Answered}
 use Rattle.rest_service.specs.declared.answers.Answered.TheVariants as written
-use Rattle.serial_run.specs.declared.session.TheConstants.{MOST_REQUESTS}
 use Rattle.serial_run.specs.declared.session.SessionEnd.{SessionEnd}
 use Rattle.serial_run.specs.declared.session.SessionEnd.TheVariants as end
 use Rattle.serial_run.specs.declared.session.Turn.{Turn}
 use Rattle.serial_run.specs.declared.session.Turn.TheVariants as turn
-use Rattle.serial_run.specs.Worlds.{World, IsLater, AllGoOn, OnlyFinalEnds, Reads, Changes, Serves}
+use Rattle.serial_run.specs.Most.{most_requests}
+use Rattle.serial_run.specs.Worlds.{Outlet, World, input}
 
--- nothing was written, and no request was carried out
-pub record IsQuiet (w w' : World) : Type 0 where
-  pub output : w'.output ≡ w.output
-  pub changes : Changes w w' []
-  pub later : IsLater w w'
+-- ---- what one turn does to its parts
 
--- one more request was carried out, and of its reply so many first bytes were written
-pub record AnswersInPart (w w' : World) (count : ℕ) : Type 0 where
-  pub exchange : Exchange
-  pub read : Reads w (exchange ∷ []) (λ rest. Unit {0})
-  pub written : w'.output ≡ append_known w.output (take count (printed_replies (exchange ∷ [])))
-  pub changes : Changes w w' (exchange ∷ [])
+-- One call of `read_request` between two worlds answered this of the bytes to come and of the bytes held. The source was read only
+-- where the bytes held began with no whole message and no malformed place, and afterwards at most one head, one body and one piece
+-- is held.
+pub record Asks (w w' : World) (answer : Got) : Type 0 where
+  pub next : IfSome (input w) (λ bytes. ReadsNext bytes (input w') w'.held answer)
+  pub held : KeepsHeld w.held w'.held answer
+  pub ahead : (w'.source ≡ w.source) ⊎ IsUnfinished w.held
+  pub few : length w'.held ≤ most_held
+  pub later : w.source.failures ≤ w'.source.failures
+  pub fault : OnReadFault answer (Rose w.source.failures w'.source.failures)
+  pub ended : OnEnd answer (w'.source.ended ≡ true)
 
--- a malformed place stands next, and of its reply some first bytes were written
-pub record RefusesInPart (w w' : World) : Type 0 where
-  pub fault : HeadFault
-  pub stands : IfSome w.input (λ bytes. IsMalformed bytes fault)
+-- the sink took all of this text
+pub record Takes (sink sink' : Outlet) (text : List ℕ) : Type 0 where
+  pub written : Appends sink.held sink'.held text
+  pub later : sink.failures ≤ sink'.failures
+
+-- a write of this text failed; the sink took so many bytes of its front
+pub record BreaksOff (sink sink' : Outlet) (text : List ℕ) : Type 0 where
   pub count : ℕ
-  pub written : w'.output ≡ append_known w.output (take count (malformed_text fault))
-  pub changes : Changes w w' []
+  pub written : Appends sink.held sink'.held (take count text)
+  pub later : sink.failures ≤ sink'.failures
+  pub rose : Rose sink.failures sink'.failures
 
--- the bytes held are no whole message, and what the source has left comes behind them
-pub record HoldsUnfinished (w' : World) (bytes : List ℕ) : Type 0 where
-  pub held : List ℕ
-  pub is : prepend_known held w'.left ≡ Some bytes
-  pub unfinished : IsUnfinished held
+-- the rows are as before, and the keeper was not called
+pub record KeepsRows (w w' : World) : Type 0 where
+  pub keeper : w'.keeper ≡ w.keeper
+  pub state : w'.state ≡ w.state
 
--- what stands next where a session stops before another request was answered whole
+-- The next request was taken and carried out, which led from the rows and the store before to those after. Entries that were the
+-- records of the rows are so afterwards.
+pub record CarriesOut (w w' : World) (e : Exchange) : Type 0 where
+  pub asked : Asks w w' (got.Request e.request)
+  pub leads : Leads w.state w.keeper e w'.state w'.keeper
+  pub caused : IsCaused e.outcome w.keeper.failures w'.keeper.failures
+  pub kept : KeepsRecords w.keeper.told w.state w'.keeper.told w'.state
+
+-- the next request was carried out, and its reply was written whole
+pub record Serves (w w' : World) (e : Exchange) : Type 0 where
+  pub carried : CarriesOut w w' e
+  pub replied : Takes w.sink w'.sink (printed e.reply e.request.last)
+
+-- ---- stops
+
+-- What stands next where a session stops before another request was answered whole, and what was done of it: nothing behind the
+-- end of the input and at a failed read; its reply at a malformed place; a part of a reply where a write failed; and where memory was
+-- refused, nothing is written, after a request was carried out or before.
 abbrev pub Stops : SessionEnd → World → World → Type 0
-Stops end.Ended w w' = IsQuiet w w' × IfSome w.input IsBlank × (w'.ended ≡ true)
-Stops end.Cut w w' = IsQuiet w w' × IfSome w.input IsCut × (w'.ended ≡ true)
-Stops (end.Malformed fault) w w' =
-    IfSome w.input (λ bytes. IsMalformed bytes fault) × (w'.output ≡ append_known w.output (malformed_text fault)) × Changes w w' [] × IsLater w w'
-Stops end.ReadFault w w' = IsQuiet w w' × IfSome w.input (HoldsUnfinished w') × Rose w.read_faults w'.read_faults
-Stops end.WriteFault w w' = (((count : ℕ) × AnswersInPart w w' count) ⊎ RefusesInPart w w') × IsLater w w' × Rose w.write_faults w'.write_faults
+Stops end.Ended w w' = Asks w w' got.End × KeepsRows w w' × (w'.sink ≡ w.sink)
+Stops end.Cut w w' = (count : ℕ) × Asks w w' (got.Cut count) × KeepsRows w w' × (w'.sink ≡ w.sink)
+Stops (end.Malformed fault) w w' = Asks w w' (got.Malformed fault) × KeepsRows w w' × Takes w.sink w'.sink (malformed_text fault)
+Stops end.ReadFault w w' = Asks w w' got.ReadFault × KeepsRows w w' × (w'.sink ≡ w.sink)
+Stops end.WriteFault w w' =
+    ((e : Exchange) × CarriesOut w w' e × BreaksOff w.sink w'.sink (printed e.reply e.request.last))
+    ⊎ ((fault : HeadFault) × Asks w w' (got.Malformed fault) × KeepsRows w w' × BreaksOff w.sink w'.sink (malformed_text fault))
 Stops end.Spent w w' = w' ≡ w
-Stops end.NoMemory w w' = IsQuiet w w' ⊎ (AnswersInPart w w' 0 × IsLater w w')
+Stops end.NoMemory w w' =
+    (Asks w w' got.NoMemory × KeepsRows w w' × (w'.sink ≡ w.sink))
+    ⊎ ((fault : HeadFault) × Asks w w' (got.Malformed fault) × KeepsRows w w' × (w'.sink ≡ w.sink))
+    ⊎ ((e : Exchange) × CarriesOut w w' e × (e.reply ≢ reply.NoMemory) × (w'.sink ≡ w.sink))
 
--- one turn: the next message was answered, or the session stops
+-- one turn: the next request was answered, or the session stops
 abbrev pub Turns : Turn → World → World → Type 0
-Turns turn.GoOn w w' = (e : Exchange) × Serves w w' (e ∷ []) × (e.request.last ≡ false)
-Turns turn.Final w w' = (e : Exchange) × Serves w w' (e ∷ []) × (e.request.last ≡ true)
+Turns turn.GoOn w w' = (e : Exchange) × Serves w w' e × (e.request.last ≡ false)
+Turns turn.Final w w' = (e : Exchange) × Serves w w' e × (e.request.last ≡ true)
 Turns (turn.Stop ends) w w' = Stops ends w w' × (ends ≢ end.Spent)
+
+-- ---- a session
+
+-- requests were answered one after the other
+abbrev pub ServesAll : World → List Exchange → World → Type 0
+ServesAll w [] w' = w ≡ w'
+ServesAll w (e ∷ more) w' = (next : World) × Serves w next e × ServesAll next more w'
+
+-- no request of these is the last one on its connection
+abbrev pub AllGoOn : List Exchange → Type 0
+AllGoOn [] = Unit {0}
+AllGoOn (e ∷ more) = (e.request.last ≡ false) × AllGoOn more
+
+-- the final request, and no other one, is the last one on its connection
+abbrev pub OnlyFinalEnds : List Exchange → Type 0
+OnlyFinalEnds [] = ⊥
+OnlyFinalEnds (e ∷ []) = e.request.last ≡ true
+OnlyFinalEnds (e ∷ other ∷ more) = (e.request.last ≡ false) × OnlyFinalEnds (other ∷ more)
 
 -- how many requests were answered whole before a stop: fewer than a session may take, but where it took all of them
 abbrev pub CountsAt : SessionEnd → ℕ → Type 0
-CountsAt end.Spent n = n ≡ MOST_REQUESTS
-CountsAt end.Ended n = n < MOST_REQUESTS
-CountsAt end.Cut n = n < MOST_REQUESTS
-CountsAt (end.Malformed fault) n = n < MOST_REQUESTS
-CountsAt end.ReadFault n = n < MOST_REQUESTS
-CountsAt end.WriteFault n = n < MOST_REQUESTS
-CountsAt end.NoMemory n = n < MOST_REQUESTS
+CountsAt end.Spent n = n ≡ most_requests
+CountsAt end.Ended n = n < most_requests
+CountsAt end.Cut n = n < most_requests
+CountsAt (end.Malformed fault) n = n < most_requests
+CountsAt end.ReadFault n = n < most_requests
+CountsAt end.WriteFault n = n < most_requests
+CountsAt end.NoMemory n = n < most_requests
 
 -- Behind a final request a session stops as Ended, or as Spent where it is the one that fills the number, and does nothing more.
 abbrev pub StopsBehindFinal : SessionEnd → Type 0
@@ -85,9 +132,11 @@ StopsBehindFinal end.NoMemory = ⊥
 pub record Session (w w' : World) (ends : SessionEnd) : Type 0 where
   pub exchanges : List Exchange
   pub behind : World
-  pub serves : Serves w behind exchanges
+  pub serves : ServesAll w exchanges behind
   pub counted : CountsAt ends (length exchanges)
   pub stops : (AllGoOn exchanges × Stops ends behind w') ⊎ (OnlyFinalEnds exchanges × StopsBehindFinal ends × (w' ≡ behind))
+
+-- ---- the parts of a turn, one by one
 
 -- how a request was answered that was answered whole
 abbrev pub turn_after_reply : Bool → Turn
@@ -113,24 +162,23 @@ IsUnprinted written.Unprinted = Unit {0}
 
 -- An answer was written whole and the turn goes on as its request says, or some first bytes of it and the write failed; or
 -- nothing was, since memory for it was refused.
-abbrev pub WritesAnswer : Turn → Answered → Bool → Option (List ℕ) → Option (List ℕ) → ℕ → ℕ → Type 0
-WritesAnswer turn.GoOn a last held held' faults faults' = (last ≡ false) × (held' ≡ append_known held (text_for a last)) × ¬ IsUnprinted a × (faults ≤ faults')
-WritesAnswer turn.Final a last held held' faults faults' = (last ≡ true) × (held' ≡ append_known held (text_for a last)) × ¬ IsUnprinted a × (faults ≤ faults')
-WritesAnswer (turn.Stop end.WriteFault) a last held held' faults faults' =
-    (count : ℕ) × (held' ≡ append_known held (take count (text_for a last))) × ¬ IsUnprinted a × (faults ≤ faults') × Rose faults faults'
-WritesAnswer (turn.Stop end.NoMemory) a last held held' faults faults' = IsUnprinted a × (held' ≡ held) × (faults' ≡ faults)
-WritesAnswer (turn.Stop other) a last held held' faults faults' = ⊥
+abbrev pub WritesAnswer : Turn → Answered → Bool → Outlet → Outlet → Type 0
+WritesAnswer turn.GoOn a last sink sink' = (last ≡ false) × ¬ IsUnprinted a × Takes sink sink' (text_for a last)
+WritesAnswer turn.Final a last sink sink' = (last ≡ true) × ¬ IsUnprinted a × Takes sink sink' (text_for a last)
+WritesAnswer (turn.Stop end.WriteFault) a last sink sink' = ¬ IsUnprinted a × BreaksOff sink sink' (text_for a last)
+WritesAnswer (turn.Stop end.NoMemory) a last sink sink' = IsUnprinted a × (sink' ≡ sink)
+WritesAnswer (turn.Stop other) a last sink sink' = ⊥
 
 -- A malformed place was answered by its rule, or of that reply some first bytes were written, or memory was refused before it.
-abbrev pub RefusesPlace : HeadFault → SessionEnd → Option (List ℕ) → Option (List ℕ) → ℕ → ℕ → Type 0
-RefusesPlace fault (end.Malformed other) held held' faults faults' = (other ≡ fault) × (held' ≡ append_known held (malformed_text fault)) × (faults ≤ faults')
-RefusesPlace fault end.WriteFault held held' faults faults' = (count : ℕ) × (held' ≡ append_known held (take count (malformed_text fault))) × (faults ≤ faults') × Rose faults faults'
-RefusesPlace fault end.NoMemory held held' faults faults' = (held' ≡ held) × (faults' ≡ faults)
-RefusesPlace fault end.Ended held held' faults faults' = ⊥
-RefusesPlace fault end.Cut held held' faults faults' = ⊥
-RefusesPlace fault end.ReadFault held held' faults faults' = ⊥
-RefusesPlace fault end.Spent held held' faults faults' = ⊥
+abbrev pub RefusesPlace : HeadFault → SessionEnd → Outlet → Outlet → Type 0
+RefusesPlace fault (end.Malformed other) sink sink' = (other ≡ fault) × Takes sink sink' (malformed_text fault)
+RefusesPlace fault end.WriteFault sink sink' = BreaksOff sink sink' (malformed_text fault)
+RefusesPlace fault end.NoMemory sink sink' = sink' ≡ sink
+RefusesPlace fault end.Ended sink sink' = ⊥
+RefusesPlace fault end.Cut sink sink' = ⊥
+RefusesPlace fault end.ReadFault sink sink' = ⊥
+RefusesPlace fault end.Spent sink sink' = ⊥
 
 -- Where a session stops behind a final request, with this many requests answered before it: the number may be full with it.
 abbrev pub end_behind : ℕ → SessionEnd
-end_behind done = if done + 1 == MOST_REQUESTS then end.Spent else end.Ended
+end_behind done = if done + 1 == most_requests then end.Spent else end.Ended

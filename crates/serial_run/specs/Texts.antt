@@ -1,17 +1,20 @@
 -- What a run comes to, told of its whole input: the requests that are answered, the exit status, and what the outside sees.
-use Rattle.std.specs.Prelude.{◌≡◌, ◌++◌, ◌==◌, ℕ, List, [], ◌∷◌, Bool, length, take, Option, option_map, if◌then◌else◌}
+use Rattle.std.specs.Prelude.{◌≡◌, ◌++◌, ◌==◌, ℕ, List, [], ◌∷◌, Bool, length, map, take, Option, option_map, if◌then◌else◌}
 use Rattle.std.specs.List.{list_any}
-use Rattle.std.specs.Io.KnownBytes.{append_known}
-use Rattle.size_values.specs.declared.entry.Entry.{Entry}
+use Rattle.std.specs.Io.KnownBytes.{Appends}
+use Rattle.record_keeper.specs.Store.{Store}
 use Rattle.http_heads.specs.Messages.{Ending, ended, cut, malformed}
 use Rattle.http_heads.specs.declared.request.Request.{Request}
 use Rattle.size_values.specs.Causes.{RoseBy}
 use Rattle.row_machine.specs.State.{State}
 use Rattle.row_machine.specs.Records.{records_of}
-use Rattle.core_rows.specs.Opening.{first_state}
+use Rattle.core_rows.specs.Opening.{first_state, opened_store}
 use Rattle.rest_service.specs.Exchanges.{Exchange, LeadTo, printed_replies, failures_in, malformed_text}
-use Rattle.serial_run.specs.declared.session.TheConstants.{MOST_REQUESTS}
-use Rattle.serial_run.specs.Worlds.{requests_of}
+use Rattle.serial_run.specs.Most.{most_requests}
+
+-- the requests of these
+abbrev pub requests_of : List Exchange → List Request
+requests_of exchanges = map (λ e. e.request) exchanges
 
 -- the requests up to and with the first that is the last on its connection
 abbrev pub through_last : List Request → List Request
@@ -20,7 +23,7 @@ through_last (m ∷ more) = m ∷ (if m.last then [] else through_last more)
 
 -- the requests of a text that are answered: these, and at most as many as a session may answer
 abbrev pub answered : List Request → List Request
-answered messages = take MOST_REQUESTS (through_last messages)
+answered messages = take most_requests (through_last messages)
 
 -- one of the requests is the last on its connection
 abbrev pub has_last : List Request → Bool
@@ -41,7 +44,7 @@ end_at (malformed fault) = record { status = 3; text = malformed_text fault }
 -- before a last request, and that goes before the end of the input.
 abbrev pub end_behind_all : List Request → Ending → End
 end_behind_all requests ending =
-    if length requests == MOST_REQUESTS then record { status = 10; text = [] }
+    if length requests == most_requests then record { status = 10; text = [] }
     else if has_last requests then record { status = 0; text = [] }
     else end_at ending
 
@@ -50,17 +53,18 @@ abbrev pub end_due : List Request → Ending → End
 end_due messages ending = end_behind_all (answered messages) ending
 
 -- The run did what its input asks, and nothing else: the requests that are answered, each with its outcome and its reply, lead the
--- row machine from the first rows to some state; the exit status is the one that is due, the sink holds the replies in their order,
--- the keeper has the records of that state, and its count rose at least once for each request in which it failed.
-pub record RunsText (messages : List Request) (ending : Ending) (status : ℕ) (held held' : Option (List ℕ)) (told told' : Option (List Entry)) (faults faults' : ℕ) : Type 0 where
+-- row machine from the first rows to some state, and the store from the one behind the opening to the one at the end; the exit
+-- status is the one that is due, the sink took the replies in their order, the keeper has the records of that state, and its count
+-- rose at least once for each request in which it failed.
+pub record RunsText (messages : List Request) (ending : Ending) (status : ℕ) (held held' : Option (List ℕ)) (keeper keeper' : Store) : Type 0 where
   pub exchanges : List Exchange
   pub state : State
   pub requests_are : requests_of exchanges ≡ answered messages
-  pub leads : LeadTo first_state exchanges state
+  pub leads : LeadTo first_state (opened_store keeper) exchanges state keeper'
   pub status_is : status ≡ (end_due messages ending).status
-  pub written : held' ≡ append_known held (printed_replies exchanges ++ (end_due messages ending).text)
-  pub kept : told' ≡ option_map (λ _. records_of state) told
-  pub failed : RoseBy (failures_in exchanges) faults faults'
+  pub written : Appends held held' (printed_replies exchanges ++ (end_due messages ending).text)
+  pub kept : keeper'.told ≡ option_map (λ _. records_of state) keeper.told
+  pub failed : RoseBy (failures_in exchanges) keeper.failures keeper'.failures
 
 -- whether an exit status is that of a fault of the outside, of words that are not read, of entries that are there already, or of
 -- refused memory

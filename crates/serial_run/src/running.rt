@@ -1,13 +1,11 @@
-ghost use Rattle.std.specs.Prelude.{◌≡◌, ◌≢◌, ◌<◌, ◌⊎◌, ◌↔◌, ℕ, List, [], true, false, length, Option, Some, IfSome, map, string_bytes};
+ghost use Rattle.std.specs.Prelude.{◌≡◌, ◌≢◌, ◌<◌, ◌⊎◌, ◌↔◌, List, [], true, false, length, Some, IfSome, map, string_bytes};
 ghost use Rattle.size_values.specs.Causes.{Rose};
 ghost use Rattle.http_heads.specs.Messages.{Ending, ended, Splits};
 ghost use Rattle.http_heads.specs.declared.request.Request.{Request};
-ghost use Rattle.row_machine.specs.State.{State, empty_state};
-ghost use Rattle.serial_run.specs.Runs.{Ran, Refused, are_run, start_fault, start_status, status_of};
-ghost use Rattle.serial_run.specs.Sessions.{Session};
+ghost use Rattle.serial_run.specs.Most.{most_requests};
+ghost use Rattle.serial_run.specs.Runs.{Runs, SessionFrom, are_run, start_fault, start_status, status_of};
 ghost use Rattle.serial_run.specs.Texts.{RunsText, is_fault};
-ghost use Rattle.serial_run.specs.declared.session.TheConstants.{MOST_REQUESTS};
-ghost use Rattle.serial_run.specs.Worlds.{World};
+ghost use Rattle.serial_run.specs.Worlds.{inlet, outlet, outside, world};
 
 use crate::serving::serve;
 use crate::session::SessionEnd;
@@ -90,30 +88,8 @@ fn session<S: Source, K: Sink, R: Keeper>(
     mut service: Service,
 ) -> SessionEnd
     requires { buffer ≡ [] }
-    ensures { (input : Option (List ℕ)) × (after : State) × Session
-        (record {
-          input = S.left source.old;
-          left = S.left source.old;
-          ended = S.ended source.old;
-          output = K.held sink.old;
-          kept = R.told keeper.old;
-          state = service;
-          read_faults = S.failures source.old;
-          write_faults = K.failures sink.old;
-          keeper_faults = R.failures keeper.old;
-        })
-        (record {
-          input = input;
-          left = S.left source.new;
-          ended = S.ended source.new;
-          output = K.held sink.new;
-          kept = R.told keeper.new;
-          state = after;
-          read_faults = S.failures source.new;
-          write_faults = K.failures sink.new;
-          keeper_faults = R.failures keeper.new;
-        })
-        result }
+    ensures { SessionFrom (world [] (outside (inlet S.left S.ended S.failures source.old) (outlet K.held K.failures sink.old) (R.store keeper.old)) service)
+        (outside (inlet S.left S.ended S.failures source.new) (outlet K.held K.failures sink.new) (R.store keeper.new)) result }
 {
     serve(alloc, &mut buffer, source, sink, keeper, &mut service)
 }
@@ -126,54 +102,9 @@ fn run<S: Source, K: Sink, R: Keeper>(
     sink: &mut K,
     mut keeper: R,
 ) -> (u8, R)
-    ensures { Ran (map (λ w. string_bytes w) words.now)
-        (record {
-          input = S.left source.old;
-          left = S.left source.old;
-          ended = S.ended source.old;
-          output = K.held sink.old;
-          kept = R.told keeper;
-          state = empty_state;
-          read_faults = S.failures source.old;
-          write_faults = K.failures sink.old;
-          keeper_faults = R.failures keeper;
-        })
-        (record {
-          input = S.left source.new;
-          left = S.left source.new;
-          ended = S.ended source.new;
-          output = K.held sink.new;
-          kept = R.told result.1;
-          state = empty_state;
-          read_faults = S.failures source.new;
-          write_faults = K.failures sink.new;
-          keeper_faults = R.failures result.1;
-        })
-        result.0
-        ⊎ Refused (map (λ w. string_bytes w) words.now)
-        (record {
-          input = S.left source.old;
-          left = S.left source.old;
-          ended = S.ended source.old;
-          output = K.held sink.old;
-          kept = R.told keeper;
-          state = empty_state;
-          read_faults = S.failures source.old;
-          write_faults = K.failures sink.old;
-          keeper_faults = R.failures keeper;
-        })
-        (record {
-          input = S.left source.new;
-          left = S.left source.new;
-          ended = S.ended source.new;
-          output = K.held sink.new;
-          kept = R.told result.1;
-          state = empty_state;
-          read_faults = S.failures source.new;
-          write_faults = K.failures sink.new;
-          keeper_faults = R.failures result.1;
-        })
-        result.0 }
+    ensures { Runs (map (λ w. string_bytes w) words.now)
+        (outside (inlet S.left S.ended S.failures source.old) (outlet K.held K.failures sink.old) (R.store keeper))
+        (outside (inlet S.left S.ended S.failures source.new) (outlet K.held K.failures sink.new) (R.store result.1)) result.0 }
 {
     if !are_run(words) {
         return (StartFault::Words.status(), keeper);
@@ -200,73 +131,28 @@ pub fn run_main<S: Source, K: Sink, R: Keeper>(
     keeper: R,
 ) -> (u8, R)
     // There was a session, or there was none.
-    ensures done { Ran (map (λ w. string_bytes w) words.now)
-        (record {
-          input = S.left source.old;
-          left = S.left source.old;
-          ended = S.ended source.old;
-          output = K.held sink.old;
-          kept = R.told keeper;
-          state = empty_state;
-          read_faults = S.failures source.old;
-          write_faults = K.failures sink.old;
-          keeper_faults = R.failures keeper;
-        })
-        (record {
-          input = S.left source.new;
-          left = S.left source.new;
-          ended = S.ended source.new;
-          output = K.held sink.new;
-          kept = R.told result.1;
-          state = empty_state;
-          read_faults = S.failures source.new;
-          write_faults = K.failures sink.new;
-          keeper_faults = R.failures result.1;
-        })
-        result.0
-        ⊎ Refused (map (λ w. string_bytes w) words.now)
-        (record {
-          input = S.left source.old;
-          left = S.left source.old;
-          ended = S.ended source.old;
-          output = K.held sink.old;
-          kept = R.told keeper;
-          state = empty_state;
-          read_faults = S.failures source.old;
-          write_faults = K.failures sink.old;
-          keeper_faults = R.failures keeper;
-        })
-        (record {
-          input = S.left source.new;
-          left = S.left source.new;
-          ended = S.ended source.new;
-          output = K.held sink.new;
-          kept = R.told result.1;
-          state = empty_state;
-          read_faults = S.failures source.new;
-          write_faults = K.failures sink.new;
-          keeper_faults = R.failures result.1;
-        })
-        result.0 }
+    ensures done { Runs (map (λ w. string_bytes w) words.now)
+        (outside (inlet S.left S.ended S.failures source.old) (outlet K.held K.failures sink.old) (R.store keeper))
+        (outside (inlet S.left S.ended S.failures source.new) (outlet K.held K.failures sink.new) (R.store result.1)) result.0 }
 
     // Over a source that tells its bytes: a fault, or what these bytes ask.
     ensures text { IfSome (S.left source.old) (λ text. (messages : List Request) (ending : Ending) → Splits text messages ending →
-        (is_fault result.0 ≡ true) ⊎ RunsText messages ending result.0 (K.held sink.old) (K.held sink.new) (R.told keeper) (R.told result.1) (R.failures keeper) (R.failures result.1)) }
+        (is_fault result.0 ≡ true) ⊎ RunsText messages ending result.0 (K.held sink.old) (K.held sink.new) (R.store keeper) (R.store result.1)) }
 
     // Whole messages and no fault: all of them are answered, or memory was refused.
-    ensures complete { IfSome (S.left source.old) (λ text. (messages : List Request) → Splits text messages ended → length messages < MOST_REQUESTS →
-        are_run (map (λ w. string_bytes w) words.now) ≡ true → R.told keeper ≡ Some [] →
-        ¬ (Rose (S.failures source.old) (S.failures source.new)) → ¬ (Rose (K.failures sink.old) (K.failures sink.new)) → ¬ (Rose (R.failures keeper) (R.failures result.1)) →
+    ensures complete { IfSome (S.left source.old) (λ text. (messages : List Request) → Splits text messages ended → length messages < most_requests →
+        are_run (map (λ w. string_bytes w) words.now) ≡ true → (R.store keeper).told ≡ Some [] →
+        ¬ (Rose (S.failures source.old) (S.failures source.new)) → ¬ (Rose (K.failures sink.old) (K.failures sink.new)) → ¬ (Rose (R.store keeper).failures (R.store result.1).failures) →
         (result.0 ≡ 0) ⊎ (result.0 ≡ 9)) }
 
     ensures cut { result.0 ≡ 2 → S.ended source.new ≡ true }
     ensures read_fault { result.0 ≡ 4 → Rose (S.failures source.old) (S.failures source.new) }
     ensures write_fault { result.0 ≡ 5 → Rose (K.failures sink.old) (K.failures sink.new) }
-    ensures keeper_fault { result.0 ≡ 6 → Rose (R.failures keeper) (R.failures result.1) }
+    ensures keeper_fault { result.0 ≡ 6 → Rose (R.store keeper).failures (R.store result.1).failures }
     ensures words { (result.0 ≡ 8) ↔ (are_run (map (λ w. string_bytes w) words.now) ≡ false) }
-    ensures has_entries { result.0 ≡ 13 → IfSome (R.told keeper) (λ entries. entries ≢ []) }
-    ensures entries { IfSome (R.told keeper) (λ entries. entries ≢ [] → are_run (map (λ w. string_bytes w) words.now) ≡ true →
-        ¬ (Rose (R.failures keeper) (R.failures result.1)) → (K.held sink.new ≡ K.held sink.old) × ((result.0 ≡ 13) ⊎ (result.0 ≡ 9))) }
+    ensures has_entries { result.0 ≡ 13 → IfSome (R.store keeper).told (λ entries. entries ≢ []) }
+    ensures entries { IfSome (R.store keeper).told (λ entries. entries ≢ [] → are_run (map (λ w. string_bytes w) words.now) ≡ true →
+        ¬ (Rose (R.store keeper).failures (R.store result.1).failures) → (K.held sink.new ≡ K.held sink.old) × ((result.0 ≡ 13) ⊎ (result.0 ≡ 9))) }
 {
     run(alloc, words, source, sink, keeper)
 }

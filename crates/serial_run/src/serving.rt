@@ -1,6 +1,7 @@
-ghost use Rattle.std.specs.Prelude.{◌≡◌, ◌+◌, ◌<◌, ◌==◌, if◌then◌else◌};
-ghost use Rattle.std.specs.Io.KnownBytes.{prepend_known};
+ghost use Rattle.std.specs.Prelude.{◌≡◌, ◌<◌};
+ghost use Rattle.serial_run.specs.Most.{most_requests};
 ghost use Rattle.serial_run.specs.Sessions.{Session, end_behind};
+ghost use Rattle.serial_run.specs.Worlds.{inlet, outlet, outside, world};
 
 use crate::session::{MOST_REQUESTS, SessionEnd, Turn};
 use crate::turn::turn;
@@ -11,7 +12,7 @@ use std::alloc::Global;
 
 /// Where a session stops behind the final request, with this many requests answered before it.
 fn end_behind(done: u32) -> SessionEnd
-    requires { done < MOST_REQUESTS }
+    requires { done < most_requests }
     ensures { result ≡ end_behind done }
 {
     if done + 1 == MOST_REQUESTS {
@@ -31,28 +32,8 @@ pub(crate) fn serve<S: Source, K: Sink, R: Keeper>(
     service: &mut Service,
 ) -> SessionEnd
     ensures { Session
-        (record {
-          input = prepend_known buffer.old (S.left source.old);
-          left = S.left source.old;
-          ended = S.ended source.old;
-          output = K.held sink.old;
-          kept = R.told keeper.old;
-          state = service.old;
-          read_faults = S.failures source.old;
-          write_faults = K.failures sink.old;
-          keeper_faults = R.failures keeper.old;
-        })
-        (record {
-          input = prepend_known buffer.new (S.left source.new);
-          left = S.left source.new;
-          ended = S.ended source.new;
-          output = K.held sink.new;
-          kept = R.told keeper.new;
-          state = service.new;
-          read_faults = S.failures source.new;
-          write_faults = K.failures sink.new;
-          keeper_faults = R.failures keeper.new;
-        })
+        (world buffer.old (outside (inlet S.left S.ended S.failures source.old) (outlet K.held K.failures sink.old) (R.store keeper.old)) service.old)
+        (world buffer.new (outside (inlet S.left S.ended S.failures source.new) (outlet K.held K.failures sink.new) (R.store keeper.new)) service.new)
         result }
 {
     for done in 0..MOST_REQUESTS {

@@ -1,7 +1,15 @@
+ghost use Rattle.std.specs.Prelude.{◌≡◌};
+ghost use Rattle.serial_run.specs.Most.{most_requests};
+
 use http_front::HeadFault;
 
 /// The most requests that one session answers.
 pub const MOST_REQUESTS: u32 = 1_000_000;
+
+/// The constant is the number that definitions speak of.
+pub fn sessions_end_after_a_million_requests()
+    ensures { MOST_REQUESTS ≡ most_requests }
+{}
 
 /// Where a session stops.
 #[derive(Clone, Copy, Debug, PartialEq, Eq)]

@@ -1,6 +1,6 @@
 ghost use Rattle.std.specs.Prelude.{◌≡◌};
-ghost use Rattle.std.specs.Io.KnownBytes.{prepend_known};
 ghost use Rattle.serial_run.specs.Sessions.{RefusesPlace, Turns, WritesAnswer, turn_after};
+ghost use Rattle.serial_run.specs.Worlds.{inlet, outlet, outside, world};
 
 use crate::session::{SessionEnd, Turn};
 use http_front::{Buffer, Got, HeadFault, Sink, SinkFailed, Source, no_memory_reply, read_request};
@@ -21,7 +21,7 @@ fn turn_after(written: Result<(), SinkFailed>, last: bool) -> Turn
 
 /// Writes what a request is answered. Where memory for its reply was refused, nothing is written and the session stops.
 fn write_answer<K: Sink>(sink: &mut K, answered: &Answered, last: bool) -> Turn
-    ensures { WritesAnswer result answered.now last (K.held sink.old) (K.held sink.new) (K.failures sink.old) (K.failures sink.new) }
+    ensures { WritesAnswer result answered.now last (outlet K.held K.failures sink.old) (outlet K.held K.failures sink.new) }
 {
     match answered {
         Answered::Printed(bytes) => turn_after(sink.write(bytes.view()), last),
@@ -32,7 +32,7 @@ fn write_answer<K: Sink>(sink: &mut K, answered: &Answered, last: bool) -> Turn
 
 /// Answers a malformed place by its rule. The connection closes behind it.
 fn refuse<K: Sink>(alloc: Global, sink: &mut K, fault: HeadFault) -> SessionEnd
-    ensures { RefusesPlace fault result (K.held sink.old) (K.held sink.new) (K.failures sink.old) (K.failures sink.new) }
+    ensures { RefusesPlace fault result (outlet K.held K.failures sink.old) (outlet K.held K.failures sink.new) }
 {
     match print_malformed(alloc, fault) {
         Ok(bytes) => match sink.write(bytes.view()) {
@@ -53,28 +53,8 @@ pub(crate) fn turn<S: Source, K: Sink, R: Keeper>(
     service: &mut Service,
 ) -> Turn
     ensures { Turns result
-        (record {
-          input = prepend_known buffer.old (S.left source.old);
-          left = S.left source.old;
-          ended = S.ended source.old;
-          output = K.held sink.old;
-          kept = R.told keeper.old;
-          state = service.old;
-          read_faults = S.failures source.old;
-          write_faults = K.failures sink.old;
-          keeper_faults = R.failures keeper.old;
-        })
-        (record {
-          input = prepend_known buffer.new (S.left source.new);
-          left = S.left source.new;
-          ended = S.ended source.new;
-          output = K.held sink.new;
-          kept = R.told keeper.new;
-          state = service.new;
-          read_faults = S.failures source.new;
-          write_faults = K.failures sink.new;
-          keeper_faults = R.failures keeper.new;
-        }) }
+        (world buffer.old (outside (inlet S.left S.ended S.failures source.old) (outlet K.held K.failures sink.old) (R.store keeper.old)) service.old)
+        (world buffer.new (outside (inlet S.left S.ended S.failures source.new) (outlet K.held K.failures sink.new) (R.store keeper.new)) service.new) }
 {
     match read_request(alloc, buffer, source) {
         Got::Request(request) => {

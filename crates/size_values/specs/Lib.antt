@@ -1,5 +1,6 @@
 pub mod Address
 pub mod Amounts
+pub mod CallCounts
 pub mod Calls
 pub mod Causes
 pub mod Count
@@ -9,6 +10,7 @@ pub mod ExpiryParts
 pub mod Fault
 pub mod Form
 pub mod MemorySize
+pub mod Moments
 pub mod Number
 pub mod Quad
 pub mod Reading

@@ -16,7 +16,7 @@ pub struct Amounts {
 }
 
 /// The parts of `Amounts`, in the order in which limits are judged.
-#[derive(Clone, Copy, Debug, PartialEq, Eq)]
+#[derive(Clone, Copy, PartialEq, Eq)]
 pub enum Part {
     Instances,
     Containers,
@@ -105,65 +105,5 @@ impl Amounts {
             && self.memory <= most.memory
             && self.processes <= most.processes
             && self.disk <= most.disk
-    }
-}
-
-#[cfg(test)]
-mod tests {
-    use super::*;
-
-    fn amounts(parts: [u128; 7]) -> Amounts {
-        let [
-            instances,
-            containers,
-            machines,
-            cpu,
-            memory,
-            processes,
-            disk,
-        ] = parts;
-        Amounts {
-            instances,
-            containers,
-            machines,
-            cpu,
-            memory,
-            processes,
-            disk,
-        }
-    }
-
-    #[test]
-    fn computes_part_by_part(rt: HostRuntime) {
-        assert_eq!(rt; Amounts::zero(), amounts([0; 7]));
-        let small = Amounts {
-            cpu: 3,
-            disk: 1 << 70,
-            ..Amounts::zero()
-        };
-        let large = Amounts {
-            cpu: 4,
-            disk: 1 << 71,
-            memory: 5,
-            ..Amounts::zero()
-        };
-        assert_eq!(rt; small.plus(&large), amounts([0, 0, 0, 7, 5, 0, 3 << 70]));
-        assert_eq!(rt; large.minus(&small), amounts([0, 0, 0, 1, 5, 0, 1 << 70]));
-    }
-
-    #[test]
-    fn compares_each_part(rt: HostRuntime) {
-        let most = amounts([2; 7]);
-        assert!(rt; most.fits(&most));
-        assert_eq!(rt; most.excess(&most), Amounts::zero());
-        for part in 0..7_usize {
-            let mut parts = [2; 7];
-            parts[part] = 5;
-            let mut above = [0; 7];
-            above[part] = 3;
-            assert!(rt; !amounts(parts).fits(&most), "for {part}");
-            assert_eq!(rt; amounts(parts).excess(&most), amounts(above), "for {part}");
-            assert_eq!(rt; most.excess(&amounts(parts)), Amounts::zero(), "for {part}");
-        }
     }
 }

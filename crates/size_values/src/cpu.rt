@@ -11,7 +11,7 @@ use crate::number::Number;
 const MOST: u64 = 1_000_000;
 
 /// The processors that an instance may use, as `limits.cpu` of the Incus documentation's "Instance options" says it.
-#[derive(Clone, Copy, Debug, PartialEq, Eq, Hash)]
+#[derive(Clone, Copy, Debug, PartialEq, Eq)]
 pub enum Cpu {
     /// Any so many processors, from 1 to 1,000,000.
     Count(u32),
@@ -110,54 +110,5 @@ impl SetFront {
             too_large: self.too_large || number.is_too_large(),
             unfit: self.unfit || number.value > MOST || in_range && number.value < self.last,
         })
-    }
-}
-
-#[cfg(test)]
-mod tests {
-    use super::*;
-    use crate::fault::ValueFault::{BadByte, Empty, OutOfRange, TooLarge};
-
-    const ROWS: [(&str, Result<Cpu, ValueFault>); 33] = [
-        ("", Err(Empty)),
-        ("0", Err(OutOfRange)),
-        ("1", Ok(Cpu::Count(1))),
-        ("01", Ok(Cpu::Count(1))),
-        ("1000000", Ok(Cpu::Count(1_000_000))),
-        ("1000001", Err(OutOfRange)),
-        ("00000000000000000001", Ok(Cpu::Count(1))),
-        ("000000000000000000001", Err(TooLarge)),
-        ("0-3", Ok(Cpu::Pinned)),
-        ("3-3", Ok(Cpu::Pinned)),
-        ("0,1000000", Ok(Cpu::Pinned)),
-        ("0-3,5,7-9", Ok(Cpu::Pinned)),
-        ("0,00000000000000000001", Ok(Cpu::Pinned)),
-        ("3-0", Err(OutOfRange)),
-        ("1-2,4-3", Err(OutOfRange)),
-        ("0,1000001", Err(OutOfRange)),
-        ("0-1000001", Err(OutOfRange)),
-        ("0,9223372036854775808", Err(TooLarge)),
-        ("0,000000000000000000001", Err(TooLarge)),
-        ("5-1,99999999999999999999", Err(TooLarge)),
-        ("18446744073709551615-18446744073709551614", Err(TooLarge)),
-        ("a", Err(BadByte(0))),
-        (",1", Err(BadByte(0))),
-        ("-1", Err(BadByte(0))),
-        ("1 2", Err(BadByte(1))),
-        ("1,", Err(BadByte(2))),
-        ("1-", Err(BadByte(2))),
-        ("1,,2", Err(BadByte(2))),
-        ("1-,2", Err(BadByte(2))),
-        ("1-2-3", Err(BadByte(3))),
-        ("1,2-3-4", Err(BadByte(5))),
-        ("1,2 ", Err(BadByte(3))),
-        ("5-1,99999999999999999999x", Err(BadByte(24))),
-    ];
-
-    #[test]
-    fn reads_cpu_settings(rt: HostRuntime) {
-        for (text, want) in &ROWS {
-            assert!(rt; read_cpu(text) == *want, "for {text}");
-        }
     }
 }

@@ -6,7 +6,7 @@ use crate::text::Text;
 use std::alloc::Global;
 
 /// One kept row as bytes: the kind of the row, its key within that kind, and its body.
-#[derive(Debug, Drop)]
+#[derive(Drop)]
 pub struct Entry {
     pub kind: u8,
     pub key: Text,
@@ -14,7 +14,7 @@ pub struct Entry {
 }
 
 /// One change of the kept entries. A `Put` replaces the entry of its kind and key, if there is one.
-#[derive(Debug, Drop)]
+#[derive(Drop)]
 pub enum EntryChange {
     Put(Entry),
     Remove { kind: u8, key: Text },

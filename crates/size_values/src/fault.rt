@@ -3,7 +3,7 @@ ghost use Rattle.size_values.specs.Fault.{fault_number};
 
 /// Why a text is no value. Where several faults stand over one text, a reader answers the first of them in
 /// the order of this list. A place counts bytes from 0.
-#[derive(Clone, Copy, Debug, PartialEq, Eq, Hash)]
+#[derive(Clone, Copy, Debug, PartialEq, Eq)]
 pub enum ValueFault {
     /// The text is empty.
     Empty,
@@ -45,24 +45,5 @@ impl From<Stray> for ValueFault {
 
     fn from(stray: Stray) -> Self {
         ValueFault::BadByte(stray.place as u64)
-    }
-}
-
-#[cfg(test)]
-mod tests {
-    use super::*;
-
-    #[test]
-    fn numbers_faults(rt: HostRuntime) {
-        let rows = [
-            (ValueFault::Empty, 1),
-            (ValueFault::BadByte(7), 2),
-            (ValueFault::UnknownSuffix(7), 3),
-            (ValueFault::TooLarge, 4),
-            (ValueFault::OutOfRange, 5),
-        ];
-        for (fault, want) in rows {
-            assert_eq!(rt; fault.number(), want, "at {fault:?}");
-        }
     }
 }

@@ -19,8 +19,6 @@ mod number;
 mod rise;
 mod seq;
 mod size;
-#[cfg(test)]
-mod tests;
 mod text;
 mod truth;
 
@@ -35,7 +33,7 @@ pub use fault::ValueFault;
 pub use kinds::{Action, Deed, Kind, ObjectKind, Power};
 pub use memory::{NoMemory, Or};
 pub use memory_size::{Memory, read_memory};
-pub use moment::MOMENT_LIMIT;
+pub use moment::{MOMENT_LIMIT, moments_end_with_the_year_9999};
 pub use rise::Rise;
 pub use seq::Seq;
 pub use size::read_size;

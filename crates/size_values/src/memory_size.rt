@@ -6,7 +6,7 @@ use crate::fault::ValueFault;
 use crate::size::size_in;
 
 /// The memory that an instance may take, as `limits.memory` of the Incus documentation's "Instance options" says it.
-#[derive(Clone, Copy, Debug, PartialEq, Eq, Hash)]
+#[derive(Clone, Copy, Debug, PartialEq, Eq)]
 pub enum Memory {
     /// So many bytes.
     Bytes(u64),
@@ -31,37 +31,4 @@ fn memory_in(text: &[u8]) -> Result<Memory, ValueFault>
     }
     let bytes = size_in(text)?;
     Ok(Memory::Bytes(bytes))
-}
-
-#[cfg(test)]
-mod tests {
-    use super::*;
-    use crate::fault::ValueFault::{BadByte, Empty, OutOfRange, TooLarge, UnknownSuffix};
-
-    const ROWS: [(&str, Result<Memory, ValueFault>); 17] = [
-        ("", Err(Empty)),
-        ("%", Err(Empty)),
-        ("0%", Err(OutOfRange)),
-        ("1%", Ok(Memory::Percent(1))),
-        ("0050%", Ok(Memory::Percent(50))),
-        ("100%", Ok(Memory::Percent(100))),
-        ("101%", Err(OutOfRange)),
-        ("00000000000000000050%", Ok(Memory::Percent(50))),
-        ("000000000000000000050%", Err(TooLarge)),
-        ("5x%", Err(BadByte(1))),
-        ("50%%", Err(BadByte(2))),
-        ("%5", Err(BadByte(0))),
-        ("50% ", Err(BadByte(2))),
-        ("512", Ok(Memory::Bytes(512))),
-        ("1GiB", Ok(Memory::Bytes(1_073_741_824))),
-        ("12kb", Err(UnknownSuffix(2))),
-        ("8EiB", Err(TooLarge)),
-    ];
-
-    #[test]
-    fn reads_memory(rt: HostRuntime) {
-        for (text, want) in &ROWS {
-            assert!(rt; read_memory(text) == *want, "for {text}");
-        }
-    }
 }

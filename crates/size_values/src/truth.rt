@@ -42,38 +42,3 @@ fn truth_in(rows: &[(&str, bool)], text: &str) -> Option<bool>
         .find(|row| row.0.eq_ignore_ascii_case(text))
         .map(|row| row.1)
 }
-
-#[cfg(test)]
-mod tests {
-    use super::*;
-    use crate::fault::ValueFault::{Empty, OutOfRange};
-
-    const ROWS: [(&str, Result<bool, ValueFault>); 19] = [
-        ("true", Ok(true)),
-        ("1", Ok(true)),
-        ("yes", Ok(true)),
-        ("on", Ok(true)),
-        ("TRUE", Ok(true)),
-        ("yEs", Ok(true)),
-        ("On", Ok(true)),
-        ("false", Ok(false)),
-        ("0", Ok(false)),
-        ("no", Ok(false)),
-        ("off", Ok(false)),
-        ("False", Ok(false)),
-        ("NO", Ok(false)),
-        ("oFF", Ok(false)),
-        ("", Err(Empty)),
-        ("2", Err(OutOfRange)),
-        ("t", Err(OutOfRange)),
-        ("true ", Err(OutOfRange)),
-        ("01", Err(OutOfRange)),
-    ];
-
-    #[test]
-    fn reads_truths(rt: HostRuntime) {
-        for (text, want) in &ROWS {
-            assert!(rt; read_truth(text) == *want, "for {text}");
-        }
-    }
-}

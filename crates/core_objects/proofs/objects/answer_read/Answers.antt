@@ -1,5 +1,5 @@
 use Rattle.std.proofs.Common.{sym, subst}
-use Rattle.core_objects.specs.Judged.{asks}
+use Rattle.object_checks.specs.Judged.{asks}
 use Rattle.core_objects.specs.Planned.{IsAnswered}
 use Rattle.core_objects.proofs.ReadsReady.{read-answered, refused-answered}
 use Rattle.core_objects.proofs.objects.answer_read.Goals as goal

@@ -1,6 +1,6 @@
 use Rattle.std.proofs.Common.{◌∙◌, ap}
 use Rattle.row_machine.specs.Rules.{broken}
-use Rattle.core_objects.specs.Judged.{asks}
+use Rattle.object_checks.specs.Judged.{asks}
 use Rattle.core_objects.proofs.ReadRules.{root-broken, server-broken}
 use Rattle.core_objects.proofs.objects.check_read.Goals as goal
 

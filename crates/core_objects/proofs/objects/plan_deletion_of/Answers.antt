@@ -1,7 +1,7 @@
 use Rattle.std.proofs.Common.{sym, subst}
 use Rattle.records.specs.declared.commands.What.TheVariants as what
 use Rattle.records.specs.declared.commands.Target.{Target}
-use Rattle.core_objects.specs.Judged.{asks}
+use Rattle.object_checks.specs.Judged.{asks}
 use Rattle.core_objects.specs.Planned.{IsPlanned}
 use Rattle.core_objects.proofs.Formed.{profile_formed, profile_kind, delete_stands}
 use Rattle.core_objects.proofs.objects.plan_deletion_of.Goals as goal

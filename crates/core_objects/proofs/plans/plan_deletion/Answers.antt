@@ -5,7 +5,7 @@ use Rattle.records.specs.declared.notices.Life.TheVariants as life
 use Rattle.records.specs.declared.rows.Row.TheVariants as row
 use Rattle.row_machine.specs.Homes.{home_of}
 use Rattle.row_machine.specs.Changes.{removal}
-use Rattle.core_objects.specs.Judged.{asks, profile_target}
+use Rattle.object_checks.specs.Judged.{asks, profile_target}
 use Rattle.core_objects.specs.Told.{profile_notice}
 use Rattle.core_objects.proofs.PlansReady.{planned-refused, planned-as, deletion-judged, deletion-ready}
 use Rattle.core_objects.proofs.plans.plan_deletion.Goals as goal

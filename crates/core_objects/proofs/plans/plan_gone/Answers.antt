@@ -1,5 +1,5 @@
 use Rattle.records.specs.declared.commands.What.TheVariants as what
-use Rattle.core_objects.specs.Judged.{asks, profile_target}
+use Rattle.object_checks.specs.Judged.{asks, profile_target}
 use Rattle.core_objects.proofs.PlansReady.{planned-refused, put-gone, patch-gone, move-gone, planned-missing, gone-missing}
 use Rattle.core_objects.proofs.plans.plan_gone.Goals as goal
 

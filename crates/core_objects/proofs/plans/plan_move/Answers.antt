@@ -7,7 +7,7 @@ use Rattle.records.specs.declared.rows.Row.TheVariants as row
 use Rattle.records.specs.declared.rows.Profile.{Profile}
 use Rattle.row_machine.specs.Homes.{home_of}
 use Rattle.row_machine.specs.Plans.{moved_row}
-use Rattle.core_objects.specs.Judged.{asks, profile_target, rename_refused}
+use Rattle.object_checks.specs.Judged.{asks, profile_target, rename_refused}
 use Rattle.core_objects.specs.Told.{profile_notice}
 use Rattle.core_objects.proofs.PlansReady.{planned-refused, planned-as, move-judged, move-ready}
 use Rattle.core_objects.proofs.plans.plan_move.Goals as goal

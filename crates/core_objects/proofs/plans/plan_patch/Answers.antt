@@ -7,7 +7,7 @@ use Rattle.records.specs.declared.rows.Row.TheVariants as row
 use Rattle.row_machine.specs.Homes.{home_of}
 use Rattle.row_machine.specs.Plans.{put_all}
 use Rattle.row_machine.specs.NewRows.{patched_profile}
-use Rattle.core_objects.specs.Judged.{asks, profile_target, profile_refused}
+use Rattle.object_checks.specs.Judged.{asks, profile_target, profile_refused}
 use Rattle.core_objects.specs.Told.{profile_notice}
 use Rattle.core_objects.proofs.PlansReady.{planned-refused, planned-as, patch-judged, patch-ready}
 use Rattle.core_objects.proofs.plans.plan_patch.Goals as goal

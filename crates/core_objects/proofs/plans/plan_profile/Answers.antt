@@ -8,7 +8,7 @@ use Rattle.records.specs.declared.rows.Profile.{Profile}
 use Rattle.row_machine.specs.Homes.{home_of}
 use Rattle.row_machine.specs.Plans.{put_all}
 use Rattle.row_machine.specs.NewRows.{made_profile}
-use Rattle.core_objects.specs.Judged.{asks, profile_target, new_profile_refused}
+use Rattle.object_checks.specs.Judged.{asks, profile_target, new_profile_refused}
 use Rattle.core_objects.specs.Told.{profile_notice}
 use Rattle.core_objects.proofs.PlansReady.{planned-refused, planned-as, profile-judged, profile-ready}
 use Rattle.core_objects.proofs.plans.plan_profile.Goals as goal

@@ -3,7 +3,7 @@ use Rattle.records.specs.declared.commands.What.TheVariants as what
 use Rattle.records.specs.declared.rows.Row.TheVariants as row
 use Rattle.row_machine.specs.Plans.{put_all}
 use Rattle.row_machine.specs.NewRows.{made_project}
-use Rattle.core_objects.specs.Judged.{asks, project_target, new_project_rows}
+use Rattle.object_checks.specs.Judged.{asks, project_target, new_project_rows}
 use Rattle.core_objects.specs.Told.{new_project_notice}
 use Rattle.core_objects.proofs.PlansReady.{planned-refused, planned-as, project-judged, project-ready}
 use Rattle.core_objects.proofs.plans.plan_project.Goals as goal

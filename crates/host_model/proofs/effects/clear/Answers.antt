@@ -1,4 +1,4 @@
-use Rattle.std.proofs.Common.{◌≡◌, ◌∙◌, ap}
+use Rattle.std.proofs.Common.{◌∙◌, ap}
 use Rattle.std.specs.List.{position}
 use Rattle.plain_lists.proofs.Places.{dropped-at, dropped-nothing}
 use Rattle.host_model.specs.Roots.{is_at}

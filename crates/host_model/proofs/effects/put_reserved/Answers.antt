@@ -1,4 +1,4 @@
-use Rattle.std.proofs.Common.{◌≡◌, false, ◌∙◌, ap}
+use Rattle.std.proofs.Common.{false, ◌∙◌, ap}
 use Rattle.std.specs.List.{position}
 use Rattle.host_model.proofs.AtEnd.{replaced-end}
 use Rattle.plain_lists.proofs.Places.{replaced-at}

@@ -1,10 +1,8 @@
 use Rattle.std.proofs.Common.{◌≡◌, ◌∙◌, ap, subst}
 use Rattle.std.specs.Prelude.{OnOk}
-use Rattle.size_values.specs.declared.kinds.Power.TheVariants.{Running}
-use Rattle.host_model.specs.declared.root.Spec.{Spec}
 use Rattle.host_model.specs.declared.root.HostRoot.{HostRoot}
-use Rattle.host_model.specs.Roots.{root_at, with_root, made, content_of}
-use Rattle.host_model.specs.Effects.{with_power, with_spec}
+use Rattle.host_model.specs.Roots.{root_at, with_root}
+use Rattle.host_model.specs.Effects.{with_power}
 use Rattle.host_model.proofs.effects.set_power.Goals as goal
 
 pub returns-clause-ok : goal.returns-clause-ok

@@ -7,5 +7,6 @@ use Rattle.host_model.proofs.effects.snap.Goals as goal
 
 pub returns-clause-ok : goal.returns-clause-ok
 returns-clause-ok c =
-    let made = c.in_ok-root-2.ensures ∙ ap (snapped c.args.name.now) (c.in_ok-root.ensures ∙ ap (root_at c.args.at.now) c.deref.ensures.value) in
+    let there = c.in_ok-root.ensures ∙ ap (root_at c.args.at.now) c.deref.ensures.value in
+    let made = c.with_snapshots.ensures ∙ ap (λ part. record c.in_ok-root.root { snapshots = part }) c.in_ok-snapshots.ensures ∙ ap (snapped c.args.name.now) there in
     subst (λ (root : HostRoot). OnOk c.put.result (c.put.new.roots.items ≡ with_root root c.args.roots.now.items)) made c.put.ensures.ok

@@ -1,5 +1,5 @@
 use Rattle.std.proofs.lemmas.Result.{err_from_is_err_and}
-use Rattle.http_front.proofs.ReadLemmas.{TakesIn-further, head_len-taken, Says-taken, IsCut-says, StopsBefore-stops, Takes-taken}
+use Rattle.http_front.proofs.ReadLemmas.{ahead-head, ahead-body, TakesIn-further, head_len-taken, Says-taken, IsCut-says, StopsBefore-stops, Takes-taken}
 use Rattle.http_front.proofs.read.next_request.Goals as goal
 
 pub returns-in_err-await_body-clause-err : goal.returns-in_err-await_body-clause-err
@@ -18,3 +18,29 @@ take_request-requires-clause-ends g c = head_len-taken c.await_body.ensures.take
 pub returns-clause-ok : goal.returns-clause-ok
 returns-clause-ok g c =
     Takes-taken (TakesIn-further c.await_head.ensures.takes c.await_body.ensures.takes) c.in_ok-take_request.ensures.ok
+
+pub returns-in_err-len-clause-ahead : goal.returns-in_err-len-clause-ahead
+returns-in_err-len-clause-ahead g c = ahead-head c.await_head.ensures.ahead
+
+pub returns-in_err-head-clause-ahead : goal.returns-in_err-head-clause-ahead
+returns-in_err-head-clause-ahead g c = ahead-head c.await_head.ensures.ahead
+
+pub returns-in_err-await_body-clause-held : goal.returns-in_err-await_body-clause-held
+returns-in_err-await_body-clause-held g c =
+    let p = err_from_is_err_and c.from_residual-in_err-await_body.result c.from_residual-in_err-await_body.ensures.1 in
+    rw p.1 (TakesIn-further c.await_head.ensures.takes c.await_body.ensures.takes)
+
+pub returns-in_err-await_body-clause-ahead : goal.returns-in_err-await_body-clause-ahead
+returns-in_err-await_body-clause-ahead g c =
+    let says = rw c.view.ensures.bytes at c.in_ok-head.ensures.ok in
+    ahead-body c.in_ok-len.len c.await_head.ensures.ahead c.in_ok-len.ensures.ok says c.await_body.ensures.ahead
+
+pub returns-in_err-take_request-clause-ahead : goal.returns-in_err-take_request-clause-ahead
+returns-in_err-take_request-clause-ahead g c =
+    let says = rw c.view.ensures.bytes at c.in_ok-head.ensures.ok in
+    ahead-body c.in_ok-len.len c.await_head.ensures.ahead c.in_ok-len.ensures.ok says c.await_body.ensures.ahead
+
+pub returns-clause-ahead : goal.returns-clause-ahead
+returns-clause-ahead g c =
+    let says = rw c.view.ensures.bytes at c.in_ok-head.ensures.ok in
+    ahead-body c.in_ok-len.len c.await_head.ensures.ahead c.in_ok-len.ensures.ok says c.await_body.ensures.ahead

@@ -8,7 +8,7 @@ use Rattle.row_machine.specs.Claims.{claimed_instance}
 use Rattle.row_machine.specs.Usage.{loads}
 use Rattle.row_machine.specs.Work.{claiming}
 use Rattle.plain_readings.specs.View.{state_in}
-use Rattle.plain_rules.proofs.Chains.{ok-is}
+use Rattle.rule_refusals.proofs.Chains.{ok-is}
 use Rattle.plain_creation.specs.Creations.{claim_broken}
 use Rattle.plain_creation.proofs.Created.{claim-same}
 use Rattle.plain_creation.proofs.creation.claim_broken.Goals as goal

@@ -2,7 +2,7 @@ use Rattle.std.proofs.Common.{if◌then◌else◌, None, option_and_then}
 use Rattle.std.specs.Str.{bytes_eq}
 use Rattle.row_machine.specs.Claims.{claimed_instance}
 use Rattle.row_machine.specs.PolicyRules.{forbids_instance}
-use Rattle.plain_rules.proofs.Loops.{tells-here, tells-next}
+use Rattle.rule_refusals.proofs.Loops.{tells-here, tells-next}
 use Rattle.plain_rules.proofs.policy.claims_forbid.Goals as goal
 
 pub returns-in-Some : goal.returns-in-Some

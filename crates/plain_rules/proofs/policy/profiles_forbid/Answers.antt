@@ -1,7 +1,7 @@
 use Rattle.std.proofs.Common.{if◌then◌else◌, None}
 use Rattle.std.specs.Str.{bytes_eq}
 use Rattle.row_machine.specs.PolicyRules.{forbids_profile}
-use Rattle.plain_rules.proofs.Loops.{tells-here, tells-next}
+use Rattle.rule_refusals.proofs.Loops.{tells-here, tells-next}
 use Rattle.plain_rules.proofs.policy.profiles_forbid.Goals as goal
 
 pub returns-in-Some : goal.returns-in-Some

@@ -3,7 +3,7 @@ use Rattle.std.specs.Str.{bytes_eq}
 use Rattle.plain_lists.specs.Firsts.{first_of}
 use Rattle.row_machine.specs.Claims.{claimed_instance}
 use Rattle.row_machine.specs.PolicyRules.{forbids_profile, forbids_instance}
-use Rattle.plain_rules.proofs.Chains.{now-told, later-told, skipped, ok-is}
+use Rattle.rule_refusals.proofs.Chains.{now-told, later-told, skipped, ok-is}
 use Rattle.plain_rules.proofs.Judged.{forbids_split}
 use Rattle.plain_rules.proofs.policy.project_forbids.Goals as goal
 

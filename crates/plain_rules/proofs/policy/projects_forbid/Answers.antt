@@ -1,5 +1,5 @@
 use Rattle.row_machine.specs.PolicyRules.{project_forbids}
-use Rattle.plain_rules.proofs.Loops.{tells-here, tells-next}
+use Rattle.rule_refusals.proofs.Loops.{tells-here, tells-next}
 use Rattle.plain_rules.proofs.policy.projects_forbid.Goals as goal
 
 pub returns-in-Some : goal.returns-in-Some

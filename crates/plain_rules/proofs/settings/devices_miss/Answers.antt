@@ -2,7 +2,7 @@ use Rattle.std.proofs.Common.{arith}
 use Rattle.std.specs.Map.{values_of}
 use Rattle.std.proofs.lemmas.List.{length-map}
 use Rattle.row_machine.specs.SettingRules.{device_misses, devices_miss}
-use Rattle.plain_rules.proofs.Loops.{place-here, place-next, place-end}
+use Rattle.rule_refusals.proofs.Loops.{place-here, place-next, place-end}
 use Rattle.plain_rules.proofs.settings.devices_miss.Goals as goal
 
 pub returns-in-Some : goal.returns-in-Some

@@ -1,4 +1,4 @@
-use Rattle.std.proofs.Common.{◌≡◌, ◌++◌, ◌∷◌, cond, None, sym, ap, ap₂, ◌∙◌}
+use Rattle.std.proofs.Common.{◌++◌, ◌∷◌, cond, None, sym, ap, ap₂, ◌∙◌}
 use Rattle.restrictions.specs.Policies.{seen}
 use Rattle.restrictions.specs.Forbids.{first_forbidden, broken_settings, missing_setting, broken_devices, earlier, lowest}
 use Rattle.restrictions.proofs.Lowest.{earlier_assoc, lowest-append}

@@ -1,30 +1,10 @@
-use Rattle.std.specs.Io.KnownBytes.{prepend_known}
+use Rattle.serial_run.specs.Worlds.{inlet, outlet, outside, world}
 use Rattle.serial_run.proofs.Served.{ServesSoFar}
 use Rattle.serial_run.proofs.serving.serve.Given as goal
 
 -- as many requests were served as there were turns, and none of them was the last on its connection
 abbrev pub invariant-loop-done : goal.invariant-loop-done
 invariant-loop-done g l = ServesSoFar
-    (record {
-      input = prepend_known l.fn.buffer (g.S.Source.left l.fn.source);
-      left = g.S.Source.left l.fn.source;
-      ended = g.S.Source.ended l.fn.source;
-      output = g.K.Sink.held l.fn.sink;
-      kept = g.R.Keeper.told l.fn.keeper;
-      state = l.fn.service;
-      read_faults = g.S.Source.failures l.fn.source;
-      write_faults = g.K.Sink.failures l.fn.sink;
-      keeper_faults = g.R.Keeper.failures l.fn.keeper;
-    })
-    (record {
-      input = prepend_known l.buffer (g.S.Source.left l.source);
-      left = g.S.Source.left l.source;
-      ended = g.S.Source.ended l.source;
-      output = g.K.Sink.held l.sink;
-      kept = g.R.Keeper.told l.keeper;
-      state = l.service;
-      read_faults = g.S.Source.failures l.source;
-      write_faults = g.K.Sink.failures l.sink;
-      keeper_faults = g.R.Keeper.failures l.keeper;
-    })
+    (world l.fn.buffer (outside (inlet g.S.Source.left g.S.Source.ended g.S.Source.failures l.fn.source) (outlet g.K.Sink.held g.K.Sink.failures l.fn.sink) (g.R.Keeper.store l.fn.keeper)) l.fn.service)
+    (world l.buffer (outside (inlet g.S.Source.left g.S.Source.ended g.S.Source.failures l.source) (outlet g.K.Sink.held g.K.Sink.failures l.sink) (g.R.Keeper.store l.keeper)) l.service)
     l.done

@@ -1,4 +1,4 @@
-use Rattle.std.proofs.Common.{◌+◌, ◌-◌, ◌≤◌, length, drop, Some, sym, ap, ◌∙◌, arith, length-drop, length-take}
+use Rattle.std.proofs.Common.{◌+◌, ◌-◌, ◌≤◌, length, drop, sym, ap, ◌∙◌, arith, length-drop, length-take}
 use Rattle.http_front.proofs.StreamLemmas.{delivered}
 use Rattle.http_front.proofs.source.ByteSourceSource.read.Goals as goal
 
@@ -11,4 +11,4 @@ returns-clause-bytes c =
     let fits : at + c.min-count.result ≤ length bytes =
     omega (arith, count, length-take (length bytes - at) (drop at bytes), length-drop at bytes) in
     let d = delivered at c.min-count.result bytes _ _ c.self.invariant.given fits is in
-    (d.0, ap Some (sym (ap (λ t. t.left) c.self.view_is) ∙ d.1))
+    (d.0, sym (ap (λ t. t.left) c.self.view_is) ∙ d.1)

@@ -1,6 +1,6 @@
-use Rattle.std.proofs.Common.{◌≡◌, ℕ, List, [], ◌∷◌, ◌++◌, Some, None, sym, ◌∙◌, ap, subst, arith}
+use Rattle.std.proofs.Common.{◌≡◌, [], ◌∷◌, ◌++◌, Some, None, sym, ◌∙◌, ap, arith}
 use Rattle.std.proofs.lemmas.Str.Pattern.{split_text_parts}
-use Rattle.instance_states.specs.Numbers.{Numbering, holes, before_hole, behind_hole}
+use Rattle.instance_states.specs.Numbers.{holes, before_hole, behind_hole}
 use Rattle.instance_states.proofs.Holes.{holes-one, holes-cut}
 use Rattle.instance_states.proofs.numbers.SnapshotNumbers.new.Goals as goal
 

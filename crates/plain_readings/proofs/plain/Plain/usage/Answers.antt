@@ -9,8 +9,8 @@ use Rattle.plain_readings.proofs.plain.Plain.usage.Goals as goal
 pub returns : goal.returns
 unfolding usage_of
 returns c =
-    let sums : (k : Part) → part k c.usage_in.result ≡ used c.args.self.now c.args.project.now k =
-    λ k. c.usage_in.ensures.sums k
+    let sums : (k : Part) → part k c.usage_in-used.result ≡ used c.args.self.now c.args.project.now k =
+    λ k. c.usage_in-used.ensures.sums k
     ∙ ap₂ (λ (name : List ℕ) all. sum_by (counted name k) all) c.view.ensures.value (c.deref.ensures.value ∙ c.in_ok-all.ensures.loads)
     in
     λ i. record {

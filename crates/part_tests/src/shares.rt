@@ -1,0 +1,85 @@
+ghost use Rattle.std.specs.Prelude.{◌<◌, ◌^◌};
+ghost use Rattle.size_values.specs.Amounts.{part};
+ghost use Rattle.size_values.specs.declared.amounts.Part.{Part};
+
+use reservations::Ledger;
+use size_values::{Amounts, NoMemory};
+use std::alloc::Global;
+
+fn share(cpu: u32, disk: u64) -> Amounts
+    ensures { (k : Part) → part k result < 2 ^ 80 }
+{
+    Amounts {
+        instances: 1,
+        containers: 1,
+        machines: 0,
+        cpu: cpu as u128,
+        memory: 1_073_741_824,
+        processes: 100,
+        disk: disk as u128,
+    }
+}
+
+fn convert(ledger: &mut Ledger, op: u64) {
+    match ledger.share_of(op) {
+        Some(_) => ledger.convert(op),
+        None => {}
+    }
+}
+
+fn give_back(ledger: &mut Ledger, op: u64) {
+    match ledger.share_of(op) {
+        Some(_) => ledger.give_back(op),
+        None => {}
+    }
+}
+
+/// Two shares of one project, and one of another.
+fn three_shares(alloc: Global) -> Result<Ledger, NoMemory> {
+    let mut ledger = Ledger::new(alloc);
+    ledger.reserve_one()?;
+    ledger.hold(3, 0, share(2, 10));
+    ledger.reserve_one()?;
+    ledger.hold(5, 1, share(4, 20));
+    ledger.reserve_one()?;
+    ledger.hold(9, 0, share(4, 20));
+    Ok(ledger)
+}
+
+fn holds(ledger: &Ledger, project: u32, cpu: u128, disk: u128) -> bool {
+    let held = ledger.held(project);
+    held.cpu == cpu && held.disk == disk
+}
+
+fn are_held(ledger: &Ledger) -> bool {
+    ledger.share_of(5) == Some(share(4, 20))
+        && ledger.share_of(4) == None
+        && holds(ledger, 0, 6, 30)
+        && holds(ledger, 1, 4, 20)
+        && ledger.held(2) == Amounts::zero()
+}
+
+fn are_booked(ledger: &Ledger) -> bool {
+    let books = ledger.books();
+    ledger.held(0) == Amounts::zero()
+        && ledger.share_of(9) == None
+        && books.granted.instances == 3
+        && books.granted.cpu == 10
+        && books.granted.disk == 50
+        && books.converted == share(4, 20)
+        && books.returned == share(2, 10)
+}
+
+/// Whether three shares are held, and whether the books are right once one was converted and one returned.
+fn books_of_three(alloc: Global) -> Result<(bool, bool), NoMemory> {
+    let mut ledger = three_shares(alloc)?;
+    let held = are_held(&ledger);
+    convert(&mut ledger, 9);
+    give_back(&mut ledger, 3);
+    Ok((held, are_booked(&ledger)))
+}
+
+#[test]
+fn books_every_share(rt: HostRuntime) {
+    assert!(rt; matches!(books_of_three(rt.alloc()), Ok((true, true))));
+}

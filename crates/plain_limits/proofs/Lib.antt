@@ -1,0 +1,2 @@
+pub mod Countables
+pub mod Limited

@@ -1,5 +1,0 @@
-use Rattle.std.proofs.Common.{arith}
-use Rattle.project_limits.proofs.tests.admit_each.Goals as goal
-
-pub admit-requires : goal.admit-requires
-admit-requires c = λ p. omega (arith, c.each.ensures p, c.each-2.ensures p)

@@ -1,0 +1,45 @@
+-- What the fields of a body say of an object.
+use Rattle.std.specs.Prelude.{Bool, true, false, Option, None, option_map, codes}
+use Rattle.serde_json.specs.Data.{Data}
+use Rattle.config_lists.specs.Devices.{NamedDevices}
+use Rattle.config_lists.specs.Settings.{Settings}
+use Rattle.records.specs.declared.commands.Body.{Body}
+use Rattle.records.specs.declared.commands.Origin.TheVariants as origin
+use Rattle.rest_bodies.specs.Members.{given, text_at}
+use Rattle.rest_bodies.specs.Settings.{changes_of, devices_of}
+use Rattle.rest_bodies.specs.declared.fields.Shape.{Shape}
+use Rattle.rest_bodies.specs.declared.fields.Shape.TheVariants as shape
+
+-- the settings in a body, if they are given
+unfoldable pub config_at : Data → Option Settings
+config_at body = option_map changes_of (given (codes "config") body)
+
+-- the devices in a body, if they are given
+unfoldable pub devices_at : Data → Option NamedDevices
+devices_at body = option_map devices_of (given (codes "devices") body)
+
+-- a part that bodies of this shape have
+abbrev pub part_of : {A : Type 0} → Bool → Option A → Option A
+part_of true part = part
+part_of false part = None
+
+-- bodies of profiles have settings and devices, but for a rename
+abbrev pub has_settings : Shape → Bool
+has_settings shape.NewProject = false
+has_settings shape.NewProfile = true
+has_settings shape.ProfilePut = true
+has_settings shape.ProfilePatch = true
+has_settings shape.ProfileRename = false
+
+-- what a body says of an object
+unfoldable pub body_of : Shape → Data → Body
+body_of shape body = record {
+  description = text_at (codes "description") body;
+  config = part_of (has_settings shape) (config_at body);
+  devices = part_of (has_settings shape) (devices_at body);
+  profiles = None;
+  kind = None;
+  ephemeral = None;
+  driver = None;
+  origin = origin.None;
+}

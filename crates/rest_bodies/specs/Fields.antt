@@ -1,0 +1,69 @@
+-- The fields of bodies: which a request has, in which form and order.
+use Rattle.std.specs.Prelude.{◌≡◌, ℕ, Bool, List, [], ◌∷◌, ◌++◌, Option, Some, None, is_some, if◌then◌else◌, codes}
+use Rattle.serde_json.specs.Data.{Data}
+use Rattle.serde_json.specs.Find.{as_str}
+use Rattle.rest_bodies.specs.Members.{given}
+use Rattle.rest_bodies.specs.Settings.{fits_settings, fits_devices}
+use Rattle.rest_bodies.specs.declared.fields.Field.{Field}
+use Rattle.rest_bodies.specs.declared.fields.Field.TheVariants as field
+use Rattle.rest_bodies.specs.declared.fields.Shape.{Shape}
+use Rattle.rest_bodies.specs.declared.fields.Shape.TheVariants as shape
+
+-- the fields of a body, in the order in which they are judged
+abbrev pub fields_of : Shape → List Field
+fields_of shape.NewProject = field.Name ∷ field.Description ∷ []
+fields_of shape.NewProfile = field.Name ∷ field.Description ∷ field.Config ∷ field.Devices ∷ []
+fields_of shape.ProfilePut = field.Description ∷ field.Config ∷ field.Devices ∷ []
+fields_of shape.ProfilePatch = field.Description ∷ field.Config ∷ field.Devices ∷ []
+fields_of shape.ProfileRename = field.Name ∷ []
+
+-- the key of a field
+abbrev pub key_of : Field → List ℕ
+key_of field.Name = codes "name"
+key_of field.Description = codes "description"
+key_of field.Config = codes "config"
+key_of field.Devices = codes "devices"
+
+-- the value has the form of the field
+abbrev pub fits : Field → Data → Bool
+fits field.Name value = is_some (as_str value)
+fits field.Description value = is_some (as_str value)
+fits field.Config value = fits_settings value
+fits field.Devices value = fits_devices value
+
+-- the key of a field, if it is at fault
+abbrev pub unless : Bool → List ℕ → Option (List ℕ)
+unless fine key = if fine then None else Some key
+
+-- a name has to be given, and other fields may be absent
+abbrev pub absent_fault : Field → Option (List ℕ)
+absent_fault field.Name = Some (codes "name")
+absent_fault other = None
+
+-- the fault of a field, by its value if one is given
+abbrev pub fault_in : Field → Option Data → Option (List ℕ)
+fault_in field None = absent_fault field
+fault_in field (Some value) = unless (fits field value) (key_of field)
+
+-- the key of a field that is at fault in a body
+unfoldable pub fault_of : Field → Data → Option (List ℕ)
+fault_of field body = fault_in field (given (key_of field) body)
+
+-- the first fault, or else the next
+abbrev pub or_next : Option (List ℕ) → Option (List ℕ) → Option (List ℕ)
+or_next None next = next
+or_next (Some key) next = Some key
+
+-- the key of the first of these fields that is at fault
+abbrev pub first_fault : List Field → Data → Option (List ℕ)
+first_fault [] body = None
+first_fault (field ∷ fields) body = or_next (fault_of field body) (first_fault fields body)
+
+-- the key is that of one of these fields, which is at fault, and no field before it is
+pub record IsFirstBad (fields : List Field) (body : Data) (key : List ℕ) : Type 0 where
+  pub before : List Field
+  pub bad : Field
+  pub after : List Field
+  pub is : fields ≡ before ++ bad ∷ after
+  pub none_before : first_fault before body ≡ None
+  pub is_bad : fault_of bad body ≡ Some key

@@ -1,0 +1,5 @@
+pub mod Bodies
+pub mod Fields
+pub mod Members
+pub mod Origins
+pub mod Settings

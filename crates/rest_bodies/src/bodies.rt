@@ -1,0 +1,89 @@
+ghost use Rattle.std.specs.Prelude.{◌≡◌, IfOk, option_map};
+ghost use Rattle.serde_json.specs.View.{view};
+ghost use Rattle.rest_bodies.specs.Bodies.{config_at, devices_at, part_of, has_settings, body_of};
+ghost use Rattle.rest_bodies.specs.Fields.{fields_of, first_fault};
+ghost use Rattle.rest_bodies.specs.Members.{text_at};
+
+use crate::fields::{Shape, fields_of, first_fault};
+use crate::members::{given, text_at};
+use crate::settings::{changes_of, devices_of};
+use config_lists::{Changes, Devices};
+use records::{Body, Origin};
+use serde_json::Value;
+use size_values::NoMemory;
+use std::alloc::Global;
+
+/// The key of the first field of a body that is at fault, if one is.
+pub fn judge_fields(shape: Shape, body: &Value) -> Option<&'static str>
+    ensures { option_map (λ k. k.now) result ≡ first_fault (fields_of shape) (view body.now) }
+{
+    first_fault(fields_of(shape), body)
+}
+
+#[tactic(auto, unfolding(crate::specs::Bodies::config_at))]
+fn config_at(alloc: Global, body: &Value) -> Result<Option<Changes>, NoMemory>
+    ensures { IfOk result (λ o. o ≡ config_at (view body.now)) }
+{
+    match given("config", body) {
+        Some(value) => Ok(Some(changes_of(alloc, value)?)),
+        None => Ok(None),
+    }
+}
+
+#[tactic(auto, unfolding(crate::specs::Bodies::devices_at))]
+fn devices_at(alloc: Global, body: &Value) -> Result<Option<Devices>, NoMemory>
+    ensures { IfOk result (λ o. o ≡ devices_at (view body.now)) }
+{
+    match given("devices", body) {
+        Some(value) => Ok(Some(devices_of(alloc, value)?)),
+        None => Ok(None),
+    }
+}
+
+/// Whether a body of this shape has settings and devices.
+fn has_settings(shape: Shape) -> bool
+    ensures { result ≡ has_settings shape }
+{
+    match shape {
+        Shape::NewProject => false,
+        Shape::NewProfile => true,
+        Shape::ProfilePut => true,
+        Shape::ProfilePatch => true,
+        Shape::ProfileRename => false,
+    }
+}
+
+fn config_part(alloc: Global, shape: Shape, body: &Value) -> Result<Option<Changes>, NoMemory>
+    ensures { IfOk result (λ o. o ≡ part_of (has_settings shape) (config_at (view body.now))) }
+{
+    if has_settings(shape) {
+        return config_at(alloc, body);
+    }
+    Ok(None)
+}
+
+fn devices_part(alloc: Global, shape: Shape, body: &Value) -> Result<Option<Devices>, NoMemory>
+    ensures { IfOk result (λ o. o ≡ part_of (has_settings shape) (devices_at (view body.now))) }
+{
+    if has_settings(shape) {
+        return devices_at(alloc, body);
+    }
+    Ok(None)
+}
+
+/// What a body of this shape says of an object.
+#[tactic(auto, unfolding(crate::specs::Bodies::body_of))]
+pub fn body_of(alloc: Global, shape: Shape, body: &Value) -> Result<Body, NoMemory>
+    ensures { IfOk result (λ b. b ≡ body_of shape (view body.now)) }
+{
+    Ok(Body {
+        description: text_at(alloc, "description", body)?,
+        config: config_part(alloc, shape, body)?,
+        devices: devices_part(alloc, shape, body)?,
+        profiles: None,
+        kind: None,
+        ephemeral: None,
+        driver: None,
+        origin: Origin::None,
+    })
+}

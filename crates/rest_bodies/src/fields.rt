@@ -1,0 +1,106 @@
+ghost use Rattle.std.specs.Prelude.{◌≡◌, option_map};
+ghost use Rattle.serde_json.specs.View.{view};
+ghost use Rattle.rest_bodies.specs.Fields.{fields_of, key_of, fits, absent_fault, fault_of, first_fault};
+
+use crate::members::given;
+use crate::settings::{fits_devices, fits_settings};
+use serde_json::Value;
+
+/// The fields of bodies, each in its form: a name is a text that has to be there, a description a text, `config` an
+/// object of texts, and `devices` an object of such objects.
+#[derive(Clone, Copy)]
+pub enum Field {
+    Name,
+    Description,
+    Config,
+    Devices,
+}
+
+/// The shapes of bodies: which fields they have. Those of PUT and PATCH are alike.
+#[derive(Clone, Copy)]
+pub enum Shape {
+    NewProject,
+    NewProfile,
+    ProfilePut,
+    ProfilePatch,
+    ProfileRename,
+}
+
+/// The fields of a shape, in the order in which they are judged.
+pub(crate) fn fields_of(shape: Shape) -> &'static [Field]
+    ensures { result.now ≡ fields_of shape }
+{
+    match shape {
+        Shape::NewProject => &[Field::Name, Field::Description],
+        Shape::NewProfile => &[
+            Field::Name,
+            Field::Description,
+            Field::Config,
+            Field::Devices,
+        ],
+        Shape::ProfilePut => &[Field::Description, Field::Config, Field::Devices],
+        Shape::ProfilePatch => &[Field::Description, Field::Config, Field::Devices],
+        Shape::ProfileRename => &[Field::Name],
+    }
+}
+
+fn key_of(field: Field) -> &'static str
+    ensures { result.now ≡ key_of field }
+{
+    match field {
+        Field::Name => "name",
+        Field::Description => "description",
+        Field::Config => "config",
+        Field::Devices => "devices",
+    }
+}
+
+fn fits(field: Field, value: &Value) -> bool
+    ensures { result ≡ fits field (view value.now) }
+{
+    match field {
+        Field::Name => value.as_str().is_some(),
+        Field::Description => value.as_str().is_some(),
+        Field::Config => fits_settings(value),
+        Field::Devices => fits_devices(value),
+    }
+}
+
+fn absent_fault(field: Field) -> Option<&'static str>
+    ensures { option_map (λ k. k.now) result ≡ absent_fault field }
+{
+    match field {
+        Field::Name => Some("name"),
+        _ => None,
+    }
+}
+
+/// The key of a field that is at fault.
+#[tactic(auto, unfolding(crate::specs::Fields::fault_of))]
+fn fault_of(field: Field, body: &Value) -> Option<&'static str>
+    ensures { option_map (λ k. k.now) result ≡ fault_of field (view body.now) }
+{
+    match given(key_of(field), body) {
+        Some(value) => {
+            if fits(field, value) {
+                None
+            } else {
+                Some(key_of(field))
+            }
+        }
+        None => absent_fault(field),
+    }
+}
+
+/// The key of the first field that is at fault.
+pub(crate) fn first_fault(fields: &[Field], body: &Value) -> Option<&'static str>
+    ensures { option_map (λ k. k.now) result ≡ first_fault fields.now (view body.now) }
+{
+    for field in fields {
+        match fault_of(*field, body) {
+            Some(key) => return Some(key),
+            None => {}
+        }
+    }
+    None
+}

@@ -1,0 +1,16 @@
+//! The bodies of requests to the REST API: JSON objects (RFC 8259) whose fields are judged in order, each by its form,
+//! and what they say of an object.
+#![tactic(auto)]
+
+mod bodies;
+mod fields;
+mod laws;
+mod members;
+mod origins;
+mod settings;
+
+pub use bodies::{body_of, judge_fields};
+pub use fields::{Field, Shape};
+pub use laws::names_first_bad;
+pub use members::{given, name_at, object_in};
+pub use origins::volume_origin;

@@ -1,0 +1,80 @@
+-- What the query of a target says.
+use Rattle.std.specs.Prelude.{ℕ, ◌==◌, ◌&&◌, ◌||◌, nat_lt, Bool, true, false, not, List, [], ◌∷◌, length, slice_index, Option, Some, None, Result, Ok, ok_or, option_map, unwrap_or, is_some, is_ok, if◌then◌else◌, codes}
+use Rattle.std.specs.List.{list_all, slice_split}
+use Rattle.std.specs.Str.{bytes_eq}
+use Rattle.std.specs.Str.Lossy.{utf8_lossy}
+use Rattle.form_urlencoded.specs.Form.{raw_pairs, decode}
+use Rattle.size_values.specs.Count.{count_of}
+use Rattle.records.specs.declared.refusals.Rule.TheVariants as rule
+use Rattle.records.specs.declared.refusals.Refusal.{Refusal}
+use Rattle.rest_paths.specs.Answers.{followed}
+use Rattle.rest_paths.specs.Refusals.{on_key}
+use Rattle.rest_paths.specs.declared.query.Flags.{Flags}
+use Rattle.rest_paths.specs.declared.query.Query.{Query}
+
+-- the text that a key or a value of a query stands for: decoded, and bytes that are no UTF-8 replaced
+abbrev pub text_of : List ℕ → List ℕ
+text_of raw = utf8_lossy (decode raw)
+
+-- `0` lists links, and `1` and `2` list objects
+unfoldable pub recursion_of : List ℕ → Option Bool
+recursion_of value =
+    if bytes_eq value (codes "0") then Some false
+    else (if bytes_eq value (codes "1") || bytes_eq value (codes "2") then Some true
+    else None)
+
+-- a zero before other digits
+unfoldable pub has_leading_zero : List ℕ → Bool
+has_leading_zero value = nat_lt 1 (length value) && slice_index value 0 == 48
+
+-- -1 for no end, or seconds from 0 to 1000000 in decimal, with neither a sign nor leading zeros
+unfoldable pub is_timeout : List ℕ → Bool
+is_timeout value = bytes_eq value (codes "-1") || (not (has_leading_zero value) && is_ok (count_of value 0 1000000))
+
+-- one of the two types of events
+unfoldable pub is_type : List ℕ → Bool
+is_type word = bytes_eq word (codes "lifecycle") || bytes_eq word (codes "operation")
+
+-- types of events with commas between
+unfoldable pub are_types : List ℕ → Bool
+are_types value = list_all is_type (slice_split (λ byte. byte == 44) value)
+
+-- a query that says nothing
+abbrev pub no_query : Query
+no_query = record { project = None; flags = record { recursion = None; has_timeout = false; has_types = false } }
+
+-- The flags after one more pair, or none if the pair is bad. The first of equal keys counts, and other keys say nothing.
+unfoldable pub flags_after : Flags → List ℕ → List ℕ → Option Flags
+flags_after flags key value =
+    if bytes_eq key (codes "recursion") && not (is_some flags.recursion) then option_map (λ (r : Bool). record flags { recursion = Some r }) (recursion_of value)
+    else (if bytes_eq key (codes "timeout") && not flags.has_timeout then (if is_timeout value then Some (record flags { has_timeout = true }) else None)
+    else (if bytes_eq key (codes "type") && not flags.has_types then (if are_types value then Some (record flags { has_types = true }) else None)
+    else (if bytes_eq key (codes "all-projects") || bytes_eq key (codes "filter") then None
+    else Some flags)))
+
+-- the project after one more pair: the first that is named
+unfoldable pub project_after : Option (List ℕ) → List ℕ → List ℕ → Option (List ℕ)
+project_after project key value = if bytes_eq key (codes "project") && not (is_some project) then Some value else project
+
+-- the query after one more pair; a bad pair is refused by its key
+unfoldable pub query_after : Query → List ℕ → List ℕ → Result Query Refusal
+query_after query key value =
+    followed (ok_or (flags_after query.flags key value) (on_key rule.A3 key)) (λ flags.
+    Ok (record { project = project_after query.project key value; flags = flags }))
+
+-- the query with all these pairs
+abbrev pub query_in : Query → List (List ℕ × List ℕ) → Result Query Refusal
+query_in query [] = Ok query
+query_in query ((key, value) ∷ pairs) = followed (query_after query (text_of key) (text_of value)) (λ next. query_in next pairs)
+
+-- what a query says, or the refusal of its first bad pair
+unfoldable pub query_said : List ℕ → Result Query Refusal
+query_said text = query_in no_query (raw_pairs text)
+
+-- the project that is asked in, which is `default` where the query names none
+abbrev pub project_of : Query → List ℕ
+project_of query = unwrap_or query.project (codes "default")
+
+-- whether objects are listed, and not their links alone
+abbrev pub recursion_asked : Query → Bool
+recursion_asked query = unwrap_or query.flags.recursion false

@@ -1,0 +1,9 @@
+//! What can be said of the table of paths. A law is the contract of a function that does nothing.
+ghost use Rattle.std.specs.Prelude.{◌≡◌, true, []};
+ghost use Rattle.rest_paths.specs.Places.{routes, are_taken};
+
+/// No path of the table is malformed, and none conflicts with one before it, so that a table of paths fails to be made
+/// for memory alone.
+pub fn paths_do_not_conflict()
+    ensures { are_taken routes [] ≡ true }
+{}

@@ -1,0 +1,17 @@
+//! The targets of requests to the REST API: which place a path names (RFC 3986, section 3.3), which methods it offers, and
+//! what the query says; with the refusals of requests by their form.
+#![tactic(auto)]
+
+mod laws;
+mod paths;
+mod places;
+mod query;
+mod refusals;
+mod table;
+
+pub use laws::paths_do_not_conflict;
+pub use paths::{name_of, path_of, query_of};
+pub use places::{Line, Methods, Place, Verb, has_body, is_built, verb_offered};
+pub use query::{Flags, Query, project_of, query_said, recursion_asked};
+pub use refusals::{plainly, refused};
+pub use table::PathTable;

@@ -1,0 +1,54 @@
+ghost use Rattle.std.specs.Prelude.{◌≡◌};
+ghost use Rattle.rest_paths.specs.Paths.{before_slash, after_slash, path_of, query_of, name_of};
+
+/// What stands before the first slash, or all where there is none.
+#[tactic(auto, unfolding(crate::specs::Paths::before_slash))]
+fn before_slash(text: &str) -> &str
+    ensures { result.now ≡ before_slash text.now }
+{
+    match text.split_once('/') {
+        Some((before, _)) => before,
+        None => text,
+    }
+}
+
+/// What stands behind the first slash, or nothing where there is none.
+#[tactic(auto, unfolding(crate::specs::Paths::after_slash))]
+fn after_slash(text: &str) -> &str
+    ensures { result.now ≡ after_slash text.now }
+{
+    match text.split_once('/') {
+        Some((_, after)) => after,
+        None => "",
+    }
+}
+
+/// The path of a target, which is not decoded: all before the first question mark (RFC 3986, section 3.4).
+#[tactic(auto, unfolding(crate::specs::Paths::path_of))]
+pub fn path_of(target: &str) -> &str
+    ensures { result.now ≡ path_of target.now }
+{
+    match target.split_once('?') {
+        Some((path, _)) => path,
+        None => target,
+    }
+}
+
+/// The query of a target: all behind the first question mark (RFC 3986, section 3.4).
+#[tactic(auto, unfolding(crate::specs::Paths::query_of))]
+pub fn query_of(target: &str) -> &str
+    ensures { result.now ≡ query_of target.now }
+{
+    match target.split_once('?') {
+        Some((_, query)) => query,
+        None => "",
+    }
+}
+
+/// The name of the object in a path `/1.0/profiles/NAME`.
+#[tactic(auto, unfolding(crate::specs::Paths::name_of))]
+pub fn name_of(path: &str) -> &str
+    ensures { result.now ≡ name_of path.now }
+{
+    before_slash(after_slash(after_slash(after_slash(path))))
+}

@@ -1,0 +1,185 @@
+ghost use Rattle.std.specs.Prelude.{◌≡◌, IfOk};
+ghost use Rattle.rest_paths.specs.Answers.{Gives};
+ghost use Rattle.rest_paths.specs.Queries.{recursion_of, has_leading_zero, is_timeout, is_type, are_types, no_query, flags_after, project_after, query_after, query_said, project_of, recursion_asked};
+
+use crate::refusals::refused;
+use form_urlencoded::parse;
+use records::{Refusal, Rule};
+use size_values::{NoMemory, Or, Text, read_count};
+use std::alloc::Global;
+
+/// What a query says besides the project: whether objects are listed and not their links alone, and that a `timeout` and
+/// a `type` were there.
+#[derive(Clone, Copy)]
+pub struct Flags {
+    pub recursion: Option<bool>,
+    pub has_timeout: bool,
+    pub has_types: bool,
+}
+
+/// What the query of a target says, as far as it is read.
+#[derive(Drop)]
+pub struct Query {
+    pub project: Option<Text>,
+    pub flags: Flags,
+}
+
+/// Whether objects are listed: `0`, `1`, or `2`, which is the same as `1`.
+#[tactic(auto, unfolding(crate::specs::Queries::recursion_of))]
+fn recursion_of(value: &str) -> Option<bool>
+    ensures { result ≡ recursion_of value.now }
+{
+    if value == "0" {
+        return Some(false);
+    }
+    if value == "1" || value == "2" {
+        return Some(true);
+    }
+    None
+}
+
+#[tactic(auto, unfolding(crate::specs::Queries::has_leading_zero))]
+fn has_leading_zero(value: &str) -> bool
+    ensures { result ≡ has_leading_zero value.now }
+{
+    value.len() > 1 && value.as_bytes()[0] == b'0'
+}
+
+/// Whether a text is `-1` or seconds from 0 to 1000000 without leading zeros.
+#[tactic(auto, unfolding(crate::specs::Queries::is_timeout))]
+fn is_timeout(value: &str) -> bool
+    ensures { result ≡ is_timeout value.now }
+{
+    value == "-1" || (!has_leading_zero(value) && read_count(value, 0, 1_000_000).is_ok())
+}
+
+#[tactic(auto, unfolding(crate::specs::Queries::is_type))]
+fn is_type(word: &[u8]) -> bool
+    ensures { result ≡ is_type word.now }
+{
+    word == b"lifecycle".as_slice() || word == b"operation".as_slice()
+}
+
+/// Whether a text is types of events with commas between.
+fn are_types(value: &[u8]) -> bool
+    ensures { result ≡ are_types value.now }
+{
+    value.split(|byte| *byte == b',').all(|word| is_type(word))
+}
+
+/// The flags after one more pair, or none if the pair is bad. The first of equal keys counts, and keys of no meaning
+/// are passed over.
+#[tactic(auto, unfolding(crate::specs::Queries::flags_after))]
+fn flags_after(flags: Flags, key: &str, value: &str) -> Option<Flags>
+    ensures { result ≡ flags_after flags key.now value.now }
+{
+    let Flags {
+        recursion,
+        has_timeout,
+        has_types,
+    } = flags;
+    if key == "recursion" && recursion.is_none() {
+        return match recursion_of(value) {
+            Some(objects) => Some(Flags {
+                recursion: Some(objects),
+                has_timeout,
+                has_types,
+            }),
+            None => None,
+        };
+    }
+    if key == "timeout" && !has_timeout {
+        if !is_timeout(value) {
+            return None;
+        }
+        return Some(Flags {
+            recursion,
+            has_timeout: true,
+            has_types,
+        });
+    }
+    if key == "type" && !has_types {
+        if !are_types(value.as_bytes()) {
+            return None;
+        }
+        return Some(Flags {
+            recursion,
+            has_timeout,
+            has_types: true,
+        });
+    }
+    if key == "all-projects" || key == "filter" {
+        return None;
+    }
+    Some(flags)
+}
+
+/// The project after one more pair: the first that is named.
+#[tactic(auto, unfolding(crate::specs::Queries::project_after))]
+fn project_after(
+    alloc: Global,
+    project: Option<Text>,
+    key: &str,
+    value: &str,
+) -> Result<Option<Text>, NoMemory>
+    ensures { IfOk result (λ next. next ≡ project_after project key.now value.now) }
+{
+    if key == "project" && project.is_none() {
+        return Ok(Some(Text::from_text(alloc, value)?));
+    }
+    Ok(project)
+}
+
+/// The query after one more pair, or the refusal of a bad pair by its key.
+#[tactic(auto, unfolding(crate::specs::Queries::query_after))]
+fn query_after(alloc: Global, query: Query, key: &str, value: &str) -> Result<Query, Or<Refusal>>
+    ensures { Gives result (query_after query key.now value.now) }
+{
+    let Query { project, flags } = query;
+    let Some(flags) = flags_after(flags, key, value) else {
+        return Err(refused(alloc, Rule::A3, key));
+    };
+    let project = project_after(alloc, project, key, value)?;
+    Ok(Query { project, flags })
+}
+
+/// What a query says, or the refusal of its first bad pair. Keys and values are those of a form (URL Standard,
+/// section 5), and bytes that are no UTF-8 are replaced.
+#[tactic(auto, unfolding(crate::specs::Queries::query_said))]
+pub fn query_said(alloc: Global, text: &str) -> Result<Query, Or<Refusal>>
+    ensures { Gives result (query_said text.now) }
+{
+    let mut query = Query {
+        project: None,
+        flags: Flags {
+            recursion: None,
+            has_timeout: false,
+            has_types: false,
+        },
+    };
+    for pair in parse(alloc, text.as_bytes()) {
+        let (key, value) = pair?;
+        query = query_after(alloc, query, &key, &value)?;
+    }
+    Ok(query)
+}
+
+/// The project that is asked in.
+pub fn project_of(alloc: Global, query: Query) -> Result<Text, NoMemory>
+    ensures { IfOk result (λ t. t ≡ project_of query) }
+{
+    match query.project {
+        Some(project) => Ok(project),
+        None => Text::from_text(alloc, "default"),
+    }
+}
+
+/// Whether objects are listed, and not their links alone.
+pub fn recursion_asked(query: &Query) -> bool
+    ensures { result ≡ recursion_asked query.now }
+{
+    match query.flags.recursion {
+        Some(objects) => objects,
+        None => false,
+    }
+}

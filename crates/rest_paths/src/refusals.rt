@@ -1,0 +1,40 @@
+ghost use Rattle.std.specs.Prelude.{◌≡◌, IfOk};
+ghost use Rattle.rest_paths.specs.Answers.{IsRefused};
+ghost use Rattle.rest_paths.specs.Refusals.{untold, on_key, plainly};
+
+use records::{Kept, Refusal, Rule};
+use size_values::{NoMemory, Or, Text};
+use std::alloc::Global;
+
+/// What is kept of a rule that tells a key, or nothing where the key is empty.
+fn kept(alloc: Global, key: &str) -> Result<Kept, NoMemory>
+    ensures { IfOk result (λ k. k ≡ record untold { key = key.now }) }
+{
+    Ok(Kept {
+        kind: Text::new(alloc),
+        project: Text::new(alloc),
+        name: Text::new(alloc),
+        key: Text::from_text(alloc, key)?,
+        number: 0,
+        used: 0,
+        asked: 0,
+        limit: 0,
+    })
+}
+
+/// The refusal by a rule that tells a key.
+pub fn refused(alloc: Global, rule: Rule, key: &str) -> Or<Refusal>
+    ensures { IsRefused result (on_key rule key.now) }
+{
+    match kept(alloc, key) {
+        Ok(kept) => Or::Why(Refusal { rule, kept }),
+        Err(_) => Or::NoMemory,
+    }
+}
+
+/// The refusal by a rule that tells nothing.
+pub fn plainly(alloc: Global, rule: Rule) -> Or<Refusal>
+    ensures { IsRefused result (plainly rule) }
+{
+    refused(alloc, rule, "")
+}

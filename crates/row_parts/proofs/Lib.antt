@@ -1,0 +1,4 @@
+pub mod Texts
+pub mod Rising
+pub mod Items
+pub mod Written

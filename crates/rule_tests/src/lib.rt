@@ -1,0 +1,14 @@
+//! Tests of what makes parts of rows and links, of the readings over plain vectors, and of the rules on the creation of an
+//! instance.
+#![tactic(auto)]
+
+#[cfg(test)]
+mod creations;
+#[cfg(test)]
+mod links;
+#[cfg(test)]
+mod parts;
+#[cfg(test)]
+mod places;
+#[cfg(test)]
+mod readings;

@@ -1,0 +1,17 @@
+//! Tests of whole runs of the program, over the public calls of `serial_run`. There is nothing else here.
+#![tactic(auto)]
+
+#[cfg(test)]
+mod keepers;
+#[cfg(test)]
+mod profiles;
+#[cfg(test)]
+mod refusals;
+#[cfg(test)]
+mod runs;
+#[cfg(test)]
+mod scripts;
+#[cfg(test)]
+mod sessions;
+#[cfg(test)]
+mod sizes;

@@ -1,0 +1,13 @@
+use Rattle.std.proofs.Common.{arith}
+use Rattle.serial_run.proofs.Served.{session_few}
+use Rattle.serial_run.proofs.running.session.Goals as goal
+
+pub returns : goal.returns
+returns g c =
+    let session = rw c.requires at c.serve.ensures in
+    record {
+      held = c.serve.new.buffer;
+      few = session_few _ _ _ (omega arith) session;
+      state = c.serve.new.service;
+      session = session;
+    }
