@@ -19,7 +19,7 @@ pub fn pieces_have_64_kib()
 {}
 
 /// The bytes that a source gave and that no message has used yet. Contracts see it as the list of these bytes.
-#[derive(Debug, Drop)]
+#[derive(Drop)]
 pub struct Buffer {
     /// The bytes from `start` on are held; those before it were used.
     bytes: Vec<u8>,

@@ -18,7 +18,7 @@ use size_values::{NoMemory, Or, Seq};
 use std::alloc::Global;
 
 /// What one call of `read_request` found at the front of the bytes.
-#[derive(Debug, Drop)]
+#[derive(Drop)]
 pub enum Got {
     Request(Request),
     /// The source has ended between two messages.
@@ -33,7 +33,7 @@ pub enum Got {
 }
 
 /// Why there is no request.
-#[derive(Clone, Copy, Debug, PartialEq, Eq)]
+#[derive(Clone, Copy)]
 enum Stop {
     End,
     Cut(u64),

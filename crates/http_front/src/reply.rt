@@ -8,7 +8,7 @@ use std::alloc::Global;
 
 /// A reply: its status code, its JSON body, the text of a Location header or none where it is empty, and whether
 /// the connection ends behind it.
-#[derive(Debug, Drop)]
+#[derive(Drop)]
 pub struct Printed {
     pub code: u16,
     pub body: Seq<u8>,

@@ -34,7 +34,7 @@ pub trait Sink {
 
 /// A sink in memory. The writes of the listed numbers fail, counted from 1, and take none of the bytes. A write for
 /// which memory is refused fails too, and is counted apart.
-#[derive(Debug, Drop)]
+#[derive(Drop)]
 pub struct ByteSink {
     bytes: Vec<u8>,
     calls: FailingCalls,
@@ -112,7 +112,7 @@ impl Sink for ByteSink {
 }
 
 /// A sink over a writer of std, as standard output. It tells the bytes written where the writer tells them.
-#[derive(Debug, Drop)]
+#[derive(Drop)]
 pub struct WriterSink<W: Write> {
     inner: W,
     faults: u64,

@@ -39,7 +39,7 @@ pub trait Source {
 }
 
 /// A source in memory. It gives its bytes in pieces, and the reads of the listed numbers fail, counted from 1.
-#[derive(Debug, Drop)]
+#[derive(Drop)]
 pub struct ByteSource {
     bytes: Seq<u8>,
     at: usize,
@@ -119,7 +119,7 @@ impl Source for ByteSource {
 }
 
 /// A source over a reader of std, as standard input. It tells the bytes to come where the reader tells them.
-#[derive(Debug, Drop)]
+#[derive(Drop)]
 pub struct ReaderSource<R: Read> {
     inner: R,
     ended: bool,

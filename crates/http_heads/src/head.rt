@@ -14,7 +14,7 @@ use size_values::{NoMemory, Or, Text};
 use std::alloc::Global;
 
 /// What a head says: the method, the target, the length of the body, and whether the connection ends behind it.
-#[derive(Debug, Drop)]
+#[derive(Drop)]
 pub struct Head {
     pub method: Text,
     pub target: Text,

@@ -22,7 +22,7 @@ pub fn limits_are_those_of_the_definitions()
 /// One request: the method and the target of its request line (RFC 9112, section 3), and its body of
 /// Content-Length bytes. `last` says that the connection ends behind its reply: it is of HTTP/1.0, or a
 /// Connection header lists `close`.
-#[derive(Debug, Drop)]
+#[derive(Drop)]
 pub struct Request {
     pub method: Text,
     pub target: Text,
@@ -31,7 +31,7 @@ pub struct Request {
 }
 
 /// What is wrong with the bytes in a request's place.
-#[derive(Clone, Copy, Debug, PartialEq, Eq)]
+#[derive(Clone, Copy, PartialEq, Eq)]
 pub enum HeadFault {
     /// The bytes up to the first empty line are no head of at most 64 headers.
     H1,

@@ -3,7 +3,7 @@ ghost use Rattle.http_heads.specs.Heads.{is_line_byte, blank_len, head_end};
 ghost use Rattle.http_heads.specs.Search.{FindsSame, GoesOn, HasSearched, Follows, StandsAt};
 
 /// How far the search for the end of a head has come.
-#[derive(Clone, Copy, Debug, PartialEq, Eq)]
+#[derive(Clone, Copy)]
 pub enum Search {
     /// The first bytes, this many, are CR and LF.
     Blank(usize),
@@ -12,7 +12,7 @@ pub enum Search {
 }
 
 /// What follows an LF: a line end of so many bytes, something else, or too little to tell.
-#[derive(Clone, Copy, Debug, PartialEq, Eq)]
+#[derive(Clone, Copy)]
 enum After {
     LineEnd(usize),
     Other,

@@ -1,4 +1,1 @@
-pub mod Calendar
 pub mod Plain
-pub mod ReadBack
-pub mod Walked

@@ -1,10 +1,3 @@
-pub mod Words
-pub mod Ids
-pub mod Objects
-pub mod Settings
-pub mod Moments
-pub mod Operations
-pub mod Views
 pub mod Refusals
 pub mod Replies
 pub mod Notices

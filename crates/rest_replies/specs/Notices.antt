@@ -7,9 +7,9 @@ use Rattle.records.specs.declared.notices.Told.TheVariants as told
 use Rattle.records.specs.declared.notices.Notice.{Notice}
 use Rattle.serde_json.specs.Data.{Data, string}
 use Rattle.serde_json.specs.Written.{compact_text}
-use Rattle.rest_replies.specs.Moments.{moment_text}
-use Rattle.rest_replies.specs.Objects.{object_of}
-use Rattle.rest_replies.specs.Operations.{operation_data}
+use Rattle.reply_parts.specs.Moments.{moment_text}
+use Rattle.reply_parts.specs.Objects.{object_of}
+use Rattle.reply_views.specs.Operations.{operation_data}
 
 -- how an action is written
 abbrev pub life_text : Life → List ℕ

@@ -7,7 +7,7 @@ use Rattle.records.specs.declared.refusals.Refusal.{Refusal}
 use Rattle.rest_replies.specs.declared.refusals.Part.{Part}
 use Rattle.rest_replies.specs.declared.refusals.Part.TheVariants as part
 use Rattle.serde_json.specs.Data.{Data, string, object, Members, no_members, put}
-use Rattle.rest_replies.specs.Objects.{object_of, whole}
+use Rattle.reply_parts.specs.Objects.{object_of, whole}
 
 -- the name of a rule
 abbrev pub rule_name : Rule → List ℕ

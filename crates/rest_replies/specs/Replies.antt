@@ -11,12 +11,12 @@ use Rattle.records.specs.declared.replies.Reply.TheVariants as reply
 use Rattle.serde_json.specs.Data.{Data, string, object, Members, no_members, put}
 use Rattle.serde_json.specs.Written.{compact_text}
 use Rattle.row_machine.specs.Refusals.{untold}
-use Rattle.rest_replies.specs.Words.{status_key}
-use Rattle.rest_replies.specs.Ids.{operation_link}
-use Rattle.rest_replies.specs.Objects.{object_of, list_of, whole}
-use Rattle.rest_replies.specs.Settings.{texts_data}
-use Rattle.rest_replies.specs.Operations.{operation_data}
-use Rattle.rest_replies.specs.Views.{view_data}
+use Rattle.reply_views.specs.Words.{status_key}
+use Rattle.reply_parts.specs.Ids.{operation_link}
+use Rattle.reply_parts.specs.Objects.{object_of, list_of, whole}
+use Rattle.reply_parts.specs.Settings.{texts_data}
+use Rattle.reply_views.specs.Operations.{operation_data}
+use Rattle.reply_views.specs.Views.{view_data}
 use Rattle.rest_replies.specs.Refusals.{rule_code, refusal_data}
 
 -- the reply to a command that was carried out at once, with what it tells

@@ -1,11 +1,5 @@
 //! Laws: functions that do nothing, whose contracts are the laws.
-ghost use Rattle.rest_replies.specs.Ids.{ReadsBack};
 ghost use Rattle.rest_replies.specs.Replies.{NoMemoryIsKnown};
-
-/// The id of an operation names the operation's number again.
-pub fn ids_read_back()
-    ensures { ReadsBack }
-{}
 
 /// The body where there is no memory is the one that is sent without making it.
 pub fn no_memory_is_known()

@@ -2,19 +2,12 @@
 //! notice, and the ids of operations.
 #![tactic(auto)]
 
-mod ids;
 mod laws;
-mod moments;
 mod notices;
-mod object;
-mod operation;
 mod printing;
 mod refusals;
-mod settings;
-mod views;
-mod words;
 
-pub use ids::{id_text, number_of};
-pub use laws::{ids_read_back, no_memory_is_known};
+pub use laws::no_memory_is_known;
 pub use notices::print_notice;
 pub use printing::print;
+pub use reply_parts::{id_text, ids_read_back, number_of};

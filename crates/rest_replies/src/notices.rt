@@ -3,9 +3,9 @@ ghost use Rattle.std.specs.Prelude.{◌≡◌, IfOk};
 ghost use Rattle.serde_json.specs.View.{view};
 ghost use Rattle.rest_replies.specs.Notices.{life_text, told_type, life_data, told_data, notice_data, notice_text};
 
-use crate::object::Object;
-use crate::operation::operation_value;
 use records::{Life, Notice, Told};
+use reply_parts::Object;
+use reply_views::operation_value;
 use serde_json::Value;
 use size_values::{NoMemory, Text};
 use std::alloc::Global;
@@ -64,9 +64,9 @@ fn told_type(told: &Told) -> &'static str
 fn life_value(alloc: Global, action: Life, source: &Text) -> Result<Value, NoMemory>
     ensures { IfOk result (λ v. view v ≡ life_data action source.now) }
 {
-    let mut object = Object::new(alloc);
-    object.put_text("action", life_text(action))?;
-    object.put_text("source", source.view())?;
+    let object = Object::new(alloc)
+        .with_text("action", life_text(action))?
+        .with_text("source", source.view())?;
     Ok(object.into_value())
 }
 
@@ -85,11 +85,12 @@ fn told_value(alloc: Global, boot: u64, told: &Told) -> Result<Value, NoMemory>
 fn notice_value(alloc: Global, notice: &Notice, boot: u64) -> Result<Value, NoMemory>
     ensures { IfOk result (λ v. view v ≡ notice_data boot notice.now) }
 {
-    let mut object = Object::new(alloc);
-    object.put("metadata", told_value(alloc, boot, &notice.told)?)?;
-    object.put_text("project", notice.project.view())?;
-    object.put_moment("timestamp", notice.moment)?;
-    object.put_text("type", told_type(&notice.told))?;
+    let told = told_value(alloc, boot, &notice.told)?;
+    let object = Object::new(alloc)
+        .with("metadata", told)?
+        .with_text("project", notice.project.view())?
+        .with_moment("timestamp", notice.moment)?
+        .with_text("type", told_type(&notice.told))?;
     Ok(object.into_value())
 }
 

@@ -4,19 +4,15 @@ ghost use Rattle.http_front.specs.Replies.{is_reply_code};
 ghost use Rattle.serde_json.specs.Data.{object, no_members};
 ghost use Rattle.serde_json.specs.View.{view};
 ghost use Rattle.serde_json.specs.Written.{has_float, compact_text};
-ghost use Rattle.rest_replies.specs.Objects.{list_of};
-ghost use Rattle.rest_replies.specs.Views.{view_data};
+ghost use Rattle.reply_parts.specs.Objects.{list_of};
+ghost use Rattle.reply_views.specs.Views.{view_data};
 ghost use Rattle.rest_replies.specs.Replies.{success_data, started_data, links_data, by_status, operations_data, whole_by_status, no_memory_refusal, reply_data, reply_code, reply_location, printed_of};
 
-use crate::ids::operation_link;
-use crate::object::Object;
-use crate::operation::operation_value;
 use crate::refusals::{refusal_value, rule_code};
-use crate::settings::texts_value;
-use crate::views::view_value;
-use crate::words::status_key;
 use http_front::Printed;
 use records::{Kept, OpView, Refusal, Reply, Rule, Status, View};
+use reply_parts::{Object, operation_link, texts_value};
+use reply_views::{operation_value, status_key, view_value};
 use serde_json::{Map, Value};
 use size_values::{NoMemory, Seq, Text};
 use std::alloc::Global;
@@ -26,11 +22,11 @@ use std::alloc::Global;
 fn success_value(alloc: Global, told: Value) -> Result<Value, NoMemory>
     ensures { IfOk result (λ v. view v ≡ success_data (view told)) }
 {
-    let mut object = Object::new(alloc);
-    object.put("metadata", told)?;
-    object.put_text("status", "Success")?;
-    object.put_number("status_code", 200)?;
-    object.put_text("type", "sync")?;
+    let object = Object::new(alloc)
+        .with("metadata", told)?
+        .with_text("status", "Success")?
+        .with_number("status_code", 200)?
+        .with_text("type", "sync")?;
     Ok(object.into_value())
 }
 
@@ -39,12 +35,13 @@ fn success_value(alloc: Global, told: Value) -> Result<Value, NoMemory>
 fn started_value(alloc: Global, boot: u64, operation: &OpView) -> Result<Value, NoMemory>
     ensures { IfOk result (λ v. view v ≡ started_data boot operation.now) }
 {
-    let mut object = Object::new(alloc);
-    object.put("metadata", operation_value(alloc, boot, operation)?)?;
-    object.put_link("operation", boot, operation.number)?;
-    object.put_text("status", "Operation created")?;
-    object.put_number("status_code", 100)?;
-    object.put_text("type", "async")?;
+    let started = operation_value(alloc, boot, operation)?;
+    let object = Object::new(alloc)
+        .with("metadata", started)?
+        .with_link("operation", boot, operation.number)?
+        .with_text("status", "Operation created")?
+        .with_number("status_code", 100)?
+        .with_text("type", "async")?;
     Ok(object.into_value())
 }
 

@@ -5,8 +5,8 @@ ghost use Rattle.serde_json.specs.Data.{string};
 ghost use Rattle.serde_json.specs.View.{view};
 ghost use Rattle.rest_replies.specs.Refusals.{rule_name, rule_text, rule_code, kept_parts, part_key, part_data, kept_data, refusal_data};
 
-use crate::object::Object;
 use records::{Kept, Refusal, Rule};
+use reply_parts::Object;
 use serde_json::Value;
 use size_values::NoMemory;
 use std::alloc::Global;
@@ -267,10 +267,10 @@ fn kept_value(alloc: Global, refusal: &Refusal) -> Result<Value, NoMemory>
 pub(crate) fn refusal_value(alloc: Global, refusal: &Refusal) -> Result<Value, NoMemory>
     ensures { IfOk result (λ v. view v ≡ refusal_data refusal.now) }
 {
-    let mut object = Object::new(alloc);
-    object.put_text("error", rule_text(refusal.rule))?;
-    object.put_number("error_code", u64::from(rule_code(refusal.rule)))?;
-    object.put("metadata", kept_value(alloc, refusal)?)?;
-    object.put_text("type", "error")?;
+    let object = Object::new(alloc)
+        .with_text("error", rule_text(refusal.rule))?
+        .with_number("error_code", u64::from(rule_code(refusal.rule)))?;
+    let kept = kept_value(alloc, refusal)?;
+    let object = object.with("metadata", kept)?.with_text("type", "error")?;
     Ok(object.into_value())
 }

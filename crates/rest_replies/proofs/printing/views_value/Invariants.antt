@@ -1,6 +1,6 @@
 use Rattle.std.proofs.Common.{◌≡◌, ◌++◌, map, drop}
 use Rattle.serde_json.specs.View.{view}
-use Rattle.rest_replies.specs.Views.{view_data}
+use Rattle.reply_views.specs.Views.{view_data}
 use Rattle.rest_replies.proofs.printing.views_value.Given as goal
 
 abbrev pub invariant-loop-shown : goal.invariant-loop-shown

@@ -1,0 +1,4 @@
+pub mod Calendar
+pub mod Floatless
+pub mod ReadBack
+pub mod Walked

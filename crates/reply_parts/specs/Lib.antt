@@ -1,0 +1,4 @@
+pub mod Ids
+pub mod Objects
+pub mod Settings
+pub mod Moments

@@ -1,0 +1,15 @@
+//! Parts of which replies and events are made: objects of JSON, moments as texts, settings and devices as JSON, and the
+//! ids of operations.
+#![tactic(auto)]
+
+mod ids;
+mod laws;
+mod moments;
+mod object;
+mod settings;
+
+pub use ids::{id_text, number_of, operation_link};
+pub use laws::ids_read_back;
+pub use moments::moment_text;
+pub use object::Object;
+pub use settings::texts_value;

@@ -1,0 +1,54 @@
+-- Operations as JSON.
+use Rattle.std.specs.Prelude.{ℕ, List, [], ◌∷◌, Bool, ◌&&◌, true, false, codes}
+use Rattle.size_values.specs.declared.kinds.ObjectKind.{ObjectKind}
+use Rattle.size_values.specs.declared.kinds.ObjectKind.TheVariants.{Volume, Snapshot}
+use Rattle.operations.specs.declared.status.Status.{Status}
+use Rattle.operations.specs.declared.status.Status.TheVariants.{Pending, Running}
+use Rattle.operations.specs.declared.operation.OpFault.{OpFault}
+use Rattle.operations.specs.declared.operation.OpFault.TheVariants as fault
+use Rattle.records.specs.declared.replies.OpView.{OpView}
+use Rattle.serde_json.specs.Data.{Data, null, boolean, string}
+use Rattle.row_machine.specs.Links.{link_of}
+use Rattle.row_machine.specs.TableRules.{status_text}
+use Rattle.reply_views.specs.Words.{status_code, error_text}
+use Rattle.reply_parts.specs.Ids.{id_text}
+use Rattle.reply_parts.specs.Moments.{moment_text}
+use Rattle.reply_parts.specs.Objects.{object_of, list_of, whole}
+
+-- what is told of the call that failed: its number, and the counts of faults before and after it
+abbrev pub fault_data : OpFault → Data
+fault_data fault.None = null
+fault_data (fault.Host call before after) = object_of ((codes "after", whole after) ∷ (codes "before", whole before) ∷ (codes "call", whole call) ∷ [])
+fault_data (fault.Keeper before after) = object_of ((codes "after", whole after) ∷ (codes "before", whole before) ∷ [])
+fault_data fault.NoMemory = null
+
+-- the key of the objects that an operation is about
+abbrev pub resource_key : ObjectKind → List ℕ
+resource_key Snapshot = codes "snapshots"
+resource_key Volume = codes "storage_volumes"
+resource_key other = codes "instances"
+
+-- the object that an operation is about, by its link
+unfoldable pub resources_data : OpView → Data
+resources_data v = object_of ((resource_key v.target.kind, list_of (string (link_of v.project v.target) ∷ [])) ∷ [])
+
+-- whether an operation of a status can still be cancelled
+abbrev pub may_stop : Status → Bool
+may_stop Pending = true
+may_stop Running = true
+may_stop other = false
+
+-- an operation as an object
+unfoldable pub operation_data : ℕ → OpView → Data
+operation_data boot v = object_of (
+    (codes "class", string (codes "task"))
+    ∷ (codes "created_at", string (moment_text v.created))
+    ∷ (codes "err", string (error_text v.status v.fault))
+    ∷ (codes "id", string (id_text boot v.number))
+    ∷ (codes "may_cancel", boolean (v.may_cancel && may_stop v.status))
+    ∷ (codes "metadata", fault_data v.fault)
+    ∷ (codes "resources", resources_data v)
+    ∷ (codes "status", string (status_text v.status))
+    ∷ (codes "status_code", whole (status_code v.status))
+    ∷ (codes "updated_at", string (moment_text v.updated))
+    ∷ [])

@@ -1,5 +1,0 @@
-use Rattle.rest_replies.proofs.ReadBack.{reads_back}
-use Rattle.rest_replies.proofs.laws.ids_read_back.Goals as goal
-
-pub returns : goal.returns
-returns c = reads_back
