@@ -1,5 +1,5 @@
-use crate::making::{Settings, config_of, devices_of, set};
 use config_lists::Devices;
+use made_settings::{Settings, config_of, devices_of, set};
 use option_tables::{DeviceFault, SettingFault, check_devices};
 use size_values::{NoMemory, ValueFault};
 use std::alloc::Global;

@@ -1,5 +1,5 @@
-use crate::making::{Settings, config_of};
 use config_lists::Config;
+use made_settings::{Settings, config_of};
 use option_tables::{
     Scope, SettingFault, check_instance, check_network, check_pool, check_project, check_volume,
     takes_key,

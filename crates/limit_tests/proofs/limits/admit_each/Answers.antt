@@ -1,5 +1,5 @@
 use Rattle.std.proofs.Common.{arith}
-use Rattle.table_tests.proofs.limits.admit_each.Goals as goal
+use Rattle.limit_tests.proofs.limits.admit_each.Goals as goal
 
 pub admit-requires : goal.admit-requires
 admit-requires c = λ p. omega (arith, c.each.ensures p, c.each-2.ensures p)

@@ -2,8 +2,8 @@ ghost use Rattle.std.specs.Prelude.{◌≡◌};
 ghost use Rattle.size_values.specs.Amounts.{part};
 ghost use Rattle.size_values.specs.declared.amounts.Part.{Part};
 
-use crate::making::{Settings, config_of, devices_of};
 use config_lists::{Config, Devices};
+use made_settings::{Settings, config_of, devices_of};
 use project_limits::{
     LimitKey, Limits, Over, SumKey, admit, admit_networks, amounts_of, countable, limits_of,
     volume_amounts, volume_countable,

@@ -1,12 +1,15 @@
+//! Settings and devices made from constant tables, for the crates of tests.
+#![tactic(auto)]
+
 use config_lists::{Config, Devices};
 use size_values::NoMemory;
 use std::alloc::Global;
 
 /// Keys with their values.
-pub(crate) type Settings = &'static [(&'static str, &'static str)];
+pub type Settings = &'static [(&'static str, &'static str)];
 
 /// A configuration with these settings; those whose key or value is empty are left out.
-pub(crate) fn config_of(alloc: Global, settings: &[(&str, &str)]) -> Result<Config, NoMemory> {
+pub fn config_of(alloc: Global, settings: &[(&str, &str)]) -> Result<Config, NoMemory> {
     let mut config = Config::new(alloc);
     for (key, value) in settings {
         set(&mut config, key, value)?;
@@ -15,7 +18,7 @@ pub(crate) fn config_of(alloc: Global, settings: &[(&str, &str)]) -> Result<Conf
 }
 
 /// Sets a key, unless it or its value is empty.
-pub(crate) fn set(config: &mut Config, key: &str, value: &str) -> Result<(), NoMemory> {
+pub fn set(config: &mut Config, key: &str, value: &str) -> Result<(), NoMemory> {
     if key.is_empty() || value.is_empty() {
         return Ok(());
     }
@@ -23,7 +26,7 @@ pub(crate) fn set(config: &mut Config, key: &str, value: &str) -> Result<(), NoM
 }
 
 /// Adds a device with these settings.
-pub(crate) fn put_device(
+pub fn put_device(
     alloc: Global,
     devices: &mut Devices,
     name: &str,
@@ -34,10 +37,7 @@ pub(crate) fn put_device(
 }
 
 /// Devices under these names, with these settings.
-pub(crate) fn devices_of(
-    alloc: Global,
-    devices: &[(&str, &[(&str, &str)])],
-) -> Result<Devices, NoMemory> {
+pub fn devices_of(alloc: Global, devices: &[(&str, &[(&str, &str)])]) -> Result<Devices, NoMemory> {
     let mut list = Devices::new(alloc);
     for (name, settings) in devices {
         put_device(alloc, &mut list, name, settings)?;

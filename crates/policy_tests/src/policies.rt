@@ -1,5 +1,5 @@
-use crate::making::{Settings, config_of, devices_of, put_device, set};
 use config_lists::{Config, Devices};
+use made_settings::{Settings, config_of, devices_of, put_device, set};
 use restrictions::{
     Forbidden, Policy, Subject, Word, first_forbidden, policy_of, snapshots_forbidden,
 };

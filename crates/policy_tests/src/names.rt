@@ -1,6 +1,6 @@
-use crate::making::{Settings, devices_of};
 use config_lists::Devices;
 use estate_rules::{good_name, names_network, names_pool, names_volume};
+use made_settings::{Settings, devices_of};
 use size_values::{NoMemory, ObjectKind};
 use std::alloc::Global;
 
