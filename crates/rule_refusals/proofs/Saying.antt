@@ -34,6 +34,15 @@ module _ {X R : Type 0} (rule : X → Option R) (xs : List X) (i : ℕ) (x : X) 
 pub free-end : {X R : Type 0} (rule : X → Option R) (xs : List X) (i : ℕ) → length xs ≤ i → first_of rule (drop i xs) ≡ first_of rule xs → first_of rule xs ≡ None
 free-end rule xs i past before = sym (place-end rule xs i past before)
 
+-- neither rule is broken
+pub none-or : {R : Type 0} {a b : Option R} → a ≡ None → b ≡ None → option_or a b ≡ None
+none-or {b} e f = ap (λ o. option_or o b) e ∙ f
+
+-- two rules as one, and each after the other
+pub or-flat : {R : Type 0} (a b : Option R) → option_or (option_or a b) None ≡ option_or a (option_or b None)
+or-flat None b = refl
+or-flat (Some r) b = refl
+
 -- the same answer says as much of a rule that is the same
 pub says-as : {T R : Type 0} (answer : Result T (Or R)) {a b : Option R} → a ≡ b → Says answer a → Says answer b
 says-as answer same says = subst (Says answer) same says
