@@ -11,7 +11,7 @@ unfolding usage_of
 returns c =
     let sums : (k : Part) → part k c.usage_in-used.result ≡ used c.args.self.now c.args.project.now k =
     λ k. c.usage_in-used.ensures.sums k
-    ∙ ap (sum_by (counted c.args.project.now k)) (c.deref.ensures.value ∙ c.in_ok-all.ensures.loads)
+    ∙ ap (λ all. sum_by (counted c.args.project.now k) all) (c.deref.ensures.value ∙ c.in_ok-all.ensures.loads)
     in
     λ i. record {
       instances = sums part_of.Instances i;
