@@ -1,18 +1,16 @@
 //! O1 to O5: operations that cannot be cancelled, or not be entered.
-ghost use Rattle.std.specs.Prelude.{◌≡◌, IfOk, find, option_and_then};
-ghost use Rattle.std.specs.Option.{option_copied};
+ghost use Rattle.std.specs.Prelude.{◌≡◌, IfOk, option_and_then};
 ghost use Rattle.std.specs.Result.{result_err};
 ghost use Rattle.size_values.specs.Causes.{Says};
-ghost use Rattle.operations.specs.Kept.{has_number, kept_at, cancel_answer};
+ghost use Rattle.operations.specs.Kept.{kept_at, cancel_answer};
 ghost use Rattle.operations.specs.Statuses.{cancel_of};
 ghost use Rattle.records.specs.declared.refusals.Rule.TheVariants as rule;
 ghost use Rattle.row_machine.specs.Refusals.{untold};
 ghost use Rattle.row_machine.specs.TableRules.{status_text, cancel_refusal, entry_broken, cancel_broken};
 
-use operations::{CancelFault, LIVE_LIMIT, NUMBER_LIMIT, Operation, Status};
+use operations::{CancelFault, LIVE_LIMIT, NUMBER_LIMIT, Status};
 use records::{Kept, Refusal, Rule, What};
-use row_machine::Work;
-use row_readings::View;
+use row_readings::{View, kept_at};
 use rule_refusals::on_number;
 use size_values::{NoMemory, Or, Text};
 use std::alloc::Global;
@@ -42,25 +40,6 @@ fn status_text(status: Status) -> &'static str
         Status::Success => "Success",
         Status::Failure => "Failure",
         Status::Cancelled => "Cancelled",
-    }
-}
-
-/// The operation of a number among those of a list.
-fn numbered(operations: &[Operation<Work>], number: u64) -> Option<&Operation<Work>>
-    ensures { option_copied result ≡ find (has_number number) operations.now }
-{
-    operations
-        .iter()
-        .find(|operation| operation.number == number)
-}
-
-/// The kept operation of a number, live or ended.
-fn kept_at<'x>(view: &View<'x>, number: u64) -> Option<&'x Operation<Work>>
-    ensures { option_copied result ≡ kept_at view.now.operations number }
-{
-    match numbered(view.live, number) {
-        Some(operation) => Some(operation),
-        None => numbered(view.ended, number),
     }
 }
 
