@@ -1,0 +1,19 @@
+//! Rules on what stands in the way: B1 to B6.
+ghost use Rattle.size_values.specs.Causes.{Says};
+ghost use Rattle.row_machine.specs.StandingRules.{standing_broken};
+
+use records::{Command, Refusal};
+use row_readings::View;
+use size_values::Or;
+use std::alloc::Global;
+
+/// The first rule on what stands in the way that a command breaks.
+pub fn standing_broken(
+    alloc: Global,
+    view: &View<'_>,
+    command: &Command,
+) -> Result<(), Or<Refusal>>
+    ensures { Says result (standing_broken view.now command.now) }
+{
+    Err(Or::NoMemory)
+}
