@@ -8,11 +8,7 @@ use size_values::Or;
 use std::alloc::Global;
 
 /// The first rule on what stands in the way that a command breaks.
-pub fn standing_broken(
-    alloc: Global,
-    view: &View<'_>,
-    command: &Command,
-) -> Result<(), Or<Refusal>>
+pub fn standing_broken(alloc: Global, view: &View<'_>, command: &Command) -> Result<(), Or<Refusal>>
     ensures { Says result (standing_broken view.now command.now) }
 {
     Err(Or::NoMemory)
