@@ -19,7 +19,7 @@ use std::alloc::Global;
 
 /// N3: the name is malformed.
 fn malformed(alloc: Global, of: Place<'_>) -> Result<(), Or<Refusal>>
-    ensures { Says result (malformed (target_at of)) }
+    ensures { Says result (malformed (target_at of.entry)) }
 {
     if good_name(of.kind, of.name) {
         return Ok(());
@@ -29,7 +29,7 @@ fn malformed(alloc: Global, of: Place<'_>) -> Result<(), Or<Refusal>>
 
 /// N4: there is an object of the name.
 fn taken(alloc: Global, view: &View<'_>, project: &str, of: Place<'_>) -> Result<(), Or<Refusal>>
-    ensures { Says result (taken view.now project.now (target_at of)) }
+    ensures { Says result (taken view.now project.now (target_at of.entry)) }
 {
     if !is_there(view, project, of) {
         return Ok(());
@@ -39,14 +39,14 @@ fn taken(alloc: Global, view: &View<'_>, project: &str, of: Place<'_>) -> Result
 
 /// Whether an object has these names.
 fn is_named(pool: &str, instance: &str, name: &str, of: Place<'_>) -> bool
-    ensures { result ≡ (bytes_eq pool.now of.pool.now && bytes_eq instance.now of.instance.now && bytes_eq name.now of.name.now) }
+    ensures { result ≡ (bytes_eq pool.now of.entry.pool.now && bytes_eq instance.now of.entry.instance.now && bytes_eq name.now of.entry.name.now) }
 {
     pool == of.pool && instance == of.instance && name == of.name
 }
 
 /// Whether a row is this object, in the home that it belongs to.
 fn is_target(row: &Row, of: Place<'_>) -> bool
-    ensures { result ≡ same_target (target_of row.now) (target_at of) }
+    ensures { result ≡ same_target (target_of row.now) (target_at of.entry) }
 {
     match row {
         Row::Project(row) => of.kind == ObjectKind::Project
@@ -67,7 +67,7 @@ fn is_target(row: &Row, of: Place<'_>) -> bool
 
 /// Whether an operation claims the object of this home.
 fn claims_object(home: &str, of: Place<'_>, work: &Work) -> bool
-    ensures { result ≡ claims_object home.now (target_at of) work.now }
+    ensures { result ≡ claims_object home.now (target_at of.entry) work.now }
 {
     match &work.claim {
         Some(row) => project_of_row(row) == home && is_target(row, of),
@@ -76,14 +76,14 @@ fn claims_object(home: &str, of: Place<'_>, work: &Work) -> bool
 }
 
 fn holder<'x>(live: &'x [Operation<Work>], home: &str, of: Place<'_>) -> Option<&'x Operation<Work>>
-    ensures { option_copied result ≡ find (λ o. claims_object home.now (target_at of) o.work) live.now }
+    ensures { option_copied result ≡ find (λ o. claims_object home.now (target_at of.entry) o.work) live.now }
 {
     live.iter().find(|o| claims_object(home, of, &o.work))
 }
 
 /// N5: a live operation would put an object of the name.
 fn held(alloc: Global, view: &View<'_>, project: &str, of: Place<'_>) -> Result<(), Or<Refusal>>
-    ensures { Says result (held view.now project.now (target_at of)) }
+    ensures { Says result (held view.now project.now (target_at of.entry)) }
 {
     let home = home_of(view.projects, project, of.kind);
     let Some(operation) = holder(view.live, home, of) else {
@@ -101,7 +101,7 @@ pub(crate) fn name_broken(
     project: &str,
     of: Place<'_>,
 ) -> Result<(), Or<Refusal>>
-    ensures { Says result (name_broken view.now project.now (target_at of)) }
+    ensures { Says result (name_broken view.now project.now (target_at of.entry)) }
 {
     malformed(alloc, of)?;
     taken(alloc, view, project, of)?;

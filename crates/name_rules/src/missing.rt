@@ -96,7 +96,7 @@ fn parent_missing(
     project: &str,
     of: Place<'_>,
 ) -> Result<(), Or<Refusal>>
-    ensures { Says result (parent_missing view.now project.now (target_at of)) }
+    ensures { Says result (parent_missing view.now project.now (target_at of.entry)) }
 {
     match of.kind {
         ObjectKind::Volume => {
@@ -123,7 +123,7 @@ pub(crate) fn object_missing(
     project: &str,
     of: Place<'_>,
 ) -> Result<(), Or<Refusal>>
-    ensures { Says result (object_missing view.now project.now (target_at of)) }
+    ensures { Says result (object_missing view.now project.now (target_at of.entry)) }
 {
     parent_missing(alloc, view, project, of)?;
     missing_unless(alloc, is_there(view, project, of), of.kind, of.name)

@@ -22,7 +22,7 @@ fn snapshot_name_broken(
     project: &str,
     of: Place<'_>,
 ) -> Result<(), Or<Refusal>>
-    ensures { Says result (name_broken view.now project.now (with_name view.now project.now (target_at of))) }
+    ensures { Says result (name_broken view.now project.now (with_name view.now project.now (target_at of.entry))) }
 {
     if !of.name.is_empty() {
         return name_broken(alloc, view, project, of);
@@ -43,7 +43,7 @@ fn new_name_broken(
     project: &str,
     of: Place<'_>,
 ) -> Result<(), Or<Refusal>>
-    ensures { (body : Body) → Says result (option_and_then (name_broken view.now project.now) (named_anew view.now project.now (what_of.Create (target_at of) body))) }
+    ensures { (body : Body) → Says result (option_and_then (name_broken view.now project.now) (named_anew view.now project.now (what_of.Create (target_at of.entry) body))) }
 {
     match of.kind {
         ObjectKind::Snapshot => snapshot_name_broken(alloc, view, project, of),

@@ -33,7 +33,7 @@ pub(crate) fn place_of(of: &Target) -> Place<'_>
 
 /// The place under another name.
 pub(crate) fn renamed<'x>(of: Place<'x>, name: &'x str) -> Place<'x>
-    ensures { target_at result ≡ record (target_at of) { name = name.now } }
+    ensures { target_at result ≡ record (target_at of.entry) { name = name.now } }
 {
     Place {
         kind: of.kind,
@@ -45,7 +45,7 @@ pub(crate) fn renamed<'x>(of: Place<'x>, name: &'x str) -> Place<'x>
 
 /// The place under another name, in another pool.
 pub(crate) fn moved<'x>(of: Place<'x>, pool: &'x str, name: &'x str) -> Place<'x>
-    ensures { target_at result ≡ record (target_at of) { name = name.now; pool = pool.now } }
+    ensures { target_at result ≡ record (target_at of.entry) { name = name.now; pool = pool.now } }
 {
     Place {
         kind: of.kind,
@@ -57,7 +57,7 @@ pub(crate) fn moved<'x>(of: Place<'x>, pool: &'x str, name: &'x str) -> Place<'x
 
 /// Whether the object that is asked for in a project is there, in its home.
 pub(crate) fn is_there(view: &View<'_>, project: &str, of: Place<'_>) -> bool
-    ensures { result ≡ is_there view.now project.now (target_at of) }
+    ensures { result ≡ is_there view.now project.now (target_at of.entry) }
 {
     let home = home_of(view.projects, project, of.kind);
     match of.kind {

@@ -43,7 +43,7 @@ fn copied_missing(
     snapshot: &str,
     pool: &str,
 ) -> Result<(), Or<Refusal>>
-    ensures { Says result (source_missing view.now project.now (target_at of) (origin_of.Copy from.now snapshot.now pool.now)) }
+    ensures { Says result (source_missing view.now project.now (target_at of.entry) (origin_of.Copy from.now snapshot.now pool.now)) }
 {
     match of.kind {
         ObjectKind::Volume => object_missing(alloc, view, project, moved(of, pool, from)),
@@ -65,7 +65,7 @@ pub(crate) fn source_missing(
     of: Place<'_>,
     origin: &Origin,
 ) -> Result<(), Or<Refusal>>
-    ensures { Says result (source_missing view.now project.now (target_at of) origin.now) }
+    ensures { Says result (source_missing view.now project.now (target_at of.entry) origin.now) }
 {
     match origin {
         Origin::None => Ok(()),

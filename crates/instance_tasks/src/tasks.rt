@@ -8,15 +8,15 @@ ghost use Rattle.instance_states.specs.Plans.{undo_of};
 ghost use Rattle.row_machine.specs.NewRows.{source_instance, source_snapshot};
 ghost use Rattle.row_machine.specs.HostCalls.{place_of, create_calls, copy_calls};
 ghost use Rattle.row_machine.specs.Plans.{plain_task, creation, copy, instance_target, snapshot_target, copy_from, instance_creation};
-ghost use Rattle.new_instance_tasks.specs.Planned.{planned};
+ghost use Rattle.instance_tasks.specs.Planned.{planned};
 
 use crate::making::{Source, copied_instance, image_of, made_instance};
 use crate::pairs::both;
 use host_model::{HostCall, Place};
 use instance_states::plan_of;
-use plain_readings::{Plain, instance_named, snapshot_named};
 use records::{Body, Instance, Origin, Row, Snapshot, Target};
 use row_machine::Work;
+use row_readings::{View, instance_named, snapshot_named};
 use size_values::{Deed, NoMemory, ObjectKind, Seq, Text};
 use std::alloc::Global;
 
@@ -275,7 +275,7 @@ fn snapshot_copy(
 /// A copy from an instance, or from its snapshot where one is named.
 fn copy_from(
     alloc: Global,
-    plain: &Plain,
+    view: &View<'_>,
     project: &Text,
     of: &Target,
     body: &Body,
@@ -283,16 +283,16 @@ fn copy_from(
     from: &Text,
     name: &Text,
 ) -> Result<Option<Work>, NoMemory>
-    ensures { IfOk result (λ w. planned w ≡ copy_from plain.now project.now of.now body.now moment from.now name.now) }
+    ensures { IfOk result (λ w. planned w ≡ copy_from view.now project.now of.now body.now moment from.now name.now) }
 {
-    let Some(old) = instance_named(&plain.instances, project.view(), from.view()) else {
+    let Some(old) = instance_named(view.instances, project.view(), from.view()) else {
         return Ok(None);
     };
     if name.is_empty() {
         let work = instance_copy(alloc, project, of, body, moment, from, old)?;
         return Ok(Some(work));
     }
-    let found = snapshot_named(&plain.snapshots, project.view(), from.view(), name.view());
+    let found = snapshot_named(view.snapshots, project.view(), from.view(), name.view());
     let Some(snapshot) = found else {
         return Ok(None);
     };
@@ -303,13 +303,13 @@ fn copy_from(
 /// What the creation of an instance begins: nothing, where what it is copied from is missing.
 pub fn instance_creation(
     alloc: Global,
-    plain: &Plain,
+    view: &View<'_>,
     project: &Text,
     of: &Target,
     body: &Body,
     moment: u64,
 ) -> Result<Option<Work>, NoMemory>
-    ensures { IfOk result (λ w. planned w ≡ instance_creation plain.now project.now of.now body.now moment body.now.origin) }
+    ensures { IfOk result (λ w. planned w ≡ instance_creation view.now project.now of.now body.now moment body.now.origin) }
 {
     match &body.origin {
         Origin::None => {
@@ -321,7 +321,7 @@ pub fn instance_creation(
             Ok(Some(work))
         }
         Origin::Copy { from, snapshot, .. } => copy_from(
-            alloc, plain, project, of, body, moment, from, snapshot,
+            alloc, view, project, of, body, moment, from, snapshot,
         ),
     }
 }
