@@ -13,14 +13,17 @@ const UNAVAILABLE: &str =
 
 /// Changes of a project with its profile `default`, and what is read after each; the first reading is that before them.
 const TENANT: [(&str, &str); 11] = [
-    ("", r#"
+    (
+        "",
+        r#"
 GET /1.0/projects?recursion=1
 200 {"metadata":[{"config":{"features.images":"true","features.networks":"true","features.profiles":"true","features.storage.buckets":"true","features.storage.volumes":"true"},"description":"","name":"default","used_by":["/1.0/profiles/default"]}],"status":"Success","status_code":200,"type":"sync"}
 GET /1.0/profiles?project=lab&recursion=1
 404 {"error":"project is missing","error_code":404,"metadata":{"project":"lab","rule":"N1"},"type":"error"}
 GET /1.0/profiles?project=shop&recursion=1
 404 {"error":"project is missing","error_code":404,"metadata":{"project":"shop","rule":"N1"},"type":"error"}
-"#),
+"#,
+    ),
     (
         r#"POST /1.0/projects {"config":{"limits.cpu":"8","user.a":"1"},"name":"lab"}"#,
         r#"

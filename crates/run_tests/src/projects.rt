@@ -278,10 +278,7 @@ POST /1.0/projects/lab {"name":"lab"}
 "#;
 
 /// Scripts, and how many entries are kept after them.
-const SCRIPTS: [(&str, &str, usize); 2] = [
-    ("life", LIFE, 4),
-    ("settings", SETTINGS, 5),
-];
+const SCRIPTS: [(&str, &str, usize); 2] = [("life", LIFE, 4), ("settings", SETTINGS, 5)];
 
 /// Each script ends well, and its changes are kept.
 #[test]
