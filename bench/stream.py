@@ -8,6 +8,9 @@ Usage: stream.py projects COUNT          creations of the projects p1 to pCOUNT
        stream.py profiles PROJECT FIRST LAST         creations of the profiles of these numbers in PROJECT
        stream.py get-profiles PROJECT ROWS COUNT     COUNT times the GET of a profile of a number from 1 to ROWS
        stream.py put-profiles PROJECT ROWS COUNT     COUNT times the PUT of one
+       stream.py patch-projects ROWS COUNT           COUNT times the PATCH of a project of a number from 1 to ROWS
+       stream.py move-projects FIRST LAST            renames of the projects of these numbers, and back again
+       stream.py delete-projects FIRST LAST          deletions of the projects of these numbers
        stream.py reads TARGET COUNT                  COUNT times the GET of TARGET
        stream.py name LETTER NUMBER                  the name of the project (p) or profile (a) of a number
 
@@ -79,6 +82,24 @@ def put_profiles(project, rows, count):
         yield request("PUT", target, compact(content(1 + step % 16)))
 
 
+def patch_projects(rows, count):
+    for step, number in enumerate(spread(rows, count)):
+        body = compact({"config": {"limits.cpu": str(1 + step % 16), "user.step": str(step)}})
+        yield request("PATCH", f"/1.0/projects/{name('p', number)}", body)
+
+
+def move_projects(first, last):
+    for number in range(first, last + 1):
+        old, new = name("p", number), name("q", number)
+        for here, there in ((old, new), (new, old)):
+            yield request("POST", f"/1.0/projects/{here}", compact({"name": there}))
+
+
+def delete_projects(first, last):
+    for number in range(first, last + 1):
+        yield request("DELETE", f"/1.0/projects/{name('p', number)}", "")
+
+
 def numbers(seed):
     while True:
         seed = (6364136223846793005 * seed + 1442695040888963407) % 2**64
@@ -116,6 +137,9 @@ KINDS = {
     "profiles": (profiles, (str, int, int)),
     "get-profiles": (get_profiles, (str, int, int)),
     "put-profiles": (put_profiles, (str, int, int)),
+    "patch-projects": (patch_projects, (int, int)),
+    "move-projects": (move_projects, (int, int)),
+    "delete-projects": (delete_projects, (int, int)),
     "reads": (reads, (str, int)),
     "name": (lambda letter, number: [name(letter, number).encode("ascii")], (str, int)),
 }

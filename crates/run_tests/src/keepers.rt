@@ -11,6 +11,131 @@ const DONE: &str =
 const UNAVAILABLE: &str =
     "503 {\"error\":\"unavailable\",\"error_code\":503,\"metadata\":{\"rule\":\"K1\"},\"type\":\"error\"}";
 
+/// Changes of a project with its profile `default`, and what is read after each; the first reading is that before them.
+const TENANT: [(&str, &str); 11] = [
+    (
+        "",
+        r#"
+GET /1.0/projects?recursion=1
+200 {"metadata":[{"config":{"features.images":"true","features.networks":"true","features.profiles":"true","features.storage.buckets":"true","features.storage.volumes":"true"},"description":"","name":"default","used_by":["/1.0/profiles/default"]}],"status":"Success","status_code":200,"type":"sync"}
+GET /1.0/profiles?project=lab&recursion=1
+404 {"error":"project is missing","error_code":404,"metadata":{"project":"lab","rule":"N1"},"type":"error"}
+GET /1.0/profiles?project=shop&recursion=1
+404 {"error":"project is missing","error_code":404,"metadata":{"project":"shop","rule":"N1"},"type":"error"}
+"#,
+    ),
+    (
+        r#"POST /1.0/projects {"config":{"limits.cpu":"8","user.a":"1"},"name":"lab"}"#,
+        r#"
+GET /1.0/projects?recursion=1
+200 {"metadata":[{"config":{"features.images":"true","features.networks":"true","features.profiles":"true","features.storage.buckets":"true","features.storage.volumes":"true"},"description":"","name":"default","used_by":["/1.0/profiles/default"]},{"config":{"features.images":"true","features.profiles":"true","features.storage.buckets":"true","features.storage.volumes":"true","limits.cpu":"8","user.a":"1"},"description":"","name":"lab","used_by":["/1.0/profiles/default?project=lab"]}],"status":"Success","status_code":200,"type":"sync"}
+GET /1.0/profiles?project=lab&recursion=1
+200 {"metadata":[{"config":{},"description":"","devices":{},"name":"default","project":"lab","used_by":[]}],"status":"Success","status_code":200,"type":"sync"}
+GET /1.0/profiles?project=shop&recursion=1
+404 {"error":"project is missing","error_code":404,"metadata":{"project":"shop","rule":"N1"},"type":"error"}
+"#,
+    ),
+    (
+        r#"PUT /1.0/profiles/default?project=lab {"config":{"user.x":"1"}}"#,
+        r#"
+GET /1.0/projects?recursion=1
+200 {"metadata":[{"config":{"features.images":"true","features.networks":"true","features.profiles":"true","features.storage.buckets":"true","features.storage.volumes":"true"},"description":"","name":"default","used_by":["/1.0/profiles/default"]},{"config":{"features.images":"true","features.profiles":"true","features.storage.buckets":"true","features.storage.volumes":"true","limits.cpu":"8","user.a":"1"},"description":"","name":"lab","used_by":["/1.0/profiles/default?project=lab"]}],"status":"Success","status_code":200,"type":"sync"}
+GET /1.0/profiles?project=lab&recursion=1
+200 {"metadata":[{"config":{"user.x":"1"},"description":"","devices":{},"name":"default","project":"lab","used_by":[]}],"status":"Success","status_code":200,"type":"sync"}
+GET /1.0/profiles?project=shop&recursion=1
+404 {"error":"project is missing","error_code":404,"metadata":{"project":"shop","rule":"N1"},"type":"error"}
+"#,
+    ),
+    (
+        r#"PATCH /1.0/projects/lab {"config":{"restricted":"true","user.a":""}}"#,
+        r#"
+GET /1.0/projects?recursion=1
+200 {"metadata":[{"config":{"features.images":"true","features.networks":"true","features.profiles":"true","features.storage.buckets":"true","features.storage.volumes":"true"},"description":"","name":"default","used_by":["/1.0/profiles/default"]},{"config":{"features.images":"true","features.profiles":"true","features.storage.buckets":"true","features.storage.volumes":"true","limits.cpu":"8","restricted":"true"},"description":"","name":"lab","used_by":["/1.0/profiles/default?project=lab"]}],"status":"Success","status_code":200,"type":"sync"}
+GET /1.0/profiles?project=lab&recursion=1
+200 {"metadata":[{"config":{"user.x":"1"},"description":"","devices":{},"name":"default","project":"lab","used_by":[]}],"status":"Success","status_code":200,"type":"sync"}
+GET /1.0/profiles?project=shop&recursion=1
+404 {"error":"project is missing","error_code":404,"metadata":{"project":"shop","rule":"N1"},"type":"error"}
+"#,
+    ),
+    (
+        r#"POST /1.0/projects/lab {"name":"shop"}"#,
+        r#"
+GET /1.0/projects?recursion=1
+200 {"metadata":[{"config":{"features.images":"true","features.networks":"true","features.profiles":"true","features.storage.buckets":"true","features.storage.volumes":"true"},"description":"","name":"default","used_by":["/1.0/profiles/default"]},{"config":{"features.images":"true","features.profiles":"true","features.storage.buckets":"true","features.storage.volumes":"true","limits.cpu":"8","restricted":"true"},"description":"","name":"shop","used_by":["/1.0/profiles/default?project=shop"]}],"status":"Success","status_code":200,"type":"sync"}
+GET /1.0/profiles?project=lab&recursion=1
+404 {"error":"project is missing","error_code":404,"metadata":{"project":"lab","rule":"N1"},"type":"error"}
+GET /1.0/profiles?project=shop&recursion=1
+200 {"metadata":[{"config":{"user.x":"1"},"description":"","devices":{},"name":"default","project":"shop","used_by":[]}],"status":"Success","status_code":200,"type":"sync"}
+"#,
+    ),
+    (
+        r#"PATCH /1.0/projects/shop {"config":{"features.profiles":"false"}}"#,
+        r#"
+GET /1.0/projects?recursion=1
+200 {"metadata":[{"config":{"features.images":"true","features.networks":"true","features.profiles":"true","features.storage.buckets":"true","features.storage.volumes":"true"},"description":"","name":"default","used_by":["/1.0/profiles/default"]},{"config":{"features.images":"true","features.profiles":"false","features.storage.buckets":"true","features.storage.volumes":"true","limits.cpu":"8","restricted":"true"},"description":"","name":"shop","used_by":[]}],"status":"Success","status_code":200,"type":"sync"}
+GET /1.0/profiles?project=lab&recursion=1
+404 {"error":"project is missing","error_code":404,"metadata":{"project":"lab","rule":"N1"},"type":"error"}
+GET /1.0/profiles?project=shop&recursion=1
+200 {"metadata":[{"config":{},"description":"","devices":{},"name":"default","project":"default","used_by":[]}],"status":"Success","status_code":200,"type":"sync"}
+"#,
+    ),
+    (
+        r#"PATCH /1.0/projects/shop {"config":{"features.profiles":"true"}}"#,
+        r#"
+GET /1.0/projects?recursion=1
+200 {"metadata":[{"config":{"features.images":"true","features.networks":"true","features.profiles":"true","features.storage.buckets":"true","features.storage.volumes":"true"},"description":"","name":"default","used_by":["/1.0/profiles/default"]},{"config":{"features.images":"true","features.profiles":"true","features.storage.buckets":"true","features.storage.volumes":"true","limits.cpu":"8","restricted":"true"},"description":"","name":"shop","used_by":["/1.0/profiles/default?project=shop"]}],"status":"Success","status_code":200,"type":"sync"}
+GET /1.0/profiles?project=lab&recursion=1
+404 {"error":"project is missing","error_code":404,"metadata":{"project":"lab","rule":"N1"},"type":"error"}
+GET /1.0/profiles?project=shop&recursion=1
+200 {"metadata":[{"config":{},"description":"","devices":{},"name":"default","project":"shop","used_by":[]}],"status":"Success","status_code":200,"type":"sync"}
+"#,
+    ),
+    (
+        r#"PUT /1.0/projects/shop {"config":{"features.profiles":"on"},"description":"d"}"#,
+        r#"
+GET /1.0/projects?recursion=1
+200 {"metadata":[{"config":{"features.images":"true","features.networks":"true","features.profiles":"true","features.storage.buckets":"true","features.storage.volumes":"true"},"description":"","name":"default","used_by":["/1.0/profiles/default"]},{"config":{"features.profiles":"on"},"description":"d","name":"shop","used_by":["/1.0/profiles/default?project=shop"]}],"status":"Success","status_code":200,"type":"sync"}
+GET /1.0/profiles?project=lab&recursion=1
+404 {"error":"project is missing","error_code":404,"metadata":{"project":"lab","rule":"N1"},"type":"error"}
+GET /1.0/profiles?project=shop&recursion=1
+200 {"metadata":[{"config":{},"description":"","devices":{},"name":"default","project":"shop","used_by":[]}],"status":"Success","status_code":200,"type":"sync"}
+"#,
+    ),
+    (
+        r#"POST /1.0/projects/shop {"name":"lab"}"#,
+        r#"
+GET /1.0/projects?recursion=1
+200 {"metadata":[{"config":{"features.images":"true","features.networks":"true","features.profiles":"true","features.storage.buckets":"true","features.storage.volumes":"true"},"description":"","name":"default","used_by":["/1.0/profiles/default"]},{"config":{"features.profiles":"on"},"description":"d","name":"lab","used_by":["/1.0/profiles/default?project=lab"]}],"status":"Success","status_code":200,"type":"sync"}
+GET /1.0/profiles?project=lab&recursion=1
+200 {"metadata":[{"config":{},"description":"","devices":{},"name":"default","project":"lab","used_by":[]}],"status":"Success","status_code":200,"type":"sync"}
+GET /1.0/profiles?project=shop&recursion=1
+404 {"error":"project is missing","error_code":404,"metadata":{"project":"shop","rule":"N1"},"type":"error"}
+"#,
+    ),
+    (
+        r#"PUT /1.0/projects/lab {"config":{"user.b":"2"}}"#,
+        r#"
+GET /1.0/projects?recursion=1
+200 {"metadata":[{"config":{"features.images":"true","features.networks":"true","features.profiles":"true","features.storage.buckets":"true","features.storage.volumes":"true"},"description":"","name":"default","used_by":["/1.0/profiles/default"]},{"config":{"user.b":"2"},"description":"","name":"lab","used_by":[]}],"status":"Success","status_code":200,"type":"sync"}
+GET /1.0/profiles?project=lab&recursion=1
+200 {"metadata":[{"config":{},"description":"","devices":{},"name":"default","project":"default","used_by":[]}],"status":"Success","status_code":200,"type":"sync"}
+GET /1.0/profiles?project=shop&recursion=1
+404 {"error":"project is missing","error_code":404,"metadata":{"project":"shop","rule":"N1"},"type":"error"}
+"#,
+    ),
+    (
+        r#"DELETE /1.0/projects/lab"#,
+        r#"
+GET /1.0/projects?recursion=1
+200 {"metadata":[{"config":{"features.images":"true","features.networks":"true","features.profiles":"true","features.storage.buckets":"true","features.storage.volumes":"true"},"description":"","name":"default","used_by":["/1.0/profiles/default"]}],"status":"Success","status_code":200,"type":"sync"}
+GET /1.0/profiles?project=lab&recursion=1
+404 {"error":"project is missing","error_code":404,"metadata":{"project":"lab","rule":"N1"},"type":"error"}
+GET /1.0/profiles?project=shop&recursion=1
+404 {"error":"project is missing","error_code":404,"metadata":{"project":"shop","rule":"N1"},"type":"error"}
+"#,
+    ),
+];
+
 /// What is read before the first change.
 const BEFORE: &str = r#"
 GET /1.0/profiles?project=lab&recursion=1
@@ -19,8 +144,9 @@ GET /1.0/projects
 200 {"metadata":["/1.0/projects/default"],"status":"Success","status_code":200,"type":"sync"}
 "#;
 
-/// Changes in their order, and what is read after each.
-const CHANGES: [(&str, &str); 8] = [
+/// Changes of profiles in their order, and what is read after each; the first reading is that before them.
+const PROFILES: [(&str, &str); 9] = [
+    ("", BEFORE),
     (
         r#"POST /1.0/projects {"name":"lab"}"#,
         r#"
@@ -94,41 +220,46 @@ fn push_lines(script: &mut String, lines: [&str; 3]) -> Result<(), NoMemory> {
 
 /// Appends all changes, each sent again after a failure. The keeper's first two calls are the load and the first commit; each try of a
 /// change is one call.
-fn push_changes(script: &mut String, fails: &[u64]) -> Result<(), NoMemory> {
-    let mut before = BEFORE;
-    let mut call = 3u64;
-    for (change, after) in CHANGES {
+fn push_changes(
+    script: &mut String,
+    changes: &[(&str, &str)],
+    fails: &[u64],
+) -> Result<(), NoMemory> {
+    let mut before = "";
+    let mut call = 2u64;
+    for (change, after) in changes {
         if fails.contains(&call) {
             push_lines(script, [change, UNAVAILABLE, before])?;
             call = call.saturating_add(1);
         }
-        push_lines(script, [change, DONE, after])?;
+        let reply = if change.is_empty() { "" } else { DONE };
+        push_lines(script, [change, reply, after])?;
         call = call.saturating_add(1);
         before = after;
     }
     Ok(())
 }
 
-/// Whether a run in which these calls fail does all changes, each at its next try.
-fn is_done_again(alloc: Global, fails: &[u64]) -> Result<bool, NoMemory> {
+/// Whether a run in which these calls fail does all changes, each at its next try, and then keeps so many entries.
+fn is_done_again(
+    alloc: Global,
+    changes: &[(&str, &str)],
+    fails: &[u64],
+    kept: usize,
+) -> Result<bool, NoMemory> {
     let setting = Setting {
         commits: fails,
         ..WELL
     };
     let mut script = String::new(alloc);
-    push_changes(&mut script, fails)?;
-    let is = is_well(
-        alloc,
-        script.as_str(),
-        "",
-        setting,
-        End { status: 0, kept: 6 },
-    );
+    push_changes(&mut script, changes, fails)?;
+    let end = End { status: 0, kept };
+    let is = is_well(alloc, script.as_str(), "", setting, end);
     drop(script);
     is
 }
 
-const FAILING: [&[u64]; 10] = [
+const FAILING: [&[u64]; 12] = [
     &[],
     &[3],
     &[4],
@@ -138,14 +269,26 @@ const FAILING: [&[u64]; 10] = [
     &[8],
     &[9],
     &[10],
-    &[3, 5, 7, 9, 11, 13, 15, 17],
+    &[11],
+    &[12],
+    &[3, 5, 7, 9, 11, 13, 15, 17, 19, 21],
 ];
 
 #[test]
 fn failing_calls_of_the_keeper(rt: HostRuntime) {
     for fails in FAILING {
         assert!(rt;
-            is_done_again(rt.alloc(), fails) == Ok(true),
+            is_done_again(rt.alloc(), &PROFILES, fails, 6) == Ok(true),
+            "calls {fails:?}"
+        );
+    }
+}
+
+#[test]
+fn a_tenant_is_changed_whole_or_not_at_all(rt: HostRuntime) {
+    for fails in FAILING {
+        assert!(rt;
+            is_done_again(rt.alloc(), &TENANT, fails, 2) == Ok(true),
             "calls {fails:?}"
         );
     }

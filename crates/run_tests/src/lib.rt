@@ -2,9 +2,15 @@
 #![tactic(auto)]
 
 #[cfg(test)]
+mod features;
+#[cfg(test)]
 mod keepers;
 #[cfg(test)]
+mod policies;
+#[cfg(test)]
 mod profiles;
+#[cfg(test)]
+mod projects;
 #[cfg(test)]
 mod refusals;
 #[cfg(test)]

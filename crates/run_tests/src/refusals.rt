@@ -344,18 +344,38 @@ POST /1.0/instances?project=shop {
 501 {"error":"not built yet","error_code":501,"metadata":{"rule":"A0"},"type":"error"}
 GET /1.0/operations
 501 {"error":"not built yet","error_code":501,"metadata":{"rule":"A0"},"type":"error"}
-POST /1.0/projects?filter {"name":"x","config":{}}
+POST /1.0/networks?filter {"name":"br0","config":{}}
 501 {"error":"not built yet","error_code":501,"metadata":{"rule":"A0"},"type":"error"}
-PUT /1.0/projects/lab {"description":"x"}
+PUT /1.0/networks/br0 {"description":"x"}
 501 {"error":"not built yet","error_code":501,"metadata":{"rule":"A0"},"type":"error"}
-PATCH /1.0/projects/lab {"description":"x"}
+PATCH /1.0/storage-pools/p0 {"description":"x"}
 501 {"error":"not built yet","error_code":501,"metadata":{"rule":"A0"},"type":"error"}
-POST /1.0/projects/lab {"name":"x"}
+POST /1.0/networks/br0 {"name":"x"}
 501 {"error":"not built yet","error_code":501,"metadata":{"rule":"A0"},"type":"error"}
-DELETE /1.0/projects/lab
+DELETE /1.0/storage-pools/p0
 501 {"error":"not built yet","error_code":501,"metadata":{"rule":"A0"},"type":"error"}
 GET /1.0/projects/lab/state
 501 {"error":"not built yet","error_code":501,"metadata":{"rule":"A0"},"type":"error"}
+
+# the same of a project that is there, in the order of the rules
+POST /1.0/projects?filter {"name":"x","config":{}}
+400 {"error":"query is malformed","error_code":400,"metadata":{"key":"filter","rule":"A3"},"type":"error"}
+PUT /1.0/projects/lab {"description":7}
+400 {"error":"field is malformed","error_code":400,"metadata":{"key":"description","rule":"A5"},"type":"error"}
+PATCH /1.0/projects/lab {"description":"x"
+400 {"error":"body is no JSON object","error_code":400,"metadata":{"rule":"A4"},"type":"error"}
+POST /1.0/projects/lab {"name":"lab"}
+409 {"error":"name is taken","error_code":409,"metadata":{"kind":"project","name":"lab","rule":"N4"},"type":"error"}
+POST /1.0/projects/lab {"name":"x"}
+400 {"error":"project is not empty","error_code":400,"metadata":{"name":"lab","rule":"B5"},"type":"error"}
+DELETE /1.0/projects/lab
+400 {"error":"project is not empty","error_code":400,"metadata":{"name":"lab","rule":"B5"},"type":"error"}
+PATCH /1.0/projects/lab {"config":{"features.networks":"true"}}
+400 {"error":"project is not empty","error_code":400,"metadata":{"name":"lab","rule":"B5"},"type":"error"}
+PATCH /1.0/projects/lab {"config":{"nothing":"1"}}
+400 {"error":"key is unknown","error_code":400,"metadata":{"key":"nothing","rule":"V1"},"type":"error"}
+PUT /1.0/projects/default {}
+403 {"error":"object is protected","error_code":403,"metadata":{"kind":"project","name":"default","rule":"B3"},"type":"error"}
 "#;
 
 /// Whether each of these refusals is answered so, and leaves all as it was and does not call the keeper: its next call, which
