@@ -5,4 +5,7 @@ mod laws;
 mod sizes;
 
 pub use laws::{capped_large, capped_small, small_rows_are_short};
-pub use sizes::{instance_size, profile_size, project_size};
+pub use sizes::{
+    instance_size, network_size, pool_size, profile_size, project_size, row_size, snapshot_size,
+    volume_size,
+};

@@ -1,10 +1,11 @@
 //! The sizes of bodies of version 1, part by part. A sum stops at the greatest number of eight bytes.
 ghost use Rattle.std.specs.Prelude.{◌≡◌, ◌+◌, ℕ, length};
-ghost use Rattle.row_codec.specs.Spelling.{text_bytes, texts_bytes, settings_bytes, devices_bytes, project_bytes, profile_bytes, instance_bytes};
+ghost use Rattle.row_codec.specs.Spelling.{text_bytes, texts_bytes, settings_bytes, devices_bytes, body_of};
+ghost use Rattle.row_codec.specs.Spelling.{project_bytes, profile_bytes, network_bytes, pool_bytes, volume_bytes, instance_bytes, snapshot_bytes};
 ghost use Rattle.row_sizes.specs.Sizes.{capped};
 
 use config_lists::{Config, Devices};
-use records::{Instance, Profile, Project};
+use records::{Instance, Network, Pool, Profile, Project, Row, Snapshot, Volume};
 use size_values::Text;
 
 /// The sum of both, or the greatest number.
@@ -82,6 +83,39 @@ pub fn profile_size(row: &Profile) -> u64
     plus(1, parts)
 }
 
+/// How many bytes the body of a network has, or the greatest number where there are more.
+pub fn network_size(row: &Network) -> u64
+    ensures { result ≡ capped (length (network_bytes row.now)) }
+{
+    let parts = plus(
+        text_size(row.description.view()),
+        settings_size(&row.config),
+    );
+    plus(1, parts)
+}
+
+/// How many bytes the body of a storage pool has, or the greatest number where there are more.
+pub fn pool_size(row: &Pool) -> u64
+    ensures { result ≡ capped (length (pool_bytes row.now)) }
+{
+    let parts = plus(
+        text_size(row.description.view()),
+        settings_size(&row.config),
+    );
+    plus(2, parts)
+}
+
+/// How many bytes the body of a storage volume has, or the greatest number where there are more.
+pub fn volume_size(row: &Volume) -> u64
+    ensures { result ≡ capped (length (volume_bytes row.now)) }
+{
+    let parts = plus(
+        text_size(row.description.view()),
+        settings_size(&row.config),
+    );
+    plus(9, parts)
+}
+
 /// How many bytes the body of an instance has, or the greatest number where there are more.
 pub fn instance_size(row: &Instance) -> u64
     ensures { result ≡ capped (length (instance_bytes row.now)) }
@@ -95,4 +129,30 @@ pub fn instance_size(row: &Instance) -> u64
         plus(settings_size(&row.config), devices_size(&row.devices)),
     );
     plus(11, plus(texts, lists))
+}
+
+/// How many bytes the body of a snapshot has, or the greatest number where there are more.
+pub fn snapshot_size(row: &Snapshot) -> u64
+    ensures { result ≡ capped (length (snapshot_bytes row.now)) }
+{
+    let lists = plus(
+        texts_size(row.profiles.view()),
+        plus(settings_size(&row.config), devices_size(&row.devices)),
+    );
+    plus(17, lists)
+}
+
+/// How many bytes the body of a row has, or the greatest number where there are more.
+pub fn row_size(row: &Row) -> u64
+    ensures { result ≡ capped (length (body_of row.now)) }
+{
+    match row {
+        Row::Project(row) => project_size(row),
+        Row::Profile(row) => profile_size(row),
+        Row::Network(row) => network_size(row),
+        Row::Pool(row) => pool_size(row),
+        Row::Volume(row) => volume_size(row),
+        Row::Instance(row) => instance_size(row),
+        Row::Snapshot(row) => snapshot_size(row),
+    }
 }

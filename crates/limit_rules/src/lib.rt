@@ -1,0 +1,10 @@
+//! Rules on limits, L0 to L8: that what counts gives its numbers, and that each project stands within its limits.
+#![tactic(auto)]
+
+mod counts;
+mod limits;
+mod usage;
+
+pub use counts::counts_broken;
+pub use limits::limits_broken;
+pub use usage::{Usage, usage_before, usage_of};

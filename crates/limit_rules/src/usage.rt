@@ -1,0 +1,43 @@
+//! What counts for the limits of projects before a change.
+ghost use Rattle.std.specs.Prelude.{◌≡◌, IfOk};
+ghost use Rattle.row_machine.specs.Usage.{usage_of};
+ghost use Rattle.limit_rules.specs.Counting.{counts_in};
+
+use row_readings::{Load, View, loads};
+use size_values::{Amounts, NoMemory, Text};
+use std::alloc::Global;
+use std::marker::Model;
+
+/// What counts for the limits of projects at one time: instances, volumes and the shares of live operations, each with its
+/// project, and the project of each network. It stays as it is while the rows change.
+#[derive(Drop)]
+pub struct Usage {
+    loads: Vec<Load>,
+    networks: Vec<Text>,
+}
+
+impl Model for Usage {
+    ghost use Rattle.limit_rules.specs.Counting.{Counts};
+
+    ghost Value = { Counts };
+
+    ghost use Rattle.limit_rules.specs.Counting.{counts_of, AreLow};
+
+    ghost view = { counts_of };
+
+    ghost invariant = { AreLow };
+}
+
+/// What counts for limits, taken before a change.
+pub fn usage_before(alloc: Global, view: &View<'_>) -> Result<Usage, NoMemory>
+    ensures { IfOk result (λ u. u ≡ counts_in view.now) }
+{
+    Err(NoMemory)
+}
+
+/// What a project uses of its limits, with what live operations claim.
+pub fn usage_of(alloc: Global, view: &View<'_>, project: &str) -> Result<Amounts, NoMemory>
+    ensures { IfOk result (λ a. a ≡ usage_of view.now project.now) }
+{
+    Err(NoMemory)
+}

@@ -1,0 +1,6 @@
+//! Rules on names, N1 to N5: what a command speaks of is there, and the name that it gives is good and free.
+#![tactic(auto)]
+
+mod names;
+
+pub use names::names_broken;

@@ -1,0 +1,9 @@
+//! Rules on policy, F1 to F8: what a restricted project forbids of its profiles, its instances, and those that live
+//! operations would put, and whether it forbids snapshots.
+#![tactic(auto)]
+
+mod policy;
+mod snapshots;
+
+pub use policy::policy_broken;
+pub use snapshots::snapshot_blocked;

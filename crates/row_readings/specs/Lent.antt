@@ -1,0 +1,17 @@
+-- What contracts see of the lent rows.
+use Rattle.row_machine.specs.State.{State, empty_state}
+use Rattle.row_readings.specs.declared.view.View.TheInside.{Inside}
+
+-- the state with these rows, statuses and operations
+abbrev pub state_in : Inside → State
+state_in v = record empty_state {
+  projects = v.projects.now;
+  profiles = v.profiles.now;
+  networks = v.networks.now;
+  pools = v.pools.now;
+  volumes = v.volumes.now;
+  instances = v.instances.now;
+  snapshots = v.snapshots.now;
+  powers = v.powers.now;
+  operations = record { live = v.live.now; ended = v.ended.now; next = v.next };
+}

@@ -1,0 +1,13 @@
+-- What counts for limits is small, so that sums of it stay in range.
+use Rattle.std.specs.Prelude.{◌<◌, ◌^◌, List, All}
+use Rattle.size_values.specs.Amounts.{part}
+use Rattle.size_values.specs.declared.amounts.Part.{Part}
+use Rattle.row_machine.specs.Usage.{Load}
+
+-- no part of it reaches 2^63, as no value of a setting does
+pub record IsSmall (load : Load) : Type 0 where
+  pub parts : (k : Part) → part k load.amounts < 2 ^ 63
+
+-- the same of each
+abbrev pub AreSmall : List Load → Type 0
+AreSmall loads = All IsSmall loads

@@ -1,0 +1,49 @@
+//! The rows that live operations would put, and those that they replace.
+ghost use Rattle.std.specs.Prelude.{◌≡◌};
+ghost use Rattle.std.specs.Option.{option_copied};
+ghost use Rattle.row_machine.specs.Claims.{claimed_instance, claimed_volume, claimed_snapshot, replaced_instance};
+
+use crate::lookups::instance_named;
+use crate::view::View;
+use records::{Instance, Row, Snapshot, Volume};
+use row_machine::Work;
+
+/// The instance that a live operation would put.
+pub fn claimed_instance(work: &Work) -> Option<&Instance>
+    ensures { option_copied result ≡ claimed_instance work.now }
+{
+    match &work.claim {
+        Some(Row::Instance(row)) => Some(row),
+        _ => None,
+    }
+}
+
+/// The volume that a live operation would put.
+pub fn claimed_volume(work: &Work) -> Option<&Volume>
+    ensures { option_copied result ≡ claimed_volume work.now }
+{
+    match &work.claim {
+        Some(Row::Volume(row)) => Some(row),
+        _ => None,
+    }
+}
+
+/// The snapshot that a live operation would put.
+pub fn claimed_snapshot(work: &Work) -> Option<&Snapshot>
+    ensures { option_copied result ≡ claimed_snapshot work.now }
+{
+    match &work.claim {
+        Some(Row::Snapshot(row)) => Some(row),
+        _ => None,
+    }
+}
+
+/// The instance that the claimed row replaces, as it now stands.
+pub fn replaced_instance<'x>(view: &View<'x>, work: &Work) -> Option<&'x Instance>
+    ensures { option_copied result ≡ replaced_instance view.now work.now }
+{
+    match &work.replaces {
+        Some((project, name)) => instance_named(view.instances, project.view(), name.view()),
+        None => None,
+    }
+}

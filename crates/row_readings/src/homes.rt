@@ -1,0 +1,91 @@
+//! Settings that read as true, and the home of a project for the objects of a kind.
+ghost use Rattle.std.specs.Prelude.{◌≡◌};
+ghost use Rattle.size_values.specs.declared.kinds.ObjectKind.TheVariants as kind;
+ghost use Rattle.restrictions.specs.Words.{is_true};
+ghost use Rattle.row_machine.specs.Homes.{is_on, has_feature, home_by, home_of};
+
+use crate::lookups::project_named;
+use config_lists::Config;
+use records::Project;
+use size_values::{ObjectKind, read_truth};
+
+/// Whether a text reads as true.
+#[tactic(auto, unfolding(restrictions::specs::Words::is_true))]
+pub fn is_true(text: &str) -> bool
+    ensures { result ≡ is_true text.now }
+{
+    match read_truth(text) {
+        Ok(truth) => truth,
+        Err(_) => false,
+    }
+}
+
+/// Whether a key is set, and reads as true.
+pub fn is_on(config: &Config, key: &str) -> bool
+    ensures { result ≡ is_on config.now key.now }
+{
+    match config.get(key) {
+        Some(text) => is_true(text),
+        None => false,
+    }
+}
+
+fn has_feature(projects: &[Project], name: &str, key: &str) -> bool
+    ensures { result ≡ has_feature projects.now name.now key.now }
+{
+    match project_named(projects, name) {
+        Some(project) => is_on(&project.config, key),
+        None => false,
+    }
+}
+
+fn home_by<'x>(projects: &[Project], name: &'x str, key: &str) -> &'x str
+    ensures { result.now ≡ home_by projects.now name.now key.now }
+{
+    if has_feature(projects, name, key) {
+        name
+    } else {
+        "default"
+    }
+}
+
+/// The project that the profiles of a project belong to.
+#[tactic(auto, unfolding(row_machine::specs::Homes::home_of))]
+pub fn profile_home<'x>(projects: &[Project], name: &'x str) -> &'x str
+    ensures { result.now ≡ home_of projects.now name.now kind.Profile }
+{
+    home_by(projects, name, "features.profiles")
+}
+
+/// The project that the networks of a project belong to.
+#[tactic(auto, unfolding(row_machine::specs::Homes::home_of))]
+pub fn network_home<'x>(projects: &[Project], name: &'x str) -> &'x str
+    ensures { result.now ≡ home_of projects.now name.now kind.Network }
+{
+    home_by(projects, name, "features.networks")
+}
+
+/// The project that the storage volumes of a project belong to.
+#[tactic(auto, unfolding(row_machine::specs::Homes::home_of))]
+pub fn volume_home<'x>(projects: &[Project], name: &'x str) -> &'x str
+    ensures { result.now ≡ home_of projects.now name.now kind.Volume }
+{
+    home_by(projects, name, "features.storage.volumes")
+}
+
+/// The project that the objects of a kind belong to, which are asked for in a project.
+#[tactic(auto, unfolding(row_machine::specs::Homes::home_of))]
+pub fn home_of<'x>(projects: &[Project], name: &'x str, kind: ObjectKind) -> &'x str
+    ensures { result.now ≡ home_of projects.now name.now kind }
+{
+    match kind {
+        ObjectKind::Profile => profile_home(projects, name),
+        ObjectKind::Network => network_home(projects, name),
+        ObjectKind::Volume => volume_home(projects, name),
+        ObjectKind::Project => name,
+        ObjectKind::Pool => name,
+        ObjectKind::Instance => name,
+        ObjectKind::Snapshot => name,
+        ObjectKind::Operation => name,
+    }
+}

@@ -1,0 +1,97 @@
+//! Rows and statuses by their names.
+ghost use Rattle.std.specs.Prelude.{◌≡◌, find};
+ghost use Rattle.std.specs.Option.{option_copied};
+ghost use Rattle.row_machine.specs.Rows.{is_standing, project_named, profile_named, network_named, pool_named, volume_named, instance_named, snapshot_named};
+ghost use Rattle.row_machine.specs.StandingRules.{power_of};
+
+use crate::view::{InstancePower, View};
+use records::{Instance, Network, Pool, Profile, Project, Snapshot, Volume};
+use size_values::Power;
+
+/// The project of a name.
+pub fn project_named<'x>(rows: &'x [Project], name: &str) -> Option<&'x Project>
+    ensures { option_copied result ≡ project_named rows.now name.now }
+{
+    rows.iter().find(|r| r.name.view() == name)
+}
+
+/// The profile of a name in a project.
+pub fn profile_named<'x>(rows: &'x [Profile], project: &str, name: &str) -> Option<&'x Profile>
+    ensures { option_copied result ≡ profile_named rows.now project.now name.now }
+{
+    rows.iter()
+        .find(|r| r.project.view() == project && r.name.view() == name)
+}
+
+/// The network of a name in a project.
+pub fn network_named<'x>(rows: &'x [Network], project: &str, name: &str) -> Option<&'x Network>
+    ensures { option_copied result ≡ network_named rows.now project.now name.now }
+{
+    rows.iter()
+        .find(|r| r.project.view() == project && r.name.view() == name)
+}
+
+/// The storage pool of a name.
+pub fn pool_named<'x>(rows: &'x [Pool], name: &str) -> Option<&'x Pool>
+    ensures { option_copied result ≡ pool_named rows.now name.now }
+{
+    rows.iter().find(|r| r.name.view() == name)
+}
+
+/// The volume of a name in a project and a storage pool.
+pub fn volume_named<'x>(
+    rows: &'x [Volume],
+    project: &str,
+    pool: &str,
+    name: &str,
+) -> Option<&'x Volume>
+    ensures { option_copied result ≡ volume_named rows.now project.now pool.now name.now }
+{
+    rows.iter().find(|r| {
+        r.project.view() == project && r.pool.view() == pool && r.name.view() == name
+    })
+}
+
+/// The instance of a name in a project.
+pub fn instance_named<'x>(rows: &'x [Instance], project: &str, name: &str) -> Option<&'x Instance>
+    ensures { option_copied result ≡ instance_named rows.now project.now name.now }
+{
+    rows.iter()
+        .find(|r| r.project.view() == project && r.name.view() == name)
+}
+
+/// The snapshot of a name of an instance in a project.
+pub fn snapshot_named<'x>(
+    rows: &'x [Snapshot],
+    project: &str,
+    instance: &str,
+    name: &str,
+) -> Option<&'x Snapshot>
+    ensures { option_copied result ≡ snapshot_named rows.now project.now instance.now name.now }
+{
+    rows.iter().find(|r| {
+        r.project.view() == project && r.instance.view() == instance && r.name.view() == name
+    })
+}
+
+fn standing_of<'x>(
+    powers: &'x [InstancePower],
+    project: &str,
+    name: &str,
+) -> Option<&'x InstancePower>
+    ensures { option_copied result ≡ find (is_standing project.now name.now) powers.now }
+{
+    powers
+        .iter()
+        .find(|p| p.project.view() == project && p.name.view() == name)
+}
+
+/// The status of an instance.
+pub fn power_of(view: &View<'_>, project: &str, name: &str) -> Option<Power>
+    ensures { result ≡ power_of view.now project.now name.now }
+{
+    match standing_of(view.powers, project, name) {
+        Some(standing) => Some(standing.power),
+        None => None,
+    }
+}

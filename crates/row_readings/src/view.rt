@@ -1,0 +1,49 @@
+use operations::Operation;
+use records::{Instance, Network, Pool, Profile, Project, Snapshot, Volume};
+use row_machine::Work;
+use size_values::{Power, Text};
+use std::marker::Model;
+
+/// The status of the instance of a project and name.
+#[derive(Drop)]
+pub struct InstancePower {
+    pub project: Text,
+    pub name: Text,
+    pub power: Power,
+}
+
+impl Model for InstancePower {
+    ghost use Rattle.row_machine.specs.State.{Standing};
+
+    ghost Value = { Standing };
+
+    ghost view = { λ p. record { project = p.project; name = p.name; power = p.power } };
+}
+
+/// The rows of each kind, in the order of project, pool or instance, and name, the status of each instance, and the kept
+/// operations: those that live in the order of their numbers, those that ended in the order of their ends, and the
+/// number of the next one. All of it is lent. Contracts see the state of the row machine with these rows, statuses and
+/// operations, in which nothing else was told or granted yet.
+#[derive(Drop)]
+pub struct View<'a> {
+    pub projects: &'a [Project],
+    pub profiles: &'a [Profile],
+    pub networks: &'a [Network],
+    pub pools: &'a [Pool],
+    pub volumes: &'a [Volume],
+    pub instances: &'a [Instance],
+    pub snapshots: &'a [Snapshot],
+    pub powers: &'a [InstancePower],
+    pub live: &'a [Operation<Work>],
+    pub ended: &'a [Operation<Work>],
+    pub next: u64,
+}
+
+impl<'a> Model for View<'a> {
+    ghost use Rattle.row_machine.specs.State.{State};
+    ghost use Rattle.row_readings.specs.Lent.{state_in};
+
+    ghost Value = { State };
+
+    ghost view = { state_in };
+}
