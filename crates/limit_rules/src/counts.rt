@@ -1,14 +1,200 @@
+//! L0: that each instance and volume gives a number for each limited sum.
+ghost use Rattle.std.specs.Prelude.{◌≡◌, ◌∷◌, [], if◌then◌else◌, option_and_then};
+ghost use Rattle.std.specs.Str.{bytes_eq};
+ghost use Rattle.plain_lists.specs.Firsts.{first, first_of};
 ghost use Rattle.size_values.specs.Causes.{Says};
-ghost use Rattle.row_machine.specs.LimitRules.{counts_broken};
+ghost use Rattle.row_machine.specs.Claims.{claimed_instance, claimed_volume};
+ghost use Rattle.row_machine.specs.LimitRules.{sum_text, uncounted, instance_uncounted, volume_uncounts, claim_uncounted, project_uncounted, counts_broken};
 
-use records::Refusal;
-use row_readings::View;
-use size_values::Or;
+use crate::parts::limits_sum;
+use operations::Operation;
+use project_limits::{SumKey, countable, limits_of, volume_countable};
+use records::{Instance, Project, Refusal, Rule, Volume};
+use row_machine::Work;
+use row_readings::{View, claimed_instance, claimed_volume};
+use rule_refusals::on_key_of;
+use size_values::{Or, Text};
 use std::alloc::Global;
 
+fn sum_text(key: SumKey) -> &'static str
+    ensures { result.now ≡ sum_text key }
+{
+    match key {
+        SumKey::Cpu => "limits.cpu",
+        SumKey::Memory => "limits.memory",
+        SumKey::Processes => "limits.processes",
+        SumKey::Disk => "limits.disk",
+    }
+}
+
+/// An object of this name gives no number for this sum.
+fn uncounted(
+    alloc: Global,
+    project: &Project,
+    name: &Text,
+    key: Option<SumKey>,
+) -> Result<(), Or<Refusal>>
+    ensures { Says result (uncounted project.now name.now key) }
+{
+    let Some(key) = key else {
+        return Ok(());
+    };
+    let key = sum_text(key);
+    Err(Or::Why(on_key_of(alloc, Rule::L0, key, name.view(), project.name.view())?))
+}
+
+/// An instance of the project gives no number for a sum that the project limits.
+#[tactic(auto, unfolding(row_machine::specs::LimitRules::instance_uncounted))]
+fn instance_uncounted(
+    alloc: Global,
+    view: &View<'_>,
+    project: &Project,
+    row: &Instance,
+) -> Result<(), Or<Refusal>>
+    ensures { Says result (if bytes_eq row.now.project project.now.name then instance_uncounted view.now project.now row.now else None) }
+{
+    if !row.project.is(&project.name) {
+        return Ok(());
+    }
+    let expanded = view.expansion(alloc, row)?;
+    let limits = limits_of(&project.config);
+    let key = countable(&limits, row.kind, &expanded.config, &expanded.devices).err();
+    drop(expanded);
+    uncounted(alloc, project, &row.name, key)
+}
+
+fn instances_uncounted(
+    alloc: Global,
+    view: &View<'_>,
+    project: &Project,
+    rows: &[Instance],
+) -> Result<(), Or<Refusal>>
+    ensures { Says result (first_of (λ i. if bytes_eq i.project project.now.name then instance_uncounted view.now project.now i else None) rows.now) }
+{
+    for row in rows {
+        if let Err(why) = instance_uncounted(alloc, view, project, row) {
+            return Err(why);
+        }
+    }
+    Ok(())
+}
+
+/// A volume of the project has no size although the project limits its disk.
+#[tactic(auto, unfolding(row_machine::specs::LimitRules::volume_uncounts))]
+fn volume_uncounted(alloc: Global, project: &Project, row: &Volume) -> Result<(), Or<Refusal>>
+    ensures { Says result (if bytes_eq row.now.project project.now.name then volume_uncounts project.now row.now else None) }
+{
+    if !row.project.is(&project.name) {
+        return Ok(());
+    }
+    let key = volume_countable(&limits_of(&project.config), &row.config).err();
+    uncounted(alloc, project, &row.name, key)
+}
+
+fn volumes_uncounted(alloc: Global, project: &Project, rows: &[Volume]) -> Result<(), Or<Refusal>>
+    ensures { Says result (first_of (λ v. if bytes_eq v.project project.now.name then volume_uncounts project.now v else None) rows.now) }
+{
+    for row in rows {
+        if let Err(why) = volume_uncounted(alloc, project, row) {
+            return Err(why);
+        }
+    }
+    Ok(())
+}
+
+fn claimed_instance_uncounted(
+    alloc: Global,
+    view: &View<'_>,
+    project: &Project,
+    work: &Work,
+) -> Result<(), Or<Refusal>>
+    ensures { Says result (option_and_then (λ i. if bytes_eq i.project project.now.name then instance_uncounted view.now project.now i else None) (claimed_instance work.now)) }
+{
+    match claimed_instance(work) {
+        Some(row) => instance_uncounted(alloc, view, project, row),
+        None => Ok(()),
+    }
+}
+
+fn claimed_volume_uncounted(
+    alloc: Global,
+    project: &Project,
+    work: &Work,
+) -> Result<(), Or<Refusal>>
+    ensures { Says result (option_and_then (λ v. if bytes_eq v.project project.now.name then volume_uncounts project.now v else None) (claimed_volume work.now)) }
+{
+    match claimed_volume(work) {
+        Some(row) => volume_uncounted(alloc, project, row),
+        None => Ok(()),
+    }
+}
+
+/// The row that a live operation would put is not countable.
+fn claim_uncounted(
+    alloc: Global,
+    view: &View<'_>,
+    project: &Project,
+    work: &Work,
+) -> Result<(), Or<Refusal>>
+    ensures { Says result (claim_uncounted view.now project.now work.now) }
+{
+    claimed_instance_uncounted(alloc, view, project, work)?;
+    claimed_volume_uncounted(alloc, project, work)
+}
+
+fn claims_uncounted(
+    alloc: Global,
+    view: &View<'_>,
+    project: &Project,
+    live: &[Operation<Work>],
+) -> Result<(), Or<Refusal>>
+    ensures { Says result (first_of (λ o. claim_uncounted view.now project.now o.work) live.now) }
+{
+    for operation in live {
+        if let Err(why) = claim_uncounted(alloc, view, project, &operation.work) {
+            return Err(why);
+        }
+    }
+    Ok(())
+}
+
+fn objects_uncounted(alloc: Global, view: &View<'_>, project: &Project) -> Result<(), Or<Refusal>>
+    ensures { Says result (first (first_of (λ i. if bytes_eq i.project project.now.name then instance_uncounted view.now project.now i else None) view.now.instances ∷ first_of (λ v. if bytes_eq v.project project.now.name then volume_uncounts project.now v else None) view.now.volumes ∷ first_of (λ o. claim_uncounted view.now project.now o.work) view.now.operations.live ∷ [])) }
+{
+    instances_uncounted(alloc, view, project, view.instances)?;
+    volumes_uncounted(alloc, project, view.volumes)?;
+    claims_uncounted(alloc, view, project, view.live)
+}
+
+/// The first instance, volume or claim of a project that is not countable. Where the project limits no sum, none is asked.
+fn project_uncounted(alloc: Global, view: &View<'_>, project: &Project) -> Result<(), Or<Refusal>>
+    ensures { Says result (project_uncounted view.now project.now) }
+{
+    if !limits_sum(&limits_of(&project.config)) {
+        return Ok(());
+    }
+    objects_uncounted(alloc, view, project)
+}
+
+fn projects_uncounted(
+    alloc: Global,
+    view: &View<'_>,
+    projects: &[Project],
+) -> Result<(), Or<Refusal>>
+    ensures { Says result (first_of (project_uncounted view.now) projects.now) }
+{
+    for project in projects {
+        if let Err(why) = project_uncounted(alloc, view, project) {
+            return Err(why);
+        }
+    }
+    Ok(())
+}
+
 /// The first instance, volume or claim that gives no number for a sum that its project limits.
+#[tactic(auto, unfolding(row_machine::specs::LimitRules::counts_broken))]
 pub fn counts_broken(alloc: Global, after: &View<'_>) -> Result<(), Or<Refusal>>
     ensures { Says result (counts_broken after.now) }
 {
-    Err(Or::NoMemory)
+    projects_uncounted(alloc, after, after.projects)
 }

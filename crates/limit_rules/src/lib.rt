@@ -3,6 +3,7 @@
 
 mod counts;
 mod limits;
+mod parts;
 mod usage;
 
 pub use counts::counts_broken;

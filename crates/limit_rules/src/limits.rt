@@ -1,18 +1,209 @@
-ghost use Rattle.std.specs.Prelude.{◌≡◌};
+//! L1 to L8: that each project stands within its limits.
+ghost use Rattle.std.specs.Prelude.{◌≡◌, ◌<◌, ◌^◌, ◌∷◌, [], IfOk, Some, filter, length};
+ghost use Rattle.std.specs.Str.{bytes_eq};
+ghost use Rattle.plain_lists.specs.Firsts.{first, first_of};
 ghost use Rattle.size_values.specs.Causes.{Says};
+ghost use Rattle.project_limits.specs.Admission.{parts};
 ghost use Rattle.row_machine.specs.State.{State};
-ghost use Rattle.row_machine.specs.LimitRules.{limits_broken};
+ghost use Rattle.row_machine.specs.Usage.{loads};
+ghost use Rattle.row_machine.specs.LimitRules.{over_refusal, exceeds, limits_broken};
+ghost use Rattle.row_readings.specs.Loads.{AreSmall};
 ghost use Rattle.limit_rules.specs.Counting.{counts_in};
+ghost use Rattle.limit_rules.specs.Exceeding.{part_over, parts_over, networks_over};
 
+use crate::parts::{PARTS, is_any_limited, key_of, limit_on, limit_rule, limit_text, part_of};
 use crate::usage::Usage;
-use records::Refusal;
-use row_readings::View;
-use size_values::Or;
+use project_limits::{LimitKey, Over, limits_of};
+use records::{Kept, Network, Project, Refusal};
+use row_readings::{Load, View, loads, usage_in};
+use size_values::{NoMemory, Or, Part, Text};
 use std::alloc::Global;
 
-/// The first limit that is exceeded, and the first project at which it is. `before` is what counted before the change.
+/// A refusal by a limit of a project.
+fn over_refusal(alloc: Global, project: &Project, over: Over) -> Result<Refusal, NoMemory>
+    ensures { IfOk result (λ r. r ≡ over_refusal project.now over) }
+{
+    let key = Text::from_text(alloc, limit_text(over.key))?;
+    let project = project.name.copy(alloc)?;
+    let kept = Kept {
+        kind: Text::new(alloc),
+        project,
+        name: Text::new(alloc),
+        key,
+        number: 0,
+        used: over.used,
+        asked: over.asked,
+        limit: over.limit,
+    };
+    let rule = limit_rule(over.key);
+    Ok(Refusal { rule, kept })
+}
+
+/// What is used before a change, and what the change asks for above it, are together above a limit.
+fn exceeds(
+    alloc: Global,
+    project: &Project,
+    key: LimitKey,
+    limit: u64,
+    before: u128,
+    after: u128,
+) -> Result<(), Or<Refusal>>
+    requires before { before < 2 ^ 126 }
+    requires after { after < 2 ^ 126 }
+    ensures { Says result (exceeds project.now key (Some limit) before after) }
+{
+    let limit = u128::from(limit);
+    let asked = after.saturating_sub(before);
+    if before + asked <= limit {
+        return Ok(());
+    }
+    let over = Over {
+        key,
+        used: before,
+        asked,
+        limit,
+    };
+    Err(Or::Why(over_refusal(alloc, project, over)?))
+}
+
+// ---- the parts of what projects use
+
+/// A part that the project does not limit is not summed.
+fn project_exceeds(
+    alloc: Global,
+    part: Part,
+    before: &[Load],
+    after: &[Load],
+    project: &Project,
+) -> Result<(), Or<Refusal>>
+    requires before { AreSmall before.now }
+    requires after { AreSmall after.now }
+    ensures { Says result (part_over before.now after.now part project.now) }
+{
+    let Some(limit) = limit_on(part, &limits_of(&project.config)) else {
+        return Ok(());
+    };
+    let before = part_of(part, &usage_in(before, project.name.view()));
+    let after = part_of(part, &usage_in(after, project.name.view()));
+    exceeds(alloc, project, key_of(part), limit, before, after)
+}
+
+fn part_exceeds(
+    alloc: Global,
+    part: Part,
+    before: &[Load],
+    after: &[Load],
+    projects: &[Project],
+) -> Result<(), Or<Refusal>>
+    requires before { AreSmall before.now }
+    requires after { AreSmall after.now }
+    ensures { Says result (first_of (part_over before.now after.now part) projects.now) }
+{
+    for project in projects {
+        if let Err(why) = project_exceeds(alloc, part, before, after, project) {
+            return Err(why);
+        }
+    }
+    Ok(())
+}
+
+/// The first part of what projects use that is above its limit, and the first project at which it is.
+fn parts_exceed(
+    alloc: Global,
+    before: &[Load],
+    after: &[Load],
+    projects: &[Project],
+) -> Result<(), Or<Refusal>>
+    requires before { AreSmall before.now }
+    requires after { AreSmall after.now }
+    ensures { Says result (parts_over before.now after.now projects.now) }
+{
+    for part in PARTS {
+        if let Err(why) = part_exceeds(alloc, part, before, after, projects) {
+            return Err(why);
+        }
+    }
+    Ok(())
+}
+
+fn loads_exceed(alloc: Global, before: &[Load], after: &View<'_>) -> Result<(), Or<Refusal>>
+    requires { AreSmall before.now }
+    ensures { Says result (parts_over before.now (loads after.now) after.now.projects) }
+{
+    let all = loads(alloc, after)?;
+    let exceeded = parts_exceed(alloc, before, &all, after.projects);
+    drop(all);
+    exceeded
+}
+
+// ---- the number of networks
+
+fn networks_before(names: &[Text], project: &Text) -> u128
+    ensures count { result ≡ length (filter (λ name. bytes_eq name project.now) names.now) }
+    ensures few { result < 2 ^ 126 }
+{
+    names.iter().filter(|name| name.is(project)).count() as u128
+}
+
+fn networks_after(networks: &[Network], project: &Text) -> u128
+    ensures count { result ≡ length (filter (λ n. bytes_eq n.project project.now) networks.now) }
+    ensures few { result < 2 ^ 126 }
+{
+    networks
+        .iter()
+        .filter(|network| network.project.is(project))
+        .count() as u128
+}
+
+fn count_exceeds(
+    alloc: Global,
+    before: &[Text],
+    after: &[Network],
+    project: &Project,
+) -> Result<(), Or<Refusal>>
+    ensures { Says result (networks_over before.now after.now project.now) }
+{
+    let Some(limit) = limits_of(&project.config).networks else {
+        return Ok(());
+    };
+    let before = networks_before(before, &project.name);
+    let after = networks_after(after, &project.name);
+    exceeds(alloc, project, LimitKey::Networks, limit, before, after)
+}
+
+/// The first project of which the number of networks is above its limit.
+fn networks_exceed(
+    alloc: Global,
+    before: &[Text],
+    after: &[Network],
+    projects: &[Project],
+) -> Result<(), Or<Refusal>>
+    ensures { Says result (first_of (networks_over before.now after.now) projects.now) }
+{
+    for project in projects {
+        if let Err(why) = count_exceeds(alloc, before, after, project) {
+            return Err(why);
+        }
+    }
+    Ok(())
+}
+
+// ---- all limits
+
+fn limits_exceed(alloc: Global, before: &Usage, after: &View<'_>) -> Result<(), Or<Refusal>>
+    ensures { Says result (first (parts_over before.now.loads (loads after.now) after.now.projects ∷ first_of (networks_over before.now.networks after.now.networks) after.now.projects ∷ [])) }
+{
+    loads_exceed(alloc, before.loads(), after)?;
+    networks_exceed(alloc, before.networks(), after.networks, after.projects)
+}
+
+/// The first limit that is exceeded, and the first project at which it is. `before` is what counted before the change. Where
+/// no project has a limit after it, nothing is summed.
 pub fn limits_broken(alloc: Global, before: &Usage, after: &View<'_>) -> Result<(), Or<Refusal>>
     ensures { (s : State) → before.now ≡ counts_in s → Says result (limits_broken s after.now) }
 {
-    Err(Or::NoMemory)
+    if !is_any_limited(after.projects) {
+        return Ok(());
+    }
+    limits_exceed(alloc, before, after)
 }

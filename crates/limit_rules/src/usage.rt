@@ -1,8 +1,10 @@
 //! What counts for the limits of projects before a change.
-ghost use Rattle.std.specs.Prelude.{◌≡◌, IfOk};
+ghost use Rattle.std.specs.Prelude.{◌≡◌, IfOk, map};
 ghost use Rattle.row_machine.specs.Usage.{usage_of};
+ghost use Rattle.row_readings.specs.Loads.{AreSmall};
 ghost use Rattle.limit_rules.specs.Counting.{counts_in};
 
+use records::Network;
 use row_readings::{Load, View, loads};
 use size_values::{Amounts, NoMemory, Text};
 use std::alloc::Global;
@@ -28,16 +30,45 @@ impl Model for Usage {
     ghost invariant = { AreLow };
 }
 
+impl Usage {
+    /// Instances, volumes and the shares of live operations.
+    pub(crate) fn loads(&self) -> &[Load]
+        ensures same { result.now ≡ self.now.loads }
+        ensures small { AreSmall result.now }
+    {
+        &self.loads
+    }
+
+    /// The project of each network.
+    pub(crate) fn networks(&self) -> &[Text]
+        ensures { result.now ≡ self.now.networks }
+    {
+        &self.networks
+    }
+}
+
 /// What counts for limits, taken before a change.
 pub fn usage_before(alloc: Global, view: &View<'_>) -> Result<Usage, NoMemory>
     ensures { IfOk result (λ u. u ≡ counts_in view.now) }
 {
-    Err(NoMemory)
+    let loads = loads(alloc, view)?;
+    let networks = network_projects(alloc, view.networks)?;
+    Ok(Usage { loads, networks })
+}
+
+fn network_projects(alloc: Global, networks: &[Network]) -> Result<Vec<Text>, NoMemory>
+    ensures { IfOk result (λ names. names.items ≡ map (λ n. n.project) networks.now) }
+{
+    let mut names = Vec::new(alloc);
+    for network in networks {
+        names.push(network.project.copy(alloc)?)?;
+    }
+    Ok(names)
 }
 
 /// What a project uses of its limits, with what live operations claim.
 pub fn usage_of(alloc: Global, view: &View<'_>, project: &str) -> Result<Amounts, NoMemory>
     ensures { IfOk result (λ a. a ≡ usage_of view.now project.now) }
 {
-    Err(NoMemory)
+    view.usage(alloc, project)
 }

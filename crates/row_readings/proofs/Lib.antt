@@ -1,3 +1,5 @@
+mod Cut
+mod Digits
 pub mod Layered
 pub mod Small
 pub mod Totals

@@ -1,11 +1,14 @@
 //! Rows and statuses by their names.
 ghost use Rattle.std.specs.Prelude.{◌≡◌, find};
 ghost use Rattle.std.specs.Option.{option_copied};
+ghost use Rattle.operations.specs.Kept.{has_number, kept_at};
 ghost use Rattle.row_machine.specs.Rows.{is_standing, project_named, profile_named, network_named, pool_named, volume_named, instance_named, snapshot_named};
 ghost use Rattle.row_machine.specs.StandingRules.{power_of};
 
 use crate::view::{InstancePower, View};
+use operations::Operation;
 use records::{Instance, Network, Pool, Profile, Project, Snapshot, Volume};
+use row_machine::Work;
 use size_values::Power;
 
 /// The project of a name.
@@ -93,5 +96,21 @@ pub fn power_of(view: &View<'_>, project: &str, name: &str) -> Option<Power>
     match standing_of(view.powers, project, name) {
         Some(standing) => Some(standing.power),
         None => None,
+    }
+}
+
+fn numbered<'x>(operations: &'x [Operation<Work>], number: u64) -> Option<&'x Operation<Work>>
+    ensures { option_copied result ≡ find (has_number number) operations.now }
+{
+    operations.iter().find(|o| o.number == number)
+}
+
+/// The operation of a number, live or ended.
+pub fn kept_at<'x>(view: &View<'x>, number: u64) -> Option<&'x Operation<Work>>
+    ensures { option_copied result ≡ kept_at view.now.operations number }
+{
+    match numbered(view.live, number) {
+        Some(operation) => Some(operation),
+        None => numbered(view.ended, number),
     }
 }

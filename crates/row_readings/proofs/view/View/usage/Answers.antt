@@ -1,4 +1,4 @@
-use Rattle.std.proofs.Common.{◌≡◌, ℕ, List, ap₂, ◌∙◌}
+use Rattle.std.proofs.Common.{◌≡◌, ap, ◌∙◌}
 use Rattle.std.specs.List.{sum_by}
 use Rattle.size_values.specs.Amounts.{part}
 use Rattle.size_values.specs.declared.amounts.Part.{Part}

@@ -1,0 +1,327 @@
+//! What the creation of an instance does in the background, and the row that it claims.
+ghost use Rattle.std.specs.Prelude.{◌≡◌, IfOk, OnOk, ◌++◌, ◌∷◌, [], Some, is_some};
+ghost use Rattle.std.specs.Option.{option_copied};
+ghost use Rattle.size_values.specs.declared.kinds.Deed.TheVariants as deed;
+ghost use Rattle.host_model.specs.declared.call.HostCall.TheVariants as call;
+ghost use Rattle.records.specs.declared.rows.Row.TheVariants as row_of;
+ghost use Rattle.instance_states.specs.Plans.{undo_of};
+ghost use Rattle.row_machine.specs.NewRows.{source_instance, source_snapshot};
+ghost use Rattle.row_machine.specs.HostCalls.{place_of, create_calls, copy_calls};
+ghost use Rattle.row_machine.specs.Plans.{plain_task, creation, copy, instance_target, snapshot_target, copy_from, instance_creation};
+ghost use Rattle.instance_tasks.specs.Planned.{planned};
+
+use crate::making::{Source, copied_instance, image_of, made_instance};
+use crate::pairs::both;
+use host_model::{HostCall, Place};
+use instance_states::plan_of;
+use records::{Body, Instance, Origin, Row, Snapshot, Target};
+use row_machine::Work;
+use row_readings::{View, instance_named, snapshot_named};
+use size_values::{Deed, NoMemory, ObjectKind, Seq, Text};
+use std::alloc::Global;
+
+/// Whether an operation of a deed may be cancelled.
+pub fn may_cancel(deed: Deed) -> bool
+    ensures { result ≡ is_some (undo_of deed) }
+{
+    plan_of(deed).undo.is_some()
+}
+
+/// Where the root of an instance stands.
+fn place_of(alloc: Global, project: &Text, name: &Text) -> Result<Place, NoMemory>
+    ensures { IfOk result (λ p. p ≡ place_of project.now name.now) }
+{
+    let (project, name) = both(project.copy(alloc), name.copy(alloc))?;
+    Ok(Place {
+        volume: false,
+        project,
+        pool: Text::new(alloc),
+        name,
+    })
+}
+
+fn push_clear(alloc: Global, calls: &mut Seq<HostCall>, at: &Place) -> Result<(), NoMemory>
+    ensures { OnOk result (calls.new ≡ calls.old ++ call.Clear at.now ∷ []) }
+{
+    let at = at.copy(alloc)?;
+    calls.push(HostCall::Clear { at })
+}
+
+fn push_make(
+    alloc: Global,
+    calls: &mut Seq<HostCall>,
+    at: &Place,
+    image: &str,
+) -> Result<(), NoMemory>
+    ensures { OnOk result (calls.new ≡ calls.old ++ call.MakeRoot at.now image.now ∷ []) }
+{
+    let (at, origin) = both(at.copy(alloc), Text::from_text(alloc, image))?;
+    calls.push(HostCall::MakeRoot { at, origin })
+}
+
+/// A new root of an image, or an empty one.
+fn create_calls(alloc: Global, at: &Place, image: &str) -> Result<Seq<HostCall>, NoMemory>
+    ensures { IfOk result (λ calls. calls ≡ create_calls at.now image.now) }
+{
+    let mut calls = Seq::new(alloc);
+    push_clear(alloc, &mut calls, at)?;
+    push_make(alloc, &mut calls, at, image)?;
+    Ok(calls)
+}
+
+fn push_copy(
+    alloc: Global,
+    calls: &mut Seq<HostCall>,
+    from: &Place,
+    snapshot: &str,
+    to: &Place,
+) -> Result<(), NoMemory>
+    ensures { OnOk result (calls.new ≡ calls.old ++ call.CopyRoot from.now snapshot.now to.now ∷ []) }
+{
+    let places = both(from.copy(alloc), to.copy(alloc));
+    let (places, snapshot) = both(places, Text::from_text(alloc, snapshot))?;
+    calls.push(HostCall::CopyRoot {
+        from: places.0,
+        snapshot,
+        to: places.1,
+    })
+}
+
+/// A new root with the content of another one, or of its snapshot.
+fn copy_calls(
+    alloc: Global,
+    from: &Place,
+    snapshot: &str,
+    to: &Place,
+) -> Result<Seq<HostCall>, NoMemory>
+    ensures { IfOk result (λ calls. calls ≡ copy_calls from.now snapshot.now to.now) }
+{
+    let mut calls = Seq::new(alloc);
+    push_clear(alloc, &mut calls, to)?;
+    push_copy(alloc, &mut calls, from, snapshot, to)?;
+    Ok(calls)
+}
+
+/// What a task is about, where the new root will stand, and the calls that make it.
+#[derive(Drop)]
+struct Begun {
+    project: Text,
+    target: Target,
+    at: Place,
+    calls: Seq<HostCall>,
+}
+
+/// The same, with calls that are made.
+fn begun_with(
+    alloc: Global,
+    project: &Text,
+    of: &Target,
+    at: Place,
+    calls: Seq<HostCall>,
+) -> Result<Begun, NoMemory>
+    ensures { IfOk result (λ b. b ≡ record { project = project.now; target = of.now; at = at; calls = calls }) }
+{
+    match both(project.copy(alloc), of.copy(alloc)) {
+        Ok(about) => Ok(Begun {
+            project: about.0,
+            target: about.1,
+            at,
+            calls,
+        }),
+        Err(error) => {
+            drop(at);
+            drop(calls);
+            Err(error)
+        }
+    }
+}
+
+/// What makes a new instance of an image, or an empty one.
+fn making(alloc: Global, project: &Text, of: &Target, image: &str) -> Result<Begun, NoMemory>
+    ensures { IfOk result (λ b. b ≡ record { project = project.now; target = of.now; at = place_of project.now of.now.name; calls = create_calls (place_of project.now of.now.name) image.now }) }
+{
+    let at = place_of(alloc, project, &of.name)?;
+    let calls = create_calls(alloc, &at, image);
+    let (at, calls) = both(Ok(at), calls)?;
+    begun_with(alloc, project, of, at, calls)
+}
+
+/// What makes a copy of the root of an instance of the project, or of its snapshot.
+fn copying(
+    alloc: Global,
+    project: &Text,
+    of: &Target,
+    instance: &Text,
+    snapshot: &str,
+) -> Result<Begun, NoMemory>
+    ensures { IfOk result (λ b. b ≡ record { project = project.now; target = of.now; at = place_of project.now of.now.name; calls = copy_calls (place_of project.now instance.now) snapshot.now (place_of project.now of.now.name) }) }
+{
+    let at = place_of(alloc, project, &of.name);
+    let (at, from) = both(at, place_of(alloc, project, instance))?;
+    let calls = copy_calls(alloc, &from, snapshot, &at);
+    drop(from);
+    let (at, calls) = both(Ok(at), calls)?;
+    begun_with(alloc, project, of, at, calls)
+}
+
+/// The task of a creation or of a copy, which claims this row.
+fn task(deed: Deed, begun: Begun, row: Instance, source: Option<Target>) -> Work
+    ensures { result ≡ record (plain_task deed begun.project begun.target begun.calls) { claim = Some (row_of.Instance row); source = source; undo = Some (call.Clear begun.at) } }
+{
+    Work {
+        deed,
+        project: begun.project,
+        target: begun.target,
+        claim: Some(Row::Instance(row)),
+        replaces: None,
+        source,
+        calls: begun.calls,
+        undo: Some(HostCall::Clear { at: begun.at }),
+        done: 0,
+    }
+}
+
+/// The creation of an instance from nothing or from an image.
+fn creation(
+    alloc: Global,
+    project: &Text,
+    of: &Target,
+    body: &Body,
+    moment: u64,
+) -> Result<Work, NoMemory>
+    ensures { IfOk result (λ w. w ≡ creation project.now of.now body.now moment) }
+{
+    let begun = making(alloc, project, of, image_of(&body.origin));
+    let row = made_instance(alloc, project, &of.name, body, moment);
+    let (begun, row) = both(begun, row)?;
+    Ok(task(Deed::Create, begun, row, None))
+}
+
+fn instance_target(alloc: Global, name: &Text) -> Result<Target, NoMemory>
+    ensures { IfOk result (λ t. t ≡ instance_target name.now) }
+{
+    let name = name.copy(alloc)?;
+    Ok(Target {
+        kind: ObjectKind::Instance,
+        pool: Text::new(alloc),
+        instance: Text::new(alloc),
+        name,
+    })
+}
+
+fn snapshot_target(alloc: Global, instance: &Text, name: &Text) -> Result<Target, NoMemory>
+    ensures { IfOk result (λ t. t ≡ snapshot_target instance.now name.now) }
+{
+    let instance = instance.copy(alloc)?;
+    let name = name.copy(alloc)?;
+    Ok(Target {
+        kind: ObjectKind::Snapshot,
+        pool: Text::new(alloc),
+        instance,
+        name,
+    })
+}
+
+/// A copy of an instance.
+fn instance_copy(
+    alloc: Global,
+    project: &Text,
+    of: &Target,
+    body: &Body,
+    moment: u64,
+    from: &Text,
+    old: &Instance,
+) -> Result<Work, NoMemory>
+    ensures { IfOk result (λ w. w ≡ copy project.now of.now body.now moment (instance_target from.now) (source_instance old.now)) }
+{
+    let source = Source {
+        kind: old.kind,
+        profiles: &old.profiles,
+        config: &old.config,
+        devices: &old.devices,
+    };
+    let begun = copying(alloc, project, of, from, "");
+    let row = copied_instance(alloc, project, &of.name, body, moment, &source);
+    let (made, target) = both(both(begun, row), instance_target(alloc, from))?;
+    Ok(task(Deed::Copy, made.0, made.1, Some(target)))
+}
+
+/// A copy of a snapshot of an instance.
+fn snapshot_copy(
+    alloc: Global,
+    project: &Text,
+    of: &Target,
+    body: &Body,
+    moment: u64,
+    from: &Text,
+    old: &Instance,
+    snapshot: &Snapshot,
+    name: &Text,
+) -> Result<Work, NoMemory>
+    ensures { IfOk result (λ w. w ≡ copy project.now of.now body.now moment (snapshot_target from.now name.now) (source_snapshot old.now snapshot.now)) }
+{
+    let source = Source {
+        kind: old.kind,
+        profiles: &snapshot.profiles,
+        config: &snapshot.config,
+        devices: &snapshot.devices,
+    };
+    let begun = copying(alloc, project, of, from, name.view());
+    let row = copied_instance(alloc, project, &of.name, body, moment, &source);
+    let (made, target) = both(both(begun, row), snapshot_target(alloc, from, name))?;
+    Ok(task(Deed::Copy, made.0, made.1, Some(target)))
+}
+
+/// A copy from an instance, or from its snapshot where one is named.
+fn copy_from(
+    alloc: Global,
+    view: &View<'_>,
+    project: &Text,
+    of: &Target,
+    body: &Body,
+    moment: u64,
+    from: &Text,
+    name: &Text,
+) -> Result<Option<Work>, NoMemory>
+    ensures { IfOk result (λ w. planned w ≡ copy_from view.now project.now of.now body.now moment from.now name.now) }
+{
+    let Some(old) = instance_named(view.instances, project.view(), from.view()) else {
+        return Ok(None);
+    };
+    if name.is_empty() {
+        let work = instance_copy(alloc, project, of, body, moment, from, old)?;
+        return Ok(Some(work));
+    }
+    let found = snapshot_named(view.snapshots, project.view(), from.view(), name.view());
+    let Some(snapshot) = found else {
+        return Ok(None);
+    };
+    let work = snapshot_copy(alloc, project, of, body, moment, from, old, snapshot, name)?;
+    Ok(Some(work))
+}
+
+/// What the creation of an instance begins: nothing, where what it is copied from is missing.
+pub fn instance_creation(
+    alloc: Global,
+    view: &View<'_>,
+    project: &Text,
+    of: &Target,
+    body: &Body,
+    moment: u64,
+) -> Result<Option<Work>, NoMemory>
+    ensures { IfOk result (λ w. planned w ≡ instance_creation view.now project.now of.now body.now moment body.now.origin) }
+{
+    match &body.origin {
+        Origin::None => {
+            let work = creation(alloc, project, of, body, moment)?;
+            Ok(Some(work))
+        }
+        Origin::Image(_) => {
+            let work = creation(alloc, project, of, body, moment)?;
+            Ok(Some(work))
+        }
+        Origin::Copy { from, snapshot, .. } => copy_from(
+            alloc, view, project, of, body, moment, from, snapshot,
+        ),
+    }
+}

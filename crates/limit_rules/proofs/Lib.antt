@@ -1,0 +1,3 @@
+pub mod Countables
+pub mod Limited
+pub mod Unlimited

@@ -1,0 +1,41 @@
+-- The rules on limits by what counts before and after a change, apart from the states; and projects without a limit.
+use Rattle.std.specs.Prelude.{ℕ, Bool, ◌||◌, List, Option, is_some, filter, length}
+use Rattle.std.specs.List.{sum_by, list_any}
+use Rattle.std.specs.Str.{bytes_eq}
+use Rattle.plain_lists.specs.Firsts.{first_of}
+use Rattle.size_values.specs.declared.amounts.Part.{Part}
+use Rattle.project_limits.specs.Admission.{key_of, limit_on, parts}
+use Rattle.project_limits.specs.Limits.{limits_of}
+use Rattle.project_limits.specs.declared.admission.LimitKey.TheVariants.{Networks}
+use Rattle.project_limits.specs.declared.limits.Limits.{Limits}
+use Rattle.records.specs.declared.refusals.Refusal.{Refusal}
+use Rattle.records.specs.declared.rows.Network.{Network}
+use Rattle.records.specs.declared.rows.Project.{Project}
+use Rattle.row_machine.specs.Usage.{Load, counted}
+use Rattle.row_machine.specs.LimitRules.{exceeds}
+
+-- one part of what a project uses
+abbrev pub part_over : List Load → List Load → Part → Project → Option Refusal
+part_over before after k p =
+    exceeds p (key_of k) (limit_on k (limits_of p.config)) (sum_by (counted p.name k) before) (sum_by (counted p.name k) after)
+
+-- the first part, and the first project at which it is exceeded
+abbrev pub parts_over : List Load → List Load → List Project → Option Refusal
+parts_over before after projects = first_of (λ k. first_of (part_over before after k) projects) parts
+
+-- its number of networks
+abbrev pub networks_over : List (List ℕ) → List Network → Project → Option Refusal
+networks_over before after p =
+    exceeds p Networks (limits_of p.config).networks (length (filter (λ name. bytes_eq name p.name) before)) (length (filter (λ n. bytes_eq n.project p.name) after))
+
+-- whether one of the sums is limited to which settings of instances and volumes give the numbers
+abbrev pub limits_sum : Limits → Bool
+limits_sum l = is_some l.cpu || is_some l.memory || is_some l.processes || is_some l.disk
+
+-- whether there is any limit
+abbrev pub limits_any : Limits → Bool
+limits_any l = is_some l.instances || is_some l.containers || is_some l.machines || is_some l.networks || limits_sum l
+
+-- whether one of the projects has a limit
+abbrev pub is_any_limited : List Project → Bool
+is_any_limited projects = list_any (λ p. limits_any (limits_of p.config)) projects

@@ -1,0 +1,75 @@
+//! Objects by their kind and names, all of it lent, and whether they are there.
+ghost use Rattle.std.specs.Prelude.{◌≡◌};
+ghost use Rattle.name_rules.specs.Pointed.{target_at};
+ghost use Rattle.row_machine.specs.NameRules.{is_there};
+
+use records::Target;
+use row_readings::{
+    View, home_of, instance_named, network_named, pool_named, profile_named, project_named,
+    snapshot_named, volume_named,
+};
+use size_values::ObjectKind;
+
+/// An object by its kind and names.
+#[derive(Clone, Copy)]
+pub(crate) struct Place<'a> {
+    pub(crate) kind: ObjectKind,
+    pub(crate) pool: &'a str,
+    pub(crate) instance: &'a str,
+    pub(crate) name: &'a str,
+}
+
+/// The place of a target.
+pub(crate) fn place_of(of: &Target) -> Place<'_>
+    ensures { target_at result ≡ of.now }
+{
+    Place {
+        kind: of.kind,
+        pool: of.pool.view(),
+        instance: of.instance.view(),
+        name: of.name.view(),
+    }
+}
+
+/// The place under another name.
+pub(crate) fn renamed<'x>(of: Place<'x>, name: &'x str) -> Place<'x>
+    ensures { target_at result ≡ record (target_at of.entry) { name = name.now } }
+{
+    Place {
+        kind: of.kind,
+        pool: of.pool,
+        instance: of.instance,
+        name,
+    }
+}
+
+/// The place under another name, in another pool.
+pub(crate) fn moved<'x>(of: Place<'x>, pool: &'x str, name: &'x str) -> Place<'x>
+    ensures { target_at result ≡ record (target_at of.entry) { name = name.now; pool = pool.now } }
+{
+    Place {
+        kind: of.kind,
+        pool,
+        instance: of.instance,
+        name,
+    }
+}
+
+/// Whether the object that is asked for in a project is there, in its home.
+pub(crate) fn is_there(view: &View<'_>, project: &str, of: Place<'_>) -> bool
+    ensures { result ≡ is_there view.now project.now (target_at of.entry) }
+{
+    let home = home_of(view.projects, project, of.kind);
+    match of.kind {
+        ObjectKind::Project => project_named(view.projects, of.name).is_some(),
+        ObjectKind::Profile => profile_named(view.profiles, home, of.name).is_some(),
+        ObjectKind::Network => network_named(view.networks, home, of.name).is_some(),
+        ObjectKind::Pool => pool_named(view.pools, of.name).is_some(),
+        ObjectKind::Volume => volume_named(view.volumes, home, of.pool, of.name).is_some(),
+        ObjectKind::Instance => instance_named(view.instances, project, of.name).is_some(),
+        ObjectKind::Snapshot => {
+            snapshot_named(view.snapshots, project, of.instance, of.name).is_some()
+        }
+        ObjectKind::Operation => false,
+    }
+}

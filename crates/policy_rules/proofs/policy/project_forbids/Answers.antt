@@ -1,0 +1,12 @@
+use Rattle.std.proofs.Common.{sym, ◌∙◌}
+use Rattle.policy_rules.proofs.Judged.{forbids-split}
+use Rattle.policy_rules.proofs.Unrestricted.{unrestricted-free}
+use Rattle.rule_refusals.proofs.Saying.{says-as}
+use Rattle.policy_rules.proofs.policy.project_forbids.Goals as goal
+
+pub returns-then-not-is_restricted : goal.returns-then-not-is_restricted
+returns-then-not-is_restricted c =
+    unrestricted-free c.args.project.now c.args.number (sym c.is_restricted.ensures ∙ c.if-not-is_restricted.true) c.args.view.now
+
+pub returns : goal.returns
+returns c = says-as c.objects_forbid.result (forbids-split c.args.view.now c.args.number c.args.project.now) c.objects_forbid.ensures

@@ -1,0 +1,37 @@
+-- The links of single users, each of which may be the first one.
+use Rattle.std.specs.Prelude.{ℕ, ◌&&◌, false, List, Option, Some, None, if◌then◌else◌}
+use Rattle.std.specs.Option.{option_map_or}
+use Rattle.std.specs.Str.{bytes_eq}
+use Rattle.operations.specs.declared.operation.Operation.{Operation}
+use Rattle.records.specs.declared.rows.Profile.{Profile}
+use Rattle.records.specs.declared.rows.Volume.{Volume}
+use Rattle.records.specs.declared.rows.Instance.{Instance}
+use Rattle.records.specs.declared.rows.Row.TheVariants as row
+use Rattle.records.specs.declared.commands.Target.{Target}
+use Rattle.row_machine.specs.Task.{Task}
+use Rattle.row_machine.specs.State.{State}
+use Rattle.row_machine.specs.Claims.{project_of_row}
+use Rattle.row_machine.specs.Holders.{claim_uses, instance_uses, names_profile, profile_uses, user_link, volume_uses, work_link}
+
+-- a profile that names the object
+abbrev pub profile_link : State → List ℕ → Target → Profile → Option (List ℕ)
+profile_link s home of r = user_link (profile_uses s home of r) (row.Profile r)
+
+-- an instance that names the object
+abbrev pub instance_link : State → List ℕ → Target → Instance → Option (List ℕ)
+instance_link s home of r = user_link (instance_uses s home of r) (row.Instance r)
+
+-- a volume that names the object
+abbrev pub volume_link : Target → Volume → Option (List ℕ)
+volume_link of r = user_link (volume_uses of r) (row.Volume r)
+
+-- a live operation whose claim belongs to this project and names the object
+abbrev pub claim_link : State → List ℕ → Target → List ℕ → Operation Task → Option (List ℕ)
+claim_link s home of project o =
+    if option_map_or (λ new. bytes_eq (project_of_row new) project) o.work.claim false && claim_uses s home of o.work
+    then Some (work_link o.work)
+    else None
+
+-- an instance that names the profile
+abbrev pub naming_link : State → List ℕ → List ℕ → Instance → Option (List ℕ)
+naming_link s home profile r = user_link (names_profile s home profile r) (row.Instance r)

@@ -1,0 +1,142 @@
+//! What a command speaks of: the object that it changes, and the instance.
+ghost use Rattle.std.specs.Prelude.{◌≡◌};
+ghost use Rattle.std.specs.Option.{option_copied};
+ghost use Rattle.size_values.specs.declared.kinds.ObjectKind.TheVariants as kind_of;
+ghost use Rattle.row_machine.specs.Asked.{copied_from, instance_changed, instance_in, instance_made_from, is_parting};
+ghost use Rattle.row_machine.specs.StandingRules.{is_deletion, object_changed};
+
+use records::{Body, Origin, Target, What};
+use size_values::{ObjectKind, Text};
+
+/// Whether a command renames or deletes the object of its path.
+pub(crate) fn is_parting(what: &What) -> bool
+    ensures { result ≡ is_parting what.now }
+{
+    match what {
+        What::Move { .. } | What::Delete { .. } => true,
+        What::Root
+        | What::Server
+        | What::List { .. }
+        | What::Get { .. }
+        | What::State { .. }
+        | What::Create { .. }
+        | What::Put { .. }
+        | What::Patch { .. }
+        | What::Act { .. }
+        | What::Restore { .. }
+        | What::GetOp { .. }
+        | What::Cancel { .. }
+        | What::Wait { .. } => false,
+    }
+}
+
+/// Whether a command deletes the object of its path.
+pub(crate) fn is_deletion(what: &What) -> bool
+    ensures { result ≡ is_deletion what.now }
+{
+    match what {
+        What::Delete { .. } => true,
+        What::Root
+        | What::Server
+        | What::List { .. }
+        | What::Get { .. }
+        | What::State { .. }
+        | What::Create { .. }
+        | What::Put { .. }
+        | What::Patch { .. }
+        | What::Move { .. }
+        | What::Act { .. }
+        | What::Restore { .. }
+        | What::GetOp { .. }
+        | What::Cancel { .. }
+        | What::Wait { .. } => false,
+    }
+}
+
+/// The object that a command changes, renames or deletes.
+pub(crate) fn object_changed(what: &What) -> Option<&Target>
+    ensures { option_copied result ≡ object_changed what.now }
+{
+    match what {
+        What::Put { of, .. } => Some(of),
+        What::Patch { of, .. } => Some(of),
+        What::Move { of, .. } => Some(of),
+        What::Delete { of } => Some(of),
+        What::Root
+        | What::Server
+        | What::List { .. }
+        | What::Get { .. }
+        | What::State { .. }
+        | What::Create { .. }
+        | What::Act { .. }
+        | What::Restore { .. }
+        | What::GetOp { .. }
+        | What::Cancel { .. }
+        | What::Wait { .. } => None,
+    }
+}
+
+/// The instance that a new instance is copied from.
+fn copied_from(origin: &Origin) -> Option<&Text>
+    ensures { option_copied result ≡ copied_from kind_of.Instance origin.now }
+{
+    match origin {
+        Origin::Copy { from, .. } => Some(from),
+        Origin::None | Origin::Image(_) => None,
+    }
+}
+
+/// The instance that a request on an object of its own changes.
+fn instance_in(of: &Target) -> Option<&Text>
+    ensures { option_copied result ≡ instance_in of.now }
+{
+    match of.kind {
+        ObjectKind::Instance => Some(&of.name),
+        ObjectKind::Snapshot => Some(&of.instance),
+        ObjectKind::Project
+        | ObjectKind::Profile
+        | ObjectKind::Network
+        | ObjectKind::Pool
+        | ObjectKind::Volume
+        | ObjectKind::Operation => None,
+    }
+}
+
+/// The instance that a creation copies from, or to which it adds a snapshot.
+fn instance_made_from<'x>(of: &'x Target, body: &'x Body) -> Option<&'x Text>
+    ensures { option_copied result ≡ instance_made_from of.now body.now }
+{
+    match of.kind {
+        ObjectKind::Instance => copied_from(&body.origin),
+        ObjectKind::Snapshot => Some(&of.instance),
+        ObjectKind::Project
+        | ObjectKind::Profile
+        | ObjectKind::Network
+        | ObjectKind::Pool
+        | ObjectKind::Volume
+        | ObjectKind::Operation => None,
+    }
+}
+
+/// The instance that a command would change or copy from.
+pub(crate) fn instance_changed(what: &What) -> Option<&Text>
+    ensures { option_copied result ≡ instance_changed what.now }
+{
+    match what {
+        What::Create { of, body } => instance_made_from(of, body),
+        What::Put { of, .. } => instance_in(of),
+        What::Patch { of, .. } => instance_in(of),
+        What::Move { of, .. } => instance_in(of),
+        What::Delete { of } => instance_in(of),
+        What::Act { of, .. } => Some(&of.name),
+        What::Restore { of, .. } => Some(&of.name),
+        What::Root
+        | What::Server
+        | What::List { .. }
+        | What::Get { .. }
+        | What::State { .. }
+        | What::GetOp { .. }
+        | What::Cancel { .. }
+        | What::Wait { .. } => None,
+    }
+}

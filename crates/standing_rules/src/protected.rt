@@ -1,0 +1,113 @@
+//! B3: the object of the path is protected against the command.
+ghost use Rattle.std.specs.Prelude.{◌≡◌, ◌&&◌, ◌||◌, IfOk, codes};
+ghost use Rattle.std.specs.Str.{bytes_eq};
+ghost use Rattle.size_values.specs.Causes.{Says};
+ghost use Rattle.row_machine.specs.Expansions.{expanded_of};
+ghost use Rattle.row_machine.specs.Homes.{is_on};
+ghost use Rattle.row_machine.specs.Asked.{is_parting};
+ghost use Rattle.row_machine.specs.Rows.{default_name};
+ghost use Rattle.row_machine.specs.StandingRules.{asks_for_features, is_deletion, is_protected, object_protected, protects_itself};
+
+use crate::asked::{is_deletion, is_parting, object_changed};
+use crate::features::asks_for_features;
+use records::{Command, Instance, Refusal, Rule, Target, What};
+use row_readings::{View, instance_named, is_on};
+use rule_refusals::on_object;
+use size_values::{NoMemory, ObjectKind, Or};
+use std::alloc::Global;
+
+fn protects(alloc: Global, view: &View<'_>, row: &Instance) -> Result<bool, NoMemory>
+    ensures { IfOk result (λ b. b ≡ is_on (expanded_of view.now.projects view.now.profiles row.now).config (codes "security.protection.delete")) }
+{
+    let expanded = view.expansion(alloc, row)?;
+    let protects = is_on(&expanded.config, "security.protection.delete");
+    drop(expanded);
+    Ok(protects)
+}
+
+/// Whether an instance is protected by its expanded settings.
+fn protects_itself(
+    alloc: Global,
+    view: &View<'_>,
+    project: &str,
+    name: &str,
+) -> Result<bool, NoMemory>
+    ensures { IfOk result (λ b. b ≡ protects_itself view.now project.now name.now) }
+{
+    match instance_named(view.instances, project, name) {
+        Some(row) => protects(alloc, view, row),
+        None => Ok(false),
+    }
+}
+
+/// The project `default` is not renamed or deleted, and its features stay.
+fn project_protected(
+    alloc: Global,
+    view: &View<'_>,
+    what: &What,
+    name: &str,
+) -> Result<bool, NoMemory>
+    ensures { IfOk result (λ b. b ≡ (bytes_eq name.now default_name && (is_parting what.now || asks_for_features view.now what.now))) }
+{
+    if name != "default" {
+        return Ok(false);
+    }
+    if is_parting(what) {
+        return Ok(true);
+    }
+    asks_for_features(alloc, view, what)
+}
+
+fn instance_protected(
+    alloc: Global,
+    view: &View<'_>,
+    command: &Command,
+    name: &str,
+) -> Result<bool, NoMemory>
+    ensures { IfOk result (λ b. b ≡ (is_deletion command.now.what && protects_itself view.now command.now.project name.now)) }
+{
+    if !is_deletion(&command.what) {
+        return Ok(false);
+    }
+    protects_itself(alloc, view, command.project.view(), name)
+}
+
+/// Whether the object of the path is protected against the command.
+fn is_protected(
+    alloc: Global,
+    view: &View<'_>,
+    command: &Command,
+    of: &Target,
+) -> Result<bool, NoMemory>
+    ensures { IfOk result (λ b. b ≡ is_protected view.now command.now of.now) }
+{
+    let name = of.name.view();
+    match of.kind {
+        ObjectKind::Project => project_protected(alloc, view, &command.what, name),
+        ObjectKind::Profile => Ok(name == "default" && is_parting(&command.what)),
+        ObjectKind::Instance => instance_protected(alloc, view, command, name),
+        ObjectKind::Network
+        | ObjectKind::Pool
+        | ObjectKind::Volume
+        | ObjectKind::Snapshot
+        | ObjectKind::Operation => Ok(false),
+    }
+}
+
+/// The object of a command is protected against it.
+#[tactic(auto, unfolding(row_machine::specs::StandingRules::object_protected))]
+pub(crate) fn object_protected(
+    alloc: Global,
+    view: &View<'_>,
+    command: &Command,
+) -> Result<(), Or<Refusal>>
+    ensures { Says result (object_protected view.now command.now) }
+{
+    let Some(of) = object_changed(&command.what) else {
+        return Ok(());
+    };
+    if !is_protected(alloc, view, command, of)? {
+        return Ok(());
+    }
+    Err(Or::Why(on_object(alloc, Rule::B3, of.kind, of.name.view())?))
+}

@@ -1,0 +1,59 @@
+//! B4: the object that a command renames or deletes has a user.
+ghost use Rattle.std.specs.Prelude.{◌≡◌, IfOk};
+ghost use Rattle.records.specs.declared.refusals.Rule.TheVariants as rule_of;
+ghost use Rattle.row_machine.specs.Links.{kind_text};
+ghost use Rattle.row_machine.specs.Refusals.{untold};
+ghost use Rattle.size_values.specs.Causes.{Says};
+ghost use Rattle.row_machine.specs.StandingRules.{object_used, used_by_first};
+
+use crate::asked::{is_parting, object_changed};
+use crate::users::unused;
+use records::{Command, Refusal, Rule, Target};
+use row_readings::{View, home_of};
+use rule_refusals::on_object;
+use size_values::{NoMemory, Or, Text};
+use std::alloc::Global;
+
+/// The refusal of an object that has a user.
+fn on_user(alloc: Global, of: &Target, link: Text) -> Result<Refusal, NoMemory>
+    ensures { IfOk result (λ r. r ≡ record { rule = rule_of.B4; kept = record untold { key = link; kind = kind_text of.now.kind; name = of.now.name } }) }
+{
+    let mut refusal = on_object(alloc, Rule::B4, of.kind, of.name.view())?;
+    refusal.kept.key = link;
+    Ok(refusal)
+}
+
+/// An object has a user.
+fn used_by_first(
+    alloc: Global,
+    view: &View<'_>,
+    command: &Command,
+    of: &Target,
+) -> Result<(), Or<Refusal>>
+    ensures { Says result (used_by_first view.now command.now of.now) }
+{
+    let home = home_of(view.projects, command.project.view(), of.kind);
+    match unused(alloc, view, home, of) {
+        Ok(()) => Ok(()),
+        Err(Or::NoMemory) => Err(Or::NoMemory),
+        Err(Or::Why(link)) => Err(Or::Why(on_user(alloc, of, link)?)),
+    }
+}
+
+/// The object that a command renames or deletes has a user.
+#[tactic(auto, unfolding(row_machine::specs::StandingRules::object_used))]
+pub(crate) fn object_used(
+    alloc: Global,
+    view: &View<'_>,
+    command: &Command,
+) -> Result<(), Or<Refusal>>
+    ensures { Says result (object_used view.now command.now) }
+{
+    if !is_parting(&command.what) {
+        return Ok(());
+    }
+    match object_changed(&command.what) {
+        Some(of) => used_by_first(alloc, view, command, of),
+        None => Ok(()),
+    }
+}

@@ -1,0 +1,306 @@
+//! The first user of a profile, a network, a storage pool or a volume. These functions answer `Ok` where there is none, and
+//! else the link of the first one as the reason why the object may not go.
+ghost use Rattle.std.specs.Prelude.{◌≡◌, IfOk, [], filter, if◌then◌else◌, None, false};
+ghost use Rattle.std.specs.Option.{option_map_or};
+ghost use Rattle.std.specs.Str.{bytes_eq};
+ghost use Rattle.plain_lists.specs.Firsts.{first_of};
+ghost use Rattle.size_values.specs.Causes.{Says};
+ghost use Rattle.row_machine.specs.Claims.{project_of_row};
+ghost use Rattle.row_machine.specs.Holders.{first_user_of, profile_user, user_in};
+ghost use Rattle.row_machine.specs.Links.{link_of};
+ghost use Rattle.standing_rules.specs.Users.{claim_link, instance_link, naming_link, profile_link, volume_link};
+
+use crate::holders::names_profile;
+use crate::uses::{claim_uses, instance_uses, profile_uses, volume_uses};
+use object_links::link_of;
+use operations::Operation;
+use records::{Instance, Profile, Project, Target, Volume};
+use row_machine::Work;
+use row_readings::{View, project_of_row};
+use size_values::{NoMemory, ObjectKind, Or, Text};
+use std::alloc::Global;
+
+/// The link of a row, by its kind and names.
+fn link_in(
+    alloc: Global,
+    project: &str,
+    kind: ObjectKind,
+    pool: &str,
+    name: &str,
+) -> Result<Text, NoMemory>
+    ensures { IfOk result (λ t. t ≡ link_of project.now (record { kind = kind; pool = pool.now; instance = []; name = name.now })) }
+{
+    let pool = Text::from_text(alloc, pool)?;
+    let name = Text::from_text(alloc, name)?;
+    let of = Target {
+        kind,
+        pool,
+        instance: Text::new(alloc),
+        name,
+    };
+    let link = link_of(alloc, project, &of);
+    drop(of);
+    link
+}
+
+/// The link of a profile of the project, where it names the object.
+fn unused_by_profile(
+    alloc: Global,
+    view: &View<'_>,
+    home: &str,
+    of: &Target,
+    project: &str,
+    row: &Profile,
+) -> Result<(), Or<Text>>
+    ensures { Says result (if bytes_eq row.now.project project.now then profile_link view.now home.now of.now row.now else None) }
+{
+    if row.project.view() != project || !profile_uses(view, home, of, row) {
+        return Ok(());
+    }
+    let link = link_in(
+        alloc,
+        row.project.view(),
+        ObjectKind::Profile,
+        "",
+        row.name.view(),
+    )?;
+    Err(Or::Why(link))
+}
+
+/// The first profile of the project that names the object.
+fn unused_by_profiles(
+    alloc: Global,
+    view: &View<'_>,
+    home: &str,
+    of: &Target,
+    project: &str,
+    rows: &[Profile],
+) -> Result<(), Or<Text>>
+    ensures { Says result (first_of (profile_link view.now home.now of.now) (filter (λ r. bytes_eq r.project project.now) rows.now)) }
+{
+    for row in rows {
+        if let Err(link) = unused_by_profile(alloc, view, home, of, project, row) {
+            return Err(link);
+        }
+    }
+    Ok(())
+}
+
+/// The link of an instance of the project, where it names the object.
+fn unused_by_instance(
+    alloc: Global,
+    view: &View<'_>,
+    home: &str,
+    of: &Target,
+    project: &str,
+    row: &Instance,
+) -> Result<(), Or<Text>>
+    ensures { Says result (if bytes_eq row.now.project project.now then instance_link view.now home.now of.now row.now else None) }
+{
+    if row.project.view() != project || !instance_uses(alloc, view, home, of, row)? {
+        return Ok(());
+    }
+    let link = link_in(
+        alloc,
+        row.project.view(),
+        ObjectKind::Instance,
+        "",
+        row.name.view(),
+    )?;
+    Err(Or::Why(link))
+}
+
+/// The first instance of the project that names the object.
+fn unused_by_instances(
+    alloc: Global,
+    view: &View<'_>,
+    home: &str,
+    of: &Target,
+    project: &str,
+    rows: &[Instance],
+) -> Result<(), Or<Text>>
+    ensures { Says result (first_of (instance_link view.now home.now of.now) (filter (λ r. bytes_eq r.project project.now) rows.now)) }
+{
+    for row in rows {
+        if let Err(link) = unused_by_instance(alloc, view, home, of, project, row) {
+            return Err(link);
+        }
+    }
+    Ok(())
+}
+
+/// The link of a volume of the project, where it names the object.
+fn unused_by_volume(alloc: Global, of: &Target, project: &str, row: &Volume) -> Result<(), Or<Text>>
+    ensures { Says result (if bytes_eq row.now.project project.now then volume_link of.now row.now else None) }
+{
+    if row.project.view() != project || !volume_uses(of, row) {
+        return Ok(());
+    }
+    let link = link_in(
+        alloc,
+        row.project.view(),
+        ObjectKind::Volume,
+        row.pool.view(),
+        row.name.view(),
+    )?;
+    Err(Or::Why(link))
+}
+
+/// The first volume of the project that names the object.
+fn unused_by_volumes(
+    alloc: Global,
+    of: &Target,
+    project: &str,
+    rows: &[Volume],
+) -> Result<(), Or<Text>>
+    ensures { Says result (first_of (volume_link of.now) (filter (λ r. bytes_eq r.project project.now) rows.now)) }
+{
+    for row in rows {
+        if let Err(link) = unused_by_volume(alloc, of, project, row) {
+            return Err(link);
+        }
+    }
+    Ok(())
+}
+
+fn is_claimed_in(work: &Work, project: &str) -> bool
+    ensures { result ≡ option_map_or (λ new. bytes_eq (project_of_row new) project.now) work.now.claim false }
+{
+    match &work.claim {
+        Some(row) => project_of_row(row) == project,
+        None => false,
+    }
+}
+
+/// The link of what an operation is about, where its claim belongs to the project and names the object.
+fn unused_by_claim(
+    alloc: Global,
+    view: &View<'_>,
+    home: &str,
+    of: &Target,
+    project: &str,
+    operation: &Operation<Work>,
+) -> Result<(), Or<Text>>
+    ensures { Says result (claim_link view.now home.now of.now project.now operation.now) }
+{
+    let work = &operation.work;
+    if !is_claimed_in(work, project) || !claim_uses(alloc, view, home, of, work)? {
+        return Ok(());
+    }
+    Err(Or::Why(link_of(alloc, work.project.view(), &work.target)?))
+}
+
+/// The first live operation whose claim belongs to the project and names the object.
+fn unused_by_claims(
+    alloc: Global,
+    view: &View<'_>,
+    home: &str,
+    of: &Target,
+    project: &str,
+    live: &[Operation<Work>],
+) -> Result<(), Or<Text>>
+    ensures { Says result (first_of (claim_link view.now home.now of.now project.now) live.now) }
+{
+    for operation in live {
+        if let Err(link) = unused_by_claim(alloc, view, home, of, project, operation) {
+            return Err(link);
+        }
+    }
+    Ok(())
+}
+
+/// The first user within a project: its profiles, instances, volumes, and then the claims of its live operations.
+fn unused_in(
+    alloc: Global,
+    view: &View<'_>,
+    home: &str,
+    of: &Target,
+    project: &Project,
+) -> Result<(), Or<Text>>
+    ensures { Says result (user_in view.now home.now of.now project.now.name) }
+{
+    let project = project.name.view();
+    unused_by_profiles(alloc, view, home, of, project, view.profiles)?;
+    unused_by_instances(alloc, view, home, of, project, view.instances)?;
+    unused_by_volumes(alloc, of, project, view.volumes)?;
+    unused_by_claims(alloc, view, home, of, project, view.live)
+}
+
+/// The first user within the projects, one after another.
+fn unused_within(
+    alloc: Global,
+    view: &View<'_>,
+    home: &str,
+    of: &Target,
+    projects: &[Project],
+) -> Result<(), Or<Text>>
+    ensures { Says result (first_of (λ p. user_in view.now home.now of.now p.name) projects.now) }
+{
+    for project in projects {
+        if let Err(link) = unused_in(alloc, view, home, of, project) {
+            return Err(link);
+        }
+    }
+    Ok(())
+}
+
+/// The link of an instance, where it names the profile.
+fn unnamed_by(
+    alloc: Global,
+    view: &View<'_>,
+    home: &str,
+    profile: &str,
+    row: &Instance,
+) -> Result<(), Or<Text>>
+    ensures { Says result (naming_link view.now home.now profile.now row.now) }
+{
+    if !names_profile(view, home, profile, row) {
+        return Ok(());
+    }
+    let link = link_in(
+        alloc,
+        row.project.view(),
+        ObjectKind::Instance,
+        "",
+        row.name.view(),
+    )?;
+    Err(Or::Why(link))
+}
+
+/// The first instance that names the profile.
+fn unnamed_by_all(
+    alloc: Global,
+    view: &View<'_>,
+    home: &str,
+    profile: &str,
+    rows: &[Instance],
+) -> Result<(), Or<Text>>
+    ensures { Says result (first_of (naming_link view.now home.now profile.now) rows.now) }
+{
+    for row in rows {
+        if let Err(link) = unnamed_by(alloc, view, home, profile, row) {
+            return Err(link);
+        }
+    }
+    Ok(())
+}
+
+/// The first user of an object of this home. Kinds but profiles, networks, pools and volumes have no users.
+#[tactic(auto, unfolding(row_machine::specs::Holders::first_user_of))]
+pub(crate) fn unused(
+    alloc: Global,
+    view: &View<'_>,
+    home: &str,
+    of: &Target,
+) -> Result<(), Or<Text>>
+    ensures { Says result (first_user_of view.now home.now of.now) }
+{
+    match of.kind {
+        ObjectKind::Profile => { unnamed_by_all(alloc, view, home, of.name.view(), view.instances) }
+        ObjectKind::Network | ObjectKind::Pool | ObjectKind::Volume => {
+            unused_within(alloc, view, home, of, view.projects)
+        }
+        ObjectKind::Project | ObjectKind::Instance | ObjectKind::Snapshot | ObjectKind::Operation =>
+            Ok(()),
+    }
+}

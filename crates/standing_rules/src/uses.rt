@@ -1,0 +1,176 @@
+//! Who names a network, a storage pool or a volume.
+ghost use Rattle.std.specs.Prelude.{◌≡◌, IfOk, false};
+ghost use Rattle.std.specs.List.{list_any};
+ghost use Rattle.std.specs.Option.{option_copied, option_map_or, option_to_list};
+ghost use Rattle.size_values.specs.declared.kinds.ObjectKind.TheVariants as kind_of;
+ghost use Rattle.row_machine.specs.Claims.{claimed_volume};
+ghost use Rattle.row_machine.specs.Holders.{claim_rows, claim_uses, devices_name, instance_uses, profile_uses, source_uses, volume_uses};
+
+use config_lists::Devices;
+use estate_rules::{names_network, names_pool, names_volume};
+use records::{Instance, Profile, Target, Volume};
+use row_machine::Work;
+use row_readings::{
+    View, claimed_instance, claimed_volume, network_home, replaced_instance, volume_home,
+};
+use size_values::{NoMemory, ObjectKind};
+use std::alloc::Global;
+
+/// Whether devices in a project name the object: a network or volume of this home, or a pool.
+fn devices_name(view: &View<'_>, home: &str, of: &Target, project: &str, devices: &Devices) -> bool
+    ensures { result ≡ devices_name view.now home.now of.now project.now devices.now }
+{
+    let name = of.name.view();
+    match of.kind {
+        ObjectKind::Network => network_home(view.projects, project) == home
+            && names_network(devices, name),
+        ObjectKind::Pool => names_pool(devices, name),
+        ObjectKind::Volume => volume_home(view.projects, project) == home
+            && names_volume(devices, of.pool.view(), name),
+        ObjectKind::Project
+        | ObjectKind::Profile
+        | ObjectKind::Instance
+        | ObjectKind::Snapshot
+        | ObjectKind::Operation => false,
+    }
+}
+
+/// A profile names what its own devices name.
+pub(crate) fn profile_uses(view: &View<'_>, home: &str, of: &Target, row: &Profile) -> bool
+    ensures { result ≡ profile_uses view.now home.now of.now row.now }
+{
+    devices_name(view, home, of, row.project.view(), &row.devices)
+}
+
+/// An instance names what its expanded devices name.
+pub(crate) fn instance_uses(
+    alloc: Global,
+    view: &View<'_>,
+    home: &str,
+    of: &Target,
+    row: &Instance,
+) -> Result<bool, NoMemory>
+    ensures { IfOk result (λ b. b ≡ instance_uses view.now home.now of.now row.now) }
+{
+    let expanded = view.expansion(alloc, row)?;
+    let uses = devices_name(view, home, of, row.project.view(), &expanded.devices);
+    drop(expanded);
+    Ok(uses)
+}
+
+/// A volume names the pool that it stands in.
+pub(crate) fn volume_uses(of: &Target, row: &Volume) -> bool
+    ensures { result ≡ volume_uses of.now row.now }
+{
+    match of.kind {
+        ObjectKind::Pool => row.pool.view() == of.name.view(),
+        ObjectKind::Project
+        | ObjectKind::Profile
+        | ObjectKind::Network
+        | ObjectKind::Volume
+        | ObjectKind::Instance
+        | ObjectKind::Snapshot
+        | ObjectKind::Operation => false,
+    }
+}
+
+/// The volume that a copy is made from names its pool and itself.
+fn source_uses(home: &str, of: &Target, project: &str, source: &Target) -> bool
+    ensures { result ≡ source_uses home.now of.now project.now source.now }
+{
+    match source.kind {
+        ObjectKind::Volume => volume_source_uses(home, of, project, source),
+        ObjectKind::Project
+        | ObjectKind::Profile
+        | ObjectKind::Network
+        | ObjectKind::Pool
+        | ObjectKind::Instance
+        | ObjectKind::Snapshot
+        | ObjectKind::Operation => false,
+    }
+}
+
+fn volume_source_uses(home: &str, of: &Target, project: &str, source: &Target) -> bool
+    requires { source.now.kind ≡ kind_of.Volume }
+    ensures { result ≡ source_uses home.now of.now project.now source.now }
+{
+    match of.kind {
+        ObjectKind::Pool => source.pool.view() == of.name.view(),
+        ObjectKind::Volume => {
+            project == home
+                && source.pool.view() == of.pool.view()
+                && source.name.view() == of.name.view()
+        }
+        ObjectKind::Project
+        | ObjectKind::Profile
+        | ObjectKind::Network
+        | ObjectKind::Instance
+        | ObjectKind::Snapshot
+        | ObjectKind::Operation => false,
+    }
+}
+
+fn may_use(
+    alloc: Global,
+    view: &View<'_>,
+    home: &str,
+    of: &Target,
+    row: Option<&Instance>,
+) -> Result<bool, NoMemory>
+    ensures { IfOk result (λ b. b ≡ list_any (instance_uses view.now home.now of.now) (option_to_list (option_copied row.entry))) }
+{
+    match row {
+        Some(row) => instance_uses(alloc, view, home, of, row),
+        None => Ok(false),
+    }
+}
+
+/// Whether the instance that a claim would put names the object, or the one that this one replaces.
+fn claim_rows_use(
+    alloc: Global,
+    view: &View<'_>,
+    home: &str,
+    of: &Target,
+    work: &Work,
+) -> Result<bool, NoMemory>
+    ensures { IfOk result (λ b. b ≡ list_any (instance_uses view.now home.now of.now) (claim_rows view.now work.now)) }
+{
+    if may_use(alloc, view, home, of, claimed_instance(work))? {
+        return Ok(true);
+    }
+    may_use(alloc, view, home, of, replaced_instance(view, work))
+}
+
+fn claimed_volume_uses(of: &Target, work: &Work) -> bool
+    ensures { result ≡ option_map_or (volume_uses of.now) (claimed_volume work.now) false }
+{
+    match claimed_volume(work) {
+        Some(row) => volume_uses(of, row),
+        None => false,
+    }
+}
+
+fn copy_source_uses(home: &str, of: &Target, work: &Work) -> bool
+    ensures { result ≡ option_map_or (source_uses home.now of.now work.now.project) work.now.source false }
+{
+    match &work.source {
+        Some(source) => source_uses(home, of, work.project.view(), source),
+        None => false,
+    }
+}
+
+/// A claim names what the row that it would put and the row that it replaces name, and a copy of a volume its source.
+pub(crate) fn claim_uses(
+    alloc: Global,
+    view: &View<'_>,
+    home: &str,
+    of: &Target,
+    work: &Work,
+) -> Result<bool, NoMemory>
+    ensures { IfOk result (λ b. b ≡ claim_uses view.now home.now of.now work.now) }
+{
+    if claim_rows_use(alloc, view, home, of, work)? {
+        return Ok(true);
+    }
+    Ok(claimed_volume_uses(of, work) || copy_source_uses(home, of, work))
+}
