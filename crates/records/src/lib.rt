@@ -3,6 +3,7 @@
 //! the store speaks of them.
 #![tactic(auto)]
 
+mod built;
 mod commands;
 mod notices;
 mod refusals;
@@ -10,6 +11,7 @@ mod replies;
 mod rows;
 mod texts;
 
+pub use built::is_built_kind;
 pub use commands::{Body, Command, Origin, Target, What};
 pub use config_lists::{Changes, Config, Device, Devices};
 pub use notices::{Filter, Life, Notice, Told, Untold};

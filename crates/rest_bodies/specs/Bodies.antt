@@ -23,20 +23,23 @@ abbrev pub part_of : {A : Type 0} → Bool → Option A → Option A
 part_of true part = part
 part_of false part = None
 
--- bodies of profiles have settings and devices, but for a rename
-abbrev pub has_settings : Shape → Bool
-has_settings shape.NewProject = false
-has_settings shape.NewProfile = true
-has_settings shape.ProfilePut = true
-has_settings shape.ProfilePatch = true
-has_settings shape.ProfileRename = false
+-- all bodies have settings, but that of a rename
+abbrev pub has_config : Shape → Bool
+has_config shape.Rename = false
+has_config other = true
+
+-- bodies of profiles have devices, but that of a rename
+abbrev pub has_devices : Shape → Bool
+has_devices shape.NewProfile = true
+has_devices shape.ProfileChange = true
+has_devices other = false
 
 -- what a body says of an object
 unfoldable pub body_of : Shape → Data → Body
 body_of shape body = record {
   description = text_at (codes "description") body;
-  config = part_of (has_settings shape) (config_at body);
-  devices = part_of (has_settings shape) (devices_at body);
+  config = part_of (has_config shape) (config_at body);
+  devices = part_of (has_devices shape) (devices_at body);
   profiles = None;
   kind = None;
   ephemeral = None;

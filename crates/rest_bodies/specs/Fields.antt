@@ -11,11 +11,11 @@ use Rattle.rest_bodies.specs.declared.fields.Shape.TheVariants as shape
 
 -- the fields of a body, in the order in which they are judged
 abbrev pub fields_of : Shape → List Field
-fields_of shape.NewProject = field.Name ∷ field.Description ∷ []
+fields_of shape.NewProject = field.Name ∷ field.Description ∷ field.Config ∷ []
 fields_of shape.NewProfile = field.Name ∷ field.Description ∷ field.Config ∷ field.Devices ∷ []
-fields_of shape.ProfilePut = field.Description ∷ field.Config ∷ field.Devices ∷ []
-fields_of shape.ProfilePatch = field.Description ∷ field.Config ∷ field.Devices ∷ []
-fields_of shape.ProfileRename = field.Name ∷ []
+fields_of shape.ProjectChange = field.Description ∷ field.Config ∷ []
+fields_of shape.ProfileChange = field.Description ∷ field.Config ∷ field.Devices ∷ []
+fields_of shape.Rename = field.Name ∷ []
 
 -- the key of a field
 abbrev pub key_of : Field → List ℕ

@@ -1,6 +1,6 @@
 ghost use Rattle.std.specs.Prelude.{◌≡◌, IfOk, option_map};
 ghost use Rattle.serde_json.specs.View.{view};
-ghost use Rattle.rest_bodies.specs.Bodies.{config_at, devices_at, part_of, has_settings, body_of};
+ghost use Rattle.rest_bodies.specs.Bodies.{config_at, devices_at, part_of, has_config, has_devices, body_of};
 ghost use Rattle.rest_bodies.specs.Fields.{fields_of, first_fault};
 ghost use Rattle.rest_bodies.specs.Members.{text_at};
 
@@ -40,32 +40,40 @@ fn devices_at(alloc: Global, body: &Value) -> Result<Option<Devices>, NoMemory>
     }
 }
 
-/// Whether a body of this shape has settings and devices.
-fn has_settings(shape: Shape) -> bool
-    ensures { result ≡ has_settings shape }
+/// Whether a body of this shape has settings.
+fn has_config(shape: Shape) -> bool
+    ensures { result ≡ has_config shape }
 {
     match shape {
-        Shape::NewProject => false,
+        Shape::Rename => false,
+        _ => true,
+    }
+}
+
+/// Whether a body of this shape has devices.
+fn has_devices(shape: Shape) -> bool
+    ensures { result ≡ has_devices shape }
+{
+    match shape {
         Shape::NewProfile => true,
-        Shape::ProfilePut => true,
-        Shape::ProfilePatch => true,
-        Shape::ProfileRename => false,
+        Shape::ProfileChange => true,
+        _ => false,
     }
 }
 
 fn config_part(alloc: Global, shape: Shape, body: &Value) -> Result<Option<Changes>, NoMemory>
-    ensures { IfOk result (λ o. o ≡ part_of (has_settings shape) (config_at (view body.now))) }
+    ensures { IfOk result (λ o. o ≡ part_of (has_config shape) (config_at (view body.now))) }
 {
-    if has_settings(shape) {
+    if has_config(shape) {
         return config_at(alloc, body);
     }
     Ok(None)
 }
 
 fn devices_part(alloc: Global, shape: Shape, body: &Value) -> Result<Option<Devices>, NoMemory>
-    ensures { IfOk result (λ o. o ≡ part_of (has_settings shape) (devices_at (view body.now))) }
+    ensures { IfOk result (λ o. o ≡ part_of (has_devices shape) (devices_at (view body.now))) }
 {
-    if has_settings(shape) {
+    if has_devices(shape) {
         return devices_at(alloc, body);
     }
     Ok(None)

@@ -16,14 +16,14 @@ pub enum Field {
     Devices,
 }
 
-/// The shapes of bodies: which fields they have. Those of PUT and PATCH are alike.
+/// The shapes of bodies: which fields they have. Those of PUT and PATCH are alike, and those of all renames.
 #[derive(Clone, Copy)]
 pub enum Shape {
     NewProject,
     NewProfile,
-    ProfilePut,
-    ProfilePatch,
-    ProfileRename,
+    ProjectChange,
+    ProfileChange,
+    Rename,
 }
 
 /// The fields of a shape, in the order in which they are judged.
@@ -31,16 +31,16 @@ pub(crate) fn fields_of(shape: Shape) -> &'static [Field]
     ensures { result.now ≡ fields_of shape }
 {
     match shape {
-        Shape::NewProject => &[Field::Name, Field::Description],
+        Shape::NewProject => &[Field::Name, Field::Description, Field::Config],
         Shape::NewProfile => &[
             Field::Name,
             Field::Description,
             Field::Config,
             Field::Devices,
         ],
-        Shape::ProfilePut => &[Field::Description, Field::Config, Field::Devices],
-        Shape::ProfilePatch => &[Field::Description, Field::Config, Field::Devices],
-        Shape::ProfileRename => &[Field::Name],
+        Shape::ProjectChange => &[Field::Description, Field::Config],
+        Shape::ProfileChange => &[Field::Description, Field::Config, Field::Devices],
+        Shape::Rename => &[Field::Name],
     }
 }
 

@@ -8,7 +8,7 @@ use Rattle.matchit.specs.Rows.{RowsOf}
 use Rattle.matchit.specs.Seek.{first}
 use Rattle.matchit.specs.declared.error.InsertError.{InsertError}
 use Rattle.size_values.specs.declared.kinds.ObjectKind.{ObjectKind}
-use Rattle.size_values.specs.declared.kinds.ObjectKind.TheVariants as kind
+use Rattle.records.specs.Built.{is_built_kind}
 use Rattle.rest_paths.specs.declared.places.TheConstants.{ROUTES}
 use Rattle.rest_paths.specs.declared.places.Line.{Line}
 use Rattle.rest_paths.specs.declared.places.Methods.{Methods}
@@ -71,11 +71,6 @@ verb_of method =
     else (if bytes_eq method (codes "DELETE") then Some verb.Delete
     else None))))
 
--- it reads
-abbrev pub is_get : Verb → Bool
-is_get verb.Get = true
-is_get other = false
-
 -- its body is read
 abbrev pub has_body : Verb → Bool
 has_body verb.Get = false
@@ -102,24 +97,12 @@ verb_offered line method = option_and_then (if_offered line.offers) (verb_of met
 
 -- ---- what is built yet
 
--- the lists of projects and of profiles
-abbrev pub is_built_list : ObjectKind → Bool
-is_built_list kind.Project = true
-is_built_list kind.Profile = true
-is_built_list other = false
-
--- projects are read; with profiles all is done that is offered
-abbrev pub is_built_one : ObjectKind → Verb → Bool
-is_built_one kind.Project verb = is_get verb
-is_built_one kind.Profile verb = true
-is_built_one other verb = false
-
 -- a request that is built yet, as far as its path and its method tell
-abbrev pub is_built : Place → Verb → Bool
-is_built place.Root verb = true
-is_built place.Server verb = true
-is_built (place.List kind) verb = is_built_list kind
-is_built (place.One kind) verb = is_built_one kind verb
-is_built (place.State kind) verb = false
-is_built place.Wait verb = false
-is_built place.Events verb = true
+abbrev pub is_built : Place → Bool
+is_built place.Root = true
+is_built place.Server = true
+is_built (place.List kind) = is_built_kind kind
+is_built (place.One kind) = is_built_kind kind
+is_built (place.State kind) = false
+is_built place.Wait = false
+is_built place.Events = true

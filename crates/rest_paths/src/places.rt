@@ -1,6 +1,7 @@
 ghost use Rattle.std.specs.Prelude.{◌≡◌};
-ghost use Rattle.rest_paths.specs.Places.{verb_of, is_get, has_body, is_offered, verb_offered, is_built_list, is_built_one, is_built};
+ghost use Rattle.rest_paths.specs.Places.{verb_of, has_body, is_offered, verb_offered, is_built};
 
+use records::is_built_kind;
 use size_values::ObjectKind;
 
 /// What stands at a path of the REST API: the root, the server at `/1.0`, the list of a kind of objects, one object,
@@ -191,15 +192,6 @@ fn verb_of(method: &str) -> Option<Verb>
     None
 }
 
-fn is_get(verb: Verb) -> bool
-    ensures { result ≡ is_get verb }
-{
-    match verb {
-        Verb::Get => true,
-        _ => false,
-    }
-}
-
 /// Whether the body of a request is read. That of a GET or DELETE is ignored.
 pub fn has_body(verb: Verb) -> bool
     ensures { result ≡ has_body verb }
@@ -242,35 +234,15 @@ pub fn verb_offered(line: Line, method: &str) -> Option<Verb>
     }
 }
 
-fn is_built_list(kind: ObjectKind) -> bool
-    ensures { result ≡ is_built_list kind }
-{
-    match kind {
-        ObjectKind::Project => true,
-        ObjectKind::Profile => true,
-        _ => false,
-    }
-}
-
-fn is_built_one(kind: ObjectKind, verb: Verb) -> bool
-    ensures { result ≡ is_built_one kind verb }
-{
-    match kind {
-        ObjectKind::Project => is_get(verb),
-        ObjectKind::Profile => true,
-        _ => false,
-    }
-}
-
-/// Whether requests of this path and method are built yet.
-pub fn is_built(place: Place, verb: Verb) -> bool
-    ensures { result ≡ is_built place verb }
+/// Whether requests of this path are built yet.
+pub fn is_built(place: Place) -> bool
+    ensures { result ≡ is_built place }
 {
     match place {
         Place::Root => true,
         Place::Server => true,
-        Place::List(kind) => is_built_list(kind),
-        Place::One(kind) => is_built_one(kind, verb),
+        Place::List(kind) => is_built_kind(kind),
+        Place::One(kind) => is_built_kind(kind),
         Place::State(_) => false,
         Place::Wait => false,
         Place::Events => true,

@@ -25,11 +25,11 @@ use Rattle.records.specs.declared.refusals.Rule.TheVariants as rule
 use Rattle.size_values.specs.declared.memory.Or.{Or}
 use Rattle.rest_paths.specs.Answers.{Gives, mapped, followed}
 use Rattle.rest_bodies.specs.Bodies.{body_of, config_at, devices_at}
-use Rattle.rest_bodies.specs.Members.{object_in, text_at, given}
-use Rattle.records.specs.Built.{is_built_request, is_built_command}
-use Rattle.rest_routes.specs.Commands.{needed, named, one_read, what_read, shape_of, unless_fault, what_said, what_sent, makes_unbuilt, sent_body, what_of, command_built, command_of}
+use Rattle.rest_bodies.specs.Members.{object_in, text_at, given, name_at}
+use Rattle.records.specs.Built.{is_built_kind, is_built_request, is_built_command}
+use Rattle.rest_routes.specs.Commands.{needed, named, one_read, what_read, shape_of, unless_fault, what_said, what_sent, sent_body, what_of, command_built, command_of}
 use Rattle.rest_paths.specs.Paths.{name_of, path_of, query_of}
-use Rattle.rest_paths.specs.Places.{line_of, verb_offered, has_body, is_built, is_built_list, is_built_one}
+use Rattle.rest_paths.specs.Places.{line_of, verb_offered, has_body, is_built}
 use Rattle.rest_paths.specs.Queries.{query_said, project_of, recursion_asked}
 use Rattle.rest_bodies.specs.Settings.{is_empty, with_change, changes_after, changes_of, with_setting, settings_after, device_of, devices_after, devices_of}
 use Rattle.rest_bodies.specs.Fields.{fields_of, first_fault}
@@ -158,9 +158,18 @@ with_parts description config devices = record {
   origin = origin.None;
 }
 
-project_parts : (description : Option (List ℕ)) → is_creation kind.Project (with_parts description None None) ≡ true
-project_parts None = refl
-project_parts (Some text) = refl
+-- of a body without devices
+new_project_parts : (description : Option (List ℕ)) (config : Option Settings) → option_map_or are_settings config true ≡ true → is_creation kind.Project (with_parts description config None) ≡ true
+new_project_parts None None h = refl
+new_project_parts None (Some cs) h = rw h refl
+new_project_parts (Some text) None h = refl
+new_project_parts (Some text) (Some cs) h = rw h refl
+
+project_parts : (description : Option (List ℕ)) (config : Option Settings) → option_map_or are_settings config true ≡ true → is_change kind.Project (with_parts description config None) ≡ true
+project_parts None None h = refl
+project_parts None (Some cs) h = rw h refl
+project_parts (Some text) None h = refl
+project_parts (Some text) (Some cs) h = rw h refl
 
 creation_parts : (description : Option (List ℕ)) (config : Option Settings) (devices : Option NamedDevices) → option_map_or are_settings config true ≡ true → option_map_or are_devices devices true ≡ true → is_creation kind.Profile (with_parts description config devices) ≡ true
 creation_parts None None None h k = refl
@@ -201,43 +210,77 @@ followed_passes : {A : Type 0} (r : Result A Refusal) (f : A → Result What Ref
 followed_passes (Ok x) f fine = fine x
 followed_passes (Err e) f fine = tt
 
-said_passes : (shape : Shape) (name : List ℕ) (body : Data) → Passes (what_said shape name body)
+-- a new object of a kind that is built
+creation_passes : (body : Data) → Passes (what.Create (named kind.Project (name_at body)) (body_of shape.NewProject body))
 unfolding body_of
-said_passes shape.NewProject name body = record { formed = project_parts (text_at (codes "description") body); built = refl }
-said_passes shape.NewProfile name body =
+creation_passes body = record { formed = new_project_parts (text_at (codes "description") body) (config_at body) (config_formed body); built = refl }
+
+profile_passes : (body : Data) → Passes (what.Create (named kind.Profile (name_at body)) (body_of shape.NewProfile body))
+unfolding body_of
+profile_passes body =
     record { formed = creation_parts (text_at (codes "description") body) (config_at body) (devices_at body) (config_formed body) (devices_at_formed body); built = refl }
-said_passes shape.ProfilePut name body =
-    record { formed = change_parts (text_at (codes "description") body) (config_at body) (devices_at body) (config_formed body) (devices_at_formed body); built = refl }
-said_passes shape.ProfilePatch name body =
-    record { formed = change_parts (text_at (codes "description") body) (config_at body) (devices_at body) (config_formed body) (devices_at_formed body); built = refl }
-said_passes shape.ProfileRename name body = record { formed = refl; built = refl }
 
-sent_passes : (place : Place) (verb : Verb) (name : List ℕ) (sent : Option Data) → AnswerPasses (what_sent place verb name sent)
+-- what changes an object of a kind that is built
+project_change_formed : (body : Data) → is_change kind.Project (body_of shape.ProjectChange body) ≡ true
+unfolding body_of
+project_change_formed body = project_parts (text_at (codes "description") body) (config_at body) (config_formed body)
+
+profile_change_formed : (body : Data) → is_change kind.Profile (body_of shape.ProfileChange body) ≡ true
+unfolding body_of
+profile_change_formed body = change_parts (text_at (codes "description") body) (config_at body) (devices_at body) (config_formed body) (devices_at_formed body)
+
+-- an object that a body of a shape says, where it is said of each body
+shaped_passes : (place : Place) (verb : Verb) (name : List ℕ) (shape : Shape) (sent : Option Data) → ((body : Data) → Passes (what_said place verb name shape body))
+    → AnswerPasses (followed (needed rule.A4 sent) (λ body. mapped (λ fine. what_said place verb name shape body) (unless_fault (first_fault (fields_of shape) body))))
+shaped_passes place verb name shape sent fine =
+    followed_passes (needed rule.A4 sent) _ (λ body. mapped_passes _ (λ none. fine body) (unless_fault (first_fault (fields_of shape) body)))
+
+sent_passes : (place : Place) (verb : Verb) (name : List ℕ) (sent : Option Data) → is_built place ≡ true → AnswerPasses (what_sent place verb name sent)
 unfolding what_sent
-sent_passes place verb name sent =
-    followed_passes (needed rule.A4 sent) _ (λ body.
-    followed_passes (needed rule.A0 (shape_of place verb)) _ (λ shape.
-    mapped_passes _ (λ fine. said_passes shape name body) (unless_fault (first_fault (fields_of shape) body))))
+sent_passes (place.List kind.Project) verb name sent h = shaped_passes (place.List kind.Project) verb name shape.NewProject sent creation_passes
+sent_passes (place.List kind.Profile) verb name sent h = shaped_passes (place.List kind.Profile) verb name shape.NewProfile sent profile_passes
+sent_passes (place.List other) verb name sent h = cc
+sent_passes (place.One kind.Project) verb.Post name sent h =
+    shaped_passes (place.One kind.Project) verb.Post name shape.Rename sent (λ body. record { formed = refl; built = refl })
+sent_passes (place.One kind.Project) verb.Put name sent h =
+    shaped_passes (place.One kind.Project) verb.Put name shape.ProjectChange sent (λ body. record { formed = project_change_formed body; built = refl })
+sent_passes (place.One kind.Project) verb.Patch name sent h =
+    shaped_passes (place.One kind.Project) verb.Patch name shape.ProjectChange sent (λ body. record { formed = project_change_formed body; built = refl })
+sent_passes (place.One kind.Project) other name sent h =
+    shaped_passes (place.One kind.Project) other name shape.ProjectChange sent (λ body. record { formed = refl; built = refl })
+sent_passes (place.One kind.Profile) verb.Post name sent h =
+    shaped_passes (place.One kind.Profile) verb.Post name shape.Rename sent (λ body. record { formed = refl; built = refl })
+sent_passes (place.One kind.Profile) verb.Put name sent h =
+    shaped_passes (place.One kind.Profile) verb.Put name shape.ProfileChange sent (λ body. record { formed = profile_change_formed body; built = refl })
+sent_passes (place.One kind.Profile) verb.Patch name sent h =
+    shaped_passes (place.One kind.Profile) verb.Patch name shape.ProfileChange sent (λ body. record { formed = profile_change_formed body; built = refl })
+sent_passes (place.One kind.Profile) other name sent h =
+    shaped_passes (place.One kind.Profile) other name shape.ProfileChange sent (λ body. record { formed = refl; built = refl })
+sent_passes (place.One other) verb name sent h = cc
+sent_passes place.Root verb name None h = tt
+sent_passes place.Root verb name (Some body) h = tt
+sent_passes place.Server verb name None h = tt
+sent_passes place.Server verb name (Some body) h = tt
+sent_passes (place.State kind) verb name None h = tt
+sent_passes (place.State kind) verb name (Some body) h = tt
+sent_passes place.Wait verb name None h = tt
+sent_passes place.Wait verb name (Some body) h = tt
+sent_passes place.Events verb name None h = tt
+sent_passes place.Events verb name (Some body) h = tt
 
-one_passes : (kind : ObjectKind) (verb : Verb) (name : List ℕ) → is_built_one kind verb ≡ true → Passes (one_read verb (named kind name))
-one_passes kind.Project verb.Get name h = record { formed = refl; built = refl }
-one_passes kind.Project verb.Post name h = cc
-one_passes kind.Project verb.Put name h = cc
-one_passes kind.Project verb.Patch name h = cc
-one_passes kind.Project verb.Delete name h = cc
-one_passes kind.Profile verb.Get name h = record { formed = refl; built = refl }
-one_passes kind.Profile verb.Post name h = record { formed = refl; built = refl }
-one_passes kind.Profile verb.Put name h = record { formed = refl; built = refl }
-one_passes kind.Profile verb.Patch name h = record { formed = refl; built = refl }
+one_passes : (kind : ObjectKind) (verb : Verb) (name : List ℕ) → is_built_kind kind ≡ true → Passes (one_read verb (named kind name))
+one_passes kind.Project verb.Delete name h = record { formed = refl; built = refl }
+one_passes kind.Project other name h = record { formed = refl; built = refl }
 one_passes kind.Profile verb.Delete name h = record { formed = refl; built = refl }
+one_passes kind.Profile other name h = record { formed = refl; built = refl }
 one_passes other verb name h = cc
 
-list_passes : (kind : ObjectKind) (recursion : Bool) → is_built_list kind ≡ true → Passes (what.List (named kind []) recursion)
+list_passes : (kind : ObjectKind) (recursion : Bool) → is_built_kind kind ≡ true → Passes (what.List (named kind []) recursion)
 list_passes kind.Project recursion h = record { formed = refl; built = refl }
 list_passes kind.Profile recursion h = record { formed = refl; built = refl }
 list_passes other recursion h = cc
 
-read_passes : (place : Place) (verb : Verb) (name : List ℕ) (recursion : Bool) → is_built place verb ≡ true → AnswerPasses (what_read place verb name recursion)
+read_passes : (place : Place) (verb : Verb) (name : List ℕ) (recursion : Bool) → is_built place ≡ true → AnswerPasses (what_read place verb name recursion)
 read_passes place.Root verb name recursion h = record { formed = refl; built = refl }
 read_passes place.Server verb name recursion h = record { formed = refl; built = refl }
 read_passes (place.List kind) verb name recursion h = list_passes kind recursion h
@@ -249,9 +292,9 @@ either_passes : (test : Bool) (a b : Result What Refusal) → AnswerPasses a →
 either_passes true a b h k = h
 either_passes false a b h k = k
 
-of_passes : (place : Place) (verb : Verb) (name : List ℕ) (recursion : Bool) (sent : Option Data) → is_built place verb ≡ true → AnswerPasses (what_of place verb name recursion sent)
+of_passes : (place : Place) (verb : Verb) (name : List ℕ) (recursion : Bool) (sent : Option Data) → is_built place ≡ true → AnswerPasses (what_of place verb name recursion sent)
 of_passes place verb name recursion sent h =
-    either_passes (has_body verb) _ _ (sent_passes place verb name sent) (read_passes place verb name recursion h)
+    either_passes (has_body verb) _ _ (sent_passes place verb name sent h) (read_passes place verb name recursion h)
 
 -- ---- requests
 
@@ -272,25 +315,24 @@ followed_good : {A : Type 0} (r : Result A Refusal) (f : A → Result Command Re
 followed_good (Ok x) f fine = fine x
 followed_good (Err refusal) f fine = tt
 
-built_good : (place : Place) (verb : Verb) (target : List ℕ) (sent : Option Data) → is_built place verb ≡ true → AnswerIsGood (command_built place verb target sent)
+built_good : (place : Place) (verb : Verb) (target : List ℕ) (sent : Option Data) → is_built place ≡ true → AnswerIsGood (command_built place verb target sent)
 unfolding command_built
 built_good place verb target sent h =
     followed_good (query_said (query_of target)) _ (λ query.
     in_project_good (project_of query) _ (of_passes place verb (name_of (path_of target)) (recursion_asked query) sent h))
 
 -- what is not built is refused
-unless_unbuilt_good : (built unbuilt : Bool) (refusal : Refusal) (answer : Result Command Refusal) → (built ≡ true → AnswerIsGood answer)
-    → AnswerIsGood (cond (not built || unbuilt) (Err refusal) answer)
-unless_unbuilt_good true true refusal answer fine = tt
-unless_unbuilt_good true false refusal answer fine = fine refl
-unless_unbuilt_good false unbuilt refusal answer fine = tt
+if_built_good : (built : Bool) (refusal : Refusal) (answer : Result Command Refusal) → (built ≡ true → AnswerIsGood answer)
+    → AnswerIsGood (cond (not built) (Err refusal) answer)
+if_built_good true refusal answer fine = fine refl
+if_built_good false refusal answer fine = tt
 
 command_good : (request : Request) (boot : ℕ) → AnswerIsGood (command_of request boot)
 unfolding command_of
 command_good request boot =
     followed_good (needed rule.A1 (line_of (path_of request.target))) _ (λ line.
     followed_good (needed rule.A2 (verb_offered line request.method)) _ (λ verb.
-    unless_unbuilt_good (is_built line.place verb) (makes_unbuilt line.place (sent_body verb request.body)) _ _
+    if_built_good (is_built line.place) _ _
     (built_good line.place verb request.target (sent_body verb request.body))))
 
 -- the command that is due is good

@@ -1,5 +1,5 @@
 -- Which command a request asks for, or by which rule of its form it is refused.
-use Rattle.std.specs.Prelude.{ℕ, Bool, false, not, ◌||◌, List, [], Option, Some, None, Result, Ok, Err, ok_or, is_some, if◌then◌else◌, codes}
+use Rattle.std.specs.Prelude.{ℕ, Bool, not, List, [], Option, Some, None, Result, Ok, Err, ok_or, if◌then◌else◌, codes}
 use Rattle.serde_json.specs.Data.{Data}
 use Rattle.size_values.specs.declared.kinds.ObjectKind.{ObjectKind}
 use Rattle.size_values.specs.declared.kinds.ObjectKind.TheVariants as kind
@@ -13,7 +13,7 @@ use Rattle.records.specs.declared.refusals.Rule.TheVariants as rule
 use Rattle.records.specs.declared.refusals.Refusal.{Refusal}
 use Rattle.rest_bodies.specs.Bodies.{body_of}
 use Rattle.rest_bodies.specs.Fields.{fields_of, first_fault}
-use Rattle.rest_bodies.specs.Members.{object_in, given, name_at}
+use Rattle.rest_bodies.specs.Members.{object_in, name_at}
 use Rattle.rest_bodies.specs.declared.fields.Shape.{Shape}
 use Rattle.rest_bodies.specs.declared.fields.Shape.TheVariants as shape
 use Rattle.rest_paths.specs.Answers.{mapped, followed}
@@ -54,21 +54,20 @@ what_read place.Events verb name recursion = Err (plainly rule.A6)
 
 -- ---- requests that send a body
 
--- the shape of the body that makes an object of a kind, or changes one, as far as that is built
+-- the shape of the body that makes an object of a kind, as far as that is built
 abbrev pub creation_shape : ObjectKind → Option Shape
 creation_shape kind.Project = Some shape.NewProject
 creation_shape kind.Profile = Some shape.NewProfile
 creation_shape other = None
 
-abbrev pub profile_shape : Verb → Shape
-profile_shape verb.Put = shape.ProfilePut
-profile_shape verb.Patch = shape.ProfilePatch
-profile_shape other = shape.ProfileRename
-
+-- the shape of the body that changes an object of a kind: all renames are alike
 abbrev pub change_shape : ObjectKind → Verb → Option Shape
-change_shape kind.Profile verb = Some (profile_shape verb)
+change_shape kind verb.Post = Some shape.Rename
+change_shape kind.Project verb = Some shape.ProjectChange
+change_shape kind.Profile verb = Some shape.ProfileChange
 change_shape other verb = None
 
+-- the shape of the body that a method sends to a place
 abbrev pub shape_of : Place → Verb → Option Shape
 shape_of (place.List kind) verb = creation_shape kind
 shape_of (place.One kind) verb = change_shape kind verb
@@ -79,33 +78,26 @@ abbrev pub unless_fault : Option (List ℕ) → Result (Unit {0}) Refusal
 unless_fault None = Ok tt
 unless_fault (Some key) = Err (on_key rule.A5 key)
 
--- what a body of a shape asks for: a new object of the name in the body, or a change of the profile in the path
-abbrev pub what_said : Shape → List ℕ → Data → What
-what_said shape.NewProject name body = what.Create (named kind.Project (name_at body)) (body_of shape.NewProject body)
-what_said shape.NewProfile name body = what.Create (named kind.Profile (name_at body)) (body_of shape.NewProfile body)
-what_said shape.ProfilePut name body = what.Put (named kind.Profile name) (body_of shape.ProfilePut body)
-what_said shape.ProfilePatch name body = what.Patch (named kind.Profile name) (body_of shape.ProfilePatch body)
-what_said shape.ProfileRename name body = what.Move (named kind.Profile name) (name_at body)
+-- what a method with a body asks of the object in the path
+abbrev pub change_said : Verb → Target → Shape → Data → What
+change_said verb.Put of shape body = what.Put of (body_of shape body)
+change_said verb.Patch of shape body = what.Patch of (body_of shape body)
+change_said other of shape body = what.Move of (name_at body)
+
+-- what a body of a shape asks for: a new object of the name in the body, or a change of the object in the path
+abbrev pub what_said : Place → Verb → List ℕ → Shape → Data → What
+what_said (place.List kind) verb name shape body = what.Create (named kind (name_at body)) (body_of shape body)
+what_said (place.One kind) verb name shape body = change_said verb (named kind name) shape body
+what_said other verb name shape body = what.Root
 
 -- what POST, PUT and PATCH ask for: the body is an object (A4), and each of its fields has its form (A5)
 unfoldable pub what_sent : Place → Verb → List ℕ → Option Data → Result What Refusal
 what_sent place verb name sent =
     followed (needed rule.A4 sent) (λ body.
     followed (needed rule.A0 (shape_of place verb)) (λ shape.
-    mapped (λ fine. what_said shape name body) (unless_fault (first_fault (fields_of shape) body))))
+    mapped (λ fine. what_said place verb name shape body) (unless_fault (first_fault (fields_of shape) body))))
 
 -- ---- requests
-
--- settings of a new project are not built yet
-abbrev pub is_unbuilt : ObjectKind → Data → Bool
-is_unbuilt kind.Project body = is_some (given (codes "config") body)
-is_unbuilt other body = false
-
--- an object is made whose body has settings that are not built yet
-abbrev pub makes_unbuilt : Place → Option Data → Bool
-makes_unbuilt place None = false
-makes_unbuilt (place.List kind) (Some body) = is_unbuilt kind body
-makes_unbuilt other (Some body) = false
 
 -- the object that a body spells, if the method sends one
 abbrev pub sent_body : Verb → List ℕ → Option Data
@@ -129,6 +121,5 @@ unfoldable pub command_of : Request → ℕ → Result Command Refusal
 command_of request boot =
     followed (needed rule.A1 (line_of (path_of request.target))) (λ line.
     followed (needed rule.A2 (verb_offered line request.method)) (λ verb.
-    let sent = sent_body verb request.body in
-    if not (is_built line.place verb) || makes_unbuilt line.place sent then Err (plainly rule.A0)
-    else command_built line.place verb request.target sent))
+    if not (is_built line.place) then Err (plainly rule.A0)
+    else command_built line.place verb request.target (sent_body verb request.body)))

@@ -4,11 +4,11 @@ ghost use Rattle.records.specs.declared.commands.What.TheVariants as what;
 ghost use Rattle.rest_bodies.specs.Bodies.{body_of};
 ghost use Rattle.rest_bodies.specs.Members.{name_at};
 ghost use Rattle.rest_paths.specs.Answers.{Gives};
-ghost use Rattle.rest_routes.specs.Commands.{named, one_read, what_read, creation_shape, profile_shape, change_shape, shape_of, what_said, what_sent, is_unbuilt, makes_unbuilt, sent_body, what_of, command_built, command_of};
+ghost use Rattle.rest_routes.specs.Commands.{named, one_read, what_read, creation_shape, change_shape, shape_of, change_said, what_said, what_sent, sent_body, what_of, command_built, command_of};
 
 use http_heads::Request;
 use records::{Command, Refusal, Rule, Target, What};
-use rest_bodies::{Shape, body_of, given, judge_fields, name_at, object_in};
+use rest_bodies::{Shape, body_of, judge_fields, name_at, object_in};
 use rest_paths::{
     PathTable, Place, Verb, has_body, is_built, name_of, path_of, plainly, project_of, query_of,
     query_said, recursion_asked, refused, verb_offered,
@@ -74,21 +74,15 @@ fn creation_shape(kind: ObjectKind) -> Option<Shape>
     }
 }
 
-fn profile_shape(verb: Verb) -> Shape
-    ensures { result ≡ profile_shape verb }
-{
-    match verb {
-        Verb::Put => Shape::ProfilePut,
-        Verb::Patch => Shape::ProfilePatch,
-        _ => Shape::ProfileRename,
-    }
-}
-
 fn change_shape(kind: ObjectKind, verb: Verb) -> Option<Shape>
     ensures { result ≡ change_shape kind verb }
 {
+    if let Verb::Post = verb {
+        return Some(Shape::Rename);
+    }
     match kind {
-        ObjectKind::Profile => Some(profile_shape(verb)),
+        ObjectKind::Project => Some(Shape::ProjectChange),
+        ObjectKind::Profile => Some(Shape::ProfileChange),
         _ => None,
     }
 }
@@ -115,31 +109,57 @@ fn created(alloc: Global, kind: ObjectKind, shape: Shape, body: &Value) -> Resul
     })
 }
 
-/// What a body of a shape asks for.
-fn what_said(alloc: Global, shape: Shape, name: &str, body: &Value) -> Result<What, NoMemory>
-    ensures { IfOk result (λ w. w ≡ what_said shape name.now (view body.now)) }
+/// The object of a kind in a path.
+fn object_named(alloc: Global, kind: ObjectKind, name: &str) -> Result<Target, NoMemory>
+    ensures { IfOk result (λ of. of ≡ named kind name.now) }
 {
-    match shape {
-        Shape::NewProject => created(alloc, ObjectKind::Project, shape, body),
-        Shape::NewProfile => created(alloc, ObjectKind::Profile, shape, body),
-        Shape::ProfilePut => {
-            let name = Text::from_text(alloc, name)?;
+    Ok(named(alloc, kind, Text::from_text(alloc, name)?))
+}
+
+/// What a method with a body asks of the object in the path.
+fn change_said(
+    alloc: Global,
+    verb: Verb,
+    of: Target,
+    shape: Shape,
+    body: &Value,
+) -> Result<What, NoMemory>
+    ensures { IfOk result (λ w. w ≡ change_said verb of shape (view body.now)) }
+{
+    match verb {
+        Verb::Put => {
             let body = body_of(alloc, shape, body)?;
-            let of = named(alloc, ObjectKind::Profile, name);
             Ok(What::Put { of, body })
         }
-        Shape::ProfilePatch => {
-            let name = Text::from_text(alloc, name)?;
+        Verb::Patch => {
             let body = body_of(alloc, shape, body)?;
-            let of = named(alloc, ObjectKind::Profile, name);
             Ok(What::Patch { of, body })
         }
-        Shape::ProfileRename => {
-            let name = Text::from_text(alloc, name)?;
+        _ => {
             let to = name_at(alloc, body)?;
-            let of = named(alloc, ObjectKind::Profile, name);
             Ok(What::Move { of, to })
         }
+    }
+}
+
+/// What a body of a shape asks for.
+fn what_said(
+    alloc: Global,
+    place: Place,
+    verb: Verb,
+    name: &str,
+    shape: Shape,
+    body: &Value,
+) -> Result<What, NoMemory>
+    ensures { IfOk result (λ w. w ≡ what_said place verb name.now shape (view body.now)) }
+{
+    match place {
+        Place::List(kind) => created(alloc, kind, shape, body),
+        Place::One(kind) => {
+            let of = object_named(alloc, kind, name)?;
+            change_said(alloc, verb, of, shape, body)
+        }
+        _ => Ok(What::Root),
     }
 }
 
@@ -162,29 +182,7 @@ fn what_sent(
     };
     match judge_fields(shape, body) {
         Some(key) => Err(refused(alloc, Rule::A5, key)),
-        None => Ok(what_said(alloc, shape, name, body)?),
-    }
-}
-
-fn is_unbuilt(kind: ObjectKind, body: &Value) -> bool
-    ensures { result ≡ is_unbuilt kind (view body.now) }
-{
-    match kind {
-        ObjectKind::Project => given("config", body).is_some(),
-        _ => false,
-    }
-}
-
-/// Whether an object is made with settings that are not built yet.
-fn makes_unbuilt(place: Place, sent: &Option<Value>) -> bool
-    ensures { result ≡ makes_unbuilt place (option_map view sent.now) }
-{
-    let Some(body) = sent else {
-        return false;
-    };
-    match place {
-        Place::List(kind) => is_unbuilt(kind, body),
-        _ => false,
+        None => Ok(what_said(alloc, place, verb, name, shape, body)?),
     }
 }
 
@@ -255,9 +253,9 @@ pub(crate) fn command_of(
     let Some(verb) = verb_offered(line, request.method.view()) else {
         return Err(plainly(alloc, Rule::A2));
     };
-    let sent = sent_body(alloc, verb, request.body.view())?;
-    if !is_built(line.place, verb) || makes_unbuilt(line.place, &sent) {
+    if !is_built(line.place) {
         return Err(plainly(alloc, Rule::A0));
     }
+    let sent = sent_body(alloc, verb, request.body.view())?;
     command_built(alloc, line.place, verb, target, &sent)
 }
