@@ -1,6 +1,6 @@
 mod Changed
 mod FirstEntries
-mod Following
-mod Judging
+pub mod Following
+pub mod Judging
 mod Opens
-mod Stepping
+pub mod Stepping
