@@ -1,15 +1,3 @@
-pub mod Unlimited
-pub mod Settled
-pub mod Plain
-pub mod ReadRules
-pub mod NewProjects
-pub mod ProfileRules
-pub mod Stepping
-pub mod Room
-pub mod Refused
-pub mod Asking
-pub mod CanBeKept
-pub mod Telling
-pub mod PlansReady
-pub mod Formed
-pub mod ReadsReady
+mod BuiltChanges
+mod FirstRules
+mod ReadSteps

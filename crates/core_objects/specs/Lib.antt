@@ -1,3 +1,1 @@
-pub mod Asked
-pub mod Planned
-pub mod Told
+pub mod Answers

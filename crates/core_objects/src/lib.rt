@@ -1,11 +1,7 @@
-//! Projects and their profiles over the REST API: which rule a command on them breaks first, and what is then answered.
+//! One command on the objects of the server, from its first rule to its reply: a read is answered, and a change of rows is
+//! judged, committed and made.
 #![tactic(auto)]
 
-mod carrying;
-mod making;
-mod notices;
 mod objects;
-mod planning;
-mod plans;
 
 pub use objects::do_object;

@@ -1,11 +1,6 @@
-pub mod RiseLemmas
-pub mod NameTests
-pub mod TwoLists
-pub mod HomeLemmas
-pub mod BeginsSound
-pub mod StaysSound
-pub mod Sections
-pub mod Recorded
-pub mod Orders
-pub mod FirstEntries
-pub mod Opens
+mod Changed
+mod FirstEntries
+pub mod Following
+pub mod Judging
+mod Opens
+pub mod Stepping

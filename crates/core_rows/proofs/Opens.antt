@@ -1,18 +1,22 @@
 -- An opening, from how its load and its commit ended.
-use Rattle.std.proofs.Common.{◌≡◌, ℕ, List, [], Option, Some, None, IfSome, option_map, Result, Ok, Err, refl, ap, subst, ◌∙◌, ◌⊎◌, inl, inr, arith}
+use Rattle.std.proofs.Common.{◌≡◌, ℕ, List, [], Option, Some, None, IfSome, option_map, Result, Ok, Err, refl, ap, subst, ◌∙◌, inl, inr, arith}
 use Rattle.size_values.specs.CallCounts.{called}
 use Rattle.size_values.specs.declared.entry.Entry.{Entry}
-use Rattle.record_keeper.specs.Entries.{after_changes}
+use Rattle.record_keeper.specs.Entries.{after_changes, put_entry}
 use Rattle.record_keeper.specs.Store.{Store, FailsAtCall, IsAfterUpTo, after_calls, after_commit}
-use Rattle.row_machine.specs.Opening.{first_rows}
+use Rattle.row_machine.specs.Opening.{first_rows, with_rows}
 use Rattle.row_machine.specs.Records.{records_of}
 use Rattle.row_machine.specs.Plans.{put_all}
-use Rattle.core_rows.specs.Entries.{entry_changes}
+use Rattle.machine_laws.specs.Entries.{entry_changes}
 use Rattle.core_rows.specs.Kept.{Kept}
 use Rattle.core_rows.specs.Opening.{Opens, Begins, FindsNothing, first_state, opened_store}
 use Rattle.core_rows.specs.declared.opening.OpenFault.{OpenFault}
 use Rattle.core_rows.specs.declared.opening.OpenFault.TheVariants as fault
-use Rattle.core_rows.proofs.Recorded.{first-records}
+
+-- the first rows, committed where nothing is kept
+first-records : after_changes (entry_changes (put_all first_rows)) [] ≡ records_of (with_rows first_rows)
+unfolding put_entry records_of
+first-records = refl
 
 -- what is kept after the first commit to nothing
 first_kept : (told : Option (List Entry)) → IfSome told (λ entries. entries ≡ [])

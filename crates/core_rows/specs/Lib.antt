@@ -1,6 +1,6 @@
-pub mod Entries
+pub mod Asked
 pub mod Kept
-pub mod Laws
 pub mod Opening
-pub mod Sound
+pub mod Planned
+pub mod Stores
 pub mod View

@@ -1,11 +1,10 @@
 -- How the rows are opened.
-use Rattle.std.specs.Prelude.{◌≡◌, ◌≢◌, ◌⊎◌, List, [], Option, IfSome, option_map, Result, Ok, Err}
+use Rattle.std.specs.Prelude.{◌≡◌, ◌≢◌, ◌⊎◌, List, [], IfSome, option_map, Result, Ok, Err}
 use Rattle.size_values.specs.CallCounts.{called}
-use Rattle.size_values.specs.declared.entry.Entry.{Entry}
 use Rattle.size_values.specs.declared.entry.EntryChange.{EntryChange}
 use Rattle.record_keeper.specs.Store.{Store, FailsAtCall, IsAfterUpTo, after_calls, after_commit}
 use Rattle.row_machine.specs.Plans.{put_all}
-use Rattle.core_rows.specs.Entries.{entry_changes}
+use Rattle.machine_laws.specs.Entries.{entry_changes}
 use Rattle.row_machine.specs.State.{State}
 use Rattle.row_machine.specs.Opening.{first_rows, with_rows}
 use Rattle.row_machine.specs.Records.{records_of}

@@ -1,22 +1,15 @@
--- What contracts see of the rows, and what is true of the fields.
-use Rattle.std.specs.Prelude.{◌≤◌, ◌-◌, min, vec_len, vec_capacity}
-use Rattle.core_rows.specs.declared.draft.Draft.TheInside.{Inside as DraftInside}
-use Rattle.core_rows.specs.declared.estate.Estate.TheInside.{Inside as EstateInside}
-use Rattle.core_rows.specs.Kept.{Drafted, Kept, untold_limit}
-use Rattle.core_rows.specs.Sound.{state_with, IsSound}
+-- What contracts see of the rows of the server, and what is true of the fields.
+use Rattle.std.specs.Prelude.{◌≡◌, ◌≤◌, [], vec_capacity}
+use Rattle.row_machine.specs.Whole.{IsWhole}
+use Rattle.core_rows.specs.declared.estate.Estate.TheInside.{Inside}
+use Rattle.core_rows.specs.Kept.{Kept, untold_limit}
 
--- the rows of a draft
-abbrev pub drafted : DraftInside → Drafted
-drafted d = record {
-  state = state_with d.projects.items d.profiles.items;
-  room = min (vec_capacity d.projects - vec_len d.projects) (vec_capacity d.profiles - vec_len d.profiles);
-}
+-- the state and its notices
+abbrev pub kept : Inside → Kept
+kept e = record { state = e.draft.state; untold = e.untold.items }
 
--- the rows of the estate and its notices
-abbrev pub kept : EstateInside → Kept
-kept e = record { state = e.draft.state; room = e.draft.room; untold = e.untold.items }
-
--- the facts hold of the rows, and there is room for the notices of a step
-pub record IsEstate (e : EstateInside) : Type 0 where
-  pub sound : IsSound e.draft.state
+-- the facts hold of the state, no change of it is left unsettled, and there is room for the notices of a step
+pub record IsEstate (e : Inside) : Type 0 where
+  pub whole : IsWhole e.draft.state
+  pub settled : e.draft.log ≡ []
   pub room : untold_limit ≤ vec_capacity e.untold

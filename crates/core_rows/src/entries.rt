@@ -2,7 +2,7 @@
 ghost use Rattle.std.specs.Prelude.{◌≡◌, IfOk};
 ghost use Rattle.std.specs.List.{AllByRecursion};
 ghost use Rattle.row_machine.specs.NewRows.{default_profile};
-ghost use Rattle.core_rows.specs.Entries.{number_of, entry_change, entry_changes};
+ghost use Rattle.machine_laws.specs.Entries.{number_of, entry_change, entry_changes};
 ghost use Rattle.core_rows.specs.Kept.{HasEntry};
 
 use config_lists::{Config, Devices};

@@ -1,25 +1,23 @@
-ghost use Rattle.std.specs.Prelude.{◌≡◌, ◌<◌, ◌≤◌, ◌∷◌, ◌++◌, [], true, length, IfOk, IfSome, IfNone, OnOk};
-ghost use Rattle.std.specs.Option.{option_copied};
-ghost use Rattle.size_values.specs.declared.kinds.ObjectKind.TheVariants as kind;
-ghost use Rattle.row_machine.specs.Rows.{project_named, profile_named};
-ghost use Rattle.row_machine.specs.Homes.{home_of};
-ghost use Rattle.row_machine.specs.Changes.{applied};
-ghost use Rattle.row_machine.specs.TableRules.{count_of};
-ghost use Rattle.core_rows.specs.Kept.{IsReady, are_built, untold_limit};
-ghost use Rattle.core_rows.specs.Sound.{IsSound, state_with};
+ghost use Rattle.std.specs.Prelude.{◌≡◌, ◌<◌, ◌∷◌, [], IfOk, IfSome, IfNone, OnOk};
+ghost use Rattle.limit_rules.specs.Counting.{counts_in};
+ghost use Rattle.row_drafts.specs.Drafted.{IsReady};
+ghost use Rattle.row_machine.specs.Whole.{IsWhole};
+ghost use Rattle.core_rows.specs.Planned.{Follows, IsToDo};
 
-use crate::draft::Draft;
+use crate::changing::{commit, copy_changes, give_up, judge};
+use limit_rules::{Usage, usage_before};
 use plain_lists::push_reserved;
-use plain_readings::{profile_home, profile_named, project_named};
-use records::{Profile, Project, Untold};
+use record_keeper::Keeper;
+use records::{Command, Reply, Untold};
+use row_drafts::Draft;
 use row_machine::RowChange;
+use row_readings::View;
 use size_values::{NoMemory, Seq};
 use std::alloc::Global;
 use std::marker::Model;
 
-/// The rows of the server, of which the facts hold at all times: projects and profiles by now. Contracts see the state of
-/// the row machine with these rows, the notices that were not yet taken, and how many rows of each kind can be put
-/// without taking memory.
+/// The rows of the server, of which the facts hold at all times, and what is to be told. Contracts see the state of the row
+/// machine with these rows, and the notices that were not yet taken.
 #[derive(Drop)]
 pub struct Estate {
     draft: Draft,
@@ -38,10 +36,33 @@ impl Model for Estate {
     ghost invariant = { IsEstate };
 }
 
+/// What a change needs besides the rows: what counts for limits before it, and the changes once more.
+#[derive(Drop)]
+struct Ready {
+    before: Usage,
+    changes: Seq<RowChange>,
+}
+
+/// Takes all memory that a change needs, but for its entries.
+fn make_ready(alloc: Global, draft: &mut Draft, changes: &Seq<RowChange>) -> Result<Ready, NoMemory>
+    requires settled { draft.old.log ≡ [] }
+    ensures before { IfOk result (λ r. r.before ≡ counts_in draft.old.state) }
+    ensures changes { IfOk result (λ r. r.changes ≡ changes.now) }
+    ensures ready { OnOk result (IsReady draft.new changes.now) }
+    ensures state { draft.new.state ≡ draft.old.state }
+    ensures log { draft.new.log ≡ [] }
+{
+    draft.reserve_for(alloc, changes)?;
+    let before = usage_before(alloc, &draft.view())?;
+    let changes = copy_changes(alloc, changes)?;
+    Ok(Ready { before, changes })
+}
+
 impl Estate {
     /// Rows of which the facts hold, and no notices.
     pub(crate) fn of(alloc: Global, draft: Draft) -> Result<Estate, NoMemory>
-        requires { IsSound draft.state }
+        requires whole { IsWhole draft.state }
+        requires settled { draft.log ≡ [] }
         ensures state { IfOk result (λ e. e.state ≡ draft.state) }
         ensures untold { IfOk result (λ e. e.untold ≡ []) }
     {
@@ -49,78 +70,56 @@ impl Estate {
         Ok(Estate { draft, untold })
     }
 
-    /// All projects, in the byte order of their names.
-    pub fn projects(&self) -> &[Project]
-        ensures rows { result.now ≡ self.now.state.projects }
-        ensures sound { IsSound self.now.state }
-        ensures alone { self.now.state ≡ state_with self.now.state.projects self.now.state.profiles }
+    /// The rows, to be read.
+    pub fn view(&self) -> View<'_>
+        ensures state { result ≡ self.now.state }
+        ensures whole { IsWhole self.now.state }
     {
-        &self.draft.projects
+        self.draft.view()
     }
 
-    /// All profiles, in the byte order of their projects and names.
-    pub fn profiles(&self) -> &[Profile]
-        ensures rows { result.now ≡ self.now.state.profiles }
-        ensures sound { IsSound self.now.state }
-        ensures alone { self.now.state ≡ state_with self.now.state.projects self.now.state.profiles }
+    /// Carries out the changes of a command that breaks no rule on names and on what stands in the way. They are made, judged by the
+    /// state after them, and committed to the keeper in one call; where a rule is broken, the keeper fails or memory is refused,
+    /// they are taken back. What was done is left to be told.
+    pub fn change_rows<R: Keeper>(
+        &mut self,
+        alloc: Global,
+        keeper: &mut R,
+        command: &Command,
+        moment: u64,
+        changes: Seq<RowChange>,
+        notice: Untold,
+    ) -> Reply
+        requires quiet { self.old.untold ≡ [] }
+        requires planned { IsToDo self.old.state command.now moment changes notice }
+        ensures { Follows self.old.state command.now moment self.new.state self.new.untold result (R.store keeper.old) (R.store keeper.new) }
     {
-        &self.draft.profiles
-    }
-
-    /// The project of a name.
-    pub fn project(&self, name: &str) -> Option<&Project>
-        ensures found { option_copied result ≡ project_named self.now.state.projects name.now }
-        ensures sound { IsSound self.now.state }
-    {
-        project_named(&self.draft.projects, name)
-    }
-
-    /// The profile of a name that belongs to a project.
-    pub fn profile(&self, project: &str, name: &str) -> Option<&Profile>
-        ensures found { option_copied result ≡ profile_named self.now.state.profiles project.now name.now }
-        ensures sound { IsSound self.now.state }
-    {
-        profile_named(&self.draft.profiles, project, name)
-    }
-
-    /// The project that the profiles of a project belong to: itself, or `default` where its feature of profiles is off
-    /// (<https://linuxcontainers.org/incus/docs/main/reference/projects/>).
-    pub fn profile_home<'x>(&self, project: &'x str) -> &'x str
-        ensures home { result.now ≡ home_of self.now.state.projects project.now kind.Profile }
-        ensures sound { IsSound self.now.state }
-    {
-        profile_home(&self.draft.projects, project)
-    }
-
-    /// Takes memory for these changes: none is taken when they are made.
-    pub fn reserve_for(&mut self, changes: &Seq<RowChange>) -> Result<(), NoMemory>
-        ensures ready { OnOk result (IsReady self.new.room changes.now) }
-        ensures state { self.new.state ≡ self.old.state }
-        ensures untold { self.new.untold ≡ self.old.untold }
-        ensures sound { IsSound self.new.state }
-    {
-        self.draft.reserve_for(changes)
-    }
-
-    /// Makes the changes in their order. It takes no memory.
-    pub fn apply(&mut self, changes: Seq<RowChange>)
-        requires built { are_built changes ≡ true }
-        requires ready { IsReady self.old.room changes }
-        requires sound { IsSound (applied self.old.state changes) }
-        ensures state { self.new.state ≡ applied self.old.state changes }
-        ensures untold { self.new.untold ≡ self.old.untold }
-    {
+        let Ok(ready) = make_ready(alloc, &mut self.draft, &changes) else {
+            drop(changes);
+            drop(notice);
+            return Reply::NoMemory;
+        };
         self.draft.apply(changes);
-    }
-
-    /// Adds a notice behind those that were not yet taken. It takes no memory.
-    pub fn tell(&mut self, notice: Untold)
-        requires { length self.old.untold < untold_limit }
-        ensures untold { self.new.untold ≡ self.old.untold ++ notice ∷ [] }
-        ensures state { self.new.state ≡ self.old.state }
-        ensures room { self.new.room ≡ self.old.room }
-    {
+        let judged = judge(
+            alloc,
+            &ready.before,
+            &self.draft.view(),
+            ready.changes.view(),
+        );
+        if let Err(why) = judged {
+            drop(ready);
+            drop(notice);
+            return give_up(&mut self.draft, why);
+        }
+        let committed = commit(alloc, keeper, &ready.changes);
+        drop(ready);
+        if let Err(why) = committed {
+            drop(notice);
+            return give_up(&mut self.draft, why);
+        }
+        self.draft.settle();
         push_reserved(&mut self.untold, notice);
+        Reply::Empty
     }
 
     /// Hands out the first notice that was not yet taken.
@@ -128,7 +127,7 @@ impl Estate {
         ensures some { IfSome result (λ notice. self.old.untold ≡ notice ∷ self.new.untold) }
         ensures none { IfNone result ((self.old.untold ≡ []) × (self.new.untold ≡ [])) }
         ensures state { self.new.state ≡ self.old.state }
-        ensures sound { IsSound self.new.state }
+        ensures whole { IsWhole self.new.state }
     {
         if self.untold.is_empty() {
             return None;

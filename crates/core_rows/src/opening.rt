@@ -1,15 +1,15 @@
 ghost use Rattle.std.specs.Prelude.{◌≡◌, [], IfOk};
 ghost use Rattle.row_machine.specs.Opening.{first_rows, default_project};
 ghost use Rattle.row_machine.specs.Plans.{put_all};
-ghost use Rattle.core_rows.specs.Entries.{entry_changes};
+ghost use Rattle.machine_laws.specs.Entries.{entry_changes};
 ghost use Rattle.core_rows.specs.Opening.{Opens, Begins, Commits, FindsNothing, first_state};
 
-use crate::draft::Draft;
 use crate::entries::{default_profile, entry_changes};
 use crate::estate::Estate;
 use config_lists::Config;
 use record_keeper::Keeper;
 use records::{Project, Row};
+use row_drafts::Draft;
 use row_machine::RowChange;
 use size_values::{EntryChange, NoMemory, Or, Seq, Text};
 use std::alloc::Global;
@@ -78,8 +78,9 @@ fn first_estate(alloc: Global, changes: Seq<RowChange>) -> Result<Estate, NoMemo
     ensures untold { IfOk result (λ e. e.untold ≡ []) }
 {
     let mut draft = Draft::new(alloc);
-    draft.reserve_for(&changes)?;
+    draft.reserve_for(alloc, &changes)?;
     draft.apply(changes);
+    draft.settle();
     Estate::of(alloc, draft)
 }
 

@@ -1,7 +1,7 @@
 use Rattle.std.proofs.Common.{◌≡◌, ◌++◌, map, drop}
 use Rattle.std.specs.List.{AllByRecursion}
 use Rattle.core_rows.specs.Kept.{HasEntry}
-use Rattle.core_rows.specs.Entries.{entry_change, entry_changes}
+use Rattle.machine_laws.specs.Entries.{entry_change, entry_changes}
 use Rattle.core_rows.proofs.entries.entry_changes.Given as goal
 
 abbrev pub invariant-loop-change : goal.invariant-loop-change

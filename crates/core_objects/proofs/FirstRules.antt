@@ -1,0 +1,32 @@
+-- A command that breaks a rule on names or on what stands in the way.
+use Rattle.std.proofs.Common.{◌≡◌, ℕ, [], ◌∷◌, Option, Some, None}
+use Rattle.plain_lists.specs.Firsts.{first}
+use Rattle.plain_lists.proofs.FirstLemmas.{none_both}
+use Rattle.size_values.specs.Causes.{Refuses}
+use Rattle.size_values.specs.declared.memory.Or.{Or}
+use Rattle.size_values.specs.declared.memory.Or.TheVariants as or
+use Rattle.records.specs.declared.commands.Command.{Command}
+use Rattle.records.specs.declared.refusals.Refusal.{Refusal}
+use Rattle.row_machine.specs.State.{State}
+use Rattle.row_machine.specs.Plans.{plan_of}
+use Rattle.row_machine.specs.NameRules.{names_broken}
+use Rattle.row_machine.specs.StandingRules.{standing_broken}
+use Rattle.row_machine.specs.Rules.{broken, plan_broken}
+
+-- the first of two is the first of three
+first-stays : {R : Type 0} (a b c : Option R) (r : R) → first (a ∷ b ∷ []) ≡ Some r → first (a ∷ b ∷ c ∷ []) ≡ Some r
+first-stays (Some x) b c r e = e
+first-stays None (Some x) c r e = e
+first-stays None None c r e = cc
+
+pub refuses-first : (s : State) (c : Command) (moment : ℕ) (why : Or Refusal)
+    → Refuses why (first (names_broken s c ∷ standing_broken s c ∷ [])) → Refuses why (broken s c moment)
+unfolding broken
+refuses-first s c moment or.NoMemory e = tt
+refuses-first s c moment (or.Why r) e = first-stays (names_broken s c) (standing_broken s c) (plan_broken s c (plan_of s c moment) moment) r e
+
+-- none of both is broken
+pub both-free : (s : State) (c : Command) → first (names_broken s c ∷ standing_broken s c ∷ []) ≡ None → (names_broken s c ≡ None) × (standing_broken s c ≡ None)
+both-free s c e =
+    let names = none_both (names_broken s c) _ e in
+    (names.0, (none_both (standing_broken s c) None names.1).0)

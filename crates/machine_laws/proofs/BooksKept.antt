@@ -1,0 +1,136 @@
+-- The books balance after every change of a state: what was granted was converted or returned, or is still held.
+use Rattle.std.proofs.Common.{◌≡◌, ℕ, ◌+◌, true, Option, Some, None, List, [], ◌∷◌, refl, sym, ◌∙◌, ap, arith}
+use Rattle.std.specs.List.{find, sum_by}
+use Rattle.std.specs.Option.{option_map_or}
+use Rattle.plain_lists.specs.Edits.{dropped}
+use Rattle.plain_lists.proofs.PutsLemmas.{sum_by-Puts, Puts-push}
+use Rattle.plain_lists.proofs.EditLemmas.{dropped-Puts, dropped-none}
+use Rattle.plain_lists.proofs.Searches.{none-any, find-none}
+use Rattle.size_values.specs.Amounts.{part, nothing}
+use Rattle.size_values.specs.declared.amounts.Part.{Part}
+use Rattle.size_values.specs.declared.amounts.Part.TheVariants.{Instances, Containers, Machines, Cpu, Memory, Processes, Disk}
+use Rattle.size_values.proofs.AmountParts.{part-plus}
+use Rattle.reservations.specs.declared.books.Books.{Books}
+use Rattle.host_model.specs.declared.call.HostCall.{HostCall}
+use Rattle.operations.specs.declared.operation.Operation.{Operation}
+use Rattle.operations.specs.declared.operation.OpFault.{OpFault}
+use Rattle.operations.specs.declared.operation.OpFault.TheVariants as fault
+use Rattle.operations.specs.declared.status.Status.TheVariants as status
+use Rattle.operations.specs.declared.status.Status.TheVariants.{Running, Cancelling}
+use Rattle.operations.specs.Kept.{live_at}
+use Rattle.records.specs.declared.commands.Command.{Command}
+use Rattle.records.specs.declared.notices.Untold.{Untold}
+use Rattle.row_machine.specs.declared.changes.RowChange.{RowChange}
+use Rattle.row_machine.specs.Task.{Task}
+use Rattle.row_machine.specs.State.{State, Held}
+use Rattle.row_machine.specs.Changes.{applied}
+use Rattle.row_machine.specs.Claims.{share_of}
+use Rattle.row_machine.specs.Plans.{changes, starts}
+use Rattle.row_machine.specs.Notices.{telling}
+use Rattle.row_machine.specs.Step.{first_pending}
+use Rattle.row_machine.specs.Work.{project_of_task, is_held_by, held_share, converted, returned, entered, with_task, moved, handing_out, one_more_done, undone, cancelled, failed, succeeded, ended, success_changes, with_power_after, power_after, after_failure}
+use Rattle.row_machine.specs.Whole.{IsWhole, AreBalanced}
+use Rattle.machine_laws.proofs.Cases.{IsAccepted, IsLiveAs}
+use Rattle.machine_laws.proofs.BooksSteps.{HasSameWork, applied-same, power-keeps, failure-keeps, telling-keeps}
+
+-- where held shares and books are the same
+pub balanced-same : {s t : State} → HasSameWork s t → AreBalanced s → AreBalanced t
+balanced-same {s} {t} same h k =
+    ap (λ (b : Books). part k b.granted) same.books ∙ h k
+    ∙ sym (ap (λ (b : Books). part k b.converted + part k b.returned + sum_by (λ (x : Held). part k x.share) t.held) same.books
+    ∙ ap (λ (held : List Held). part k s.books.converted + part k s.books.returned + sum_by (λ (x : Held). part k x.share) held) same.held)
+
+-- nothing has no part
+part-nothing : (k : Part) → part k nothing ≡ 0
+part-nothing Instances = refl
+part-nothing Containers = refl
+part-nothing Machines = refl
+part-nothing Cpu = refl
+part-nothing Memory = refl
+part-nothing Processes = refl
+part-nothing Disk = refl
+
+-- all that is held is what one operation holds and the rest
+pub held-split : (k : Part) (op : ℕ) (held : List Held)
+    → sum_by (λ (h : Held). part k h.share) held
+    ≡ part k (option_map_or (λ (h : Held). h.share) (find (is_held_by op) held) nothing) + sum_by (λ (h : Held). part k h.share) (dropped (is_held_by op) held)
+held-split k op held = at (find (is_held_by op) held) refl where
+  at : (found : Option Held) → find (is_held_by op) held ≡ found
+      → sum_by (λ (h : Held). part k h.share) held
+      ≡ part k (option_map_or (λ (h : Held). h.share) found nothing) + sum_by (λ (h : Held). part k h.share) (dropped (is_held_by op) held)
+  at None is =
+      let none = dropped-none (is_held_by op) held (none-any (is_held_by op) held (find-none (is_held_by op) held is)) in
+      let e : sum_by (λ (h : Held). part k h.share) (dropped (is_held_by op) held) ≡ sum_by (λ (h : Held). part k h.share) held =
+      ap (sum_by (λ (h : Held). part k h.share)) none in
+      omega (arith, e, part-nothing k)
+  at (Some h) is = sum_by-Puts (λ (h : Held). part k h.share) (dropped-Puts (is_held_by op) h held is)
+
+-- a share that is held becomes its object's, or is returned
+pub balanced-converted : (op : ℕ) (s : State) → AreBalanced s → AreBalanced (converted op s)
+balanced-converted op s h k =
+    let plus = part-plus k s.books.converted (held_share s op) in
+    let split = held-split k op s.held in
+    let before = h k in
+    omega arith
+
+pub balanced-returned : (op : ℕ) (s : State) → AreBalanced s → AreBalanced (returned op s)
+balanced-returned op s h k =
+    let plus = part-plus k s.books.returned (held_share s op) in
+    let split = held-split k op s.held in
+    let before = h k in
+    omega arith
+
+pub balanced-entered : (s : State) (task : Task) (moment : ℕ) → AreBalanced s → AreBalanced (entered s task moment)
+unfolding entered
+balanced-entered s task moment h k =
+    let plus = part-plus k s.books.granted (share_of s task) in
+    let more = sum_by-Puts (λ (x : Held). part k x.share) (Puts-push {x = record { op = s.operations.next; project = project_of_task task; share = share_of s task }} s.held) in
+    let before = h k in
+    omega arith
+
+-- ---- each change
+
+module _ {s : State} {c : Command} {moment : ℕ} where
+  pub books-changes : {cs : List RowChange} → IsAccepted s c moment (changes cs) → AreBalanced (applied s cs)
+  books-changes {cs} h = balanced-same (applied-same cs s) h.whole.books
+
+  pub books-entered : {task : Task} → IsAccepted s c moment (starts task) → AreBalanced (entered s task moment)
+  books-entered {task} h = balanced-entered s task moment h.whole.books
+
+module _ (s : State) (o : Operation Task) where
+  pub books-taken : (moment : ℕ) {call : HostCall} {rest : List HostCall} → IsWhole s → first_pending s ≡ Some o → o.work.calls ≡ call ∷ rest
+      → AreBalanced (with_task o.number (handing_out o.work rest) (moved o.number Running moment s))
+  books-taken moment h first calls = h.books
+
+  pub books-next : {call : HostCall} {rest : List HostCall} → IsLiveAs s o Running → o.work.calls ≡ call ∷ rest
+      → AreBalanced (with_task o.number (one_more_done o.work rest) s)
+  books-next h calls = h.whole.books
+
+  pub books-undone : {call : HostCall} → IsLiveAs s o Cancelling → o.work.undo ≡ Some call → AreBalanced (with_task o.number (undone o.work) s)
+  books-undone h undo = h.whole.books
+
+  pub books-cancelling : (moment : ℕ) → IsLiveAs s o Running → o.may_cancel ≡ true → AreBalanced (moved o.number Cancelling moment s)
+  books-cancelling moment h may = h.whole.books
+
+  pub books-cancelled : (moment : ℕ) → IsWhole s → live_at s.operations o.number ≡ Some o → AreBalanced (cancelled s o.number moment)
+  unfolding cancelled
+  books-cancelled moment h live = balanced-returned o.number (ended o.number status.Cancelled fault.None moment s) h.books
+
+  pub books-failed : (why : OpFault) (done moment : ℕ) → IsLiveAs s o Running → AreBalanced (failed s o why done moment)
+  unfolding failed
+  books-failed why done moment h = balanced-returned o.number (ended o.number status.Failure why moment (after_failure o.work done s))
+      (failure-keeps AreBalanced (λ t powers b. b) o.work done s h.whole.books)
+
+  pub books-succeeded : (moment : ℕ) → IsLiveAs s o Running → o.work.calls ≡ [] → AreBalanced (succeeded s o moment)
+  unfolding succeeded
+  books-succeeded moment h none = balanced-converted o.number (ended o.number status.Success fault.None moment (applied powered (success_changes s o.work)))
+      (balanced-same (applied-same (success_changes s o.work) powered)
+      (power-keeps AreBalanced (λ t powers b. b) o.work (power_after s o.work) s h.whole.books)) where
+        powered : State
+        powered = with_power_after o.work (power_after s o.work) s
+
+pub books-closed : (s : State) → IsWhole s → AreBalanced (record s { closed = true })
+books-closed s h = h.books
+
+pub books-telling : (s : State) (notices : List Untold) → IsWhole s → AreBalanced (telling notices s)
+books-telling s notices h = telling-keeps AreBalanced (λ t ns n b. b) notices s h.books

@@ -1,0 +1,71 @@
+-- Held shares while operations go on: they are read off what calls and statuses leave.
+use Rattle.std.proofs.Common.{◌≡◌, ℕ, List, [], ◌∷◌, ◌++◌, refl, sym, ◌∙◌, ap}
+use Rattle.std.specs.Prelude.{map}
+use Rattle.std.proofs.lemmas.List.{map-append}
+use Rattle.plain_lists.specs.Members.{Each}
+use Rattle.plain_lists.specs.Edits.{dropped}
+use Rattle.operations.specs.declared.operation.Operation.{Operation}
+use Rattle.operations.specs.Kept.{Kept, has_number}
+use Rattle.row_machine.specs.Task.{Task}
+use Rattle.row_machine.specs.State.{State, Held}
+use Rattle.row_machine.specs.Claims.{share_of, amounts_of_instance}
+use Rattle.row_machine.specs.Work.{project_of_task, is_held_by, entered}
+use Rattle.row_machine.specs.Whole.{held_by}
+use Rattle.machine_laws.proofs.SharesCores.{core_of, core, cores, map-map, map-each, dropped-map}
+
+-- each live operation holds its share by the rows as they stand
+abbrev pub AreHeld : State → Type 0
+AreHeld s = s.held ≡ map (held_by s) s.operations.live
+
+-- what is held by a core
+abbrev pub held_in : State → ℕ × Task → Held
+held_in s c = record { op = c.0; project = project_of_task c.1; share = share_of s c.1 }
+
+-- the share is read off the core
+core-share : (s : State) (task : Task) → share_of s (core_of task) ≡ share_of s task
+unfolding share_of
+core-share s task = refl
+
+pub held-cores : (s : State) (os : List (Operation Task)) → map (held_by s) os ≡ map (held_in s) (map core os)
+held-cores s os =
+    map-each (held_by s) (λ o. held_in s (core o)) os (record { at = λ o m. ap (λ share. record { op = o.number; project = project_of_task o.work; share = share }) (sym (core-share s o.work)) })
+    ∙ map-map core (held_in s) os
+
+-- the cores are the same, and each task has the same share
+pub held-still : (s t : State) → t.held ≡ s.held → cores t.operations ≡ cores s.operations → ((task : Task) → share_of t task ≡ share_of s task)
+    → AreHeld s → AreHeld t
+held-still s t held same shares h =
+    held ∙ h ∙ held-cores s s.operations.live ∙ sym (ap (map (held_in s)) same)
+    ∙ sym (map-each (held_in t) (held_in s) (cores t.operations) (record { at = λ c m. ap (λ share. record { op = c.0; project = project_of_task c.1; share = share }) (shares c.1) }))
+    ∙ sym (held-cores t t.operations.live)
+
+-- one ended, and the others have the same shares
+pub held-ended : (s t : State) (n : ℕ) → t.held ≡ dropped (is_held_by n) s.held → t.operations.live ≡ dropped (has_number n) s.operations.live
+    → Each (λ (x : Operation Task). share_of t x.work ≡ share_of s x.work) (dropped (has_number n) s.operations.live)
+    → AreHeld s → AreHeld t
+held-ended s t n held live shares h =
+    held ∙ ap (dropped (is_held_by n)) h ∙ dropped-map (held_by s) (is_held_by n) s.operations.live
+    ∙ sym (map-each (held_by t) (held_by s) (dropped (has_number n) s.operations.live)
+    (record { at = λ o m. ap (λ share. record { op = o.number; project = project_of_task o.work; share = share }) (shares.at o m) }))
+    ∙ sym (ap (map (held_by t)) live)
+
+-- one more holds its share from its beginning
+pub held-entered : (s : State) (task : Task) (moment : ℕ) → AreHeld s → AreHeld (entered s task moment)
+unfolding entered share_of amounts_of_instance
+held-entered s task moment h =
+    ap (λ held. held ++ record { op = s.operations.next; project = project_of_task task; share = share_of s task } ∷ []) h
+    ∙ sym (map-append (held_by s) s.operations.live _)
+
+-- what statuses and notices leave
+pub held-powers : (s : State) (powers : List _) → AreHeld s → AreHeld (record s { powers = powers })
+unfolding share_of amounts_of_instance
+held-powers s powers h = h
+
+pub held-notices : (s : State) (notices : List _) (next : ℕ) → AreHeld s → AreHeld (record s { notices = notices; next_notice = next })
+unfolding share_of amounts_of_instance
+held-notices s notices next h = h
+
+-- the share where rows are the same
+pub share-rows : (s : State) (k : Kept Task) (task : Task) → share_of (record s { operations = k }) task ≡ share_of s task
+unfolding share_of amounts_of_instance
+share-rows s k task = refl

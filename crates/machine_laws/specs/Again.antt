@@ -1,0 +1,33 @@
+-- A creation that is sent again while its row, or the claim of its operation, stands.
+use Rattle.std.specs.Prelude.{◌≡◌, ◌≢◌, ◌⊎◌, ℕ, true, List, [], Option, Some, None, is_some}
+use Rattle.size_values.specs.declared.kinds.ObjectKind.TheVariants as kind
+use Rattle.estate_rules.specs.Names.{good_name_of}
+use Rattle.records.specs.declared.commands.Target.{Target}
+use Rattle.records.specs.declared.commands.Body.{Body}
+use Rattle.records.specs.declared.commands.Command.{Command}
+use Rattle.records.specs.declared.commands.What.TheVariants as what
+use Rattle.records.specs.declared.refusals.Refusal.{Refusal}
+use Rattle.records.specs.declared.refusals.Rule.TheVariants as rule
+use Rattle.records.specs.declared.replies.Reply.TheVariants as reply
+use Rattle.row_machine.specs.declared.events.Event.TheVariants as event
+use Rattle.row_machine.specs.declared.events.Answer.TheVariants as answer
+use Rattle.row_machine.specs.State.{State}
+use Rattle.row_machine.specs.NameRules.{project_missing, what_is_missing, is_there, held}
+use Rattle.row_machine.specs.Accept.{and_then}
+use Rattle.row_machine.specs.Step.{step, well}
+
+-- the row under the name of the object, or a live claim of it, stands
+abbrev pub StandsAlready : State → List ℕ → Target → Type 0
+StandsAlready s project of = (is_there s project of ≡ true) ⊎ (is_some (held s project of) ≡ true)
+
+-- The creation is refused, and changes nothing. Where no earlier rule is broken the refusal is N4 or N5.
+pub record IsRefusedAgain (s : State) (c : Command) (moment : ℕ) (of : Target) : Type 0 where
+  pub refusal : Refusal
+  pub answer : step s (event.Ask c moment) well ≡ Some (and_then (answer.Reply (reply.Refused refusal)) s)
+  pub rule : project_missing s c ≡ None → what_is_missing s c.project c.what ≡ None → good_name_of of.kind of.name ≡ true
+      → (refusal.rule ≡ rule.N4) ⊎ (refusal.rule ≡ rule.N5)
+
+-- A new snapshot may be made without a name, and then gets one of its own; every other creation names its object.
+abbrev pub SentAgain : Type 0
+SentAgain = (s : State) (c : Command) (moment : ℕ) (of : Target) (body : Body) →
+    c.what ≡ what.Create of body → (of.kind ≡ kind.Snapshot → of.name ≢ []) → StandsAlready s c.project of → IsRefusedAgain s c moment of

@@ -1,0 +1,10 @@
+pub mod Possible
+pub mod Laws
+pub mod Headline
+pub mod Entries
+pub mod Records
+pub mod Again
+pub mod Cancels
+pub mod Waits
+pub mod Lowered
+pub mod Openings

@@ -1,0 +1,46 @@
+-- What the success of an operation does to usage.
+use Rattle.std.specs.Prelude.{◌≡◌, ◌≢◌, ℕ, ◌+◌, ◌≤◌, List, [], Some, true}
+use Rattle.size_values.specs.Amounts.{part, minus_of}
+use Rattle.size_values.specs.declared.amounts.Part.{Part}
+use Rattle.host_model.specs.declared.report.Report.TheVariants as report
+use Rattle.operations.specs.declared.operation.Operation.{Operation}
+use Rattle.operations.specs.declared.status.Status.TheVariants as status
+use Rattle.operations.specs.Kept.{live_at}
+use Rattle.records.specs.declared.rows.Instance.{Instance}
+use Rattle.row_machine.specs.declared.events.Event.TheVariants as event
+use Rattle.row_machine.specs.Task.{Task}
+use Rattle.row_machine.specs.State.{State}
+use Rattle.row_machine.specs.Rows.{instance_named}
+use Rattle.row_machine.specs.Claims.{claimed_instance, amounts_of_instance}
+use Rattle.row_machine.specs.Usage.{usage_of}
+use Rattle.row_machine.specs.Accept.{After}
+use Rattle.row_machine.specs.Step.{well, step}
+use Rattle.row_machine.specs.Whole.{IsWhole, keeps_name}
+
+-- a running operation whose last call is reported as done
+pub record IsLastDone (s : State) (o : Operation Task) : Type 0 where
+  pub whole : IsWhole s
+  pub live : live_at s.operations o.number ≡ Some o
+  pub running : o.status ≡ status.Running
+  pub calls : o.work.calls ≡ []
+
+-- The target of an operation stands, and a changed row of it is claimed. Between these states the usage of its project
+-- falls by exactly the parts in which the new row lies below the old one, and that of every other project stays.
+pub record LowersUsage (s later : State) (o : Operation Task) : Type 0 where
+  pub old : Instance
+  pub new : Instance
+  pub stands : instance_named s.instances o.work.project o.work.target.name ≡ Some old
+  pub claimed : claimed_instance o.work ≡ Some new
+  pub own : (k : Part) → part k (usage_of s o.work.project) ≡ part k (usage_of later o.work.project) + part k (minus_of (amounts_of_instance s old) (amounts_of_instance s new))
+  pub others : (project : List ℕ) → project ≢ o.work.project → (k : Part) → part k (usage_of later project) ≡ part k (usage_of s project)
+
+-- an update or a restore that succeeds
+abbrev pub UpdatesLower : Type 0
+UpdatesLower = (s : State) (o : Operation Task) (moment : ℕ) (after : After) → IsLastDone s o → keeps_name o.work.deed ≡ true
+    → step s (event.Done o.number report.Done moment) well ≡ Some after → LowersUsage s after.state o
+
+-- whatever succeeds raises no part of the usage of any project
+abbrev pub SuccessesRaiseNothing : Type 0
+SuccessesRaiseNothing = (s : State) (o : Operation Task) (moment : ℕ) (after : After) → IsLastDone s o
+    → step s (event.Done o.number report.Done moment) well ≡ Some after
+    → (project : List ℕ) (k : Part) → part k (usage_of after.state project) ≤ part k (usage_of s project)

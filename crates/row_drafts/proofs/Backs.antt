@@ -1,0 +1,20 @@
+-- An edit of a list at one place, and the edit that takes it back.
+use Rattle.std.proofs.Common.{◌≡◌, ℕ, zero, suc, ◌<◌, ◌≤◌, List, [], ◌∷◌, length, get_or, set, refl, ap, arith}
+use Rattle.std.specs.List.{insert, remove}
+
+pub set-back : {X : Type 0} (xs : List X) (i : ℕ) (y d : X) → set (set xs i y) i (get_or xs i d) ≡ xs
+set-back [] zero y d = refl
+set-back [] (suc i) y d = refl
+set-back (x ∷ xs) zero y d = refl
+set-back (x ∷ xs) (suc i) y d = ap (λ zs. x ∷ zs) (set-back xs i y d)
+
+pub insert-back : {X : Type 0} (xs : List X) (i : ℕ) (y : X) → i ≤ length xs → remove (insert xs i y) i ≡ xs
+insert-back [] zero y h = refl
+insert-back [] (suc i) y h = absurd (omega (arith, h))
+insert-back (x ∷ xs) zero y h = refl
+insert-back (x ∷ xs) (suc i) y h = ap (λ zs. x ∷ zs) (insert-back xs i y (omega (arith, h)))
+
+pub remove-back : {X : Type 0} (xs : List X) (i : ℕ) (d : X) → i < length xs → insert (remove xs i) i (get_or xs i d) ≡ xs
+remove-back [] i d h = absurd (omega (arith, h))
+remove-back (x ∷ xs) zero d h = refl
+remove-back (x ∷ xs) (suc i) d h = ap (λ zs. x ∷ zs) (remove-back xs i d (omega (arith, h)))

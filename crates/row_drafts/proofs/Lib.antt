@@ -1,0 +1,5 @@
+mod Backs
+mod Fitting
+mod Logs
+mod Orders
+mod Rooms

@@ -1,0 +1,51 @@
+-- What contracts see of the fields, and what is true of them.
+use Rattle.std.specs.Prelude.{◌≤◌, ◌-◌, length, min, vec_len, vec_capacity}
+use Rattle.row_machine.specs.State.{State, empty_state}
+use Rattle.row_drafts.specs.declared.lists.Lists.TheInside.{Inside as ListsInside}
+use Rattle.row_drafts.specs.declared.draft.Draft.TheInside.{Inside as DraftInside}
+use Rattle.row_drafts.specs.Drafted.{Listed, Drafted}
+use Rattle.row_drafts.specs.Steps.{FitChanges}
+
+-- the state with these rows, statuses and operations
+abbrev pub state_in : ListsInside → State
+state_in l = record empty_state {
+  projects = l.projects.items;
+  profiles = l.profiles.items;
+  networks = l.networks.items;
+  pools = l.pools.items;
+  volumes = l.volumes.items;
+  instances = l.instances.items;
+  snapshots = l.snapshots.items;
+  powers = l.powers.items;
+  operations = record { live = l.live.items; ended = l.ended.items; next = l.next };
+}
+
+-- the rows, and the least room that a kind of them has
+abbrev pub listed : ListsInside → Listed
+listed l = record {
+  state = state_in l;
+  room =
+      min (vec_capacity l.projects - vec_len l.projects)
+      (min (vec_capacity l.profiles - vec_len l.profiles)
+      (min (vec_capacity l.networks - vec_len l.networks)
+      (min (vec_capacity l.pools - vec_len l.pools)
+      (min (vec_capacity l.volumes - vec_len l.volumes)
+      (min (vec_capacity l.instances - vec_len l.instances)
+      (min (vec_capacity l.snapshots - vec_len l.snapshots)
+      (vec_capacity l.powers - vec_len l.powers)))))));
+}
+
+-- the rows with the log of their changes
+abbrev pub drafted : DraftInside → Drafted
+drafted d = record {
+  state = d.lists.state;
+  log = d.log.items;
+  room = d.lists.room;
+  log_room = vec_capacity d.log - vec_len d.log;
+  spares = d.spares.items;
+}
+
+-- the log can be taken back, and there is room for it
+pub record IsDraft (d : DraftInside) : Type 0 where
+  pub fits : FitChanges d.log.items d.lists.state
+  pub room : length d.log.items ≤ d.lists.room

@@ -1,0 +1,4 @@
+pub mod Drafted
+pub mod Inside
+pub mod Keys
+pub mod Steps

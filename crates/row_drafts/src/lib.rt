@@ -1,0 +1,11 @@
+//! The rows of the server as plain lists in the order of their names: lent to be read, changed without taking memory, and
+//! taken back to what they were before the changes.
+#![tactic(auto)]
+
+mod draft;
+mod edits;
+mod keys;
+mod lists;
+mod placed;
+
+pub use draft::Draft;
