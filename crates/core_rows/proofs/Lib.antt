@@ -3,4 +3,5 @@ mod FirstEntries
 pub mod Following
 pub mod Judging
 mod Opens
+mod Silent
 pub mod Stepping

@@ -2,14 +2,16 @@
 use Rattle.std.specs.Prelude.{◌≡◌, ◌≤◌, [], vec_capacity}
 use Rattle.row_machine.specs.Whole.{IsWhole}
 use Rattle.core_rows.specs.declared.estate.Estate.TheInside.{Inside}
-use Rattle.core_rows.specs.Kept.{Kept, untold_limit}
+use Rattle.core_rows.specs.Kept.{Kept, IsSilent, untold_limit}
 
 -- the state and its notices
 abbrev pub kept : Inside → Kept
 kept e = record { state = e.draft.state; untold = e.untold.items }
 
--- the facts hold of the state, no change of it is left unsettled, and there is room for the notices of a step
+-- the facts hold of the state, in which nothing was told; no change of it is left unsettled; and there is room for the notices of
+-- a step
 pub record IsEstate (e : Inside) : Type 0 where
   pub whole : IsWhole e.draft.state
+  pub silent : IsSilent e.draft.state
   pub settled : e.draft.log ≡ []
   pub room : untold_limit ≤ vec_capacity e.untold

@@ -2,6 +2,7 @@ ghost use Rattle.std.specs.Prelude.{◌≡◌, ◌<◌, ◌∷◌, [], IfOk, IfS
 ghost use Rattle.limit_rules.specs.Counting.{counts_in};
 ghost use Rattle.row_drafts.specs.Drafted.{IsReady};
 ghost use Rattle.row_machine.specs.Whole.{IsWhole};
+ghost use Rattle.core_rows.specs.Kept.{IsSilent};
 ghost use Rattle.core_rows.specs.Planned.{Follows, IsToDo};
 
 use crate::changing::{commit, copy_changes, give_up, judge};
@@ -62,6 +63,7 @@ impl Estate {
     /// Rows of which the facts hold, and no notices.
     pub(crate) fn of(alloc: Global, draft: Draft) -> Result<Estate, NoMemory>
         requires whole { IsWhole draft.state }
+        requires silent { IsSilent draft.state }
         requires settled { draft.log ≡ [] }
         ensures state { IfOk result (λ e. e.state ≡ draft.state) }
         ensures untold { IfOk result (λ e. e.untold ≡ []) }
@@ -127,7 +129,7 @@ impl Estate {
         ensures some { IfSome result (λ notice. self.old.untold ≡ notice ∷ self.new.untold) }
         ensures none { IfNone result ((self.old.untold ≡ []) × (self.new.untold ≡ [])) }
         ensures state { self.new.state ≡ self.old.state }
-        ensures whole { IsWhole self.new.state }
+        ensures silent { IsSilent self.new.state }
     {
         if self.untold.is_empty() {
             return None;

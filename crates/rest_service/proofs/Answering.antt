@@ -15,10 +15,10 @@ use Rattle.row_machine.specs.State.{State}
 use Rattle.row_machine.specs.Accept.{After, and_then}
 use Rattle.row_machine.specs.Notices.{telling}
 use Rattle.row_machine.specs.Step.{well, no_memory, step}
-use Rattle.core_rows.specs.Sound.{IsSound}
-use Rattle.change_keeping.specs.Stores.{KeepsRecords, Stores}
-use Rattle.core_objects.specs.Asked.{answered}
-use Rattle.core_objects.specs.Planned.{Follows, reply_for}
+use Rattle.core_rows.specs.Kept.{IsSilent}
+use Rattle.core_rows.specs.Stores.{KeepsRecords, Stores}
+use Rattle.core_rows.specs.Asked.{answered}
+use Rattle.core_rows.specs.Planned.{Follows, reply_for}
 use Rattle.rest_paths.specs.Answers.{IsDue}
 use Rattle.rest_routes.specs.Commands.{command_of}
 use Rattle.rest_service.specs.declared.answers.Answered.{Answered}
@@ -81,9 +81,9 @@ unrouted_replies s untold store request (or.Why refusal) due quiet = refusal_rep
 
 -- a reply, with what was told dropped and its text at hand, is an answer
 pub reply_answers : {s m s' : State} {untold : List Untold} {store store' : Store} {request : Request} {r : Reply} {result : Answered}
-    → Replies s m untold store store' request r → s' ≡ m → IsSound s' → HasText result r request.last → Answers s s' store store' request result
+    → Replies s m untold store store' request r → s' ≡ m → IsSilent s' → HasText result r request.last → Answers s s' store store' request result
 unfolding served
-reply_answers {s} {m} {s'} {untold} {store} {store'} {request} {r} {result} done same sound text = record {
+reply_answers {s} {m} {s'} {untold} {store} {store'} {request} {r} {result} done same silent text = record {
   outcome = done.outcome;
   reply = r;
   caused = done.caused;
@@ -93,7 +93,7 @@ reply_answers {s} {m} {s'} {untold} {store} {store'} {request} {r} {result} done
 } where
   comes : served s request done.outcome ≡ Some (and_then (answered r) s')
   comes = ap (option_map (λ (after : After). and_then after.answer (unheard after.state))) done.is
-      ∙ ap (λ t. Some (and_then (answered r) t)) (ap (λ t. unheard (telling untold t)) (sym same) ∙ rows_unheard untold s' sound)
+      ∙ ap (λ t. Some (and_then (answered r) t)) (ap (λ t. unheard (telling untold t)) (sym same) ∙ rows_unheard untold s' silent)
 
 -- the reply that takes no memory is the one that tells that there is none
 pub no_memory_printed : (last : Bool) → NoMemoryIsKnown → no_memory_text last ≡ printed reply.NoMemory last

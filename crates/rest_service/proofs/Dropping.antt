@@ -3,7 +3,7 @@ use Rattle.std.proofs.Common.{◌≡◌, ◌==◌, ◌^◌, ◌-◌, Bool, true,
 use Rattle.records.specs.declared.notices.Untold.{Untold}
 use Rattle.row_machine.specs.State.{State}
 use Rattle.row_machine.specs.Notices.{push_notice, telling}
-use Rattle.core_rows.specs.Sound.{IsSound}
+use Rattle.core_rows.specs.Kept.{IsSilent}
 use Rattle.rest_service.specs.Exchanges.{unheard}
 
 -- one notice
@@ -18,6 +18,6 @@ told : (ns : List Untold) (s : State) → unheard (telling ns s) ≡ unheard s
 told [] s = refl
 told (n ∷ ns) s = told ns (push_notice n s) ∙ pushed n s
 
--- the rows alone, with what was told of them dropped, are the rows
-pub rows_unheard : (ns : List Untold) (s : State) → IsSound s → unheard (telling ns s) ≡ s
-rows_unheard ns s sound = told ns s ∙ ap unheard sound.alone ∙ sym sound.alone
+-- rows of which nothing was told are the same once what is told of them is dropped
+pub rows_unheard : (ns : List Untold) (s : State) → IsSilent s → unheard (telling ns s) ≡ s
+rows_unheard ns s silent = told ns s ∙ (λ i. record s { notices = sym silent.notices i; next_notice = sym silent.next i })

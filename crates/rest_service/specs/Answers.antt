@@ -12,8 +12,8 @@ use Rattle.row_machine.specs.Accept.{and_then}
 use Rattle.row_machine.specs.Step.{Outcome}
 use Rattle.core_rows.specs.Opening.{Refuses, first_state, opened_store}
 use Rattle.core_rows.specs.declared.opening.OpenFault.{OpenFault}
-use Rattle.change_keeping.specs.Stores.{IsCaused, KeepsRecords, Stores}
-use Rattle.core_objects.specs.Asked.{answered}
+use Rattle.core_rows.specs.Stores.{IsCaused, KeepsRecords, Stores}
+use Rattle.core_rows.specs.Asked.{answered}
 use Rattle.rest_routes.specs.Commands.{command_of}
 use Rattle.rest_service.specs.Exchanges.{exchange, carried_out, request_changes, LeadTo, printed}
 use Rattle.rest_service.specs.declared.answers.Answered.{Answered}

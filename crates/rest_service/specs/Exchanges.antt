@@ -19,8 +19,8 @@ use Rattle.row_machine.specs.State.{State}
 use Rattle.row_machine.specs.Refusals.{plainly}
 use Rattle.row_machine.specs.Accept.{After, and_then}
 use Rattle.row_machine.specs.Step.{Outcome, well, keeper_failed, no_memory, step}
-use Rattle.change_keeping.specs.Stores.{Stores}
-use Rattle.core_objects.specs.Asked.{answered, changes_of}
+use Rattle.core_rows.specs.Stores.{Stores}
+use Rattle.core_rows.specs.Asked.{answered, changes_of}
 use Rattle.rest_replies.specs.Replies.{printed_of}
 use Rattle.rest_routes.specs.Commands.{command_of}
 

@@ -1,17 +1,15 @@
 ghost use Rattle.std.specs.Prelude.{◌≡◌, []};
 ghost use Rattle.row_machine.specs.State.{State};
-ghost use Rattle.core_rows.specs.Sound.{IsSound};
-ghost use Rattle.core_objects.specs.Planned.{reply_for};
+ghost use Rattle.core_rows.specs.Kept.{IsSilent};
 ghost use Rattle.rest_service.specs.Answers.{Answers, Opens, Replies};
 
 use crate::answers::{Answered, BOOT, answer_for};
 use core_objects::do_object;
-use core_rows::{Estate, OpenFault, load_rows};
+use core_rows::{Estate, OpenFault, load_rows, refused_reply};
 use http_front::Request;
 use record_keeper::Keeper;
-use records::{Refusal, Reply};
+use records::Reply;
 use rest_routes::Router;
-use size_values::Or;
 use std::alloc::Global;
 use std::marker::Model;
 
@@ -41,19 +39,9 @@ impl Model for Service {
 fn drop_told(estate: &mut Estate)
     ensures quiet { estate.new.untold ≡ [] }
     ensures state { estate.new.state ≡ estate.old.state }
-    ensures sound { IsSound estate.new.state }
+    ensures silent { IsSilent estate.new.state }
 {
     while let Some(_notice) = estate.take_told() {}
-}
-
-/// The reply to a request that asks for no command: how its form is refused, or that memory was.
-fn refused_reply(why: Or<Refusal>) -> Reply
-    ensures { result ≡ reply_for why }
-{
-    match why {
-        Or::NoMemory => Reply::NoMemory,
-        Or::Why(refusal) => Reply::Refused(refusal),
-    }
 }
 
 /// Carries a request out. The notices of its change are left in the estate.

@@ -10,7 +10,7 @@ use Rattle.http_front.specs.Held.{most_held}
 use Rattle.http_front.specs.Reading.{ReadsNext}
 use Rattle.http_front.specs.declared.read.Got.TheVariants as got
 use Rattle.row_machine.specs.Step.{Outcome, well, keeper_failed, no_memory}
-use Rattle.change_keeping.specs.Stores.{IsCaused, KeepsRecords}
+use Rattle.core_rows.specs.Stores.{IsCaused, KeepsRecords}
 use Rattle.rest_service.specs.Exchanges.{Exchange, LeadTo, printed, printed_replies, failure_of, failures_in}
 use Rattle.serial_run.specs.declared.session.SessionEnd.{SessionEnd}
 use Rattle.serial_run.specs.declared.session.SessionEnd.TheVariants as end

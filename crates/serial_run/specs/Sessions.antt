@@ -8,7 +8,7 @@ use Rattle.http_front.specs.Reading.{IsUnfinished, KeepsHeld, OnEnd, OnReadFault
 use Rattle.http_front.specs.declared.read.Got.{Got}
 use Rattle.http_front.specs.declared.read.Got.TheVariants as got
 use Rattle.records.specs.declared.replies.Reply.TheVariants as reply
-use Rattle.change_keeping.specs.Stores.{IsCaused, KeepsRecords}
+use Rattle.core_rows.specs.Stores.{IsCaused, KeepsRecords}
 use Rattle.rest_service.specs.Exchanges.{Exchange, Leads, printed, malformed_text}
 use Rattle.rest_service.specs.Answers.{no_memory_text}
 use Rattle.rest_service.specs.declared.answers.Answered.{Answered}

@@ -1,9 +1,15 @@
-use Rattle.std.proofs.Common.{◌∙◌, ap, sym, subst}
+use Rattle.std.proofs.Common.{refl, ◌∙◌, ap, sym, subst}
 use Rattle.row_machine.specs.State.{empty_state}
 use Rattle.row_machine.specs.Changes.{applied}
 use Rattle.row_machine.specs.Whole.{IsWhole}
 use Rattle.row_machine.proofs.Beginning.{new-whole}
+use Rattle.core_rows.specs.Kept.{IsSilent}
+use Rattle.core_rows.specs.Opening.{first_state}
 use Rattle.core_rows.proofs.opening.first_estate.Goals as goal
+
+-- the first rows tell nothing
+first-silent : IsSilent first_state
+first-silent = record { notices = refl; next = refl }
 
 pub of-requires-clause-whole : goal.of-requires-clause-whole
 of-requires-clause-whole c =
@@ -14,3 +20,13 @@ of-requires-clause-whole c =
     ∙ ap (λ s. applied s c.args.changes) (c.in_ok-reserve_for.ensures.state ∙ c.new-draft.ensures.state)
     ∙ ap (applied empty_state) c.requires))
     new-whole
+
+pub of-requires-clause-silent : goal.of-requires-clause-silent
+of-requires-clause-silent c =
+    subst IsSilent
+    (sym
+    (c.settle.ensures.state
+    ∙ c.apply.ensures.state
+    ∙ ap (λ s. applied s c.args.changes) (c.in_ok-reserve_for.ensures.state ∙ c.new-draft.ensures.state)
+    ∙ ap (applied empty_state) c.requires))
+    first-silent

@@ -5,7 +5,8 @@ use Rattle.row_machine.specs.Changes.{applied}
 use Rattle.row_machine.specs.Whole.{IsWhole}
 use Rattle.machine_laws.specs.Entries.{entry_changes}
 use Rattle.row_drafts.specs.Steps.{before_changes}
-use Rattle.core_rows.specs.Kept.{Kept, HasEntry}
+use Rattle.core_rows.specs.Kept.{Kept, HasEntry, IsSilent}
+use Rattle.core_rows.proofs.Silent.{applied-silent}
 use Rattle.core_rows.proofs.Changed.{accepted-from, refused-from, uncommitted-from, unready-from}
 use Rattle.core_rows.proofs.Following.{follows-made}
 use Rattle.core_rows.proofs.Judging.{entries-ready}
@@ -63,6 +64,8 @@ invariant_of-self-2 g c = record {
       c.self.invariant.whole (ap (λ (k : Kept). k.state) c.self.view_is) c.requires.planned
       (c.view.ensures ∙ c.apply.ensures.state ∙ ap (λ t. applied t c.args.changes) c.make_ready.ensures.state)
       (c.view-2.ensures ∙ c.in-Ok.ensures.changes) (c.in_default-judged.ensures c.self.inside.draft.state c.in-Ok.ensures.before)));
+  silent = subst IsSilent (sym (c.settle.ensures.state ∙ c.apply.ensures.state ∙ ap (λ t. applied t c.args.changes) c.make_ready.ensures.state))
+      (applied-silent c.args.changes c.self.inside.draft.state c.self.invariant.silent);
   settled = c.settle.ensures.log;
   room = omega (arith, c.self.invariant.room, c.push_reserved.ensures.capacity);
 }
