@@ -2,33 +2,19 @@
 ghost use Rattle.std.specs.Prelude.{◌≡◌, find};
 ghost use Rattle.std.specs.List.{list_any};
 ghost use Rattle.std.specs.Option.{option_copied, option_to_list};
-ghost use Rattle.std.specs.Str.{bytes_eq};
 ghost use Rattle.size_values.specs.Causes.{Says};
 ghost use Rattle.row_machine.specs.Holders.{claim_rows, holder_of, names_profile};
 ghost use Rattle.row_machine.specs.StandingRules.{held_profile, profile_held};
 
 use crate::asked::object_changed;
+use object_users::names_profile;
 use operations::Operation;
 use records::{Command, Instance, Refusal, Rule, Target};
 use row_machine::Work;
 use row_readings::{View, claimed_instance, profile_home, replaced_instance};
 use rule_refusals::on_name;
-use size_values::{ObjectKind, Or, Text};
+use size_values::{ObjectKind, Or};
 use std::alloc::Global;
-
-fn has_name(names: &[Text], profile: &str) -> bool
-    ensures { result ≡ list_any (λ name. bytes_eq name profile.now) names.now }
-{
-    names.iter().any(|name| name.view() == profile)
-}
-
-/// Whether an instance names the profile of this home and name.
-pub(crate) fn names_profile(view: &View<'_>, home: &str, profile: &str, row: &Instance) -> bool
-    ensures { result ≡ names_profile view.now home.now profile.now row.now }
-{
-    profile_home(view.projects, row.project.view()) == home
-        && has_name(row.profiles.view(), profile)
-}
 
 fn may_name(view: &View<'_>, home: &str, profile: &str, row: Option<&Instance>) -> bool
     ensures { result ≡ list_any (names_profile view.now home.now profile.now) (option_to_list (option_copied row.entry)) }

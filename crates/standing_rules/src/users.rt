@@ -10,9 +10,9 @@ ghost use Rattle.row_machine.specs.Holders.{first_user_of, profile_user, user_in
 ghost use Rattle.row_machine.specs.Links.{link_of};
 ghost use Rattle.standing_rules.specs.Users.{claim_link, instance_link, naming_link, profile_link, volume_link};
 
-use crate::holders::names_profile;
-use crate::uses::{claim_uses, instance_uses, profile_uses, volume_uses};
+use crate::uses::claim_uses;
 use object_links::link_of;
+use object_users::{instance_uses, names_profile, profile_uses, volume_uses};
 use operations::Operation;
 use records::{Instance, Profile, Project, Target, Volume};
 use row_machine::Work;

@@ -1,78 +1,17 @@
-//! Who names a network, a storage pool or a volume.
+//! What claims name: networks, storage pools and volumes.
 ghost use Rattle.std.specs.Prelude.{◌≡◌, IfOk, false};
 ghost use Rattle.std.specs.List.{list_any};
 ghost use Rattle.std.specs.Option.{option_copied, option_map_or, option_to_list};
 ghost use Rattle.size_values.specs.declared.kinds.ObjectKind.TheVariants as kind_of;
 ghost use Rattle.row_machine.specs.Claims.{claimed_volume};
-ghost use Rattle.row_machine.specs.Holders.{claim_rows, claim_uses, devices_name, instance_uses, profile_uses, source_uses, volume_uses};
+ghost use Rattle.row_machine.specs.Holders.{claim_rows, claim_uses, instance_uses, source_uses, volume_uses};
 
-use config_lists::Devices;
-use estate_rules::{names_network, names_pool, names_volume};
-use records::{Instance, Profile, Target, Volume};
+use object_users::{instance_uses, volume_uses};
+use records::{Instance, Target};
 use row_machine::Work;
-use row_readings::{
-    View, claimed_instance, claimed_volume, network_home, replaced_instance, volume_home,
-};
+use row_readings::{View, claimed_instance, claimed_volume, replaced_instance};
 use size_values::{NoMemory, ObjectKind};
 use std::alloc::Global;
-
-/// Whether devices in a project name the object: a network or volume of this home, or a pool.
-fn devices_name(view: &View<'_>, home: &str, of: &Target, project: &str, devices: &Devices) -> bool
-    ensures { result ≡ devices_name view.now home.now of.now project.now devices.now }
-{
-    let name = of.name.view();
-    match of.kind {
-        ObjectKind::Network => network_home(view.projects, project) == home
-            && names_network(devices, name),
-        ObjectKind::Pool => names_pool(devices, name),
-        ObjectKind::Volume => volume_home(view.projects, project) == home
-            && names_volume(devices, of.pool.view(), name),
-        ObjectKind::Project
-        | ObjectKind::Profile
-        | ObjectKind::Instance
-        | ObjectKind::Snapshot
-        | ObjectKind::Operation => false,
-    }
-}
-
-/// A profile names what its own devices name.
-pub(crate) fn profile_uses(view: &View<'_>, home: &str, of: &Target, row: &Profile) -> bool
-    ensures { result ≡ profile_uses view.now home.now of.now row.now }
-{
-    devices_name(view, home, of, row.project.view(), &row.devices)
-}
-
-/// An instance names what its expanded devices name.
-pub(crate) fn instance_uses(
-    alloc: Global,
-    view: &View<'_>,
-    home: &str,
-    of: &Target,
-    row: &Instance,
-) -> Result<bool, NoMemory>
-    ensures { IfOk result (λ b. b ≡ instance_uses view.now home.now of.now row.now) }
-{
-    let expanded = view.expansion(alloc, row)?;
-    let uses = devices_name(view, home, of, row.project.view(), &expanded.devices);
-    drop(expanded);
-    Ok(uses)
-}
-
-/// A volume names the pool that it stands in.
-pub(crate) fn volume_uses(of: &Target, row: &Volume) -> bool
-    ensures { result ≡ volume_uses of.now row.now }
-{
-    match of.kind {
-        ObjectKind::Pool => row.pool.view() == of.name.view(),
-        ObjectKind::Project
-        | ObjectKind::Profile
-        | ObjectKind::Network
-        | ObjectKind::Volume
-        | ObjectKind::Instance
-        | ObjectKind::Snapshot
-        | ObjectKind::Operation => false,
-    }
-}
 
 /// The volume that a copy is made from names its pool and itself.
 fn source_uses(home: &str, of: &Target, project: &str, source: &Target) -> bool
