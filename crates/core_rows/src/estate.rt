@@ -10,7 +10,7 @@ ghost use Rattle.core_rows.specs.Sound.{IsSound, state_with};
 
 use crate::draft::Draft;
 use plain_lists::push_reserved;
-use plain_readings::{profile_home, profile_named, project_named};
+use row_readings::{profile_home, profile_named, project_named};
 use records::{Profile, Project, Untold};
 use row_machine::RowChange;
 use size_values::{NoMemory, Seq};

@@ -16,7 +16,7 @@ ghost use Rattle.object_views.specs.Reads.{is_built_read};
 
 use crate::links::{ordered_links, profile_links, project_links};
 use core_rows::Estate;
-use plain_readings::{profile_home, profile_named, project_named};
+use row_readings::{profile_home, profile_named, project_named};
 use records::{Profile, Project, Reply, Target, View, What};
 use size_values::{NoMemory, ObjectKind, Seq, Text};
 use std::alloc::Global;

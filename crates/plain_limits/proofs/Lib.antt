@@ -1,2 +1,0 @@
-pub mod Countables
-pub mod Limited

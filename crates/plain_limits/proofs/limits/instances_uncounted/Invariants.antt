@@ -1,9 +1,0 @@
-use Rattle.std.proofs.Common.{◌≡◌, None, take, if◌then◌else◌}
-use Rattle.std.specs.Str.{bytes_eq}
-use Rattle.row_machine.specs.LimitRules.{instance_uncounted}
-use Rattle.plain_lists.specs.Firsts.{first_of}
-use Rattle.plain_limits.proofs.limits.instances_uncounted.Given as goal
-
--- those before break nothing
-abbrev pub invariant-loop-row : goal.invariant-loop-row
-invariant-loop-row l = first_of (λ i. if bytes_eq i.project l.project.name then instance_uncounted l.plain l.project i else None) (take l.row-index l.rows) ≡ None

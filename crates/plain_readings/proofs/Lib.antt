@@ -1,3 +1,0 @@
-pub mod Layered
-pub mod Small
-pub mod Totals
