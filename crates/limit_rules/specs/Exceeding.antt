@@ -1,8 +1,8 @@
 -- The rules on limits by what counts before and after a change, apart from the states; and projects without a limit.
-use Rattle.std.specs.Prelude.{◌≡◌, ℕ, Bool, false, ◌||◌, List, Option, is_some, filter, length, ◌⊎◌}
+use Rattle.std.specs.Prelude.{◌≡◌, ℕ, Bool, false, ◌||◌, List, [], ◌∷◌, Option, is_some, filter, length, ◌⊎◌}
 use Rattle.std.specs.List.{sum_by, list_any}
 use Rattle.std.specs.Str.{bytes_eq}
-use Rattle.plain_lists.specs.Firsts.{first_of}
+use Rattle.plain_lists.specs.Firsts.{first, first_of}
 use Rattle.size_values.specs.declared.amounts.Part.{Part}
 use Rattle.project_limits.specs.Admission.{key_of, limit_on, parts}
 use Rattle.project_limits.specs.Limits.{limits_of}
@@ -16,7 +16,7 @@ use Rattle.records.specs.declared.rows.Row.TheVariants as row
 use Rattle.row_machine.specs.declared.changes.RowChange.{RowChange}
 use Rattle.row_machine.specs.declared.changes.RowChange.TheVariants as change
 use Rattle.row_machine.specs.State.{State}
-use Rattle.row_machine.specs.Usage.{Load, counted}
+use Rattle.row_machine.specs.Usage.{Load, loads, counted}
 use Rattle.row_machine.specs.LimitRules.{exceeds}
 use Rattle.limit_rules.specs.Counting.{Counts, counts_in}
 
@@ -60,3 +60,10 @@ sets_limit (change.Remove of key) = false
 -- one has a limit.
 abbrev pub Serves : Counts → State → State → Type 0
 Serves counts before after = (counts ≡ counts_in before) ⊎ (is_any_limited after.projects ≡ false)
+
+-- the first part that is exceeded, or else the number of networks, by what counted before
+abbrev pub all_over : Counts → State → Option Refusal
+all_over before after = first
+    (parts_over before.loads (loads after) after.projects
+    ∷ first_of (networks_over before.networks after.networks) after.projects
+    ∷ [])

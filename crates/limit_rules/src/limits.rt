@@ -1,7 +1,7 @@
 //! L1 to L8: that each project stands within its limits.
-ghost use Rattle.std.specs.Prelude.{◌≡◌, ◌<◌, ◌^◌, ◌∷◌, [], IfOk, Some, filter, length};
+ghost use Rattle.std.specs.Prelude.{◌≡◌, ◌<◌, ◌^◌, IfOk, Some, filter, length};
 ghost use Rattle.std.specs.Str.{bytes_eq};
-ghost use Rattle.plain_lists.specs.Firsts.{first, first_of};
+ghost use Rattle.plain_lists.specs.Firsts.{first_of};
 ghost use Rattle.size_values.specs.Causes.{Says};
 ghost use Rattle.project_limits.specs.Admission.{parts};
 ghost use Rattle.row_machine.specs.State.{State};
@@ -9,7 +9,7 @@ ghost use Rattle.row_machine.specs.Usage.{loads};
 ghost use Rattle.row_machine.specs.LimitRules.{over_refusal, exceeds, limits_broken};
 ghost use Rattle.row_readings.specs.Loads.{AreSmall};
 ghost use Rattle.limit_rules.specs.Counting.{counts_in};
-ghost use Rattle.limit_rules.specs.Exceeding.{part_over, parts_over, networks_over, Serves};
+ghost use Rattle.limit_rules.specs.Exceeding.{part_over, parts_over, networks_over, all_over, Serves};
 
 use crate::parts::{PARTS, is_any_limited, key_of, limit_on, limit_rule, limit_text, part_of};
 use crate::usage::Usage;
@@ -191,7 +191,7 @@ fn networks_exceed(
 // ---- all limits
 
 fn limits_exceed(alloc: Global, before: &Usage, after: &View<'_>) -> Result<(), Or<Refusal>>
-    ensures { Says result (first (parts_over before.now.loads (loads after.now) after.now.projects ∷ first_of (networks_over before.now.networks after.now.networks) after.now.projects ∷ [])) }
+    ensures { Says result (all_over before.now after.now) }
 {
     loads_exceed(alloc, before.loads(), after)?;
     networks_exceed(alloc, before.networks(), after.networks, after.projects)

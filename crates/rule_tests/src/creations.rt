@@ -1,12 +1,17 @@
-ghost use Rattle.std.specs.Prelude.{◌≡◌, IfOk};
-ghost use Rattle.size_values.specs.declared.kinds.ObjectKind.TheVariants as kind;
-
-use crate::places::{config, device, empty};
-use plain_creation::creation_broken;
-use plain_readings::Plain;
-use records::{Body, Driver, Origin, Pool, Project, Refusal, Rule, Target};
-use size_values::{NoMemory, ObjectKind, Seq, Text};
+use crate::places::{Rows, both, config, device};
+use instance_tasks::instance_creation;
+use limit_rules::{counts_broken, limits_broken, usage_before};
+use name_rules::names_broken;
+use operations::{OpFault, Operation, Status};
+use policy_rules::policy_broken;
+use records::{Body, Command, Driver, Origin, Pool, Project, Refusal, Row, Rule, Target, What};
+use row_machine::Work;
+use row_readings::View;
+use setting_rules::claim_settings_broken;
+use size_values::{NoMemory, ObjectKind, Or, Seq, Text};
+use standing_rules::standing_broken;
 use std::alloc::Global;
+use table_rules::{claim_tables_broken, entry_broken};
 
 /// The creation of an instance from nothing, and the rule that it breaks first.
 #[derive(Clone, Copy)]
@@ -100,10 +105,10 @@ fn add_pool(alloc: Global, pools: &mut Vec<Pool>) -> Result<(), NoMemory> {
     Ok(())
 }
 
-fn fill(alloc: Global, plain: &mut Plain) -> Result<(), NoMemory> {
-    add_project(alloc, &mut plain.projects, "default", "")?;
-    add_project(alloc, &mut plain.projects, "full", "0")?;
-    add_pool(alloc, &mut plain.pools)
+fn fill(alloc: Global, rows: &mut Rows) -> Result<(), NoMemory> {
+    add_project(alloc, &mut rows.projects, "default", "")?;
+    add_project(alloc, &mut rows.projects, "full", "0")?;
+    add_pool(alloc, &mut rows.pools)
 }
 
 /// A body without fields.
@@ -144,9 +149,7 @@ fn body(alloc: Global, rooted: bool) -> Result<Body, NoMemory> {
     }
 }
 
-fn target(alloc: Global, name: &str) -> Result<Target, NoMemory>
-    ensures { IfOk result (λ t. t.kind ≡ kind.Instance) }
-{
+fn target(alloc: Global, name: &str) -> Result<Target, NoMemory> {
     let name = Text::from_text(alloc, name)?;
     Ok(Target {
         kind: ObjectKind::Instance,
@@ -156,57 +159,124 @@ fn target(alloc: Global, name: &str) -> Result<Target, NoMemory>
     })
 }
 
+/// The command of a creation.
+fn command(alloc: Global, case: Creation) -> Result<Command, NoMemory> {
+    let about = both(
+        Text::from_text(alloc, case.project),
+        target(alloc, case.name),
+    );
+    let ((project, of), body) = both(about, body(alloc, case.rooted))?;
+    Ok(Command {
+        project,
+        what: What::Create { of, body },
+    })
+}
+
+/// The rules before those that are judged with the claim.
+fn asked_broken(alloc: Global, view: &View<'_>, command: &Command) -> Result<(), Or<Refusal>> {
+    names_broken(alloc, view, command)?;
+    standing_broken(alloc, view, command)
+}
+
+/// The rules that are judged with the claim of the last operation.
+fn claim_broken(alloc: Global, rows: &Rows) -> Result<(), Or<Refusal>> {
+    later_broken(alloc, rows)?;
+    entry_broken(alloc, &rows.before_last())?;
+    let after = rows.view();
+    claim_tables_broken(alloc, &after, last_claim(&after))
+}
+
+/// Settings, policy and limits.
+fn later_broken(alloc: Global, rows: &Rows) -> Result<(), Or<Refusal>> {
+    let after = rows.view();
+    claim_settings_broken(alloc, &after, last_claim(&after))?;
+    policy_broken(alloc, &after)?;
+    counts_broken(alloc, &after)?;
+    let before = usage_before(alloc, &rows.before_last())?;
+    let broken = limits_broken(alloc, &before, &after);
+    drop(before);
+    broken
+}
+
+/// An operation that waits for its first call.
+fn pending(number: u64, work: Work) -> Operation<Work> {
+    Operation {
+        number,
+        created: 9,
+        updated: 9,
+        status: Status::Pending,
+        may_cancel: true,
+        fault: OpFault::None,
+        work,
+    }
+}
+
+/// What the creation begins, where it begins something.
+fn begun(alloc: Global, view: &View<'_>, command: &Command) -> Result<Option<Work>, NoMemory> {
+    match &command.what {
+        What::Create { of, body } => instance_creation(alloc, view, &command.project, of, body, 9),
+        _ => Ok(None),
+    }
+}
+
+/// The claim of the last operation.
+fn last_claim<'x>(view: &View<'x>) -> Option<&'x Row> {
+    match view.live.last() {
+        Some(operation) => operation.work.claim.as_ref(),
+        None => None,
+    }
+}
+
+/// Enters what the creation begins, where it begins something.
+fn enter(alloc: Global, rows: &mut Rows, command: &Command) -> Result<bool, NoMemory> {
+    let Some(work) = begun(alloc, &rows.view(), command)? else {
+        return Ok(false);
+    };
+    let operation = pending(rows.next, work);
+    rows.live.push(operation)?;
+    Ok(true)
+}
+
+/// The first rule that a creation breaks.
+fn creation_broken(alloc: Global, rows: &mut Rows, command: &Command) -> Result<(), Or<Refusal>> {
+    asked_broken(alloc, &rows.view(), command)?;
+    if !enter(alloc, rows, command)? {
+        return Ok(());
+    }
+    claim_broken(alloc, rows)
+}
+
 /// Whether the answer is this rule, or none.
-fn is_rule(answer: Result<Option<Refusal>, NoMemory>, rule: Option<Rule>) -> bool {
+pub(crate) fn is_rule(answer: Result<(), Or<Refusal>>, rule: Option<Rule>) -> bool {
     match answer {
-        Ok(Some(refusal)) => {
+        Ok(()) => rule.is_none(),
+        Err(Or::NoMemory) => false,
+        Err(Or::Why(refusal)) => {
             let told = refusal.rule;
             drop(refusal);
             rule == Some(told)
         }
-        Ok(None) => rule.is_none(),
-        Err(_) => false,
     }
 }
 
-fn answers_of(alloc: Global, plain: &mut Plain, project: &Text, of: &Target, case: Creation) -> bool
-    requires { of.now.kind ≡ kind.Instance }
-{
-    match body(alloc, case.rooted) {
-        Ok(body) => {
-            let answer = creation_broken(alloc, plain, project, of, &body, 9);
-            drop(body);
+fn answers(alloc: Global, rows: &mut Rows, case: Creation) -> bool {
+    match command(alloc, case) {
+        Ok(command) => {
+            let answer = creation_broken(alloc, rows, &command);
+            drop(command);
             is_rule(answer, case.rule)
         }
         Err(_) => false,
     }
 }
 
-fn answers_in(alloc: Global, plain: &mut Plain, project: &Text, case: Creation) -> bool {
-    match target(alloc, case.name) {
-        Ok(of) => {
-            let right = answers_of(alloc, plain, project, &of, case);
-            drop(of);
-            right
-        }
-        Err(_) => false,
-    }
-}
-
-fn answers(alloc: Global, plain: &mut Plain, case: Creation) -> bool {
-    match Text::from_text(alloc, case.project) {
-        Ok(project) => answers_in(alloc, plain, &project, case),
-        Err(_) => false,
-    }
-}
-
 /// Whether the creation breaks its rule first.
 fn breaks(alloc: Global, case: Creation) -> bool {
-    let mut plain = empty(alloc);
-    plain.next = case.next;
-    let filled = fill(alloc, &mut plain);
-    let right = filled.is_ok() && answers(alloc, &mut plain, case);
-    drop(plain);
+    let mut rows = Rows::empty(alloc);
+    rows.next = case.next;
+    let filled = fill(alloc, &mut rows);
+    let right = filled.is_ok() && answers(alloc, &mut rows, case);
+    drop(rows);
     right
 }
 

@@ -1,5 +1,4 @@
-//! Tests of what makes parts of rows and links, of the readings over plain vectors, and of the rules on the creation of an
-//! instance.
+//! Tests of what makes parts of rows and links, of the readings over lent rows, and of the rules.
 #![tactic(auto)]
 
 #[cfg(test)]

@@ -1,8 +1,11 @@
-//! Plain vectors for tests, and what is put into them.
+//! Rows of a server for tests, and what is put into them.
 ghost use Rattle.std.specs.Prelude.{◌≡◌, IfOk};
 
 use config_lists::{Config, Devices};
-use plain_readings::Plain;
+use operations::Operation;
+use records::{Instance, Network, Pool, Profile, Project, Snapshot, Volume};
+use row_machine::Work;
+use row_readings::{InstancePower, View};
 use size_values::{NoMemory, Text};
 use std::alloc::Global;
 
@@ -18,19 +21,63 @@ pub(crate) fn both<A: Drop, B: Drop>(
     Ok((first, second))
 }
 
-/// Rows of none of the kinds, and no operations.
-pub(crate) fn empty(alloc: Global) -> Plain {
-    Plain {
-        projects: Vec::new(alloc),
-        profiles: Vec::new(alloc),
-        networks: Vec::new(alloc),
-        pools: Vec::new(alloc),
-        volumes: Vec::new(alloc),
-        instances: Vec::new(alloc),
-        snapshots: Vec::new(alloc),
-        live: Vec::new(alloc),
-        ended: Vec::new(alloc),
-        next: 2,
+/// The rows and operations of a server, which lend a view.
+#[derive(Drop)]
+pub(crate) struct Rows {
+    pub(crate) projects: Vec<Project>,
+    pub(crate) profiles: Vec<Profile>,
+    pub(crate) networks: Vec<Network>,
+    pub(crate) pools: Vec<Pool>,
+    pub(crate) volumes: Vec<Volume>,
+    pub(crate) instances: Vec<Instance>,
+    pub(crate) snapshots: Vec<Snapshot>,
+    pub(crate) powers: Vec<InstancePower>,
+    pub(crate) live: Vec<Operation<Work>>,
+    pub(crate) ended: Vec<Operation<Work>>,
+    pub(crate) next: u64,
+}
+
+impl Rows {
+    /// Rows of none of the kinds, and no operations.
+    pub(crate) fn empty(alloc: Global) -> Rows {
+        Rows {
+            projects: Vec::new(alloc),
+            profiles: Vec::new(alloc),
+            networks: Vec::new(alloc),
+            pools: Vec::new(alloc),
+            volumes: Vec::new(alloc),
+            instances: Vec::new(alloc),
+            snapshots: Vec::new(alloc),
+            powers: Vec::new(alloc),
+            live: Vec::new(alloc),
+            ended: Vec::new(alloc),
+            next: 2,
+        }
+    }
+
+    pub(crate) fn view(&self) -> View<'_> {
+        View {
+            projects: &self.projects,
+            profiles: &self.profiles,
+            networks: &self.networks,
+            pools: &self.pools,
+            volumes: &self.volumes,
+            instances: &self.instances,
+            snapshots: &self.snapshots,
+            powers: &self.powers,
+            live: &self.live,
+            ended: &self.ended,
+            next: self.next,
+        }
+    }
+
+    /// The same, before the last operation was entered.
+    pub(crate) fn before_last(&self) -> View<'_> {
+        let mut view = self.view();
+        if let Some((_, front)) = self.live.split_last() {
+            view.live = front;
+        }
+        view
     }
 }
 

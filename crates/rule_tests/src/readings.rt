@@ -1,14 +1,14 @@
-use crate::places::{both, config, device, empty, texts};
+use crate::places::{Rows, both, config, device, texts};
 use config_lists::Devices;
 use expansion::Expanded;
 use operations::{OpFault, Operation, Status};
-use plain_readings::{
-    Plain, claimed_instance, claimed_snapshot, claimed_volume, instance_named, network_home,
+use records::{Instance, Profile, Row, Target, Volume};
+use row_machine::Work;
+use row_readings::{
+    View, claimed_instance, claimed_snapshot, claimed_volume, instance_named, network_home,
     network_named, pool_named, profile_home, profile_named, project_named, project_of_row,
     snapshot_named, volume_home, volume_named,
 };
-use records::{Instance, Profile, Row, Target, Volume};
-use row_machine::Work;
 use size_values::{Amounts, Deed, Kind, NoMemory, ObjectKind, Seq, Text};
 use std::alloc::Global;
 
@@ -182,12 +182,12 @@ fn add_update(alloc: Global, live: &mut Vec<Operation<Work>>) -> Result<(), NoMe
 }
 
 /// Adds the profiles, and the instance and the volume of the project `lab`, and maybe the update.
-fn fill(alloc: Global, plain: &mut Plain, updated: bool) -> Result<(), NoMemory> {
-    add_profiles(alloc, &mut plain.profiles)?;
-    add_instance(alloc, &mut plain.instances)?;
-    add_volume(alloc, &mut plain.volumes)?;
+fn fill(alloc: Global, rows: &mut Rows, updated: bool) -> Result<(), NoMemory> {
+    add_profiles(alloc, &mut rows.profiles)?;
+    add_instance(alloc, &mut rows.instances)?;
+    add_volume(alloc, &mut rows.volumes)?;
     if updated {
-        add_update(alloc, &mut plain.live)?;
+        add_update(alloc, &mut rows.live)?;
     }
     Ok(())
 }
@@ -206,16 +206,16 @@ fn has(expanded: &Expanded, device: &str, len: usize, key: &str, value: &str) ->
 /// The same of the first instance.
 fn first_has(
     alloc: Global,
-    plain: &Plain,
+    view: &View<'_>,
     device: &str,
     len: usize,
     key: &str,
     value: &str,
 ) -> bool {
-    let Some(row) = plain.instances.first() else {
+    let Some(row) = view.instances.first() else {
         return false;
     };
-    match plain.expansion(alloc, row) {
+    match view.expansion(alloc, row) {
         Ok(expanded) => {
             let right = has(&expanded, device, len, key, value);
             drop(expanded);
@@ -226,10 +226,10 @@ fn first_has(
 }
 
 fn expands(alloc: Global, device: &str, len: usize, key: &str, value: &str) -> bool {
-    let mut plain = empty(alloc);
-    let filled = fill(alloc, &mut plain, false);
-    let right = filled.is_ok() && first_has(alloc, &plain, device, len, key, value);
-    drop(plain);
+    let mut rows = Rows::empty(alloc);
+    let filled = fill(alloc, &mut rows, false);
+    let right = filled.is_ok() && first_has(alloc, &rows.view(), device, len, key, value);
+    drop(rows);
     right
 }
 
@@ -257,18 +257,15 @@ fn amounts(containers: u128, cpu: u128, memory: u128, disk: u128) -> Amounts {
 }
 
 /// Whether a project uses these amounts.
-fn uses(alloc: Global, plain: &Plain, project: &str, used: &Amounts) -> bool {
-    match Text::from_text(alloc, project) {
-        Ok(project) => plain.usage(alloc, &project) == Ok(*used),
-        Err(_) => false,
-    }
+fn uses(alloc: Global, view: &View<'_>, project: &str, used: &Amounts) -> bool {
+    view.usage(alloc, project) == Ok(*used)
 }
 
 fn lab_uses(alloc: Global, updated: bool, project: &str, used: &Amounts) -> bool {
-    let mut plain = empty(alloc);
-    let filled = fill(alloc, &mut plain, updated);
-    let right = filled.is_ok() && uses(alloc, &plain, project, used);
-    drop(plain);
+    let mut rows = Rows::empty(alloc);
+    let filled = fill(alloc, &mut rows, updated);
+    let right = filled.is_ok() && uses(alloc, &rows.view(), project, used);
+    drop(rows);
     right
 }
 
@@ -285,24 +282,24 @@ fn an_update_holds_what_it_adds(rt: HostRuntime) {
 }
 
 /// Whether each row is found by its names, and none by other ones.
-fn finds_rows(plain: &Plain) -> bool {
-    profile_named(&plain.profiles, "default", "more").is_some()
-        && profile_named(&plain.profiles, "lab", "more").is_none()
-        && volume_named(&plain.volumes, "lab", "p0", "v").is_some()
-        && volume_named(&plain.volumes, "lab", "p1", "v").is_none()
-        && instance_named(&plain.instances, "lab", "a").is_some()
-        && instance_named(&plain.instances, "lab", "b").is_none()
-        && project_named(&plain.projects, "lab").is_none()
-        && network_named(&plain.networks, "default", "n").is_none()
-        && pool_named(&plain.pools, "p0").is_none()
-        && snapshot_named(&plain.snapshots, "lab", "a", "s").is_none()
+fn finds_rows(view: &View<'_>) -> bool {
+    profile_named(view.profiles, "default", "more").is_some()
+        && profile_named(view.profiles, "lab", "more").is_none()
+        && volume_named(view.volumes, "lab", "p0", "v").is_some()
+        && volume_named(view.volumes, "lab", "p1", "v").is_none()
+        && instance_named(view.instances, "lab", "a").is_some()
+        && instance_named(view.instances, "lab", "b").is_none()
+        && project_named(view.projects, "lab").is_none()
+        && network_named(view.networks, "default", "n").is_none()
+        && pool_named(view.pools, "p0").is_none()
+        && snapshot_named(view.snapshots, "lab", "a", "s").is_none()
 }
 
 /// Whether a project that is missing has its profiles, networks and volumes in the project `default`.
-fn finds_homes(plain: &Plain) -> bool {
-    profile_home(&plain.projects, "lab") == "default"
-        && network_home(&plain.projects, "lab") == "default"
-        && volume_home(&plain.projects, "lab") == "default"
+fn finds_homes(view: &View<'_>) -> bool {
+    profile_home(view.projects, "lab") == "default"
+        && network_home(view.projects, "lab") == "default"
+        && volume_home(view.projects, "lab") == "default"
 }
 
 /// Whether an operation claims an instance of the project `lab`, and nothing else.
@@ -317,19 +314,23 @@ fn claims_instance(work: &Work) -> bool {
         && claimed_snapshot(work).is_none()
 }
 
-fn first_claims(plain: &Plain) -> bool {
-    match plain.live.first() {
+fn first_claims(view: &View<'_>) -> bool {
+    match view.live.first() {
         Some(operation) => claims_instance(&operation.work),
         None => false,
     }
 }
 
+fn is_found(view: &View<'_>) -> bool {
+    finds_rows(view) && finds_homes(view) && first_claims(view)
+}
+
 /// Whether the rows and the claim of the lab are found.
 fn lab_is_found(alloc: Global) -> bool {
-    let mut plain = empty(alloc);
-    let filled = fill(alloc, &mut plain, true);
-    let found = filled.is_ok() && finds_rows(&plain) && finds_homes(&plain) && first_claims(&plain);
-    drop(plain);
+    let mut rows = Rows::empty(alloc);
+    let filled = fill(alloc, &mut rows, true);
+    let found = filled.is_ok() && is_found(&rows.view());
+    drop(rows);
     found
 }
 
