@@ -1,3 +1,4 @@
 pub mod Countables
 pub mod Limited
+pub mod Unchanged
 pub mod Unlimited

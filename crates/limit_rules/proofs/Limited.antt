@@ -1,5 +1,5 @@
 -- The limits of projects, asked of all that counts before and after a change.
-use Rattle.std.proofs.Common.{◌≡◌, ℕ, suc, Bool, true, false, cond, None, List, [], ◌∷◌, map, filter, length, refl, ap, ◌∙◌}
+use Rattle.std.proofs.Common.{◌≡◌, ℕ, suc, Bool, true, false, cond, None, List, [], ◌∷◌, map, filter, length, refl, sym, ap, ◌∙◌, inl, inr}
 use Rattle.std.specs.Option.{option_or}
 use Rattle.std.specs.Str.{bytes_eq}
 use Rattle.plain_lists.specs.Firsts.{first_of}
@@ -11,7 +11,7 @@ use Rattle.row_machine.specs.State.{State}
 use Rattle.row_machine.specs.Usage.{loads, networks_of}
 use Rattle.row_machine.specs.LimitRules.{exceeds, part_exceeds, networks_exceed, limits_broken}
 use Rattle.limit_rules.specs.Counting.{Counts, counts_in}
-use Rattle.limit_rules.specs.Exceeding.{parts_over, networks_over}
+use Rattle.limit_rules.specs.Exceeding.{parts_over, networks_over, all_over, is_any_limited, Serves}
 
 -- the networks of a project, counted by their projects alone
 same-count : (name : List ℕ) (ns : List Network) → length (filter (λ text. bytes_eq text name) (map (λ n. n.project) ns)) ≡ length (filter (λ n. bytes_eq n.project name) ns)
@@ -34,9 +34,13 @@ limits-are s after = λ i.
 
 -- by what counted before the change
 pub limits-split : (s after : State) (before : Counts) → before ≡ counts_in s
-    → option_or (parts_over before.loads (loads after) after.projects)
-    (option_or (first_of (networks_over before.networks after.networks) after.projects) None)
-    ≡ limits_broken s after
+    → all_over before after ≡ limits_broken s after
 limits-split s after before is =
     ap (λ (u : Counts). option_or (parts_over u.loads (loads after) after.projects) (option_or (first_of (networks_over u.networks after.networks) after.projects) None)) is
     ∙ limits-are s after
+
+-- the same where a project has a limit, by what serves
+pub serves-split : (s after : State) (before : Counts) → is_any_limited after.projects ≡ true → Serves before s after
+    → all_over before after ≡ limits_broken s after
+serves-split s after before limited (inl is) = limits-split s after before is
+serves-split s after before limited (inr free) = let wrong : true ≡ false = sym limited ∙ free in cc

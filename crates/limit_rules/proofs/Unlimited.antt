@@ -36,7 +36,7 @@ not-set : (o : Option ℕ) → is_some o ≡ false → o ≡ None
 not-set None e = refl
 not-set (Some n) e = cc
 
-neither : (a b : Bool) → (a || b) ≡ false → (a ≡ false) × (b ≡ false)
+pub neither : (a b : Bool) → (a || b) ≡ false → (a ≡ false) × (b ≡ false)
 neither true b e = cc
 neither false b e = (refl, e)
 

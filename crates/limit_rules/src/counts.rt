@@ -1,10 +1,10 @@
 //! L0: that each instance and volume gives a number for each limited sum.
-ghost use Rattle.std.specs.Prelude.{◌≡◌, ◌∷◌, [], if◌then◌else◌, option_and_then};
-ghost use Rattle.std.specs.Str.{bytes_eq};
-ghost use Rattle.plain_lists.specs.Firsts.{first, first_of};
+ghost use Rattle.std.specs.Prelude.{◌≡◌, option_and_then};
+ghost use Rattle.plain_lists.specs.Firsts.{first_of};
 ghost use Rattle.size_values.specs.Causes.{Says};
 ghost use Rattle.row_machine.specs.Claims.{claimed_instance, claimed_volume};
-ghost use Rattle.row_machine.specs.LimitRules.{sum_text, uncounted, instance_uncounted, volume_uncounts, claim_uncounted, project_uncounted, counts_broken};
+ghost use Rattle.row_machine.specs.LimitRules.{sum_text, uncounted, claim_uncounted, project_uncounted, counts_broken};
+ghost use Rattle.limit_rules.specs.Within.{own_instance, own_volume, own_objects};
 
 use crate::parts::limits_sum;
 use operations::Operation;
@@ -51,7 +51,7 @@ fn instance_uncounted(
     project: &Project,
     row: &Instance,
 ) -> Result<(), Or<Refusal>>
-    ensures { Says result (if bytes_eq row.now.project project.now.name then instance_uncounted view.now project.now row.now else None) }
+    ensures { Says result (own_instance view.now project.now row.now) }
 {
     if !row.project.is(&project.name) {
         return Ok(());
@@ -69,7 +69,7 @@ fn instances_uncounted(
     project: &Project,
     rows: &[Instance],
 ) -> Result<(), Or<Refusal>>
-    ensures { Says result (first_of (λ i. if bytes_eq i.project project.now.name then instance_uncounted view.now project.now i else None) rows.now) }
+    ensures { Says result (first_of (own_instance view.now project.now) rows.now) }
 {
     for row in rows {
         if let Err(why) = instance_uncounted(alloc, view, project, row) {
@@ -82,7 +82,7 @@ fn instances_uncounted(
 /// A volume of the project has no size although the project limits its disk.
 #[tactic(auto, unfolding(row_machine::specs::LimitRules::volume_uncounts))]
 fn volume_uncounted(alloc: Global, project: &Project, row: &Volume) -> Result<(), Or<Refusal>>
-    ensures { Says result (if bytes_eq row.now.project project.now.name then volume_uncounts project.now row.now else None) }
+    ensures { Says result (own_volume project.now row.now) }
 {
     if !row.project.is(&project.name) {
         return Ok(());
@@ -92,7 +92,7 @@ fn volume_uncounted(alloc: Global, project: &Project, row: &Volume) -> Result<()
 }
 
 fn volumes_uncounted(alloc: Global, project: &Project, rows: &[Volume]) -> Result<(), Or<Refusal>>
-    ensures { Says result (first_of (λ v. if bytes_eq v.project project.now.name then volume_uncounts project.now v else None) rows.now) }
+    ensures { Says result (first_of (own_volume project.now) rows.now) }
 {
     for row in rows {
         if let Err(why) = volume_uncounted(alloc, project, row) {
@@ -108,7 +108,7 @@ fn claimed_instance_uncounted(
     project: &Project,
     work: &Work,
 ) -> Result<(), Or<Refusal>>
-    ensures { Says result (option_and_then (λ i. if bytes_eq i.project project.now.name then instance_uncounted view.now project.now i else None) (claimed_instance work.now)) }
+    ensures { Says result (option_and_then (own_instance view.now project.now) (claimed_instance work.now)) }
 {
     match claimed_instance(work) {
         Some(row) => instance_uncounted(alloc, view, project, row),
@@ -121,7 +121,7 @@ fn claimed_volume_uncounted(
     project: &Project,
     work: &Work,
 ) -> Result<(), Or<Refusal>>
-    ensures { Says result (option_and_then (λ v. if bytes_eq v.project project.now.name then volume_uncounts project.now v else None) (claimed_volume work.now)) }
+    ensures { Says result (option_and_then (own_volume project.now) (claimed_volume work.now)) }
 {
     match claimed_volume(work) {
         Some(row) => volume_uncounted(alloc, project, row),
@@ -159,7 +159,7 @@ fn claims_uncounted(
 }
 
 fn objects_uncounted(alloc: Global, view: &View<'_>, project: &Project) -> Result<(), Or<Refusal>>
-    ensures { Says result (first (first_of (λ i. if bytes_eq i.project project.now.name then instance_uncounted view.now project.now i else None) view.now.instances ∷ first_of (λ v. if bytes_eq v.project project.now.name then volume_uncounts project.now v else None) view.now.volumes ∷ first_of (λ o. claim_uncounted view.now project.now o.work) view.now.operations.live ∷ [])) }
+    ensures { Says result (own_objects view.now project.now) }
 {
     instances_uncounted(alloc, view, project, view.instances)?;
     volumes_uncounted(alloc, project, view.volumes)?;

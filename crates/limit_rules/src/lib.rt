@@ -8,4 +8,4 @@ mod usage;
 
 pub use counts::counts_broken;
 pub use limits::limits_broken;
-pub use usage::{Usage, usage_before, usage_of};
+pub use usage::{Usage, usage_before, usage_before_changes, usage_of};

@@ -1,7 +1,7 @@
 //! L1 to L8: that each project stands within its limits.
-ghost use Rattle.std.specs.Prelude.{◌≡◌, ◌<◌, ◌^◌, ◌∷◌, [], IfOk, Some, filter, length};
+ghost use Rattle.std.specs.Prelude.{◌≡◌, ◌<◌, ◌^◌, IfOk, Some, filter, length};
 ghost use Rattle.std.specs.Str.{bytes_eq};
-ghost use Rattle.plain_lists.specs.Firsts.{first, first_of};
+ghost use Rattle.plain_lists.specs.Firsts.{first_of};
 ghost use Rattle.size_values.specs.Causes.{Says};
 ghost use Rattle.project_limits.specs.Admission.{parts};
 ghost use Rattle.row_machine.specs.State.{State};
@@ -9,7 +9,7 @@ ghost use Rattle.row_machine.specs.Usage.{loads};
 ghost use Rattle.row_machine.specs.LimitRules.{over_refusal, exceeds, limits_broken};
 ghost use Rattle.row_readings.specs.Loads.{AreSmall};
 ghost use Rattle.limit_rules.specs.Counting.{counts_in};
-ghost use Rattle.limit_rules.specs.Exceeding.{part_over, parts_over, networks_over};
+ghost use Rattle.limit_rules.specs.Exceeding.{part_over, parts_over, networks_over, all_over, Serves};
 
 use crate::parts::{PARTS, is_any_limited, key_of, limit_on, limit_rule, limit_text, part_of};
 use crate::usage::Usage;
@@ -191,7 +191,7 @@ fn networks_exceed(
 // ---- all limits
 
 fn limits_exceed(alloc: Global, before: &Usage, after: &View<'_>) -> Result<(), Or<Refusal>>
-    ensures { Says result (first (parts_over before.now.loads (loads after.now) after.now.projects ∷ first_of (networks_over before.now.networks after.now.networks) after.now.projects ∷ [])) }
+    ensures { Says result (all_over before.now after.now) }
 {
     loads_exceed(alloc, before.loads(), after)?;
     networks_exceed(alloc, before.networks(), after.networks, after.projects)
@@ -200,7 +200,8 @@ fn limits_exceed(alloc: Global, before: &Usage, after: &View<'_>) -> Result<(), 
 /// The first limit that is exceeded, and the first project at which it is. `before` is what counted before the change. Where
 /// no project has a limit after it, nothing is summed.
 pub fn limits_broken(alloc: Global, before: &Usage, after: &View<'_>) -> Result<(), Or<Refusal>>
-    ensures { (s : State) → before.now ≡ counts_in s → Says result (limits_broken s after.now) }
+    ensures counted { (s : State) → before.now ≡ counts_in s → Says result (limits_broken s after.now) }
+    ensures serving { (s : State) → Serves before.now s after.now → Says result (limits_broken s after.now) }
 {
     if !is_any_limited(after.projects) {
         return Ok(());

@@ -1,13 +1,15 @@
 //! The limits of a project by their parts: which are set, and how a refusal tells one.
 ghost use Rattle.std.specs.Prelude.{◌≡◌};
+ghost use Rattle.std.specs.List.{list_any};
 ghost use Rattle.size_values.specs.Amounts.{part};
 ghost use Rattle.project_limits.specs.Admission.{key_of, limit_on};
 ghost use Rattle.project_limits.specs.Limits.{limits_of};
 ghost use Rattle.row_machine.specs.LimitRules.{limit_rule, limit_text};
-ghost use Rattle.limit_rules.specs.Exceeding.{limits_any, limits_sum, is_any_limited};
+ghost use Rattle.limit_rules.specs.Exceeding.{limits_any, limits_sum, is_any_limited, is_limited_row, sets_limit};
 
 use project_limits::{LimitKey, Limits, limits_of};
-use records::{Project, Rule};
+use records::{Project, Row, Rule};
+use row_machine::RowChange;
 use size_values::{Amounts, Part};
 
 /// The parts of amounts, in the order in which their limits are judged.
@@ -125,4 +127,29 @@ pub(crate) fn is_any_limited(projects: &[Project]) -> bool
     ensures { result ≡ is_any_limited projects.now }
 {
     projects.iter().any(is_limited)
+}
+
+fn is_limited_row(row: &Row) -> bool
+    ensures { result ≡ is_limited_row row.now }
+{
+    match row {
+        Row::Project(row) => is_limited(row),
+        _ => false,
+    }
+}
+
+fn sets_limit(change: &RowChange) -> bool
+    ensures { result ≡ sets_limit change.now }
+{
+    match change {
+        RowChange::Put(row) => is_limited_row(row),
+        RowChange::Remove(_, _) => false,
+    }
+}
+
+/// Whether one of the changes puts a project with a limit.
+pub(crate) fn is_any_limit_set(changes: &[RowChange]) -> bool
+    ensures { result ≡ list_any sets_limit changes.now }
+{
+    changes.iter().any(sets_limit)
 }

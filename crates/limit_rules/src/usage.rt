@@ -1,10 +1,14 @@
 //! What counts for the limits of projects before a change.
 ghost use Rattle.std.specs.Prelude.{◌≡◌, IfOk, map};
+ghost use Rattle.row_machine.specs.Changes.{applied};
 ghost use Rattle.row_machine.specs.Usage.{usage_of};
 ghost use Rattle.row_readings.specs.Loads.{AreSmall};
 ghost use Rattle.limit_rules.specs.Counting.{counts_in};
+ghost use Rattle.limit_rules.specs.Exceeding.{Serves};
 
+use crate::parts::{is_any_limit_set, is_any_limited};
 use records::Network;
+use row_machine::RowChange;
 use row_readings::{Load, View, loads};
 use size_values::{Amounts, NoMemory, Text};
 use std::alloc::Global;
@@ -54,6 +58,24 @@ pub fn usage_before(alloc: Global, view: &View<'_>) -> Result<Usage, NoMemory>
     let loads = loads(alloc, view)?;
     let networks = network_projects(alloc, view.networks)?;
     Ok(Usage { loads, networks })
+}
+
+/// What counts for limits, taken before these changes are made. Where no project has a limit, before or after them, nothing is
+/// summed: no limit is exceeded then, whatever counted before.
+pub fn usage_before_changes(
+    alloc: Global,
+    view: &View<'_>,
+    changes: &[RowChange],
+) -> Result<Usage, NoMemory>
+    ensures { IfOk result (λ u. Serves u view.now (applied view.now changes.now)) }
+{
+    if is_any_limited(view.projects) || is_any_limit_set(changes) {
+        return usage_before(alloc, view);
+    }
+    Ok(Usage {
+        loads: Vec::new(alloc),
+        networks: Vec::new(alloc),
+    })
 }
 
 fn network_projects(alloc: Global, networks: &[Network]) -> Result<Vec<Text>, NoMemory>

@@ -1,5 +1,5 @@
 -- Profiles of a project, its instances, and those that live operations would put, asked one list after the other.
-use Rattle.std.proofs.Common.{◌≡◌, ℕ, if◌then◌else◌, None, filter, option_and_then, sym, ap, ◌∙◌}
+use Rattle.std.proofs.Common.{◌≡◌, ℕ, None, filter, sym, ap, ◌∙◌}
 use Rattle.std.specs.Option.{option_or}
 use Rattle.std.specs.Str.{bytes_eq}
 use Rattle.plain_lists.specs.Firsts.{first_of}
@@ -7,20 +7,17 @@ use Rattle.records.specs.declared.rows.Project.{Project}
 use Rattle.row_machine.specs.State.{State}
 use Rattle.row_machine.specs.Claims.{claimed_instance, judged_instances}
 use Rattle.row_machine.specs.PolicyRules.{forbids_profile, forbids_instance, project_forbids}
+use Rattle.policy_rules.specs.Within.{own_profile, own_instance, own_claim, own_objects}
 use Rattle.rule_refusals.proofs.Loops.{first_of-filter}
 use Rattle.rule_refusals.proofs.Saying.{first_of-judged, or-flat}
 
-pub forbids-split : (s : State) (number : ℕ) (p : Project)
-    → option_or (first_of (λ r. if bytes_eq r.project p.name then forbids_profile p number r else None) s.profiles)
-    (option_or (first_of (λ i. if bytes_eq i.project p.name then forbids_instance s p number i else None) s.instances)
-    (option_or (first_of (λ o. option_and_then (λ i. if bytes_eq i.project p.name then forbids_instance s p number i else None) (claimed_instance o.work)) s.operations.live) None))
-    ≡ project_forbids s number p
+pub forbids-split : (s : State) (number : ℕ) (p : Project) → own_objects s p number ≡ project_forbids s number p
 unfolding judged_instances
 forbids-split s number p = sym (
     ap (λ o. option_or o (option_or (first_of (forbids_instance s p number) (filter (λ i. bytes_eq i.project p.name) (judged_instances s))) None))
     (first_of-filter (forbids_profile p number) (λ r. bytes_eq r.project p.name) s.profiles)
-    ∙ ap (λ o. option_or (first_of (λ r. if bytes_eq r.project p.name then forbids_profile p number r else None) s.profiles) (option_or o None))
+    ∙ ap (λ o. option_or (first_of (own_profile p number) s.profiles) (option_or o None))
     (first_of-judged (forbids_instance s p number) (λ i. bytes_eq i.project p.name) (λ o. claimed_instance o.work) s.instances s.operations.live)
-    ∙ ap (option_or (first_of (λ r. if bytes_eq r.project p.name then forbids_profile p number r else None) s.profiles))
-    (or-flat (first_of (λ i. if bytes_eq i.project p.name then forbids_instance s p number i else None) s.instances) _)
+    ∙ ap (option_or (first_of (own_profile p number) s.profiles))
+    (or-flat (first_of (own_instance s p number) s.instances) (first_of (λ o. own_claim s p number o.work) s.operations.live))
     )

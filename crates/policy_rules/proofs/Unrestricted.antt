@@ -1,6 +1,5 @@
 -- A project that is not restricted forbids nothing.
-use Rattle.std.proofs.Common.{◌≡◌, ℕ, ◌==◌, false, cond, Some, None, List, ◌∷◌, ◌++◌, refl, ◌∙◌, ap, option_and_then}
-use Rattle.std.specs.Option.{option_or}
+use Rattle.std.proofs.Common.{◌≡◌, ℕ, ◌==◌, false, cond, Some, None, List, ◌∷◌, ◌++◌, refl, ap, option_and_then}
 use Rattle.plain_lists.proofs.FirstLemmas.{none-first_of}
 use Rattle.config_lists.specs.Settings.{Settings}
 use Rattle.config_lists.specs.Devices.{NamedDevices}

@@ -1,11 +1,10 @@
 //! Rules on policy: F1 to F7.
-ghost use Rattle.std.specs.Prelude.{◌≡◌, ◌∷◌, [], if◌then◌else◌, None, option_and_then};
-ghost use Rattle.std.specs.Str.{bytes_eq};
-ghost use Rattle.plain_lists.specs.Firsts.{first, first_of};
+ghost use Rattle.std.specs.Prelude.{◌≡◌};
+ghost use Rattle.plain_lists.specs.Firsts.{first_of};
 ghost use Rattle.size_values.specs.Causes.{Says};
 ghost use Rattle.restrictions.specs.Policies.{policy_of};
-ghost use Rattle.row_machine.specs.Claims.{claimed_instance};
-ghost use Rattle.row_machine.specs.PolicyRules.{policy_rule, subject_of, forbidden_key, forbids, forbids_profile, forbids_instance, project_forbids, policy_broken};
+ghost use Rattle.row_machine.specs.PolicyRules.{policy_rule, subject_of, forbidden_key, forbids, project_forbids, policy_broken};
+ghost use Rattle.policy_rules.specs.Within.{own_profile, own_instance, own_claim, own_objects};
 
 use config_lists::{Config, Devices};
 use operations::Operation;
@@ -90,7 +89,7 @@ fn profile_forbids(
     number: u8,
     profile: &Profile,
 ) -> Result<(), Or<Refusal>>
-    ensures { Says result (if bytes_eq profile.now.project project.now.name then forbids_profile project.now number profile.now else None) }
+    ensures { Says result (own_profile project.now number profile.now) }
 {
     if !profile.project.is(&project.name) {
         return Ok(());
@@ -113,7 +112,7 @@ fn profiles_forbid(
     number: u8,
     profiles: &[Profile],
 ) -> Result<(), Or<Refusal>>
-    ensures { Says result (first_of (λ r. if bytes_eq r.project project.now.name then forbids_profile project.now number r else None) profiles.now) }
+    ensures { Says result (first_of (own_profile project.now number) profiles.now) }
 {
     for profile in profiles {
         if let Err(why) = profile_forbids(alloc, project, number, profile) {
@@ -132,7 +131,7 @@ fn instance_forbids(
     number: u8,
     row: &Instance,
 ) -> Result<(), Or<Refusal>>
-    ensures { Says result (if bytes_eq row.now.project project.now.name then forbids_instance view.now project.now number row.now else None) }
+    ensures { Says result (own_instance view.now project.now number row.now) }
 {
     if !row.project.is(&project.name) {
         return Ok(());
@@ -159,7 +158,7 @@ fn instances_forbid(
     number: u8,
     rows: &[Instance],
 ) -> Result<(), Or<Refusal>>
-    ensures { Says result (first_of (λ i. if bytes_eq i.project project.now.name then forbids_instance view.now project.now number i else None) rows.now) }
+    ensures { Says result (first_of (own_instance view.now project.now number) rows.now) }
 {
     for row in rows {
         if let Err(why) = instance_forbids(alloc, view, project, number, row) {
@@ -177,7 +176,7 @@ fn claim_forbids(
     number: u8,
     work: &Work,
 ) -> Result<(), Or<Refusal>>
-    ensures { Says result (option_and_then (λ i. if bytes_eq i.project project.now.name then forbids_instance view.now project.now number i else None) (claimed_instance work.now)) }
+    ensures { Says result (own_claim view.now project.now number work.now) }
 {
     match claimed_instance(work) {
         Some(row) => instance_forbids(alloc, view, project, number, row),
@@ -193,7 +192,7 @@ fn claims_forbid(
     number: u8,
     live: &[Operation<Work>],
 ) -> Result<(), Or<Refusal>>
-    ensures { Says result (first_of (λ o. option_and_then (λ i. if bytes_eq i.project project.now.name then forbids_instance view.now project.now number i else None) (claimed_instance o.work)) live.now) }
+    ensures { Says result (first_of (λ o. own_claim view.now project.now number o.work) live.now) }
 {
     for operation in live {
         if let Err(why) = claim_forbids(alloc, view, project, number, &operation.work) {
@@ -210,7 +209,7 @@ fn objects_forbid(
     number: u8,
     project: &Project,
 ) -> Result<(), Or<Refusal>>
-    ensures { Says result (first (first_of (λ r. if bytes_eq r.project project.now.name then forbids_profile project.now number r else None) view.now.profiles ∷ first_of (λ i. if bytes_eq i.project project.now.name then forbids_instance view.now project.now number i else None) view.now.instances ∷ first_of (λ o. option_and_then (λ i. if bytes_eq i.project project.now.name then forbids_instance view.now project.now number i else None) (claimed_instance o.work)) view.now.operations.live ∷ [])) }
+    ensures { Says result (own_objects view.now project.now number) }
 {
     profiles_forbid(alloc, project, number, view.profiles)?;
     instances_forbid(alloc, view, project, number, view.instances)?;

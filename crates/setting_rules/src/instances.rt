@@ -1,17 +1,17 @@
 //! The settings of an instance, and of the instances that name a profile.
-ghost use Rattle.std.specs.Prelude.{◌≡◌, ◌∷◌, [], if◌then◌else◌, None, Some, is_none, find, option_and_then};
+ghost use Rattle.std.specs.Prelude.{◌≡◌, if◌then◌else◌, None, Some, is_none, find};
 ghost use Rattle.std.specs.List.{list_any};
 ghost use Rattle.std.specs.Option.{option_copied};
 ghost use Rattle.std.specs.Str.{bytes_eq};
-ghost use Rattle.plain_lists.specs.Firsts.{first, first_of};
+ghost use Rattle.plain_lists.specs.Firsts.{first_of};
 ghost use Rattle.size_values.specs.Causes.{Says};
 ghost use Rattle.config_lists.specs.Devices.{root_of};
 ghost use Rattle.records.specs.declared.refusals.Rule.TheVariants as rule;
 ghost use Rattle.row_machine.specs.Rows.{profile_named};
-ghost use Rattle.row_machine.specs.Claims.{claimed_instance};
 ghost use Rattle.row_machine.specs.Holders.{names_profile};
 ghost use Rattle.row_machine.specs.Refusals.{on_name};
-ghost use Rattle.row_machine.specs.SettingRules.{scope_of, is_one, profile_missing, devices_miss, instance_settings, naming};
+ghost use Rattle.row_machine.specs.SettingRules.{scope_of, is_one, profile_missing, instance_settings, naming};
+ghost use Rattle.setting_rules.specs.Named.{with_devices, where_named, where_claimed, all_named};
 
 use crate::devices::{devices_miss, tables_refuse};
 use config_lists::{Devices, Root};
@@ -79,7 +79,7 @@ fn expansion_broken(
     row: &Instance,
     devices: &Devices,
 ) -> Result<(), Or<Refusal>>
-    ensures { Says result (first ((if is_one (root_of devices.now) then None else Some (on_name rule.V4 row.now.name)) ∷ profile_missing view.now row.now ∷ devices_miss view.now row.now.project devices.now ∷ [])) }
+    ensures { Says result (with_devices view.now row.now devices.now) }
 {
     root_missing(alloc, devices, row.name.view())?;
     profile_missing(alloc, view, row)?;
@@ -125,7 +125,7 @@ fn settings_where_named(
     profile: &Profile,
     row: &Instance,
 ) -> Result<(), Or<Refusal>>
-    ensures { Says result (if names_profile view.now profile.now.project profile.now.name row.now then instance_settings view.now row.now else None) }
+    ensures { Says result (where_named view.now profile.now row.now) }
 {
     if !names_profile(view, profile, row) {
         return Ok(());
@@ -139,7 +139,7 @@ fn instances_break(
     profile: &Profile,
     rows: &[Instance],
 ) -> Result<(), Or<Refusal>>
-    ensures { Says result (first_of (λ i. if names_profile view.now profile.now.project profile.now.name i then instance_settings view.now i else None) rows.now) }
+    ensures { Says result (first_of (where_named view.now profile.now) rows.now) }
 {
     for row in rows {
         if let Err(why) = settings_where_named(alloc, view, profile, row) {
@@ -155,7 +155,7 @@ fn claim_breaks(
     profile: &Profile,
     work: &Work,
 ) -> Result<(), Or<Refusal>>
-    ensures { Says result (option_and_then (λ i. if names_profile view.now profile.now.project profile.now.name i then instance_settings view.now i else None) (claimed_instance work.now)) }
+    ensures { Says result (where_claimed view.now profile.now work.now) }
 {
     match claimed_instance(work) {
         Some(row) => settings_where_named(alloc, view, profile, row),
@@ -169,7 +169,7 @@ fn claims_break(
     profile: &Profile,
     live: &[Operation<Work>],
 ) -> Result<(), Or<Refusal>>
-    ensures { Says result (first_of (λ o. option_and_then (λ i. if names_profile view.now profile.now.project profile.now.name i then instance_settings view.now i else None) (claimed_instance o.work)) live.now) }
+    ensures { Says result (first_of (λ o. where_claimed view.now profile.now o.work) live.now) }
 {
     for operation in live {
         if let Err(why) = claim_breaks(alloc, view, profile, &operation.work) {
@@ -180,7 +180,7 @@ fn claims_break(
 }
 
 fn named_broken(alloc: Global, view: &View<'_>, profile: &Profile) -> Result<(), Or<Refusal>>
-    ensures { Says result (first (first_of (λ i. if names_profile view.now profile.now.project profile.now.name i then instance_settings view.now i else None) view.now.instances ∷ first_of (λ o. option_and_then (λ i. if names_profile view.now profile.now.project profile.now.name i then instance_settings view.now i else None) (claimed_instance o.work)) view.now.operations.live ∷ [])) }
+    ensures { Says result (all_named view.now profile.now) }
 {
     instances_break(alloc, view, profile, view.instances)?;
     claims_break(alloc, view, profile, view.live)

@@ -1,15 +1,13 @@
-use Rattle.std.proofs.Common.{if◌then◌else◌, None}
-use Rattle.std.specs.Str.{bytes_eq}
-use Rattle.row_machine.specs.LimitRules.{volume_uncounts}
+use Rattle.limit_rules.specs.Within.{own_volume}
 use Rattle.rule_refusals.proofs.Saying.{refuses-here, free-next}
 use Rattle.limit_rules.proofs.counts.volumes_uncounted.Goals as goal
 
 pub returns-in-Err : goal.returns-in-Err
 returns-in-Err c =
-    refuses-here (λ v. if bytes_eq v.project c.args.project.now.name then volume_uncounts c.args.project.now v else None) c.args.rows.now c.loop-row.row-index c.row-item.result c.in-Err.why
+    refuses-here (own_volume c.args.project.now) c.args.rows.now c.loop-row.row-index c.row-item.result c.in-Err.why
     c.loop-row-test.true c.row-item.is c.loop-row.invariant c.in-Err.ensures
 
 pub loop-row-preserved : goal.loop-row-preserved
 loop-row-preserved c =
-    free-next (λ v. if bytes_eq v.project c.args.project.now.name then volume_uncounts c.args.project.now v else None) c.args.rows.now c.loop-row.row-index c.row-item.result
+    free-next (own_volume c.args.project.now) c.args.rows.now c.loop-row.row-index c.row-item.result
     c.loop-row-test.true c.row-item.is c.loop-row.invariant c.in_default.ensures

@@ -1,15 +1,13 @@
-use Rattle.std.proofs.Common.{if◌then◌else◌, None}
-use Rattle.std.specs.Str.{bytes_eq}
-use Rattle.row_machine.specs.PolicyRules.{forbids_instance}
+use Rattle.policy_rules.specs.Within.{own_instance}
 use Rattle.rule_refusals.proofs.Saying.{refuses-here, free-next}
 use Rattle.policy_rules.proofs.policy.instances_forbid.Goals as goal
 
 pub returns-in-Err : goal.returns-in-Err
 returns-in-Err c =
-    refuses-here (λ i. if bytes_eq i.project c.args.project.now.name then forbids_instance c.args.view.now c.args.project.now c.args.number i else None) c.args.rows.now c.loop-row.row-index c.row-item.result c.in-Err.why
+    refuses-here (own_instance c.args.view.now c.args.project.now c.args.number) c.args.rows.now c.loop-row.row-index c.row-item.result c.in-Err.why
     c.loop-row-test.true c.row-item.is c.loop-row.invariant c.in-Err.ensures
 
 pub loop-row-preserved : goal.loop-row-preserved
 loop-row-preserved c =
-    free-next (λ i. if bytes_eq i.project c.args.project.now.name then forbids_instance c.args.view.now c.args.project.now c.args.number i else None) c.args.rows.now c.loop-row.row-index c.row-item.result
+    free-next (own_instance c.args.view.now c.args.project.now c.args.number) c.args.rows.now c.loop-row.row-index c.row-item.result
     c.loop-row-test.true c.row-item.is c.loop-row.invariant c.in_default.ensures

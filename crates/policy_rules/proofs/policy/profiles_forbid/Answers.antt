@@ -1,15 +1,13 @@
-use Rattle.std.proofs.Common.{if◌then◌else◌, None}
-use Rattle.std.specs.Str.{bytes_eq}
-use Rattle.row_machine.specs.PolicyRules.{forbids_profile}
+use Rattle.policy_rules.specs.Within.{own_profile}
 use Rattle.rule_refusals.proofs.Saying.{refuses-here, free-next}
 use Rattle.policy_rules.proofs.policy.profiles_forbid.Goals as goal
 
 pub returns-in-Err : goal.returns-in-Err
 returns-in-Err c =
-    refuses-here (λ r. if bytes_eq r.project c.args.project.now.name then forbids_profile c.args.project.now c.args.number r else None) c.args.profiles.now c.loop-profile.profile-index c.profile-item.result c.in-Err.why
+    refuses-here (own_profile c.args.project.now c.args.number) c.args.profiles.now c.loop-profile.profile-index c.profile-item.result c.in-Err.why
     c.loop-profile-test.true c.profile-item.is c.loop-profile.invariant c.in-Err.ensures
 
 pub loop-profile-preserved : goal.loop-profile-preserved
 loop-profile-preserved c =
-    free-next (λ r. if bytes_eq r.project c.args.project.now.name then forbids_profile c.args.project.now c.args.number r else None) c.args.profiles.now c.loop-profile.profile-index c.profile-item.result
+    free-next (own_profile c.args.project.now c.args.number) c.args.profiles.now c.loop-profile.profile-index c.profile-item.result
     c.loop-profile-test.true c.profile-item.is c.loop-profile.invariant c.in_default.ensures

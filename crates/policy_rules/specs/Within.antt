@@ -1,0 +1,32 @@
+-- What a project forbids within itself: nothing of what belongs to other projects.
+use Rattle.std.specs.Prelude.{ℕ, [], ◌∷◌, Option, None, if◌then◌else◌, option_and_then}
+use Rattle.std.specs.Str.{bytes_eq}
+use Rattle.plain_lists.specs.Firsts.{first, first_of}
+use Rattle.records.specs.declared.refusals.Refusal.{Refusal}
+use Rattle.records.specs.declared.rows.Project.{Project}
+use Rattle.records.specs.declared.rows.Profile.{Profile}
+use Rattle.records.specs.declared.rows.Instance.{Instance}
+use Rattle.row_machine.specs.Task.{Task}
+use Rattle.row_machine.specs.State.{State}
+use Rattle.row_machine.specs.Claims.{claimed_instance}
+use Rattle.row_machine.specs.PolicyRules.{forbids_profile, forbids_instance}
+
+-- a profile of the project
+abbrev pub own_profile : Project → ℕ → Profile → Option Refusal
+own_profile p number r = if bytes_eq r.project p.name then forbids_profile p number r else None
+
+-- an instance of the project
+abbrev pub own_instance : State → Project → ℕ → Instance → Option Refusal
+own_instance s p number i = if bytes_eq i.project p.name then forbids_instance s p number i else None
+
+-- an instance of the project that an operation would put
+abbrev pub own_claim : State → Project → ℕ → Task → Option Refusal
+own_claim s p number task = option_and_then (own_instance s p number) (claimed_instance task)
+
+-- profiles, then instances, then claims
+abbrev pub own_objects : State → Project → ℕ → Option Refusal
+own_objects s p number = first
+    (first_of (own_profile p number) s.profiles
+    ∷ first_of (own_instance s p number) s.instances
+    ∷ first_of (λ o. own_claim s p number o.work) s.operations.live
+    ∷ [])

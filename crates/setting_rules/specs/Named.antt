@@ -1,0 +1,34 @@
+-- The settings of the instances that name a profile, and of what an instance has by its profiles.
+use Rattle.std.specs.Prelude.{[], ◌∷◌, Option, Some, None, if◌then◌else◌, option_and_then}
+use Rattle.plain_lists.specs.Firsts.{first, first_of}
+use Rattle.config_lists.specs.Devices.{NamedDevices, root_of}
+use Rattle.records.specs.declared.refusals.Rule.TheVariants as rule
+use Rattle.records.specs.declared.refusals.Refusal.{Refusal}
+use Rattle.records.specs.declared.rows.Profile.{Profile}
+use Rattle.records.specs.declared.rows.Instance.{Instance}
+use Rattle.row_machine.specs.Task.{Task}
+use Rattle.row_machine.specs.State.{State}
+use Rattle.row_machine.specs.Claims.{claimed_instance}
+use Rattle.row_machine.specs.Holders.{names_profile}
+use Rattle.row_machine.specs.Refusals.{on_name}
+use Rattle.row_machine.specs.SettingRules.{is_one, profile_missing, devices_miss, instance_settings}
+
+-- an instance with these devices, those of its profiles among them
+abbrev pub with_devices : State → Instance → NamedDevices → Option Refusal
+with_devices s i devices = first
+    ((if is_one (root_of devices) then None else Some (on_name rule.V4 i.name))
+    ∷ profile_missing s i
+    ∷ devices_miss s i.project devices
+    ∷ [])
+
+-- an instance that names the profile
+abbrev pub where_named : State → Profile → Instance → Option Refusal
+where_named s r i = if names_profile s r.project r.name i then instance_settings s i else None
+
+-- one that an operation would put
+abbrev pub where_claimed : State → Profile → Task → Option Refusal
+where_claimed s r task = option_and_then (where_named s r) (claimed_instance task)
+
+-- instances, then claims
+abbrev pub all_named : State → Profile → Option Refusal
+all_named s r = first (first_of (where_named s r) s.instances ∷ first_of (λ o. where_claimed s r o.work) s.operations.live ∷ [])
