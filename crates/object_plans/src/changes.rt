@@ -1,0 +1,122 @@
+//! Lists of changes of rows.
+ghost use Rattle.std.specs.Prelude.{◌≡◌, [], ◌∷◌, ◌++◌, IfOk};
+ghost use Rattle.row_codec.specs.Spelling.{two_names};
+ghost use Rattle.records.specs.declared.rows.Row.TheVariants as row_of;
+ghost use Rattle.row_machine.specs.declared.changes.RowChange.TheVariants as change;
+ghost use Rattle.row_machine.specs.NewRows.{default_profile};
+ghost use Rattle.row_machine.specs.Changes.{removal};
+ghost use Rattle.object_plans.specs.Rows.{row_at};
+
+use crate::found::Found;
+use records::Row;
+use row_machine::RowChange;
+use size_values::{NoMemory, ObjectKind, Seq, Text};
+use std::alloc::Global;
+
+/// The key of a row that has two names.
+fn two_names(alloc: Global, first: &str, second: &str) -> Result<Text, NoMemory>
+    ensures { IfOk result (λ key. key ≡ two_names first.now second.now) }
+{
+    let mut key = String::from_str(alloc, first)?;
+    key.push_str("/")?;
+    key.push_str(second)?;
+    Ok(Text::from_string(key))
+}
+
+/// The key of a row that has three names.
+fn three_names(alloc: Global, first: &Text, second: &Text, third: &Text) -> Result<Text, NoMemory>
+    ensures { IfOk result (λ key. key ≡ two_names first.now (two_names second.now third.now)) }
+{
+    let behind = two_names(alloc, second.view(), third.view())?;
+    two_names(alloc, first.view(), behind.view())
+}
+
+/// The change that removes a row.
+fn removal(alloc: Global, row: Found<'_>) -> Result<RowChange, NoMemory>
+    ensures { IfOk result (λ c. c ≡ removal (row_at row.entry)) }
+{
+    match row {
+        Found::Project(row) => {
+            let key = row.name.copy(alloc)?;
+            Ok(RowChange::Remove(ObjectKind::Project, key))
+        }
+        Found::Profile(row) => {
+            let key = two_names(alloc, row.project.view(), row.name.view())?;
+            Ok(RowChange::Remove(ObjectKind::Profile, key))
+        }
+        Found::Network(row) => {
+            let key = two_names(alloc, row.project.view(), row.name.view())?;
+            Ok(RowChange::Remove(ObjectKind::Network, key))
+        }
+        Found::Pool(row) => {
+            let key = row.name.copy(alloc)?;
+            Ok(RowChange::Remove(ObjectKind::Pool, key))
+        }
+        Found::Volume(row) => {
+            let key = three_names(alloc, &row.project, &row.pool, &row.name)?;
+            Ok(RowChange::Remove(ObjectKind::Volume, key))
+        }
+        Found::Instance(row) => {
+            let key = two_names(alloc, row.project.view(), row.name.view())?;
+            Ok(RowChange::Remove(ObjectKind::Instance, key))
+        }
+        Found::Snapshot(row) => {
+            let key = three_names(alloc, &row.project, &row.instance, &row.name)?;
+            Ok(RowChange::Remove(ObjectKind::Snapshot, key))
+        }
+    }
+}
+
+/// The changes, and then this one.
+fn and_change(mut changes: Seq<RowChange>, change: RowChange) -> Result<Seq<RowChange>, NoMemory>
+    ensures { IfOk result (λ cs. cs ≡ changes ++ change ∷ []) }
+{
+    changes.push(change)?;
+    Ok(changes)
+}
+
+/// The changes, and then a row is put.
+pub(crate) fn and_put(changes: Seq<RowChange>, row: Row) -> Result<Seq<RowChange>, NoMemory>
+    ensures { IfOk result (λ cs. cs ≡ changes ++ change.Put row ∷ []) }
+{
+    and_change(changes, RowChange::Put(row))
+}
+
+/// A row is put.
+pub(crate) fn one_put(alloc: Global, row: Row) -> Result<Seq<RowChange>, NoMemory>
+    ensures { IfOk result (λ cs. cs ≡ change.Put row ∷ []) }
+{
+    and_change(Seq::new(alloc), RowChange::Put(row))
+}
+
+/// The changes, and then a row is removed.
+pub(crate) fn and_removal(
+    alloc: Global,
+    changes: Seq<RowChange>,
+    row: Found<'_>,
+) -> Result<Seq<RowChange>, NoMemory>
+    ensures { IfOk result (λ cs. cs ≡ changes ++ removal (row_at row.entry) ∷ []) }
+{
+    let change = removal(alloc, row)?;
+    and_change(changes, change)
+}
+
+/// A row is removed.
+pub(crate) fn one_removal(alloc: Global, row: Found<'_>) -> Result<Seq<RowChange>, NoMemory>
+    ensures { IfOk result (λ cs. cs ≡ removal (row_at row.entry) ∷ []) }
+{
+    let change = removal(alloc, row)?;
+    and_change(Seq::new(alloc), change)
+}
+
+/// The changes, and then the profile `default` of a project of this name is removed.
+pub(crate) fn and_default_removal(
+    alloc: Global,
+    changes: Seq<RowChange>,
+    project: &Text,
+) -> Result<Seq<RowChange>, NoMemory>
+    ensures { IfOk result (λ cs. cs ≡ changes ++ removal (row_of.Profile (default_profile project.now)) ∷ []) }
+{
+    let key = two_names(alloc, project.view(), "default")?;
+    and_change(changes, RowChange::Remove(ObjectKind::Profile, key))
+}

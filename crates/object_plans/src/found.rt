@@ -1,0 +1,46 @@
+//! Rows of all kinds as they are found, lent.
+ghost use Rattle.std.specs.Prelude.{◌≡◌};
+ghost use Rattle.std.specs.Option.{option_map};
+ghost use Rattle.row_machine.specs.Plans.{row_of};
+ghost use Rattle.object_plans.specs.Rows.{row_at};
+
+use records::{Instance, Network, Pool, Profile, Project, Snapshot, Target, Volume};
+use row_readings::{
+    View, home_of, instance_named, network_named, pool_named, profile_named, project_named,
+    snapshot_named, volume_named,
+};
+use size_values::ObjectKind;
+
+/// A row of any kind.
+#[derive(Clone, Copy)]
+pub(crate) enum Found<'x> {
+    Project(&'x Project),
+    Profile(&'x Profile),
+    Network(&'x Network),
+    Pool(&'x Pool),
+    Volume(&'x Volume),
+    Instance(&'x Instance),
+    Snapshot(&'x Snapshot),
+}
+
+/// The row that the object of a path is, in its home.
+pub(crate) fn row_of<'x>(view: &View<'x>, project: &str, of: &Target) -> Option<Found<'x>>
+    ensures { option_map row_at result ≡ row_of view.now project.now of.now }
+{
+    let home = home_of(view.projects, project, of.kind);
+    let name = of.name.view();
+    match of.kind {
+        ObjectKind::Project => project_named(view.projects, name).map(Found::Project),
+        ObjectKind::Profile => profile_named(view.profiles, home, name).map(Found::Profile),
+        ObjectKind::Network => network_named(view.networks, home, name).map(Found::Network),
+        ObjectKind::Pool => pool_named(view.pools, name).map(Found::Pool),
+        ObjectKind::Volume => {
+            volume_named(view.volumes, home, of.pool.view(), name).map(Found::Volume)
+        }
+        ObjectKind::Instance => instance_named(view.instances, project, name).map(Found::Instance),
+        ObjectKind::Snapshot => {
+            snapshot_named(view.snapshots, project, of.instance.view(), name).map(Found::Snapshot)
+        }
+        ObjectKind::Operation => None,
+    }
+}

@@ -1,0 +1,21 @@
+//! What each command that changes rows at once is to do: the changes of rows in their order, and the notice that tells of
+//! them. The rows are lent; what commands make of them is read off the request and the rows that stand.
+#![tactic(auto)]
+
+mod changes;
+mod contents;
+mod found;
+mod instances;
+mod made;
+mod networks;
+mod notices;
+mod planned;
+mod plans;
+mod pools;
+mod profiles;
+mod projects;
+mod volumes;
+
+pub use planned::Planned;
+pub use plans::plan_change;
+pub use profiles::default_profile;
