@@ -1,8 +1,11 @@
-//! What reads of the server, of projects and of profiles answer, over the estate of rows: views, lists and links, as the
-//! commands on objects give them.
+//! What reads answer: views of objects, lists of them with links or views, the usage of a project, and operations.
 #![tactic(auto)]
 
-mod links;
+mod listed;
+mod operation_ref;
+mod operations_shown;
 mod reading;
+mod row_views;
+mod usage;
 
 pub use reading::read;
