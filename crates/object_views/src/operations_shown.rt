@@ -115,7 +115,8 @@ fn by_number<'x>(
     let mut place = operations.len();
     while place > 0 {
         place -= 1;
-        insert_operation(&mut all, operations[place].operation)?;
+        let row = &operations[place];
+        insert_operation(&mut all, row.operation)?;
     }
     Ok(all)
 }
