@@ -8,27 +8,25 @@ use records::{Instance, Network, Pool, Profile, Project, Snapshot, Volume};
 use size_values::NoMemory;
 
 /// All projects.
-pub fn add_projects<'x>(
-    rows: &'x [Project],
-    all: &mut Vec<RowRef<'x>>,
-) -> Result<(), NoMemory>
+pub fn add_projects<'x>(rows: &'x [Project], all: &mut Vec<RowRef<'x>>) -> Result<(), NoMemory>
     ensures { OnOk result (all.new.items ≡ all.old.items ++ map row.Project rows.now) }
 {
     for row in rows {
-        all.push(RowRef { row: AnyRow::Project(row) })?;
+        all.push(RowRef {
+            row: AnyRow::Project(row),
+        })?;
     }
     Ok(())
 }
 
 /// All storage pools.
-pub fn add_pools<'x>(
-    rows: &'x [Pool],
-    all: &mut Vec<RowRef<'x>>,
-) -> Result<(), NoMemory>
+pub fn add_pools<'x>(rows: &'x [Pool], all: &mut Vec<RowRef<'x>>) -> Result<(), NoMemory>
     ensures { OnOk result (all.new.items ≡ all.old.items ++ map row.Pool rows.now) }
 {
     for row in rows {
-        all.push(RowRef { row: AnyRow::Pool(row) })?;
+        all.push(RowRef {
+            row: AnyRow::Pool(row),
+        })?;
     }
     Ok(())
 }
@@ -43,7 +41,9 @@ pub fn add_profiles<'x>(
 {
     for row in rows {
         if row.project.view() == project {
-            all.push(RowRef { row: AnyRow::Profile(row) })?;
+            all.push(RowRef {
+                row: AnyRow::Profile(row),
+            })?;
         }
     }
     Ok(())
@@ -59,7 +59,9 @@ pub fn add_networks<'x>(
 {
     for row in rows {
         if row.project.view() == project {
-            all.push(RowRef { row: AnyRow::Network(row) })?;
+            all.push(RowRef {
+                row: AnyRow::Network(row),
+            })?;
         }
     }
     Ok(())
@@ -75,7 +77,9 @@ pub fn add_volumes<'x>(
 {
     for row in rows {
         if row.project.view() == project {
-            all.push(RowRef { row: AnyRow::Volume(row) })?;
+            all.push(RowRef {
+                row: AnyRow::Volume(row),
+            })?;
         }
     }
     Ok(())
@@ -91,7 +95,9 @@ pub fn add_instances<'x>(
 {
     for row in rows {
         if row.project.view() == project {
-            all.push(RowRef { row: AnyRow::Instance(row) })?;
+            all.push(RowRef {
+                row: AnyRow::Instance(row),
+            })?;
         }
     }
     Ok(())
@@ -108,7 +114,9 @@ pub fn add_volumes_in<'x>(
 {
     for row in rows {
         if row.project.view() == project && row.pool.view() == pool {
-            all.push(RowRef { row: AnyRow::Volume(row) })?;
+            all.push(RowRef {
+                row: AnyRow::Volume(row),
+            })?;
         }
     }
     Ok(())
@@ -125,7 +133,9 @@ pub fn add_snapshots<'x>(
 {
     for row in rows {
         if row.project.view() == project && row.instance.view() == instance {
-            all.push(RowRef { row: AnyRow::Snapshot(row) })?;
+            all.push(RowRef {
+                row: AnyRow::Snapshot(row),
+            })?;
         }
     }
     Ok(())

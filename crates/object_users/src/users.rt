@@ -15,11 +15,7 @@ use size_values::{NoMemory, Seq, Text};
 use std::alloc::Global;
 
 /// The instances, networks, volumes and profiles of a project.
-fn rows_in<'x>(
-    alloc: Global,
-    view: &View<'x>,
-    project: &str,
-) -> Result<Vec<RowRef<'x>>, NoMemory>
+fn rows_in<'x>(alloc: Global, view: &View<'x>, project: &str) -> Result<Vec<RowRef<'x>>, NoMemory>
     ensures { IfOk result (λ all. all.items ≡ rows_in view.now project.now) }
 {
     let mut all = Vec::new(alloc);

@@ -35,9 +35,7 @@ fn add_listed<'x>(
             add_volumes_in(view.volumes, home, of.pool.view(), all)
         }
         ObjectKind::Instance => add_instances(view.instances, project, all),
-        ObjectKind::Snapshot => {
-            add_snapshots(view.snapshots, project, of.instance.view(), all)
-        }
+        ObjectKind::Snapshot => { add_snapshots(view.snapshots, project, of.instance.view(), all) }
         ObjectKind::Operation => Ok(()),
     }
 }

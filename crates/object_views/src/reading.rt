@@ -76,12 +76,7 @@ fn list_reply(
 // ---- single objects
 
 /// A row that is asked for.
-fn get_reply(
-    alloc: Global,
-    view: &View<'_>,
-    project: &str,
-    of: &Target,
-) -> Result<Reply, NoMemory>
+fn get_reply(alloc: Global, view: &View<'_>, project: &str, of: &Target) -> Result<Reply, NoMemory>
     ensures { IfOk result (λ r. r ≡ one (option_map (row_view view.now) (row_of view.now project.now of.now))) }
 {
     match row_of(view, project, of) {
@@ -148,12 +143,7 @@ fn root(alloc: Global) -> Result<Reply, NoMemory>
 
 /// The answer of a read. Other commands answer nothing here.
 #[tactic(auto, unfolding(row_machine::specs::Views::read))]
-pub fn read(
-    alloc: Global,
-    view: &View<'_>,
-    project: &Text,
-    what: &What,
-) -> Result<Reply, NoMemory>
+pub fn read(alloc: Global, view: &View<'_>, project: &Text, what: &What) -> Result<Reply, NoMemory>
     ensures { IfOk result (λ r. r ≡ read view.now project.now what.now) }
 {
     match what {

@@ -36,11 +36,7 @@ fn instance_view(alloc: Global, view: &View<'_>, row: &Instance) -> Result<Shown
 }
 
 /// How a row is shown.
-pub(crate) fn row_view(
-    alloc: Global,
-    view: &View<'_>,
-    row: &RowRef<'_>,
-) -> Result<Shown, NoMemory>
+pub(crate) fn row_view(alloc: Global, view: &View<'_>, row: &RowRef<'_>) -> Result<Shown, NoMemory>
     ensures { IfOk result (λ v. v ≡ row_view view.now row.now) }
 {
     match row.row {

@@ -32,14 +32,39 @@ fn usage_lines(
     ensures { IfOk result (λ lines. lines ≡ map (λ k. record { key = line_key k; used = part k used.now; limit = limit_on k limits.now }) parts ++ record { key = line.Networks; used = networks; limit = limits.now.networks } ∷ []) }
 {
     let mut lines = Seq::new(alloc);
-    add(&mut lines, LimitKeyName::Instances, used.instances, limits.instances)?;
-    add(&mut lines, LimitKeyName::Containers, used.containers, limits.containers)?;
-    add(&mut lines, LimitKeyName::Machines, used.machines, limits.machines)?;
+    add(
+        &mut lines,
+        LimitKeyName::Instances,
+        used.instances,
+        limits.instances,
+    )?;
+    add(
+        &mut lines,
+        LimitKeyName::Containers,
+        used.containers,
+        limits.containers,
+    )?;
+    add(
+        &mut lines,
+        LimitKeyName::Machines,
+        used.machines,
+        limits.machines,
+    )?;
     add(&mut lines, LimitKeyName::Cpu, used.cpu, limits.cpu)?;
     add(&mut lines, LimitKeyName::Memory, used.memory, limits.memory)?;
-    add(&mut lines, LimitKeyName::Processes, used.processes, limits.processes)?;
+    add(
+        &mut lines,
+        LimitKeyName::Processes,
+        used.processes,
+        limits.processes,
+    )?;
     add(&mut lines, LimitKeyName::Disk, used.disk, limits.disk)?;
-    add(&mut lines, LimitKeyName::Networks, networks, limits.networks)?;
+    add(
+        &mut lines,
+        LimitKeyName::Networks,
+        networks,
+        limits.networks,
+    )?;
     Ok(lines)
 }
 
