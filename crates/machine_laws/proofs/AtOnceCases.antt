@@ -1,5 +1,5 @@
 -- The forms that changes at once have, with what the rules on names and on what stands in the way establish.
-use Rattle.std.proofs.Common.{◌≡◌, ℕ, List, Option, Some, None, refl, sym, subst}
+use Rattle.std.proofs.Common.{◌≡◌, ℕ, List, Option, Some, None}
 use Rattle.records.specs.declared.commands.Command.{Command}
 use Rattle.records.specs.declared.commands.What.{What}
 use Rattle.records.specs.declared.commands.What.TheVariants as what
@@ -9,7 +9,7 @@ use Rattle.records.specs.declared.rows.Snapshot.{Snapshot}
 use Rattle.row_machine.specs.Task.{Task}
 use Rattle.row_machine.specs.State.{State}
 use Rattle.row_machine.specs.Rows.{instance_named, snapshot_named}
-use Rattle.row_machine.specs.Plans.{Plan, nothing, changes, starts, plan_of, if_there, plan_restore}
+use Rattle.row_machine.specs.Plans.{changes, starts, plan_of, if_there}
 use Rattle.machine_laws.proofs.Cases.{IsAccepted, AtOnce}
 use Rattle.machine_laws.proofs.Commands.{command_of, never_nothing, never_starts}
 use Rattle.machine_laws.proofs.Creations.{creates}

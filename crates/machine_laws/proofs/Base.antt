@@ -1,11 +1,11 @@
 -- Live operations under each move: what is read off their tasks, and the one that is found by its number.
-use Rattle.std.proofs.Common.{◌≡◌, ◌≢◌, ℕ, suc, ◌==◌, Bool, true, false, cond, Option, Some, None, List, [], ◌∷◌, ◌++◌, map, length, refl, sym, ◌∙◌, ap, subst}
+use Rattle.std.proofs.Common.{◌≡◌, ℕ, suc, ◌==◌, Bool, true, false, cond, Option, Some, None, List, [], ◌∷◌, ◌++◌, map, length, refl, sym, ◌∙◌, ap, subst}
 use Rattle.std.specs.Prelude.{filter}
 use Rattle.std.specs.List.{find, filter_map, cons_option}
-use Rattle.std.specs.Option.{option_to_list, option_map_or, is_some}
+use Rattle.std.specs.Option.{option_to_list}
 use Rattle.std.proofs.lemmas.List.Elements.{filter_map-append}
 use Rattle.std.proofs.lemmas.Bool.{eqb-true, eq-eqb}
-use Rattle.plain_lists.specs.Members.{Mem, Each, Distinct}
+use Rattle.plain_lists.specs.Members.{Mem, Each}
 use Rattle.plain_lists.specs.Puts.{Puts}
 use Rattle.plain_lists.specs.Edits.{changed_first, dropped}
 use Rattle.plain_lists.proofs.Elements.{Each-cons, Each-head, Each-tail}
@@ -23,7 +23,7 @@ use Rattle.host_model.specs.declared.call.HostCall.{HostCall}
 use Rattle.row_machine.specs.Task.{Task}
 use Rattle.row_machine.specs.State.{State}
 use Rattle.row_machine.specs.Claims.{of_live}
-use Rattle.row_machine.specs.Work.{claiming, entered, with_task, moved, handing_out, ended, cancelled, failed, succeeded}
+use Rattle.row_machine.specs.Work.{claiming, entered, with_task, moved, handing_out, ended}
 use Rattle.row_machine.specs.Step.{first_pending}
 use Rattle.row_machine.specs.Whole.{IsWhole}
 

@@ -1,5 +1,5 @@
 -- What is known of an accepted command: its plan breaks no rule, and which forms the plan can have.
-use Rattle.std.specs.Prelude.{◌≡◌, ◌≢◌, ℕ, ◌<◌, Bool, true, false, List, [], ◌∷◌, map, Option, Some, None, is_some, IfSome}
+use Rattle.std.specs.Prelude.{◌≡◌, ◌≢◌, ℕ, ◌<◌, Bool, true, false, List, [], ◌∷◌, Some, None, is_some, IfSome}
 use Rattle.std.specs.Option.{option_map_or, option_to_list}
 use Rattle.plain_lists.specs.Members.{Each}
 use Rattle.size_values.specs.Moments.{moment_limit}
@@ -10,10 +10,7 @@ use Rattle.size_values.specs.declared.kinds.ObjectKind.{ObjectKind}
 use Rattle.size_values.specs.declared.kinds.ObjectKind.TheVariants as kind
 use Rattle.estate_rules.specs.Names.{good_name_of}
 use Rattle.instance_states.specs.States.{is_allowed}
-use Rattle.operations.specs.declared.operation.Operation.{Operation}
-use Rattle.operations.specs.declared.status.Status.{Status}
-use Rattle.operations.specs.Kept.{live_at}
-use Rattle.records.specs.Forms.{is_formed, are_profiles}
+use Rattle.records.specs.Forms.{are_profiles}
 use Rattle.records.specs.declared.rows.Project.{Project}
 use Rattle.records.specs.declared.rows.Profile.{Profile}
 use Rattle.records.specs.declared.rows.Network.{Network}
@@ -21,13 +18,11 @@ use Rattle.records.specs.declared.rows.Pool.{Pool}
 use Rattle.records.specs.declared.rows.Volume.{Volume}
 use Rattle.records.specs.declared.rows.Instance.{Instance}
 use Rattle.records.specs.declared.rows.Snapshot.{Snapshot}
-use Rattle.records.specs.declared.rows.Row.{Row}
 use Rattle.records.specs.declared.rows.Row.TheVariants as row
 use Rattle.records.specs.declared.commands.Target.{Target}
 use Rattle.records.specs.declared.commands.Body.{Body}
 use Rattle.records.specs.declared.commands.Command.{Command}
 use Rattle.row_machine.specs.declared.changes.RowChange.{RowChange}
-use Rattle.row_machine.specs.declared.changes.RowChange.TheVariants as change
 use Rattle.row_machine.specs.Task.{Task}
 use Rattle.row_machine.specs.State.{State}
 use Rattle.row_machine.specs.Rows.{default_name, project_named, profile_named, network_named, pool_named, volume_named, instance_named, snapshot_named}
@@ -42,26 +37,9 @@ use Rattle.row_machine.specs.PolicyRules.{policy_broken, snapshot_blocked}
 use Rattle.row_machine.specs.LimitRules.{counts_broken, limits_broken}
 use Rattle.row_machine.specs.TableRules.{entry_broken, tables_broken}
 use Rattle.row_machine.specs.NewRows.{source_instance, source_snapshot}
-use Rattle.row_machine.specs.Plans.{Plan, changes, starts, plan_of, put_all, moved_row, project_creation, project_change, project_rename, project_deletion, creation, copy, volume_copy, snapshot_creation, update, restoring, renaming, deletion, snapshot_deletion, acting, instance_target, snapshot_target}
+use Rattle.row_machine.specs.Plans.{put_all, moved_row, project_creation, project_change, project_rename, project_deletion, creation, copy, volume_copy, snapshot_creation, update, restoring, renaming, deletion, snapshot_deletion, acting, instance_target, snapshot_target}
 use Rattle.row_machine.specs.Work.{claiming}
-use Rattle.row_machine.specs.Rules.{broken}
-use Rattle.row_machine.specs.Whole.{IsWhole}
-
--- ---- an accepted command, and a live operation
-
--- a command that a client can give, at a moment before the year 10000, which breaks no rule, and what is planned for it
-pub record IsAccepted (s : State) (c : Command) (moment : ℕ) (p : Plan) : Type 0 where
-  pub whole : IsWhole s
-  pub formed : is_formed c ≡ true
-  pub early : moment < moment_limit
-  pub unbroken : broken s c moment ≡ None
-  pub plan : plan_of s c moment ≡ p
-
--- a live operation of this status
-pub record IsLiveAs (s : State) (o : Operation Task) (now : Status) : Type 0 where
-  pub whole : IsWhole s
-  pub live : live_at s.operations o.number ≡ Some o
-  pub status : o.status ≡ now
+pub use Rattle.machine_laws.specs.Accepted.{IsAccepted, IsLiveAs}
 
 -- ---- no rule is broken
 
@@ -154,7 +132,6 @@ pub data AtOnce (s : State) : List RowChange → Type 0 where
       → AtOnce s (project_rename s to old)
   deletes_project : (old : Project) → project_named s.projects old.name ≡ Some old → IsNotDefault old.name
       → is_occupied s old.name ≡ false → AtOnce s (project_deletion s old)
-
   makes_profile : (r : Profile) → IsHome s r.project kind.Profile → IsNew s r.project (target_of (row.Profile r))
       → AtOnce s (put_all (row.Profile r ∷ []))
   changes_profile : (old r : Profile) → IsHome s old.project kind.Profile → profile_named s.profiles old.project old.name ≡ Some old
@@ -167,7 +144,6 @@ pub data AtOnce (s : State) : List RowChange → Type 0 where
   deletes_profile : (old : Profile) → IsHome s old.project kind.Profile → profile_named s.profiles old.project old.name ≡ Some old
       → IsNotDefault old.name → first_user_of s old.project (target_of (row.Profile old)) ≡ None → holder_of s old.project old.name ≡ None
       → AtOnce s (removal (row.Profile old) ∷ [])
-
   makes_network : (r : Network) → IsHome s r.project kind.Network → IsNew s r.project (target_of (row.Network r))
       → AtOnce s (put_all (row.Network r ∷ []))
   changes_network : (old r : Network) → IsHome s old.project kind.Network → network_named s.networks old.project old.name ≡ Some old
@@ -178,12 +154,10 @@ pub data AtOnce (s : State) : List RowChange → Type 0 where
       → AtOnce s (moved_row (row.Network old) (row.Network (record old { name = to })))
   deletes_network : (old : Network) → IsHome s old.project kind.Network → network_named s.networks old.project old.name ≡ Some old
       → first_user_of s old.project (target_of (row.Network old)) ≡ None → AtOnce s (removal (row.Network old) ∷ [])
-
   makes_pool : (home : List ℕ) (r : Pool) → IsNew s home (target_of (row.Pool r)) → AtOnce s (put_all (row.Pool r ∷ []))
   changes_pool : (old r : Pool) → pool_named s.pools old.name ≡ Some old → r.name ≡ old.name → AtOnce s (put_all (row.Pool r ∷ []))
   deletes_pool : (home : List ℕ) (old : Pool) → pool_named s.pools old.name ≡ Some old
       → first_user_of s home (target_of (row.Pool old)) ≡ None → AtOnce s (removal (row.Pool old) ∷ [])
-
   makes_volume : (r : Volume) → IsHome s r.project kind.Volume → is_some (pool_named s.pools r.pool) ≡ true
       → IsNew s r.project (target_of (row.Volume r)) → r.created < moment_limit → AtOnce s (put_all (row.Volume r ∷ []))
   changes_volume : (old r : Volume) → IsHome s old.project kind.Volume → volume_named s.volumes old.project old.pool old.name ≡ Some old
@@ -194,7 +168,6 @@ pub data AtOnce (s : State) : List RowChange → Type 0 where
       → AtOnce s (moved_row (row.Volume old) (row.Volume (record old { name = to })))
   deletes_volume : (old : Volume) → IsHome s old.project kind.Volume → volume_named s.volumes old.project old.pool old.name ≡ Some old
       → first_user_of s old.project (target_of (row.Volume old)) ≡ None → AtOnce s (removal (row.Volume old) ∷ [])
-
   changes_instance : (old i : Instance) → IsIdle s old → IsSameInstance old i → AtOnce s (put_all (row.Instance i ∷ []))
 
 -- ---- operations that begin, by their deeds

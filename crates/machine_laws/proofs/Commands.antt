@@ -1,15 +1,11 @@
 -- Commands by their parts: their forms, and the plans that they have not.
-use Rattle.std.proofs.Common.{◌≡◌, ◌≢◌, ℕ, Bool, true, false, ◌&&◌, Option, Some, None, List, [], refl, sym, ap, subst, ◌∙◌}
+use Rattle.std.proofs.Common.{◌≡◌, ℕ, true, ◌&&◌, Option, Some, None, List, [], sym, ap, subst, ◌∙◌}
 use Rattle.std.specs.Prelude.{unwrap_or}
-use Rattle.std.specs.Option.{option_map, option_map_or, is_some, option_and_then}
-use Rattle.plain_lists.specs.Members.{Mem, Each}
+use Rattle.std.specs.Option.{option_map_or, is_some}
 use Rattle.plain_lists.proofs.Elements.{Mem-left}
-use Rattle.plain_lists.proofs.FirstLemmas.{not_mapped}
 use Rattle.plain_lists.proofs.Searches.{find-some}
 use Rattle.records.specs.Forms.{is_empty, are_profiles, has_forms, is_creation, is_change, are_settings, are_devices, has_only, may_come_from, has_needed, created_fields, changed_fields, is_none_origin}
 use Rattle.size_values.specs.declared.kinds.ObjectKind.{ObjectKind}
-use Rattle.size_values.specs.declared.kinds.ObjectKind.TheVariants as kind
-use Rattle.size_values.specs.declared.kinds.Deed.{Deed}
 use Rattle.records.specs.declared.commands.Body.{Body}
 use Rattle.records.specs.declared.commands.Command.{Command}
 use Rattle.records.specs.declared.commands.What.{What}
@@ -23,7 +19,7 @@ use Rattle.row_machine.specs.Rows.{is_instance, instance_named, project_named}
 use Rattle.row_machine.specs.Claims.{judged_instances, of_live, claimed_instance}
 use Rattle.row_machine.specs.Plans.{Plan, nothing, changes, starts}
 use Rattle.row_machine.specs.Holders.{busy_with}
-use Rattle.row_machine.specs.Whole.{IsWhole, AreLinked}
+use Rattle.row_machine.specs.Whole.{IsWhole}
 use Rattle.machine_laws.proofs.Cases.{IsAccepted, IsIdle}
 use Rattle.machine_laws.proofs.Found.{instance-found, instance-itself}
 use Rattle.machine_laws.proofs.Judged.{groups}

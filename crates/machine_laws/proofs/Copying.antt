@@ -1,6 +1,6 @@
 -- Operations that make something new: instances, copies, snapshots, and copies of volumes.
-use Rattle.std.proofs.Common.{◌≡◌, ℕ, Bool, true, false, cond, ◌&&◌, ◌==◌, length, Option, Some, None, List, [], ◌∷◌, refl, sym, ap, subst, ◌∙◌}
-use Rattle.std.specs.Option.{option_map, option_map_or, option_and_then, is_some}
+use Rattle.std.proofs.Common.{◌≡◌, ℕ, Bool, true, false, cond, ◌&&◌, ◌==◌, length, Option, Some, None, List, [], refl, sym, ap, subst, ◌∙◌}
+use Rattle.std.specs.Option.{option_map_or, option_and_then, is_some}
 use Rattle.plain_lists.proofs.FirstLemmas.{none_both, told_unless, not_mapped}
 use Rattle.size_values.specs.declared.kinds.Deed.TheVariants as deed
 use Rattle.size_values.specs.declared.kinds.ObjectKind.{ObjectKind}
@@ -21,13 +21,13 @@ use Rattle.row_machine.specs.Rows.{project_named, pool_named, volume_named, inst
 use Rattle.row_machine.specs.Homes.{home_of}
 use Rattle.row_machine.specs.Holders.{busy_with}
 use Rattle.row_machine.specs.Asked.{with_name, next_snapshot, copied_from}
-use Rattle.row_machine.specs.NameRules.{what_is_missing, parent_missing, object_missing, missing_unless, source_missing, volume_source}
+use Rattle.row_machine.specs.NameRules.{what_is_missing, parent_missing, source_missing, volume_source}
 use Rattle.row_machine.specs.StandingRules.{instance_busy, busy}
-use Rattle.row_machine.specs.NewRows.{Source, source_instance, source_snapshot}
-use Rattle.row_machine.specs.Plans.{Plan, starts, plan_of, if_there, instance_creation, copy_from, volume_creation, creation, copy, volume_copy, snapshot_creation, instance_target, snapshot_target}
+use Rattle.row_machine.specs.NewRows.{source_instance, source_snapshot}
+use Rattle.row_machine.specs.Plans.{starts, plan_of, if_there, instance_creation, volume_creation, creation, copy, volume_copy, snapshot_creation, instance_target, snapshot_target}
 use Rattle.machine_laws.proofs.Cases.{IsAccepted, Begins, IsHome, IsNew, IsIdle, volume_target}
 use Rattle.machine_laws.proofs.Cases.Begins.{creates, copies_instance, copies_snapshot, copies_volume, snaps}
-use Rattle.machine_laws.proofs.Found.{there-is, instance-found, snapshot-found, volume-found, volume-itself}
+use Rattle.machine_laws.proofs.Found.{instance-found, snapshot-found, volume-found, volume-itself}
 use Rattle.machine_laws.proofs.Commands.{command_of, target, starts-are, nothing_begins, never_changes, no-parts, creation-profiles, idle-found, accepted-names, accepted-way}
 use Rattle.machine_laws.proofs.Told.{empty-is, name-new, new-plain, new-in_pool, new-in_instance, project-there, object-there, volume-home}
 use Rattle.machine_laws.proofs.Entering.{plain-target, snapshot-parts, status-allows}
@@ -93,7 +93,7 @@ makes-instance s project pool instance name body moment task h = by body.origin 
   copied : (from snapshot from_pool : List ℕ) → body.origin ≡ origin.Copy from snapshot from_pool → (o : Option Instance) → instance_named s.instances project from ≡ o
       → (whole : Bool)
       → if_there (λ i. cond whole (starts (copy project of body moment (instance_target from) (source_instance i)))
-          (if_there (λ r. starts (copy project of body moment (snapshot_target from snapshot) (source_snapshot i r))) (snapshot_named s.snapshots project from snapshot))) o
+      (if_there (λ r. starts (copy project of body moment (snapshot_target from snapshot) (source_snapshot i r))) (snapshot_named s.snapshots project from snapshot))) o
       ≡ starts task → Begins s task
   copied from snapshot from_pool origin_is None is whole e = nothing_begins e
   copied from snapshot from_pool origin_is (Some i) is true e =
@@ -153,7 +153,7 @@ makes-snapshot s project pool instance name body moment task h = by (instance_na
       let empty = empty-is pool (both_true (is_empty pool) (is_creation kind.Snapshot body) h.formed).0 in
       let exact = with-name s project pool instance name in
       let new : IsNew s project (snapshot_target instance given) =
-          new-in_instance empty (subst (λ t. IsNew s (home_of s.projects project t.kind) t) exact (name-new s project (with_name s project of) names.name)) in
+      new-in_instance empty (subst (λ t. IsNew s (home_of s.projects project t.kind) t) exact (name-new s project (with_name s project of) names.name)) in
       subst (Begins s)
       (ap (λ p. snapshot_creation p (snapshot_target i.name given) moment i) named.0
       ∙ ap (λ t. snapshot_creation project t moment i) (snapshot-parts empty named.1 refl ∙ sym exact)
@@ -189,8 +189,8 @@ copies-volume s project pool instance name body moment task h = by body.origin r
       let new : IsNew s home (volume_target pool name) = new-in_pool empty (name-new s project of names.name) in
       let targets : volume_target pool name ≡ of = ap (λ x. target kind.Volume pool x name) (sym empty) in
       let sources : volume_target v.pool v.name ≡ volume_source of from from_pool =
-          ap (λ x. target kind.Volume x [] v.name) named.1.0 ∙ ap (λ x. target kind.Volume from_pool x v.name) (sym empty)
-          ∙ ap (λ x. target kind.Volume from_pool instance x) named.1.1 in
+      ap (λ x. target kind.Volume x [] v.name) named.1.0 ∙ ap (λ x. target kind.Volume from_pool x v.name) (sym empty)
+      ∙ ap (λ x. target kind.Volume from_pool instance x) named.1.1 in
       subst (Begins s)
       (ap (λ p. volume_copy p (volume_target pool name) body moment (volume_target v.pool v.name) v) named.0
       ∙ ap (λ t. volume_copy home t body moment (volume_target v.pool v.name) v) targets

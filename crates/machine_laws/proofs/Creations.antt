@@ -1,5 +1,5 @@
 -- Creations at once: a project, profile, network, pool or volume under a new name.
-use Rattle.std.proofs.Common.{◌≡◌, ℕ, Bool, true, false, cond, ◌&&◌, ◌==◌, length, Option, Some, None, List, [], ◌∷◌, refl, sym, ap, subst, ◌∙◌}
+use Rattle.std.proofs.Common.{◌≡◌, ℕ, Bool, true, false, cond, ◌&&◌, ◌==◌, length, Option, Some, None, List, [], ◌∷◌, refl, subst}
 use Rattle.std.specs.Option.{is_some}
 use Rattle.plain_lists.proofs.FirstLemmas.{none_both, told_unless}
 use Rattle.size_values.specs.declared.kinds.ObjectKind.{ObjectKind}
@@ -18,12 +18,12 @@ use Rattle.row_machine.specs.declared.changes.RowChange.{RowChange}
 use Rattle.records.specs.declared.commands.Target.{Target}
 use Rattle.row_machine.specs.Task.{Task}
 use Rattle.row_machine.specs.State.{State}
-use Rattle.row_machine.specs.Rows.{project_named, pool_named, volume_named, instance_named, snapshot_named}
+use Rattle.row_machine.specs.Rows.{pool_named, instance_named, snapshot_named}
 use Rattle.row_machine.specs.Homes.{home_of}
-use Rattle.row_machine.specs.NameRules.{what_is_missing, parent_missing, missing_unless}
+use Rattle.row_machine.specs.NameRules.{what_is_missing, parent_missing}
 use Rattle.row_machine.specs.NewRows.{made_project, made_profile, made_network, made_pool, made_volume}
-use Rattle.row_machine.specs.Plans.{Plan, nothing, changes, starts, plan_of, put_all, project_creation, volume_creation, instance_creation, copy_from, if_there}
-use Rattle.machine_laws.proofs.Cases.{IsAccepted, AtOnce, IsHome, IsNew}
+use Rattle.row_machine.specs.Plans.{changes, starts, plan_of, put_all, project_creation, volume_creation, instance_creation, if_there}
+use Rattle.machine_laws.proofs.Cases.{IsAccepted, AtOnce}
 use Rattle.machine_laws.proofs.Cases.AtOnce.{makes_project, makes_profile, makes_network, makes_pool, makes_volume}
 use Rattle.machine_laws.proofs.Found.{not-there}
 use Rattle.machine_laws.proofs.Judged.{judged}
@@ -132,7 +132,6 @@ never-instance s project of body moment cs (origin.Copy from snapshot pool) e =
 never-snapshot : {cs : List RowChange} {X : Type 0} (i : Option Instance) (task : Instance → Task) → if_there (λ i. starts (task i)) i ≡ changes cs → X
 never-snapshot None task e = never_nothing e
 never-snapshot (Some i) task e = never_starts e
-
 
 pub creates : (s : State) (project : List ℕ) (k : ObjectKind) (pool instance name : List ℕ) (body : Body) (moment : ℕ) (cs : List RowChange)
     → IsMade s project k pool instance name body moment cs → AtOnce s cs

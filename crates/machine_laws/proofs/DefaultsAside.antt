@@ -1,9 +1,8 @@
 -- What leaves projects and profiles leaves the defaults: all steps of operations, and their ends.
-use Rattle.std.proofs.Common.{◌≡◌, ℕ, Bool, true, false, cond, Option, Some, None, List, [], ◌∷◌, ◌++◌, map, refl, sym, ap, ◌∙◌, subst, inl, inr}
-use Rattle.std.specs.Option.{option_map, option_map_or, option_to_list, is_some}
-use Rattle.plain_lists.specs.Members.{Mem, Each}
+use Rattle.std.proofs.Common.{◌≡◌, ℕ, Bool, true, false, Option, Some, None, List, [], ◌∷◌, ◌++◌, map, refl, sym, ap, ◌∙◌, subst}
+use Rattle.std.specs.Option.{option_map, option_map_or, option_to_list}
+use Rattle.plain_lists.specs.Members.{Each}
 use Rattle.plain_lists.proofs.Elements.{Each-none, Each-cons, Each-head, Each-tail, Each-append}
-use Rattle.plain_lists.proofs.Searches.{find-some}
 use Rattle.size_values.specs.declared.kinds.Action.{Action}
 use Rattle.size_values.specs.declared.kinds.Action.TheVariants as action
 use Rattle.size_values.specs.declared.kinds.Deed.{Deed}
@@ -13,8 +12,6 @@ use Rattle.size_values.specs.declared.kinds.ObjectKind.TheVariants as kind
 use Rattle.size_values.specs.declared.kinds.Power.{Power}
 use Rattle.operations.specs.declared.operation.Operation.{Operation}
 use Rattle.operations.specs.declared.operation.OpFault.{OpFault}
-use Rattle.operations.specs.declared.status.Status.TheVariants.{Running}
-use Rattle.operations.specs.Kept.{has_number}
 use Rattle.records.specs.declared.rows.Instance.{Instance}
 use Rattle.records.specs.declared.rows.Snapshot.{Snapshot}
 use Rattle.records.specs.declared.rows.Row.{Row}
@@ -30,16 +27,15 @@ use Rattle.row_machine.specs.Changes.{applied, changed, removal}
 use Rattle.row_machine.specs.Asked.{snapshots_of}
 use Rattle.row_machine.specs.Links.{target_of}
 use Rattle.row_machine.specs.Notices.{telling}
-use Rattle.row_machine.specs.Work.{entered, cancelled, failed, succeeded, success_changes, removes_instance, renames_instance, with_power_after, power_after, after_failure}
+use Rattle.row_machine.specs.Work.{entered, cancelled, failed, succeeded, success_changes, removes_instance, renames_instance, with_power_after, power_after}
 use Rattle.row_machine.specs.Whole.{HasDefaults, IsByDeed, claim_kind}
-use Rattle.machine_laws.proofs.Cases.{IsLiveAs}
-use Rattle.machine_laws.proofs.LinksCore.{bare, core}
 use Rattle.machine_laws.proofs.LinksOperations.{failure_core, telling_core}
 
 pub defaults-same : {s t : State} → t.projects ≡ s.projects → t.profiles ≡ s.profiles → HasDefaults s → HasDefaults t
-defaults-same {s} {t} ps rs h = last (subst HasDefaults (λ i. record s { projects = sym ps i; profiles = sym rs i }) h) where
-  last : HasDefaults (record s { projects = t.projects; profiles = t.profiles }) → HasDefaults t
-  last h = record { project = h.project; profiles = h.profiles }
+defaults-same {s} {t} ps rs h =
+    last (subst HasDefaults (λ i. record s { projects = sym ps i; profiles = sym rs i }) h) where
+      last : HasDefaults (record s { projects = t.projects; profiles = t.profiles }) → HasDefaults t
+      last h = record { project = h.project; profiles = h.profiles }
 
 -- ---- steps of operations
 
@@ -51,7 +47,8 @@ pub cancelled-defaults : (s : State) (number moment : ℕ) → HasDefaults s →
 unfolding cancelled
 cancelled-defaults s number moment h = defaults-same refl refl h
 
-pub failed-defaults : (s : State) (o : Operation Task) (why : OpFault) (done moment : ℕ) → HasDefaults s → HasDefaults (failed s o why done moment)
+pub failed-defaults : (s : State) (o : Operation Task) (why : OpFault) (done moment : ℕ) → HasDefaults s
+    → HasDefaults (failed s o why done moment)
 unfolding failed
 failed-defaults s o why done moment h = defaults-same
     (ap (λ (x : State). x.projects) (failure_core o.work done s))
@@ -74,7 +71,8 @@ IsAside (change.Remove kind.Project key) = ⊥
 IsAside (change.Remove kind.Profile key) = ⊥
 IsAside other = Unit {0}
 
-changed-aside : (s : State) (c : RowChange) → IsAside c → ((changed s c).projects ≡ s.projects) × ((changed s c).profiles ≡ s.profiles)
+changed-aside : (s : State) (c : RowChange) → IsAside c
+    → ((changed s c).projects ≡ s.projects) × ((changed s c).profiles ≡ s.profiles)
 changed-aside s (change.Put (row.Project r)) aside = absurd aside
 changed-aside s (change.Put (row.Profile r)) aside = absurd aside
 changed-aside s (change.Put (row.Network r)) aside = (refl, refl)
@@ -91,7 +89,8 @@ changed-aside s (change.Remove kind.Instance key) aside = (refl, refl)
 changed-aside s (change.Remove kind.Snapshot key) aside = (refl, refl)
 changed-aside s (change.Remove kind.Operation key) aside = (refl, refl)
 
-pub applied-aside : (s : State) (cs : List RowChange) → Each IsAside cs → ((applied s cs).projects ≡ s.projects) × ((applied s cs).profiles ≡ s.profiles)
+pub applied-aside : (s : State) (cs : List RowChange) → Each IsAside cs
+    → ((applied s cs).projects ≡ s.projects) × ((applied s cs).profiles ≡ s.profiles)
 applied-aside s [] e = (refl, refl)
 applied-aside s (c ∷ cs) e =
     let first = changed-aside s c (Each-head e) in
@@ -104,12 +103,14 @@ snapshots_aside : (rs : List Snapshot) → Each IsAside (map removal (map row.Sn
 snapshots_aside [] = Each-none
 snapshots_aside (r ∷ rs) = Each-cons IsAside tt (snapshots_aside rs)
 
-removes_aside : (rs : List Snapshot) (o : Option Instance) → Each IsAside (map removal (map row.Snapshot rs ++ map row.Instance (option_to_list o)))
+removes_aside : (rs : List Snapshot) (o : Option Instance)
+    → Each IsAside (map removal (map row.Snapshot rs ++ map row.Instance (option_to_list o)))
 removes_aside [] None = Each-none
 removes_aside [] (Some i) = Each-cons IsAside tt Each-none
 removes_aside (r ∷ rs) o = Each-cons IsAside tt (removes_aside rs o)
 
-puts_aside : (i : Instance) (rs : List Snapshot) → Each IsAside (map change.Put (map (λ (r : Snapshot). row.Snapshot (record r { instance = i.name; project = i.project })) rs))
+puts_aside : (i : Instance) (rs : List Snapshot)
+    → Each IsAside (map change.Put (map (λ (r : Snapshot). row.Snapshot (record r { instance = i.name; project = i.project })) rs))
 puts_aside i [] = Each-none
 puts_aside i (r ∷ rs) = Each-cons IsAside tt (puts_aside i rs)
 
@@ -121,7 +122,8 @@ is_claimed (Some kind.Snapshot) = Unit {0}
 is_claimed (Some kind.Volume) = Unit {0}
 is_claimed (Some other) = ⊥
 
-claim_aside : (o : Option Row) → is_claimed (option_map (λ r. (target_of r).kind) o) → Each IsAside (map change.Put (option_to_list o))
+claim_aside : (o : Option Row) → is_claimed (option_map (λ r. (target_of r).kind) o)
+    → Each IsAside (map change.Put (option_to_list o))
 claim_aside None is = Each-none
 claim_aside (Some (row.Project r)) is = absurd is
 claim_aside (Some (row.Profile r)) is = absurd is
@@ -149,13 +151,17 @@ success-aside s task by = at task.deed where
   puts = claim_aside task.claim (subst is_claimed (sym by.kind) (deed_claims task.deed))
 
   removes : Each IsAside (removes_instance s task.project task.target.name)
-  removes = removes_aside (snapshots_of s task.project task.target.name) (instance_named s.instances task.project task.target.name)
+  removes =
+      removes_aside (snapshots_of s task.project task.target.name)
+      (instance_named s.instances task.project task.target.name)
 
   renames : (o : Option Instance) → Each IsAside (option_map_or (renames_instance s task) o [])
   renames None = Each-none
-  renames (Some i) = Each-append removes (Each-cons IsAside tt (puts_aside i (snapshots_of s task.project task.target.name)))
+  renames (Some i) =
+      Each-append removes (Each-cons IsAside tt (puts_aside i (snapshots_of s task.project task.target.name)))
 
-  acts : (does : Action) (ephemeral : Bool) → Each IsAside (success_changes s (record task { deed = deed.Act does ephemeral }))
+  acts : (does : Action) (ephemeral : Bool)
+      → Each IsAside (success_changes s (record task { deed = deed.Act does ephemeral }))
   acts action.Stop true = removes
   acts action.Stop false = Each-none
   acts action.Start ephemeral = Each-none
@@ -172,14 +178,17 @@ success-aside s task by = at task.deed where
   at deed.Delete = removes
   at (deed.Act does ephemeral) = acts does ephemeral
   at deed.Snap = puts
-  at deed.Unsnap = snapshots_aside (option_to_list (snapshot_named s.snapshots task.project task.target.instance task.target.name))
+  at deed.Unsnap =
+      snapshots_aside (option_to_list (snapshot_named s.snapshots task.project task.target.instance task.target.name))
   at deed.CopyVolume = puts
 
-powered : (task : Task) (power : Option Power) (s : State) → ((with_power_after task power s).projects ≡ s.projects) × ((with_power_after task power s).profiles ≡ s.profiles)
+powered : (task : Task) (power : Option Power) (s : State)
+    → ((with_power_after task power s).projects ≡ s.projects) × ((with_power_after task power s).profiles ≡ s.profiles)
 powered task None s = (refl, refl)
 powered task (Some power) s = (refl, refl)
 
-pub succeeded-defaults : (s : State) (o : Operation Task) (moment : ℕ) → IsByDeed o.work → HasDefaults s → HasDefaults (succeeded s o moment)
+pub succeeded-defaults : (s : State) (o : Operation Task) (moment : ℕ) → IsByDeed o.work → HasDefaults s
+    → HasDefaults (succeeded s o moment)
 unfolding succeeded
 succeeded-defaults s o moment by h =
     let changes = applied-aside (with_power_after o.work (power_after s o.work) s) (success_changes s o.work) (success-aside s o.work by) in

@@ -1,8 +1,8 @@
 -- Operations on instances that are there: update, rename, deletion, change of state, restore, and their snapshots.
-use Rattle.std.proofs.Common.{◌≡◌, ℕ, Bool, true, false, cond, ◌&&◌, ◌==◌, length, Option, Some, None, List, [], ◌∷◌, refl, sym, ap, subst, ◌∙◌}
+use Rattle.std.proofs.Common.{◌≡◌, ℕ, true, false, ◌&&◌, Option, Some, None, List, [], refl, sym, ap, subst, ◌∙◌}
 use Rattle.std.specs.Prelude.{IfSome}
-use Rattle.std.specs.Option.{option_map, option_map_or, option_and_then, is_some}
-use Rattle.plain_lists.proofs.FirstLemmas.{none_both, told_unless, not_mapped}
+use Rattle.std.specs.Option.{option_map, option_and_then}
+use Rattle.plain_lists.proofs.FirstLemmas.{told_unless, not_mapped}
 use Rattle.size_values.specs.declared.kinds.Action.{Action}
 use Rattle.size_values.specs.declared.kinds.Deed.{Deed}
 use Rattle.size_values.specs.declared.kinds.Deed.TheVariants as deed
@@ -10,9 +10,8 @@ use Rattle.size_values.specs.declared.kinds.Power.{Power}
 use Rattle.size_values.specs.declared.kinds.ObjectKind.{ObjectKind}
 use Rattle.size_values.specs.declared.kinds.ObjectKind.TheVariants as kind
 use Rattle.instance_states.specs.States.{is_allowed}
-use Rattle.records.specs.Forms.{is_empty, is_change, are_profiles}
+use Rattle.records.specs.Forms.{is_empty, is_change}
 use Rattle.records.specs.declared.commands.Body.{Body}
-use Rattle.records.specs.declared.commands.Command.{Command}
 use Rattle.records.specs.declared.commands.What.{What}
 use Rattle.records.specs.declared.commands.What.TheVariants as what
 use Rattle.records.specs.declared.commands.Target.{Target}
@@ -22,19 +21,17 @@ use Rattle.records.specs.declared.rows.Row.TheVariants as row
 use Rattle.row_codec.proofs.Fields.{both_true}
 use Rattle.row_machine.specs.Task.{Task}
 use Rattle.row_machine.specs.State.{State}
-use Rattle.row_machine.specs.Rows.{project_named, instance_named, snapshot_named}
+use Rattle.row_machine.specs.Rows.{instance_named, snapshot_named}
 use Rattle.row_machine.specs.Homes.{home_of}
-use Rattle.row_machine.specs.Asked.{instance_in}
-use Rattle.row_machine.specs.NameRules.{what_is_missing, parent_missing, object_missing}
 use Rattle.row_machine.specs.StandingRules.{power_of, wrong_state, in_wrong_state, deed_asked, instance_busy}
 use Rattle.row_machine.specs.NewRows.{put_instance}
-use Rattle.row_machine.specs.Plans.{Plan, starts, plan_of, plan_put, plan_move, plan_delete, plan_restore, if_there, update, restoring, renaming, deletion, snapshot_deletion, acting, instance_target, snapshot_target}
-use Rattle.machine_laws.proofs.Cases.{IsAccepted, Begins, IsNew, IsIdle, IsSameInstance, Allows}
+use Rattle.row_machine.specs.Plans.{starts, plan_of, plan_put, plan_move, plan_delete, plan_restore, if_there, update, restoring, renaming, deletion, snapshot_deletion, acting, instance_target, snapshot_target}
+use Rattle.machine_laws.proofs.Cases.{IsAccepted, Begins, IsNew, IsSameInstance, Allows}
 use Rattle.machine_laws.proofs.Cases.Begins.{updates, restores, renames, deletes, acts, unsnaps}
-use Rattle.machine_laws.proofs.Found.{there-is, instance-found, snapshot-found, snapshot-itself}
+use Rattle.machine_laws.proofs.Found.{there-is, instance-found, snapshot-found}
 use Rattle.machine_laws.proofs.Commands.{command_of, target, starts-are, nothing_begins, no-parts, change-profiles, profiles-or, idle-found, accepted-names, accepted-way}
 use Rattle.machine_laws.proofs.Told.{IsWayFree, empty-is, name-new, new-plain, project-there}
-use Rattle.machine_laws.proofs.Speaking.{IsAbout, about-put, about-move, about-delete, its-project, it-is_there, it-is_idle}
+use Rattle.machine_laws.proofs.Speaking.{about-put, about-move, about-delete, its-project, it-is_there, it-is_idle}
 
 -- ---- a status that allows the deed
 
@@ -82,12 +79,12 @@ updates-instance s project pool instance name body moment task h = by (instance_
       let empty = no-parts pool instance forms.0 in
       let new = put_instance i body in
       let same : IsSameInstance i new = record {
-            project = refl;
-            name = refl;
-            kind = refl;
-            created = refl;
-            profiles = profiles-or body.profiles [] (change-profiles kind.Instance body forms.1) refl;
-          } in
+        project = refl;
+        name = refl;
+        kind = refl;
+        created = refl;
+        profiles = profiles-or body.profiles [] (change-profiles kind.Instance body forms.1) refl;
+      } in
       subst (Begins s)
       (ap (λ p. update s p (instance_target i.name) new) named.0 ∙ ap (λ t. update s project t new) (plain-target kind.Instance empty.0 empty.1 named.1) ∙ starts-are e)
       (updates i new idle same)

@@ -1,5 +1,5 @@
 -- What an accepted command's rules say, group by group.
-use Rattle.std.proofs.Common.{◌≡◌, ℕ, List, Option, None, refl, sym, subst}
+use Rattle.std.proofs.Common.{◌≡◌, ℕ, List, None, subst}
 use Rattle.std.specs.Option.{option_to_list}
 use Rattle.plain_lists.proofs.FirstLemmas.{none_both}
 use Rattle.records.specs.declared.commands.Command.{Command}

@@ -1,14 +1,12 @@
 -- What the links of a state are read from: its rows, and what its live operations are about.
-use Rattle.std.proofs.Common.{◌≡◌, ℕ, Bool, true, false, cond, Option, Some, None, List, [], ◌∷◌, ◌++◌, refl, sym, ◌∙◌, ap, subst, inl, inr}
+use Rattle.std.proofs.Common.{◌≡◌, Option, List, [], refl, sym, ◌∙◌, ap, subst}
 use Rattle.std.specs.List.{filter_map}
 use Rattle.plain_lists.specs.Members.{Mem, Each}
 use Rattle.plain_lists.proofs.Elements.{Each-map, Each-append, Each-left, Each-right}
 use Rattle.plain_lists.proofs.Readings.{Mem-read, Mem-from_read}
 use Rattle.operations.specs.declared.operation.Operation.{Operation}
 use Rattle.operations.specs.Kept.{no_operations}
-use Rattle.records.specs.Forms.{are_profiles}
 use Rattle.records.specs.declared.rows.Instance.{Instance}
-use Rattle.records.specs.declared.rows.Snapshot.{Snapshot}
 use Rattle.row_machine.specs.Task.{Task}
 use Rattle.row_machine.specs.State.{State, empty_state}
 use Rattle.row_machine.specs.Claims.{of_live, claimed_instance, claimed_snapshot, judged_instances}
@@ -88,12 +86,14 @@ pub AreOf-itself : {live : List (Operation Task)} → AreOf live live
 AreOf-itself = record { at = λ o m. (o, (m, refl)) }
 
 pub AreOf-both : {a b c : List (Operation Task)} → AreOf a b → AreOf b c → AreOf a c
-AreOf-both f g = record { at = λ o m.
-  let later = g.at o m in
-  let first = f.at later.0 later.1.0 in
-  (first.0, (first.1.0, same_both first.0.work later.0.work o.work first.1.1 later.1.1)) } where
-    same_both : (x y z : Task) → IsSameWork x y → IsSameWork y z → IsSameWork x z
-    same_both x y z f g = g ∙ ap (λ (w : Task). record w { calls = z.calls; undo = z.undo; done = z.done }) f
+AreOf-both f g = record {
+  at = λ o m.
+      let later = g.at o m in
+      let first = f.at later.0 later.1.0 in
+      (first.0, (first.1.0, same_both first.0.work later.0.work o.work first.1.1 later.1.1));
+} where
+  same_both : (x y z : Task) → IsSameWork x y → IsSameWork y z → IsSameWork x z
+  same_both x y z f g = g ∙ ap (λ (w : Task). record w { calls = z.calls; undo = z.undo; done = z.done }) f
 
 placed-work : (s : State) (a b : Task) → IsSameWork a b → IsPlaced s a → IsPlaced s b
 placed-work s a b same h = subst (IsPlaced s) (sym same) (going h) where
@@ -110,19 +110,23 @@ placed-work s a b same h = subst (IsPlaced s) (sym same) (going h) where
   }
 
 -- what each claim meets, each claim of the later operations meets
-claims-of : {X : Type 0} (read : Task → Option X) → ((task later : Task) → IsSameWork task later → read later ≡ read task)
+claims-of : {X : Type 0} (read : Task → Option X)
+    → ((task later : Task) → IsSameWork task later → read later ≡ read task)
     → {P : X → Type 0} {live later : List (Operation Task)} → AreOf live later
     → Each P (filter_map (λ o. read o.work) live) → Each P (filter_map (λ o. read o.work) later)
-claims-of {X} read keeps {P} {live} {later} of e = record { at = λ x m.
-  let found = Mem-from_read (λ (o : Operation Task). read o.work) x later m in
-  let first = of.at found.0 found.1.0 in
-  e.at x (Mem-read (λ (o : Operation Task). read o.work) first.0 x live first.1.0
-      (sym (keeps first.0.work found.0.work first.1.1) ∙ found.1.1)) }
+claims-of {X} read keeps {P} {live} {later} of e = record {
+  at = λ x m.
+      let found = Mem-from_read (λ (o : Operation Task). read o.work) x later m in
+      let first = of.at found.0 found.1.0 in
+      e.at x (Mem-read (λ (o : Operation Task). read o.work) first.0 x live first.1.0
+      (sym (keeps first.0.work found.0.work first.1.1) ∙ found.1.1));
+}
 
 -- ---- the links of a state
 
 -- with fewer live operations
-fewer-links : {s : State} {live : List (Operation Task)} → AreOf s.operations.live live → AreLinked s → AreLinked (bare s live)
+fewer-links : {s : State} {live : List (Operation Task)} → AreOf s.operations.live live → AreLinked s
+    → AreLinked (bare s live)
 unfolding judged_instances devices_miss
 fewer-links {s} {live} of h = record {
   homes = h.homes;
@@ -134,9 +138,12 @@ fewer-links {s} {live} of h = record {
   instances = Each-map (λ i. linked-rows s (bare s live) i refl)
       (Each-append (Each-left (of_live claimed_instance s) h.instances)
       (claims-of claimed_instance (λ a b same. ap claimed_instance same) of (Each-right s.instances h.instances)));
-  operations = record { at = λ o m.
-    let first = of.at o m in
-    placed-rows s (bare s live) o.work refl (placed-work s first.0.work o.work first.1.1 (h.operations.at first.0 first.1.0)) };
+  operations = record {
+    at = λ o m.
+        let first = of.at o m in
+        placed-rows s (bare s live) o.work refl
+        (placed-work s first.0.work o.work first.1.1 (h.operations.at first.0 first.1.0));
+  };
 }
 
 core-links : {t : State} → AreLinked (core t) → AreLinked t
@@ -152,8 +159,10 @@ core-links {t} h = record {
 }
 
 -- Links stay where the rows stay and the live operations are some of those that were there.
-pub links-fewer : (s t : State) → bare t [] ≡ bare s [] → AreOf s.operations.live t.operations.live → AreLinked s → AreLinked t
-links-fewer s t same of h = core-links (subst AreLinked (ap (λ x. bare x t.operations.live) (sym same)) (fewer-links of h))
+pub links-fewer : (s t : State) → bare t [] ≡ bare s [] → AreOf s.operations.live t.operations.live → AreLinked s
+    → AreLinked t
+links-fewer s t same of h =
+    core-links (subst AreLinked (ap (λ x. bare x t.operations.live) (sym same)) (fewer-links of h))
 
 -- Links are read from rows and live operations alone.
 pub links-core : (s t : State) → core t ≡ core s → AreLinked s → AreLinked t

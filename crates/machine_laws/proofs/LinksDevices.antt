@@ -1,5 +1,5 @@
 -- What devices name is there as long as what they name stays.
-use Rattle.std.proofs.Common.{◌≡◌, ℕ, Bool, true, false, cond, ◌&&◌, Option, Some, None, List, [], ◌∷◌, refl, sym, ◌∙◌, ap, subst}
+use Rattle.std.proofs.Common.{◌≡◌, ℕ, Bool, true, false, cond, Option, Some, None, List, [], ◌∷◌, refl, sym, ◌∙◌, ap, subst}
 use Rattle.std.specs.Prelude.{codes}
 use Rattle.std.specs.List.{find}
 use Rattle.std.specs.Map.{values_of}
@@ -8,7 +8,7 @@ use Rattle.expansion.specs.declared.expanded.Expanded.{Expanded}
 use Rattle.std.specs.Str.{bytes_eq}
 use Rattle.std.proofs.lemmas.Bool.{and_from}
 use Rattle.plain_lists.specs.Members.{Mem, Each}
-use Rattle.plain_lists.specs.Firsts.{first, first_of}
+use Rattle.plain_lists.specs.Firsts.{first}
 use Rattle.plain_lists.proofs.FirstLemmas.{told_if, none_both, not_mapped, first_of-none, none-first_of}
 use Rattle.plain_lists.proofs.Searches.{any-mem, find-none, none-find}
 use Rattle.config_lists.proofs.Keys.{bytes_eq-itself}
@@ -34,7 +34,8 @@ use Rattle.machine_laws.proofs.LinksHomes.{StaysHome}
 
 -- the network of a project, in its home
 abbrev pub network_there : State → List ℕ → List ℕ → Type 0
-network_there s project name = is_some (network_named s.networks (home_of s.projects project kind.Network) name) ≡ true
+network_there s project name =
+    is_some (network_named s.networks (home_of s.projects project kind.Network) name) ≡ true
 
 -- the pool
 abbrev pub pool_there : State → List ℕ → Type 0
@@ -42,21 +43,27 @@ pool_there s name = is_some (pool_named s.pools name) ≡ true
 
 -- the volume of a project, in its home
 abbrev pub volume_there : State → List ℕ → List ℕ → List ℕ → Type 0
-volume_there s project pool name = is_some (volume_named s.volumes (home_of s.projects project kind.Volume) pool name) ≡ true
+volume_there s project pool name =
+    is_some (volume_named s.volumes (home_of s.projects project kind.Volume) pool name) ≡ true
 
 -- what a device in a project names is there in t where it was in s
 pub record ServesOne (s t : State) (project : List ℕ) (d : Settings) : Type 0 where
-  pub networks : (name : List ℕ) → is_nic_on name d ≡ true → network_there s project name → network_there t project name
+  pub networks : (name : List ℕ) → is_nic_on name d ≡ true → network_there s project name
+      → network_there t project name
   pub pools : (name : List ℕ) → is_disk_in name d ≡ true → pool_there s name → pool_there t name
-  pub volumes : (pool name : List ℕ) → is_volume_of pool name d ≡ true → volume_there s project pool name → volume_there t project pool name
+  pub volumes : (pool name : List ℕ) → is_volume_of pool name d ≡ true → volume_there s project pool name
+      → volume_there t project pool name
 
 -- and what any of these devices names
 pub record Serves (s t : State) (project : List ℕ) (devices : NamedDevices) : Type 0 where
-  pub networks : (name : List ℕ) → names_network devices name ≡ true → network_there s project name → network_there t project name
+  pub networks : (name : List ℕ) → names_network devices name ≡ true → network_there s project name
+      → network_there t project name
   pub pools : (name : List ℕ) → names_pool devices name ≡ true → pool_there s name → pool_there t name
-  pub volumes : (pool name : List ℕ) → names_volume devices pool name ≡ true → volume_there s project pool name → volume_there t project pool name
+  pub volumes : (pool name : List ℕ) → names_volume devices pool name ≡ true → volume_there s project pool name
+      → volume_there t project pool name
 
-serves-each : {s t : State} {project : List ℕ} {devices : NamedDevices} → Serves s t project devices → (d : Settings) → Mem d (values_of devices) → ServesOne s t project d
+serves-each : {s t : State} {project : List ℕ} {devices : NamedDevices} → Serves s t project devices → (d : Settings)
+    → Mem d (values_of devices) → ServesOne s t project d
 unfolding names_network names_pool names_volume
 serves-each {devices} h d m = record {
   networks = λ name is. h.networks name (any-mem (is_nic_on name) d (values_of devices) m is);
@@ -91,7 +98,8 @@ of_there (Some x) r h = refl
 has_found : (d : Settings) (key value : List ℕ) → setting d key ≡ Some value → has_setting d key value ≡ true
 has_found d key value is = ap (λ o. option_map_or (λ found. bytes_eq found value) o false) is ∙ bytes_eq-itself value
 
-device-stays : (s t : State) (project : List ℕ) (d : Settings) → ServesOne s t project d → device_misses s project d ≡ None → device_misses t project d ≡ None
+device-stays : (s t : State) (project : List ℕ) (d : Settings) → ServesOne s t project d
+    → device_misses s project d ≡ None → device_misses t project d ≡ None
 device-stays s t project d h = nic (has_setting d (codes "type") (codes "nic")) refl where
   net : (o : Option (List ℕ)) → has_setting d (codes "type") (codes "nic") ≡ true → setting d (codes "network") ≡ o
       → option_and_then (network_missing s project) o ≡ None → option_and_then (network_missing t project) o ≡ None
@@ -102,7 +110,8 @@ device-stays s t project d h = nic (has_setting d (codes "type") (codes "nic")) 
       (there_of (network_named s.networks (home_of s.projects project kind.Network) name) _ e))
 
   volume : (pool : List ℕ) (o : Option (List ℕ)) → is_disk_in pool d ≡ true → setting d (codes "source") ≡ o
-      → option_and_then (volume_missing s project pool) o ≡ None → option_and_then (volume_missing t project pool) o ≡ None
+      → option_and_then (volume_missing s project pool) o ≡ None
+      → option_and_then (volume_missing t project pool) o ≡ None
   volume pool None in_pool found e = refl
   volume pool (Some name) in_pool found e =
       of_there (volume_named t.volumes (home_of t.projects project kind.Volume) pool name) _
@@ -131,9 +140,11 @@ device-stays s t project d h = nic (has_setting d (codes "type") (codes "nic")) 
 
   nic : (b : Bool) → has_setting d (codes "type") (codes "nic") ≡ b
       → cond b (option_and_then (network_missing s project) (setting d (codes "network")))
-        (cond (has_setting d (codes "type") (codes "disk")) (option_and_then (disk_misses s project d) (setting d (codes "pool"))) None) ≡ None
+      (cond (has_setting d (codes "type") (codes "disk")) (option_and_then (disk_misses s project d) (setting d (codes "pool"))) None)
+      ≡ None
       → cond b (option_and_then (network_missing t project) (setting d (codes "network")))
-        (cond (has_setting d (codes "type") (codes "disk")) (option_and_then (disk_misses t project d) (setting d (codes "pool"))) None) ≡ None
+      (cond (has_setting d (codes "type") (codes "disk")) (option_and_then (disk_misses t project d) (setting d (codes "pool"))) None)
+      ≡ None
   nic true is e = net (setting d (codes "network")) is refl e
   nic false is e = disk (has_setting d (codes "type") (codes "disk")) refl e
 
@@ -154,17 +165,24 @@ unfolding profile_missing
 profiles-there s i e = find-none (λ name. is_none (profile_named s.profiles (home_in s i) name)) i.profiles
     (not_mapped _ (find (λ name. is_none (profile_named s.profiles (home_in s i) name)) i.profiles) e)
 
-pub there-profiles : (s : State) (i : Instance) → Each (λ name. is_none (profile_named s.profiles (home_in s i) name) ≡ false) i.profiles
+pub there-profiles : (s : State) (i : Instance)
+    → Each (λ name. is_none (profile_named s.profiles (home_in s i) name) ≡ false) i.profiles
     → profile_missing s i ≡ None
 unfolding profile_missing
-there-profiles s i e = ap (λ o. option_map (λ name. on_object rule.V5 kind.Profile name) o) (none-find (λ name. is_none (profile_named s.profiles (home_in s i) name)) i.profiles e)
+there-profiles s i e =
+    ap (λ o. option_map (λ name. on_object rule.V5 kind.Profile name) o)
+    (none-find (λ name. is_none (profile_named s.profiles (home_in s i) name)) i.profiles e)
 
 profiles-stay : {s t : State} {i : Instance} → IsAlike s t i → profile_missing s i ≡ None → profile_missing t i ≡ None
-profiles-stay {s} {t} {i} h e = there-profiles t i (record { at = λ name m.
-  ap (λ home. is_none (profile_named t.profiles home name)) h.home ∙ ap is_none (h.profiles name m) ∙ (profiles-there s i e).at name m })
+profiles-stay {s} {t} {i} h e = there-profiles t i (record {
+  at = λ name m.
+      ap (λ home. is_none (profile_named t.profiles home name)) h.home ∙ ap is_none (h.profiles name m) ∙
+      (profiles-there s i e).at name m;
+})
 
 -- An instance has all that it names where its profiles stay, and what its devices name is still there.
-pub linked-stays : {s t : State} {i : Instance} → IsAlike s t i → Serves s t i.project (expanded_of s.projects s.profiles i).devices → IsLinked s i → IsLinked t i
+pub linked-stays : {s t : State} {i : Instance} → IsAlike s t i
+    → Serves s t i.project (expanded_of s.projects s.profiles i).devices → IsLinked s i → IsLinked t i
 linked-stays {s} {t} {i} alike serves h = record {
   few = h.few;
   profiles = profiles-stay alike h.profiles;

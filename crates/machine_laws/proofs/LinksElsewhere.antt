@@ -1,5 +1,5 @@
 -- Links where projects change in which nothing is but a profile `default`.
-use Rattle.std.proofs.Common.{◌≡◌, ◌≢◌, ℕ, Bool, true, false, cond, not, ◌&&◌, ◌||◌, ◌⊎◌, Option, Some, None, List, [], ◌∷◌, ◌++◌, refl, sym, ap, subst, ◌∙◌, inl, inr, true≢false}
+use Rattle.std.proofs.Common.{◌≡◌, ◌≢◌, ℕ, Bool, true, false, not, ◌&&◌, ◌||◌, ◌⊎◌, Some, None, List, refl, sym, ap, subst, ◌∙◌, inl, inr, true≢false}
 use Rattle.std.specs.List.{list_any}
 use Rattle.std.specs.Option.{is_some}
 use Rattle.std.specs.Str.{bytes_eq}
@@ -19,7 +19,7 @@ use Rattle.records.specs.declared.rows.Snapshot.{Snapshot}
 use Rattle.records.specs.declared.rows.Row.TheVariants as row
 use Rattle.row_machine.specs.Task.{Task}
 use Rattle.row_machine.specs.State.{State}
-use Rattle.row_machine.specs.Rows.{default_name, is_instance, project_named, profile_named, volume_named, instance_named}
+use Rattle.row_machine.specs.Rows.{default_name, is_instance, volume_named, instance_named}
 use Rattle.row_machine.specs.Expansions.{expanded_of}
 use Rattle.row_machine.specs.Claims.{claimed_instance, judged_instances}
 use Rattle.row_machine.specs.SettingRules.{devices_miss}
@@ -28,11 +28,12 @@ use Rattle.row_machine.specs.Opening.{homeless}
 use Rattle.row_machine.specs.Whole.{IsWhole, IsLinked, AreLinked}
 use Rattle.machine_laws.proofs.Found.{there-is, instance-found}
 use Rattle.machine_laws.proofs.Expansions.{IsAlike}
-use Rattle.machine_laws.proofs.ExpansionsApart.{AreApart, apart-elsewhere, fails-by}
+use Rattle.machine_laws.proofs.ExpansionsApart.{AreApart, apart-elsewhere}
 use Rattle.machine_laws.proofs.NamesRows.{EachRow, each-row, rows-each}
 use Rattle.machine_laws.proofs.LinksClaims.{claim-instance}
-use Rattle.machine_laws.proofs.LinksHomes.{StaysHome, stays-found, homeless-stays, home-at}
+use Rattle.machine_laws.proofs.LinksHomes.{StaysHome, stays-found, homeless-stays}
 use Rattle.machine_laws.proofs.LinksDevices.{serves-all, devices-stay, linked-stays}
+use Rattle.machine_laws.proofs.LinksUnused.{or-none}
 use Rattle.machine_laws.proofs.LinksPlaces.{Leaves, placed-stays}
 
 -- with these projects and profiles
@@ -50,7 +51,8 @@ pub record EstateServes (s : State) (ps : List Project) (rs : List Profile) : Ty
   pub operations : Each (λ o. StaysHome s.projects ps o.work.project) s.operations.live
   pub profiles : Each (λ r. (homeless (with_estate s ps rs) (row.Profile r) ≡ None) × (devices_miss (with_estate s ps rs) r.project r.devices ≡ None)) rs
 
-pub estate-links : (s : State) (ps : List Project) (rs : List Profile) → IsWhole s → EstateServes s ps rs → AreLinked (with_estate s ps rs)
+pub estate-links : (s : State) (ps : List Project) (rs : List Profile) → IsWhole s → EstateServes s ps rs
+    → AreLinked (with_estate s ps rs)
 unfolding judged_instances
 estate-links s ps rs h serve = record {
   homes = rows-each t (record {
@@ -88,12 +90,15 @@ estate-links s ps rs h serve = record {
     project = stays;
     instances = λ name busy there. refl;
     snapshots = λ instance name busy there. there;
-    volumes = λ of is volume there. ap (λ home. is_some (volume_named s.volumes home of.pool of.name)) (stays.home kind.Volume) ∙ there;
+    volumes =
+        λ of is volume there. ap (λ home. is_some (volume_named s.volumes home of.pool of.name))
+        (stays.home kind.Volume) ∙ there;
     pools = λ v is there. there;
   }
 
 -- a profile whose project stays keeps its home and what its devices name
-pub profile-stays : (s : State) (ps : List Project) (rs : List Profile) (r : Profile) → IsWhole s → Mem r s.profiles → StaysHome s.projects ps r.project
+pub profile-stays : (s : State) (ps : List Project) (rs : List Profile) (r : Profile) → IsWhole s → Mem r s.profiles
+    → StaysHome s.projects ps r.project
     → (homeless (with_estate s ps rs) (row.Profile r) ≡ None) × (devices_miss (with_estate s ps rs) r.project r.devices ≡ None)
 profile-stays s ps rs r h m stays = (
   homeless-stays s (with_estate s ps rs) (row.Profile r) stays ((each-row s h.links.homes).profiles.at r m),
@@ -115,7 +120,8 @@ pub record AreElsewhere (Q : List ℕ → Type 0) (s : State) : Type 0 where
 pub elsewhere-links : (Q : List ℕ → Type 0) (s : State) (ps : List Project) (rs : List Profile) → IsWhole s → AreElsewhere Q s
     → AreApart Q (λ project name. Q project) s (with_estate s ps rs)
     → ((r : Profile) → Mem r rs → (Mem r s.profiles × (Q r.project → ⊥))
-      ⊎ ((homeless (with_estate s ps rs) (row.Profile r) ≡ None) × (devices_miss (with_estate s ps rs) r.project r.devices ≡ None)))
+    ⊎
+    ((homeless (with_estate s ps rs) (row.Profile r) ≡ None) × (devices_miss (with_estate s ps rs) r.project r.devices ≡ None)))
     → AreLinked (with_estate s ps rs)
 unfolding judged_instances
 elsewhere-links Q s ps rs h away apart profiles = estate-links s ps rs h (record {
@@ -130,7 +136,8 @@ elsewhere-links Q s ps rs h away apart profiles = estate-links s ps rs h (record
   stays : (name : List ℕ) → (Q name → ⊥) → StaysHome s.projects ps name
   stays name never = stays-found s.projects ps name (apart.projects name never)
 
-  claimed : (i : Instance) → (o : Operation Task) × (Mem o s.operations.live × (claimed_instance o.work ≡ Some i)) → Q i.project → ⊥
+  claimed : (i : Instance) → (o : Operation Task) × (Mem o s.operations.live × (claimed_instance o.work ≡ Some i))
+      → Q i.project → ⊥
   claimed i found touched =
       away.operations.at found.0 found.1.0
       (subst Q ((h.links.operations.at found.0 found.1.0).claim_project (row.Instance i) (claim-instance found.0.work i found.1.1)) touched)
@@ -141,7 +148,8 @@ elsewhere-links Q s ps rs h away apart profiles = estate-links s ps rs h (record
       away.instances.at found.0 (find-some (is_instance r.project r.instance) s.instances found.0 found.1).0
       (subst Q (sym (instance-found s.instances r.project r.instance found.0 found.1).0) touched)
 
-  profile : (r : Profile) → (Mem r s.profiles × (Q r.project → ⊥)) ⊎ ((homeless (with_estate s ps rs) (row.Profile r) ≡ None) × (devices_miss (with_estate s ps rs) r.project r.devices ≡ None))
+  profile : (r : Profile)
+      → (Mem r s.profiles × (Q r.project → ⊥)) ⊎ ((homeless (with_estate s ps rs) (row.Profile r) ≡ None) × (devices_miss (with_estate s ps rs) r.project r.devices ≡ None))
       → (homeless (with_estate s ps rs) (row.Profile r) ≡ None) × (devices_miss (with_estate s ps rs) r.project r.devices ≡ None)
   profile r (inl old) = profile-stays s ps rs r h old.0 (stays r.project old.1)
   profile r (inr own) = own
@@ -156,21 +164,25 @@ pub record IsEmpty (s : State) (name : List ℕ) : Type 0 where
   pub profiles : Each (λ r. r.project ≡ name → r.name ≡ default_name) s.profiles
   pub operations : Each (λ o. o.work.project ≢ name) s.operations.live
 
-or_none : (a b : Bool) → (a || b) ≡ false → (a ≡ false) × (b ≡ false)
-or_none true b e = cc
-or_none false b e = (refl, e)
-
 unlike : (a b : List ℕ) → bytes_eq a b ≡ false → a ≢ b
 unlike a b fails e = true≢false (sym (ap (λ x. bytes_eq x b) e ∙ bytes_eq-itself b) ∙ fails)
 
 pub empty-project : (s : State) (name : List ℕ) → is_occupied s name ≡ false → IsEmpty s name
 empty-project s name e = record {
-  instances = Each-map (λ (r : Instance). unlike r.project name) (any-none (λ (r : Instance). bytes_eq r.project name) s.instances first.0);
-  networks = Each-map (λ (r : Network). unlike r.project name) (any-none (λ (r : Network). bytes_eq r.project name) s.networks first.1);
-  volumes = Each-map (λ (r : Volume). unlike r.project name) (any-none (λ (r : Volume). bytes_eq r.project name) s.volumes second.1);
+  instances =
+      Each-map (λ (r : Instance). unlike r.project name)
+      (any-none (λ (r : Instance). bytes_eq r.project name) s.instances first.0);
+  networks =
+      Each-map (λ (r : Network). unlike r.project name)
+      (any-none (λ (r : Network). bytes_eq r.project name) s.networks first.1);
+  volumes =
+      Each-map (λ (r : Volume). unlike r.project name)
+      (any-none (λ (r : Volume). bytes_eq r.project name) s.volumes second.1);
   profiles = Each-map (λ (r : Profile). own r (bytes_eq r.name default_name) refl)
       (any-none (λ (r : Profile). bytes_eq r.project name && not (bytes_eq r.name default_name)) s.profiles third.1);
-  operations = Each-map (λ (o : Operation Task). unlike o.work.project name) (any-none (λ (o : Operation Task). bytes_eq o.work.project name) s.operations.live fourth.1);
+  operations =
+      Each-map (λ (o : Operation Task). unlike o.work.project name)
+      (any-none (λ (o : Operation Task). bytes_eq o.work.project name) s.operations.live fourth.1);
 } where
   guests : Bool
   guests = list_any (λ (r : Instance). bytes_eq r.project name) s.instances
@@ -188,18 +200,19 @@ empty-project s name e = record {
   ops = list_any (λ (o : Operation Task). bytes_eq o.work.project name) s.operations.live
 
   fourth : ((guests || nets || vols || owns) ≡ false) × (ops ≡ false)
-  fourth = or_none (guests || nets || vols || owns) ops e
+  fourth = or-none (guests || nets || vols || owns) ops e
 
   third : ((guests || nets || vols) ≡ false) × (owns ≡ false)
-  third = or_none (guests || nets || vols) owns fourth.0
+  third = or-none (guests || nets || vols) owns fourth.0
 
   second : ((guests || nets) ≡ false) × (vols ≡ false)
-  second = or_none (guests || nets) vols third.0
+  second = or-none (guests || nets) vols third.0
 
   first : (guests ≡ false) × (nets ≡ false)
-  first = or_none guests nets second.0
+  first = or-none guests nets second.0
 
-  own : (r : Profile) (b : Bool) → bytes_eq r.name default_name ≡ b → (bytes_eq r.project name && not b) ≡ false → r.project ≡ name → r.name ≡ default_name
+  own : (r : Profile) (b : Bool) → bytes_eq r.name default_name ≡ b → (bytes_eq r.project name && not b) ≡ false
+      → r.project ≡ name → r.name ≡ default_name
   own r true is none at = same r.name default_name is
   own r false is none at =
       let here : bytes_eq r.project name ≡ true = ap (λ x. bytes_eq x name) at ∙ bytes_eq-itself name in

@@ -1,5 +1,5 @@
 -- An operation that begins keeps the links.
-use Rattle.std.proofs.Common.{◌≡◌, ℕ, Bool, true, false, cond, Option, Some, None, List, [], ◌∷◌, ◌++◌, refl, sym, ap, subst, ◌∙◌, inl, inr}
+use Rattle.std.proofs.Common.{◌≡◌, ℕ, true, Option, Some, None, List, [], ◌∷◌, ◌++◌, refl, sym, ap, subst, ◌∙◌, inl, inr}
 use Rattle.std.specs.List.{filter_map}
 use Rattle.std.specs.Option.{is_some, option_to_list}
 use Rattle.plain_lists.specs.Members.{Mem, Each}
@@ -19,15 +19,16 @@ use Rattle.row_machine.specs.Claims.{of_live, claimed_instance, claimed_snapshot
 use Rattle.row_machine.specs.SettingRules.{devices_miss, settings_broken}
 use Rattle.row_machine.specs.Work.{entered, claiming}
 use Rattle.row_machine.specs.Whole.{IsLinked, IsPlaced, AreLinked}
-use Rattle.machine_laws.proofs.DefaultsChanged.{first-settled}
+use Rattle.machine_laws.proofs.DefaultsSettled.{first-settled}
 use Rattle.machine_laws.proofs.LinksClaims.{claim-instance}
 use Rattle.machine_laws.proofs.LinksGuests.{instance-row_accepted}
 use Rattle.machine_laws.proofs.LinksProfiles.{instance-accepted}
-use Rattle.machine_laws.proofs.LinksCore.{bare, linked-rows, placed-rows}
+use Rattle.machine_laws.proofs.LinksCore.{linked-rows, placed-rows}
 
 -- what is read of one more task
 read_more : {X : Type 0} (read : Task → Option X) {P : X → Type 0} (live : List (Operation Task)) (o : Operation Task)
-    → Each P (filter_map (λ x. read x.work) live) → ((x : X) → read o.work ≡ Some x → P x) → Each P (filter_map (λ x. read x.work) (live ++ o ∷ []))
+    → Each P (filter_map (λ x. read x.work) live) → ((x : X) → read o.work ≡ Some x → P x)
+    → Each P (filter_map (λ x. read x.work) (live ++ o ∷ []))
 read_more {X} read {P} live o before new = record { at = λ x m. at x (Mem-from_read (λ (y : Operation Task). read y.work) x (live ++ o ∷ []) m) } where
   at : (x : X) → (y : Operation Task) × (Mem y (live ++ o ∷ []) × (read y.work ≡ Some x)) → P x
   at x found = elim (Mem-append found.0 live (o ∷ []) found.1.0) [
@@ -39,8 +40,10 @@ read_more {X} read {P} live o before new = record { at = λ x m. at x (Mem-from_
   ]
 
 -- An operation is entered whose task stands where it should, and whose claimed instance has all that it names.
-pub entered-links : (s : State) (task : Task) (moment : ℕ) → AreLinked s → IsPlaced s task → ((i : Instance) → claimed_instance task ≡ Some i → IsLinked s i)
-    → ((r : Snapshot) → claimed_snapshot task ≡ Some r → are_profiles r.profiles ≡ true) → AreLinked (entered s task moment)
+pub entered-links : (s : State) (task : Task) (moment : ℕ) → AreLinked s → IsPlaced s task
+    → ((i : Instance) → claimed_instance task ≡ Some i → IsLinked s i)
+    → ((r : Snapshot) → claimed_snapshot task ≡ Some r → are_profiles r.profiles ≡ true)
+    → AreLinked (entered s task moment)
 unfolding entered judged_instances devices_miss
 entered-links s task moment h placed linked snapshot = record {
   homes = h.homes;
@@ -51,7 +54,7 @@ entered-links s task moment h placed linked snapshot = record {
   profiles = h.profiles;
   instances = Each-map (λ i. linked-rows s (entered s task moment) i refl)
       (Each-append (Each-left (of_live claimed_instance s) h.instances)
-        (read_more claimed_instance s.operations.live new (Each-right s.instances h.instances) linked));
+      (read_more claimed_instance s.operations.live new (Each-right s.instances h.instances) linked));
   operations = Each-map (λ o. placed-rows s (entered s task moment) o.work refl)
       (Each-push (λ (o : Operation Task). IsPlaced s o.work) h.operations placed);
 } where
@@ -68,10 +71,11 @@ entered-links s task moment h placed linked snapshot = record {
 
 -- a claimed instance that the rules on settings accept has all that it names
 pub claim-linked : (s : State) (task : Task) (moment : ℕ) (i : Instance) → claimed_instance task ≡ Some i
-    → settings_broken (claiming s task moment) (option_to_list task.claim) ≡ None → are_profiles i.profiles ≡ true → IsLinked s i
+    → settings_broken (claiming s task moment) (option_to_list task.claim) ≡ None → are_profiles i.profiles ≡ true
+    → IsLinked s i
 claim-linked s task moment i is settled few =
     let claim = claim-instance task i is in
     let row_settled = first-settled (claiming s task moment) (row.Instance i) []
-          (subst (λ c. settings_broken (claiming s task moment) (option_to_list c) ≡ None) claim settled) in
+    (subst (λ c. settings_broken (claiming s task moment) (option_to_list c) ≡ None) claim settled) in
     let parts = instance-accepted (claiming s task moment) i (instance-row_accepted (claiming s task moment) i row_settled) in
     linked-rows (claiming s task moment) s i refl (record { few = few; profiles = parts.0; devices = parts.1 })

@@ -1,10 +1,9 @@
 -- Links where instances and snapshots alone change.
-use Rattle.std.proofs.Common.{◌≡◌, ◌≢◌, ℕ, true, false, Option, Some, None, List, [], ◌∷◌, ◌++◌, refl, sym, ap, subst, ◌∙◌, true≢false}
+use Rattle.std.proofs.Common.{◌≡◌, ℕ, true, false, None, List, [], ◌∷◌, refl, sym, ap, subst, ◌∙◌, true≢false}
 use Rattle.std.specs.Option.{is_some}
 use Rattle.plain_lists.specs.Members.{Mem, Each}
 use Rattle.plain_lists.proofs.Elements.{Each-map, Each-append, Each-left, Each-right}
 use Rattle.plain_lists.proofs.Searches.{find-some, find-none}
-use Rattle.plain_lists.proofs.EditLemmas.{Each-Replaces, replaced-is}
 use Rattle.size_values.specs.declared.kinds.ObjectKind.TheVariants as kind
 use Rattle.operations.specs.declared.operation.Operation.{Operation}
 use Rattle.records.specs.Forms.{are_profiles}
@@ -13,8 +12,7 @@ use Rattle.records.specs.declared.rows.Snapshot.{Snapshot}
 use Rattle.records.specs.declared.rows.Row.TheVariants as row
 use Rattle.row_machine.specs.Task.{Task}
 use Rattle.row_machine.specs.State.{State}
-use Rattle.row_machine.specs.Rows.{is_instance, instance_names, instance_named, with_instance, texts_before}
-use Rattle.row_machine.specs.Expansions.{expanded_of}
+use Rattle.row_machine.specs.Rows.{is_instance, instance_named, with_instance}
 use Rattle.row_machine.specs.Claims.{of_live, claimed_instance, claimed_snapshot, judged_instances}
 use Rattle.row_machine.specs.Changes.{applied}
 use Rattle.row_machine.specs.Holders.{keeps_busy, busy_with}
@@ -25,10 +23,10 @@ use Rattle.row_machine.specs.Whole.{IsWhole, IsLinked, IsByDeed, AreLinked}
 use Rattle.machine_laws.proofs.Cases.{IsIdle, IsSameInstance}
 use Rattle.machine_laws.proofs.NamesRows.{EachRow, each-row, rows-each}
 use Rattle.machine_laws.proofs.LinksCore.{links-core}
-use Rattle.machine_laws.proofs.LinksHomes.{StaysHome, IsAtHome, stays-found, homeless-stays, at-home, home-at}
+use Rattle.machine_laws.proofs.LinksHomes.{IsAtHome, stays-found, homeless-stays, at-home, home-at}
 use Rattle.machine_laws.proofs.LinksPlaces.{Leaves, placed-stays}
 use Rattle.machine_laws.proofs.LinksProfiles.{instance-accepted}
-use Rattle.machine_laws.proofs.LinksRows.{instance-still, instance-other}
+use Rattle.machine_laws.proofs.LinksRows.{instance-each, instance-still, instance-other}
 
 -- with these instances and snapshots
 abbrev pub with_guests : State → List Instance → List Snapshot → State
@@ -44,11 +42,13 @@ pub record GuestsServe (s : State) (is : List Instance) (ss : List Snapshot) : T
   pub operations : Each (λ o. Leaves s (with_guests s is ss) o.work) s.operations.live
 
 -- what one instance needs, instances and snapshots do not tell
-linked-guests : (s : State) (is : List Instance) (ss : List Snapshot) (i : Instance) → IsLinked s i → IsLinked (with_guests s is ss) i
+linked-guests : (s : State) (is : List Instance) (ss : List Snapshot) (i : Instance) → IsLinked s i
+    → IsLinked (with_guests s is ss) i
 unfolding profile_missing devices_miss
 linked-guests s is ss i h = record { few = h.few; profiles = h.profiles; devices = h.devices }
 
-pub guests-links : (s : State) (is : List Instance) (ss : List Snapshot) → AreLinked s → Each (λ o. IsByDeed o.work) s.operations.live → GuestsServe s is ss
+pub guests-links : (s : State) (is : List Instance) (ss : List Snapshot) → AreLinked s
+    → Each (λ o. IsByDeed o.work) s.operations.live → GuestsServe s is ss
     → AreLinked (with_guests s is ss)
 unfolding judged_instances devices_miss
 guests-links s is ss h deeds serve = record {
@@ -73,23 +73,22 @@ guests-links s is ss h deeds serve = record {
 
 -- ---- an instance is changed at once
 
-put_each : (P : Instance → Type 0) (i : Instance) (is : List Instance) → P i → Each P is → Each P (with_instance i is)
-put_each P i is own others = Each-Replaces P
-    (replaced-is (is_instance i.project i.name) (λ y. texts_before (instance_names i) (instance_names y)) i is) own others
-
 -- no operation keeps an idle instance busy
-pub idle-free : (s : State) (project name : List ℕ) → busy_with s project name ≡ None → Each (λ o. keeps_busy project name o.work ≡ false) s.operations.live
+pub idle-free : (s : State) (project name : List ℕ) → busy_with s project name ≡ None
+    → Each (λ o. keeps_busy project name o.work ≡ false) s.operations.live
 unfolding busy_with
 idle-free s project name e = find-none (λ (o : Operation Task). keeps_busy project name o.work) s.operations.live e
 
 -- the instance under its name is at home where its project is there
-pub instance-home : (s : State) (old i : Instance) → AreLinked s → Mem old s.instances → i.project ≡ old.project → homeless s (row.Instance i) ≡ None
+pub instance-home : (s : State) (old i : Instance) → AreLinked s → Mem old s.instances → i.project ≡ old.project
+    → homeless s (row.Instance i) ≡ None
 instance-home s old i h m same =
     homeless-stays s s (row.Instance i) (stays-found s.projects s.projects i.project refl)
     (at-home s.projects i.project kind.Instance (subst (λ p. IsAtHome s.projects p kind.Instance) (sym same) (home-at s.projects old.project kind.Instance ((each-row s h.homes).instances.at old m))))
 
 -- an instance that the rules on settings accept
-pub instance-row_accepted : (t : State) (i : Instance) → row_settings t (row.Instance i) ≡ None → instance_settings t i ≡ None
+pub instance-row_accepted : (t : State) (i : Instance) → row_settings t (row.Instance i) ≡ None
+    → instance_settings t i ≡ None
 unfolding row_settings
 instance-row_accepted t i e = e
 
@@ -108,11 +107,13 @@ pub instance-patched_links : (s : State) (old i : Instance) → IsWhole s → Is
 instance-patched_links s old i h idle same settled =
     links-core (with_guests s is s.snapshots) (applied s (put_all (row.Instance i ∷ []))) refl
     (guests-links s is s.snapshots h.links h.operations.deeds (record {
-      homes = put_each _ i s.instances (instance-home s old i h.links there same.project) (each-row s h.links.homes).instances;
+      homes =
+          instance-each _ i s.instances (instance-home s old i h.links there same.project)
+          (each-row s h.links.homes).instances;
       snapshot_homes = (each-row s h.links.homes).snapshots;
       snapshots = Each-map (λ r found. instance-still i s.instances r.project r.instance found) h.links.snapshots;
       snapshot_profiles = Each-left (of_live claimed_snapshot s) h.links.snapshot_profiles;
-      linked = put_each (IsLinked s) i s.instances own (rows-linked s h.links);
+      linked = instance-each (IsLinked s) i s.instances own (rows-linked s h.links);
       operations = record { at = λ o m. leaves o (free.at o m) };
     }))
   where
@@ -130,13 +131,15 @@ instance-patched_links s old i h idle same settled =
         let parts = instance-accepted (applied s (put_all (row.Instance i ∷ []))) i (instance-row_accepted (applied s (put_all (row.Instance i ∷ []))) i settled) in
         patched_linked s i (record { few = same.profiles; profiles = parts.0; devices = parts.1 })
 
-    leaves : (o : Operation Task) → keeps_busy old.project old.name o.work ≡ false → Leaves s (with_guests s is s.snapshots) o.work
+    leaves : (o : Operation Task) → keeps_busy old.project old.name o.work ≡ false
+        → Leaves s (with_guests s is s.snapshots) o.work
     leaves o idle_of = record {
       project = stays-found s.projects s.projects o.work.project refl;
       instances = λ name busy found. instance-other i s.instances o.work.project name (λ e.
-        let project : i.project ≡ o.work.project = cc in
-        let same_name : i.name ≡ name = cc in
-        true≢false (sym (ap (λ p. keeps_busy p old.name o.work) (sym same.project ∙ project) ∙ ap (λ n. keeps_busy o.work.project n o.work) (sym same.name ∙ same_name) ∙ busy) ∙ idle_of));
+          let project : i.project ≡ o.work.project = cc in
+          let same_name : i.name ≡ name = cc in
+          true≢false
+          (sym (ap (λ p. keeps_busy p old.name o.work) (sym same.project ∙ project) ∙ ap (λ n. keeps_busy o.work.project n o.work) (sym same.name ∙ same_name) ∙ busy) ∙ idle_of));
       snapshots = λ instance name busy found. found;
       volumes = λ of is_source volume found. found;
       pools = λ v is_claim found. found;

@@ -1,5 +1,5 @@
 -- Rows stay at home where their project is there as before and keeps its features.
-use Rattle.std.proofs.Common.{◌≡◌, ◌≢◌, ℕ, Bool, true, false, cond, not, ◌||◌, Option, Some, None, List, refl, sym, ◌∙◌, ap, subst}
+use Rattle.std.proofs.Common.{◌≡◌, ◌≢◌, ℕ, Bool, true, false, cond, not, ◌||◌, Option, Some, None, List, refl, sym, ◌∙◌, ap}
 use Rattle.std.specs.Prelude.{codes}
 use Rattle.std.specs.Option.{option_map_or, is_some, is_none}
 use Rattle.std.specs.Str.{bytes_eq}
@@ -27,15 +27,20 @@ pub record StaysHome (ps qs : List Project) (name : List ℕ) : Type 0 where
 -- the home by what a look-up found
 abbrev found_home : List ℕ → Option Project → ObjectKind → List ℕ
 found_home name found kind.Project = name
-found_home name found kind.Profile = cond (option_map_or (λ (r : Project). is_on r.config (codes "features.profiles")) found false) name default_name
-found_home name found kind.Network = cond (option_map_or (λ (r : Project). is_on r.config (codes "features.networks")) found false) name default_name
+found_home name found kind.Profile =
+    cond (option_map_or (λ (r : Project). is_on r.config (codes "features.profiles")) found false) name default_name
+found_home name found kind.Network =
+    cond (option_map_or (λ (r : Project). is_on r.config (codes "features.networks")) found false) name default_name
 found_home name found kind.Pool = name
-found_home name found kind.Volume = cond (option_map_or (λ (r : Project). is_on r.config (codes "features.storage.volumes")) found false) name default_name
+found_home name found kind.Volume =
+    cond (option_map_or (λ (r : Project). is_on r.config (codes "features.storage.volumes")) found false) name
+    default_name
 found_home name found kind.Instance = name
 found_home name found kind.Snapshot = name
 found_home name found kind.Operation = name
 
-home-found : (ps : List Project) (name : List ℕ) (k : ObjectKind) → home_of ps name k ≡ found_home name (project_named ps name) k
+home-found : (ps : List Project) (name : List ℕ) (k : ObjectKind)
+    → home_of ps name k ≡ found_home name (project_named ps name) k
 unfolding home_of
 home-found ps name kind.Project = refl
 home-found ps name kind.Profile = refl
@@ -47,7 +52,8 @@ home-found ps name kind.Snapshot = refl
 home-found ps name kind.Operation = refl
 
 -- a project that is found as before
-pub stays-found : (ps qs : List Project) (name : List ℕ) → project_named qs name ≡ project_named ps name → StaysHome ps qs name
+pub stays-found : (ps qs : List Project) (name : List ℕ) → project_named qs name ≡ project_named ps name
+    → StaysHome ps qs name
 stays-found ps qs name found = record {
   there = λ is. ap is_some found ∙ is;
   home = λ k. home-found qs name k ∙ ap (λ o. found_home name o k) found ∙ sym (home-found ps name k);
@@ -59,11 +65,14 @@ pub record HasSameHomes (old new : Project) : Type 0 where
   pub networks : is_on new.config (codes "features.networks") ≡ is_on old.config (codes "features.networks")
   pub volumes : is_on new.config (codes "features.storage.volumes") ≡ is_on old.config (codes "features.storage.volumes")
 
-pub stays-changed : (ps qs : List Project) (name : List ℕ) (old new : Project) → project_named ps name ≡ Some old → project_named qs name ≡ Some new
+pub stays-changed : (ps qs : List Project) (name : List ℕ) (old new : Project) → project_named ps name ≡ Some old
+    → project_named qs name ≡ Some new
     → HasSameHomes old new → StaysHome ps qs name
 stays-changed ps qs name old new was is h = record {
   there = λ _. ap is_some is;
-  home = λ k. home-found qs name k ∙ ap (λ o. found_home name o k) is ∙ changed k ∙ ap (λ o. found_home name o k) (sym was) ∙ sym (home-found ps name k);
+  home =
+      λ k. home-found qs name k ∙ ap (λ o. found_home name o k) is ∙ changed k ∙ ap (λ o. found_home name o k)
+      (sym was) ∙ sym (home-found ps name k);
 } where
   changed : (k : ObjectKind) → found_home name (Some new) k ≡ found_home name (Some old) k
   changed kind.Project = refl
@@ -86,50 +95,63 @@ pub record IsAtHome (ps : List Project) (project : List ℕ) (k : ObjectKind) : 
   pub there : is_some (project_named ps project) ≡ true
   pub own : home_of ps project k ≡ project
 
-pub at-home : (ps : List Project) (project : List ℕ) (k : ObjectKind) → IsAtHome ps project k → cond (not_at_home ps project k) (Some rule.N1) None ≡ None
+pub at-home : (ps : List Project) (project : List ℕ) (k : ObjectKind) → IsAtHome ps project k
+    → cond (not_at_home ps project k) (Some rule.N1) None ≡ None
 at-home ps project k h = at (project_named ps project) h.there where
   own : bytes_eq (home_of ps project k) project ≡ true
   own = ap (λ n. bytes_eq n project) h.own ∙ bytes_eq-itself project
 
-  at : (o : Option Project) → is_some o ≡ true → cond (is_none o || not (bytes_eq (home_of ps project k) project)) (Some rule.N1) None ≡ None
+  at : (o : Option Project) → is_some o ≡ true
+      → cond (is_none o || not (bytes_eq (home_of ps project k) project)) (Some rule.N1) None ≡ None
   at None e = cc
   at (Some p) e = ap (λ b. cond (not b) (Some rule.N1) None) own
 
-pub home-at : (ps : List Project) (project : List ℕ) (k : ObjectKind) → cond (not_at_home ps project k) (Some rule.N1) None ≡ None → IsAtHome ps project k
+pub home-at : (ps : List Project) (project : List ℕ) (k : ObjectKind)
+    → cond (not_at_home ps project k) (Some rule.N1) None ≡ None → IsAtHome ps project k
 home-at ps project k h = at (project_named ps project) refl (told_if _ rule.N1 h) where
   equal : (b : Bool) → bytes_eq (home_of ps project k) project ≡ b → not b ≡ false → home_of ps project k ≡ project
   equal true is e = same (home_of ps project k) project is
   equal false is e = cc
 
-  at : (o : Option Project) → project_named ps project ≡ o → (is_none o || not (bytes_eq (home_of ps project k) project)) ≡ false → IsAtHome ps project k
+  at : (o : Option Project) → project_named ps project ≡ o
+      → (is_none o || not (bytes_eq (home_of ps project k) project)) ≡ false → IsAtHome ps project k
   at None is e = cc
   at (Some p) is e = record { there = ap is_some is; own = equal (bytes_eq (home_of ps project k) project) refl e }
 
-pub at-home-stays : {ps qs : List Project} {project : List ℕ} {k : ObjectKind} → StaysHome ps qs project → IsAtHome ps project k → IsAtHome qs project k
+pub at-home-stays : {ps qs : List Project} {project : List ℕ} {k : ObjectKind} → StaysHome ps qs project
+    → IsAtHome ps project k → IsAtHome qs project k
 at-home-stays {k} stays h = record { there = stays.there h.there; own = stays.home k ∙ h.own }
 
 -- a project with profiles of its own is their home
-pub own-home : (ps : List Project) (name : List ℕ) (r : Project) → project_named ps name ≡ Some r → is_on r.config (codes "features.profiles") ≡ true
+pub own-home : (ps : List Project) (name : List ℕ) (r : Project) → project_named ps name ≡ Some r
+    → is_on r.config (codes "features.profiles") ≡ true
     → IsAtHome ps name kind.Profile
 own-home ps name r found on = record {
   there = ap is_some found;
-  own = home-found ps name kind.Profile ∙ ap (λ o. found_home name o kind.Profile) found ∙ ap (λ b. cond b name default_name) on;
+  own =
+      home-found ps name kind.Profile ∙ ap (λ o. found_home name o kind.Profile) found ∙ ap
+      (λ b. cond b name default_name) on;
 }
 
 -- and only such a one is, but `default`
-pub home-own : (ps : List Project) (name : List ℕ) (r : Project) → project_named ps name ≡ Some r → name ≢ default_name → IsAtHome ps name kind.Profile
+pub home-own : (ps : List Project) (name : List ℕ) (r : Project) → project_named ps name ≡ Some r
+    → name ≢ default_name → IsAtHome ps name kind.Profile
     → is_on r.config (codes "features.profiles") ≡ true
-home-own ps name r found differs h = at (is_on r.config (codes "features.profiles")) (sym (home-found ps name kind.Profile ∙ ap (λ o. found_home name o kind.Profile) found) ∙ h.own) where
-  at : (b : Bool) → cond b name default_name ≡ name → b ≡ true
-  at true e = refl
-  at false e = absurd (differs (sym e))
+home-own ps name r found differs h =
+    at (is_on r.config (codes "features.profiles"))
+    (sym (home-found ps name kind.Profile ∙ ap (λ o. found_home name o kind.Profile) found) ∙ h.own) where
+      at : (b : Bool) → cond b name default_name ≡ name → b ≡ true
+      at true e = refl
+      at false e = absurd (differs (sym e))
 
 stays-so : (ps qs : List Project) (project : List ℕ) (k : ObjectKind) → StaysHome ps qs project
-    → cond (not_at_home ps project k) (Some rule.N1) None ≡ None → cond (not_at_home qs project k) (Some rule.N1) None ≡ None
+    → cond (not_at_home ps project k) (Some rule.N1) None ≡ None
+    → cond (not_at_home qs project k) (Some rule.N1) None ≡ None
 stays-so ps qs project k stays h = at-home qs project k (at-home-stays stays (home-at ps project k h))
 
 -- Rows stay at home where their project stays as it was.
-pub homeless-stays : (s t : State) (r : Row) → StaysHome s.projects t.projects (project_of_row r) → homeless s r ≡ None → homeless t r ≡ None
+pub homeless-stays : (s t : State) (r : Row) → StaysHome s.projects t.projects (project_of_row r)
+    → homeless s r ≡ None → homeless t r ≡ None
 homeless-stays s t (row.Project r) stays h = refl
 homeless-stays s t (row.Profile r) stays h = stays-so s.projects t.projects r.project kind.Profile stays h
 homeless-stays s t (row.Network r) stays h = stays-so s.projects t.projects r.project kind.Network stays h

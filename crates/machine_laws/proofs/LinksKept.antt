@@ -1,5 +1,5 @@
 -- Each step keeps the links: all that rows, claims and operations name exists.
-use Rattle.std.proofs.Common.{◌≡◌, ℕ, true, Option, Some, None, List, [], ◌∷◌, refl}
+use Rattle.std.proofs.Common.{◌≡◌, ℕ, true, Some, List, [], ◌∷◌, refl}
 use Rattle.host_model.specs.declared.call.HostCall.{HostCall}
 use Rattle.operations.specs.declared.operation.Operation.{Operation}
 use Rattle.operations.specs.declared.operation.OpFault.{OpFault}
@@ -23,6 +23,7 @@ use Rattle.machine_laws.proofs.Judged.{judged, entry_judged}
 use Rattle.machine_laws.proofs.LinksBegins.{begins-placed, begins-few, begins-snapshot}
 use Rattle.machine_laws.proofs.LinksEntered.{entered-links, claim-linked}
 use Rattle.machine_laws.proofs.LinksChanged.{changed-links}
+use Rattle.machine_laws.proofs.LinksSucceeded.{succeeded-links}
 use Rattle.machine_laws.proofs.LinksOperations.{task-links, moved-links, running-links, cancelled-links, failed-links, telling-links}
 use Rattle.machine_laws.proofs.NamesLive.{pending-live}
 
@@ -38,25 +39,33 @@ module _ {s : State} {c : Command} {moment : ℕ} where
       (begins-snapshot h.whole.links begun)
 
 module _ (s : State) (o : Operation Task) where
-  pub links-taken : (moment : ℕ) {call : HostCall} {rest : List HostCall} → IsWhole s → first_pending s ≡ Some o → o.work.calls ≡ call ∷ rest
+  pub links-taken : (moment : ℕ) {call : HostCall} {rest : List HostCall} → IsWhole s → first_pending s ≡ Some o
+      → o.work.calls ≡ call ∷ rest
       → AreLinked (with_task o.number (handing_out o.work rest) (moved o.number Running moment s))
-  links-taken moment {rest} h first calls = running-links s o (handing_out o.work rest) Running moment (pending-live s o h first) refl h.links
+  links-taken moment {rest} h first calls =
+      running-links s o (handing_out o.work rest) Running moment (pending-live s o h first) refl h.links
 
   pub links-next : {call : HostCall} {rest : List HostCall} → IsLiveAs s o Running → o.work.calls ≡ call ∷ rest
       → AreLinked (with_task o.number (one_more_done o.work rest) s)
   links-next {rest} h calls = task-links s o (one_more_done o.work rest) h.live refl h.whole.links
 
-  pub links-undone : {call : HostCall} → IsLiveAs s o Cancelling → o.work.undo ≡ Some call → AreLinked (with_task o.number (undone o.work) s)
+  pub links-undone : {call : HostCall} → IsLiveAs s o Cancelling → o.work.undo ≡ Some call
+      → AreLinked (with_task o.number (undone o.work) s)
   links-undone h undo = task-links s o (undone o.work) h.live refl h.whole.links
 
-  pub links-cancelling : (moment : ℕ) → IsLiveAs s o Running → o.may_cancel ≡ true → AreLinked (moved o.number Cancelling moment s)
+  pub links-cancelling : (moment : ℕ) → IsLiveAs s o Running → o.may_cancel ≡ true
+      → AreLinked (moved o.number Cancelling moment s)
   links-cancelling moment h may = moved-links s o Cancelling moment h.live h.whole.links
 
-  pub links-cancelled : (moment : ℕ) → IsWhole s → live_at s.operations o.number ≡ Some o → AreLinked (cancelled s o.number moment)
+  pub links-cancelled : (moment : ℕ) → IsWhole s → live_at s.operations o.number ≡ Some o
+      → AreLinked (cancelled s o.number moment)
   links-cancelled moment h live = cancelled-links s o.number moment h.links
 
   pub links-failed : (why : OpFault) (done moment : ℕ) → IsLiveAs s o Running → AreLinked (failed s o why done moment)
   links-failed why done moment h = failed-links s o why done moment h.whole.links
+
+  pub links-succeeded : (moment : ℕ) → IsLiveAs s o Running → o.work.calls ≡ [] → AreLinked (succeeded s o moment)
+  links-succeeded moment h none = succeeded-links h.whole h.live moment
 
 pub links-telling : (s : State) (notices : List Untold) → IsWhole s → AreLinked (telling notices s)
 links-telling s notices h = telling-links notices s h.links

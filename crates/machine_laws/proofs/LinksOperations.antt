@@ -1,34 +1,33 @@
 -- Steps of live operations leave the links.
-use Rattle.std.proofs.Common.{◌≡◌, ℕ, ◌+◌, Bool, true, false, cond, Option, Some, None, List, [], ◌∷◌, refl, sym, ◌∙◌, ap, subst, inl, inr}
-use Rattle.std.specs.Option.{option_map_or}
+use Rattle.std.proofs.Common.{◌≡◌, ℕ, Bool, true, false, cond, Some, List, [], ◌∷◌, refl, sym, ◌∙◌, ap, subst, inl, inr}
 use Rattle.std.specs.List.{find}
-use Rattle.plain_lists.specs.Members.{Mem, Each}
+use Rattle.plain_lists.specs.Members.{Mem}
 use Rattle.plain_lists.specs.Puts.{Puts}
 use Rattle.plain_lists.specs.Edits.{changed_first, dropped}
 use Rattle.plain_lists.proofs.PutsLemmas.{Mem-Puts, Mem-puts, Mem-unputs}
 use Rattle.plain_lists.proofs.Searches.{find-some}
 use Rattle.plain_lists.proofs.EditLemmas.{changed-Puts, find-changed, Mem-dropped}
-use Rattle.host_model.specs.declared.call.HostCall.{HostCall}
 use Rattle.operations.specs.declared.operation.Operation.{Operation}
 use Rattle.operations.specs.declared.operation.OpFault.{OpFault}
 use Rattle.operations.specs.declared.status.Status.{Status}
-use Rattle.operations.specs.declared.status.Status.TheVariants.{Running, Cancelling}
 use Rattle.operations.specs.Kept.{has_number, live_at}
 use Rattle.records.specs.declared.notices.Untold.{Untold}
 use Rattle.row_machine.specs.Task.{Task}
 use Rattle.row_machine.specs.State.{State}
 use Rattle.row_machine.specs.Notices.{telling, push_notice}
-use Rattle.row_machine.specs.Work.{with_task, moved, ended, returned, failed, cancelled, after_failure, with_power}
+use Rattle.row_machine.specs.Work.{with_task, moved, failed, cancelled, after_failure}
 use Rattle.row_machine.specs.Whole.{AreLinked}
-use Rattle.machine_laws.proofs.LinksCore.{bare, core, AreOf, AreOf-both, IsSameWork, links-fewer, links-core}
+use Rattle.machine_laws.proofs.LinksCore.{bare, core, AreOf, IsSameWork, links-fewer, links-core}
 
 -- ---- lists of live operations
 
 -- one operation has other calls, another status or another moment
 pub AreOf-changed : (n : ℕ) (f : Operation Task → Operation Task) (o : Operation Task) (live : List (Operation Task))
-    → find (has_number n) live ≡ Some o → IsSameWork o.work (f o).work → AreOf live (changed_first (has_number n) f live)
+    → find (has_number n) live ≡ Some o → IsSameWork o.work (f o).work
+    → AreOf live (changed_first (has_number n) f live)
 AreOf-changed n f o live found same = record { at = λ x m. at x (changed-Puts (has_number n) f o live found) m } where
-  at : (x : Operation Task) → (base : List (Operation Task)) × (Puts o base live × Puts (f o) base (changed_first (has_number n) f live))
+  at : (x : Operation Task)
+      → (base : List (Operation Task)) × (Puts o base live × Puts (f o) base (changed_first (has_number n) f live))
       → Mem x (changed_first (has_number n) f live)
       → (y : Operation Task) × (Mem y live × IsSameWork y.work x.work)
   at x put m = elim (Mem-unputs x put.1.1 m) [
@@ -40,23 +39,29 @@ pub AreOf-dropped : (p : Operation Task → Bool) (live : List (Operation Task))
 AreOf-dropped p live = record { at = λ o m. (o, (Mem-dropped o p live m, refl)) }
 
 -- a live operation is found under its number
-number_itself : (s : State) (o : Operation Task) → live_at s.operations o.number ≡ Some o → has_number o.number o ≡ true
+number_itself : (s : State) (o : Operation Task) → live_at s.operations o.number ≡ Some o
+    → has_number o.number o ≡ true
 number_itself s o live = (find-some (has_number o.number) s.operations.live o live).1
 
 -- ---- steps
 
-pub task-links : (s : State) (o : Operation Task) (task : Task) → live_at s.operations o.number ≡ Some o → IsSameWork o.work task
+pub task-links : (s : State) (o : Operation Task) (task : Task) → live_at s.operations o.number ≡ Some o
+    → IsSameWork o.work task
     → AreLinked s → AreLinked (with_task o.number task s)
 task-links s o task live same h =
-    links-fewer s (with_task o.number task s) refl (AreOf-changed o.number (λ x. record x { work = task }) o s.operations.live live same) h
+    links-fewer s (with_task o.number task s) refl
+    (AreOf-changed o.number (λ x. record x { work = task }) o s.operations.live live same) h
 
-pub moved-links : (s : State) (o : Operation Task) (now : Status) (moment : ℕ) → live_at s.operations o.number ≡ Some o
+pub moved-links : (s : State) (o : Operation Task) (now : Status) (moment : ℕ)
+    → live_at s.operations o.number ≡ Some o
     → AreLinked s → AreLinked (moved o.number now moment s)
 moved-links s o now moment live h =
-    links-fewer s (moved o.number now moment s) refl (AreOf-changed o.number (λ x. record x { status = now; updated = moment }) o s.operations.live live refl) h
+    links-fewer s (moved o.number now moment s) refl
+    (AreOf-changed o.number (λ x. record x { status = now; updated = moment }) o s.operations.live live refl) h
 
 -- moved, and with further calls
-pub running-links : (s : State) (o : Operation Task) (task : Task) (now : Status) (moment : ℕ) → live_at s.operations o.number ≡ Some o → IsSameWork o.work task
+pub running-links : (s : State) (o : Operation Task) (task : Task) (now : Status) (moment : ℕ)
+    → live_at s.operations o.number ≡ Some o → IsSameWork o.work task
     → AreLinked s → AreLinked (with_task o.number task (moved o.number now moment s))
 running-links s o task now moment live same h =
     task-links (moved o.number now moment s) (record o { status = now; updated = moment }) task
@@ -64,8 +69,10 @@ running-links s o task now moment live same h =
     same
     (moved-links s o now moment live h)
 
-pub ended-links : (s t : State) (p : Operation Task → Bool) → bare t [] ≡ bare s [] → t.operations.live ≡ dropped p s.operations.live → AreLinked s → AreLinked t
-ended-links s t p same live h = links-fewer s t same (subst (AreOf s.operations.live) (sym live) (AreOf-dropped p s.operations.live)) h
+pub ended-links : (s t : State) (p : Operation Task → Bool) → bare t [] ≡ bare s []
+    → t.operations.live ≡ dropped p s.operations.live → AreLinked s → AreLinked t
+ended-links s t p same live h =
+    links-fewer s t same (subst (AreOf s.operations.live) (sym live) (AreOf-dropped p s.operations.live)) h
 
 pub cancelled-links : (s : State) (number moment : ℕ) → AreLinked s → AreLinked (cancelled s number moment)
 unfolding cancelled
@@ -79,7 +86,8 @@ either_core false s t u e f = f
 pub failure_core : (task : Task) (done : ℕ) (s : State) → core (after_failure task done s) ≡ core s
 failure_core task done s = either_core _ s _ s refl refl
 
-pub failed-links : (s : State) (o : Operation Task) (why : OpFault) (done moment : ℕ) → AreLinked s → AreLinked (failed s o why done moment)
+pub failed-links : (s : State) (o : Operation Task) (why : OpFault) (done moment : ℕ) → AreLinked s
+    → AreLinked (failed s o why done moment)
 unfolding failed
 failed-links s o why done moment h =
     ended-links s (failed s o why done moment) (has_number o.number)

@@ -1,5 +1,5 @@
 -- Changes of pools keep the links.
-use Rattle.std.proofs.Common.{◌≡◌, ◌≢◌, ℕ, Bool, true, false, ◌&&◌, Option, Some, None, List, [], ◌∷◌, refl, sym, ap, subst, ◌∙◌, true≢false}
+use Rattle.std.proofs.Common.{◌≡◌, ◌≢◌, ℕ, true, false, Some, None, List, [], ◌∷◌, sym, ap, ◌∙◌, true≢false}
 use Rattle.std.specs.Option.{option_map_or, is_some}
 use Rattle.std.specs.Str.{bytes_eq}
 use Rattle.plain_lists.specs.Members.{Mem, Each}
@@ -9,7 +9,6 @@ use Rattle.plain_lists.proofs.Searches.{find-some}
 use Rattle.config_lists.proofs.Keys.{bytes_eq-itself}
 use Rattle.config_lists.specs.Devices.{NamedDevices}
 use Rattle.estate_rules.specs.Uses.{names_pool}
-use Rattle.size_values.specs.declared.kinds.ObjectKind.TheVariants as kind
 use Rattle.operations.specs.declared.operation.Operation.{Operation}
 use Rattle.records.specs.declared.rows.Pool.{Pool}
 use Rattle.records.specs.declared.rows.Volume.{Volume}
@@ -22,11 +21,11 @@ use Rattle.row_machine.specs.Expansions.{expanded_of}
 use Rattle.row_machine.specs.Claims.{judged_instances, claimed_volume}
 use Rattle.row_machine.specs.Changes.{applied, has_key, removal}
 use Rattle.row_machine.specs.Links.{target_of}
-use Rattle.row_machine.specs.Holders.{devices_name, volume_uses, first_user_of}
+use Rattle.row_machine.specs.Holders.{volume_uses, first_user_of}
 use Rattle.row_machine.specs.Plans.{put_all}
 use Rattle.row_machine.specs.Whole.{IsWhole, AreLinked}
 use Rattle.machine_laws.proofs.NamesRows.{each-row}
-use Rattle.machine_laws.proofs.LinksDevices.{Serves, pool_there}
+use Rattle.machine_laws.proofs.LinksDevices.{pool_there}
 use Rattle.machine_laws.proofs.LinksClaims.{claim-volume}
 use Rattle.machine_laws.proofs.LinksRows.{pool-still, pool-unremoved}
 use Rattle.machine_laws.proofs.LinksStores.{stores-links, leaves-stores}
@@ -39,14 +38,22 @@ serving : (s : State) (ps : List Pool) → IsWhole s
     → Each (λ i. (name : List ℕ) → names_pool (expanded_of s.projects s.profiles i).devices name ≡ true → pool_there s name → is_some (pool_named ps name) ≡ true) (judged_instances s)
     → Each (λ o. (v : Volume) → claimed_volume o.work ≡ Some v → is_some (pool_named s.pools v.pool) ≡ true → is_some (pool_named ps v.pool) ≡ true) s.operations.live
     → AreLinked (record s { pools = ps })
-serving s ps h volumes profiles instances claims = stores-links s s.networks ps s.volumes h.links h.operations.deeds (record {
-  networks = (each-row s h.links.homes).networks;
-  volumes = (each-row s h.links.homes).volumes;
-  pools = record { at = λ v m. volumes.at v m (h.links.volumes.at v m) };
-  profiles = Each-map (λ r stays. record { networks = λ name names there. there; pools = stays; volumes = λ pool name names there. there }) profiles;
-  instances = Each-map (λ i stays. record { networks = λ name names there. there; pools = stays; volumes = λ pool name names there. there }) instances;
-  operations = Each-map (λ o stays. leaves-stores s s.networks ps s.volumes o.work (λ of is same there. there) stays) claims;
-})
+serving s ps h volumes profiles instances claims =
+    stores-links s s.networks ps s.volumes h.links h.operations.deeds (record {
+      networks = (each-row s h.links.homes).networks;
+      volumes = (each-row s h.links.homes).volumes;
+      pools = record { at = λ v m. volumes.at v m (h.links.volumes.at v m) };
+      profiles =
+          Each-map
+          (λ r stays. record { networks = λ name names there. there; pools = stays; volumes = λ pool name names there. there })
+          profiles;
+      instances =
+          Each-map
+          (λ i stays. record { networks = λ name names there. there; pools = stays; volumes = λ pool name names there. there })
+          instances;
+      operations =
+          Each-map (λ o stays. leaves-stores s s.networks ps s.volumes o.work (λ of is same there. there) stays) claims;
+    })
 
 -- Pools are put.
 pub pool-put_links : (s : State) (r : Pool) → IsWhole s → AreLinked (applied s (put_all (row.Pool r ∷ [])))
@@ -71,16 +78,21 @@ pool-removed_links s home old h found used = serving s rest h
     unused : IsUnused s home (target_of (row.Pool old))
     unused = unused-pool s home old h.links used
 
-    stays : (name : List ℕ) → pool_names old ≢ name ∷ [] → is_some (pool_named s.pools name) ≡ true → is_some (pool_named rest name) ≡ true
-    stays name differs there = ap is_some (pool-unremoved old name h.names (find-some (is_pool old.name) s.pools old found).0 differs) ∙ there
+    stays : (name : List ℕ) → pool_names old ≢ name ∷ [] → is_some (pool_named s.pools name) ≡ true
+        → is_some (pool_named rest name) ≡ true
+    stays name differs there =
+        ap is_some (pool-unremoved old name h.names (find-some (is_pool old.name) s.pools old found).0 differs) ∙
+        there
 
     other : (v : Volume) → volume_uses (target_of (row.Pool old)) v ≡ false → pool_names old ≢ v.pool ∷ []
     other v none e = let same : old.name ≡ v.pool = cc in true≢false (sym (ap (λ n. bytes_eq n old.name) (sym same) ∙ bytes_eq-itself old.name) ∙ none)
 
-    named : (devices : NamedDevices) → names_pool devices old.name ≡ false → (name : List ℕ) → names_pool devices name ≡ true → pool_names old ≢ name ∷ []
+    named : (devices : NamedDevices) → names_pool devices old.name ≡ false → (name : List ℕ)
+        → names_pool devices name ≡ true → pool_names old ≢ name ∷ []
     named devices none name names e = let same : old.name ≡ name = cc in true≢false (sym (ap (names_pool devices) same ∙ names) ∙ none)
 
-    claimed : (o : Operation Task) → Mem o s.operations.live → (v : Volume) → claimed_volume o.work ≡ Some v → volume_uses (target_of (row.Pool old)) v ≡ false
+    claimed : (o : Operation Task) → Mem o s.operations.live → (v : Volume) → claimed_volume o.work ≡ Some v
+        → volume_uses (target_of (row.Pool old)) v ≡ false
     claimed o m v is =
         ap (λ c. option_map_or (volume_uses (target_of (row.Pool old))) c false) (sym is)
         ∙ (unused-claim unused o m (row.Volume v) (claim-volume o.work v is)).0

@@ -1,54 +1,46 @@
--- Changes of projects keep the links.
+-- A project that is made, renamed or removed keeps the links.
 use Rattle.std.proofs.Common.{◌≡◌, ◌≢◌, ℕ, Bool, true, false, cond, ◌⊎◌, Option, Some, None, List, [], ◌∷◌, ◌++◌, map, refl, sym, ap, subst, ◌∙◌, inl, inr, true≢false}
-use Rattle.std.specs.Prelude.{codes}
-use Rattle.std.specs.Option.{option_map, option_map_or, option_or, option_and_then, option_to_list, is_some}
-use Rattle.std.specs.Str.{bytes_eq}
+use Rattle.std.specs.Option.{option_map, option_map_or, option_to_list, is_some}
 use Rattle.plain_lists.specs.Members.{Mem, Each, Distinct}
 use Rattle.plain_lists.specs.Edits.{dropped}
 use Rattle.plain_lists.proofs.Elements.{Each-map}
 use Rattle.plain_lists.proofs.FirstLemmas.{none_both}
-use Rattle.plain_lists.proofs.Searches.{find-some, find-none, find-mem}
+use Rattle.plain_lists.proofs.Searches.{find-some, find-none}
 use Rattle.plain_lists.proofs.EditLemmas.{Mem-dropped}
-use Rattle.config_lists.proofs.Keys.{same, bytes_eq-itself}
 use Rattle.size_values.specs.declared.kinds.ObjectKind.TheVariants as kind
-use Rattle.option_tables.specs.Checks.{project_fault}
 use Rattle.records.specs.declared.rows.Project.{Project}
 use Rattle.records.specs.declared.rows.Profile.{Profile}
 use Rattle.records.specs.declared.rows.Row.{Row}
 use Rattle.records.specs.declared.rows.Row.TheVariants as row
 use Rattle.row_codec.specs.Spelling.{key_of}
 use Rattle.row_machine.specs.declared.changes.RowChange.{RowChange}
-use Rattle.row_machine.specs.declared.changes.RowChange.TheVariants as change
 use Rattle.row_machine.specs.State.{State}
-use Rattle.row_machine.specs.Rows.{default_name, is_project, is_profile, project_named, profile_named, project_names, profile_names, with_project, with_profile, texts_before}
-use Rattle.row_machine.specs.Homes.{is_on}
+use Rattle.row_machine.specs.Rows.{default_name, is_profile, project_named, profile_names, with_project, with_profile, texts_before}
 use Rattle.row_machine.specs.Changes.{applied, has_key, removal, rows_put, with_row, without_row}
 use Rattle.row_machine.specs.NewRows.{default_profile}
-use Rattle.row_machine.specs.SettingRules.{settings_broken, row_settings, tables_break, own_default, devices_miss}
-use Rattle.row_machine.specs.StandingRules.{feature_keys, changes_features, is_occupied}
-use Rattle.row_machine.specs.Plans.{put_all, moved_row, project_creation, project_change, project_rename, project_deletion, own_profile}
+use Rattle.row_machine.specs.SettingRules.{settings_broken, row_settings, devices_miss}
+use Rattle.row_machine.specs.StandingRules.{is_occupied}
+use Rattle.row_machine.specs.Plans.{put_all, moved_row, project_creation, project_rename, project_deletion, own_profile}
 use Rattle.row_machine.specs.Opening.{homeless, has_all_features}
 use Rattle.row_machine.specs.Whole.{IsWhole, AreLinked}
 use Rattle.machine_laws.proofs.Found.{profile-found}
-use Rattle.machine_laws.proofs.Expansions.{IsAlike}
 use Rattle.machine_laws.proofs.ExpansionsApart.{AreApart, apart-both, apart-project, apart-profile, apart-no_project, apart-no_profile}
 use Rattle.machine_laws.proofs.NamesLists.{Mem-replaced}
 use Rattle.machine_laws.proofs.NamesRise.{Rise-Distinct}
 use Rattle.machine_laws.proofs.NamesRows.{EachRow, each-row}
-use Rattle.machine_laws.proofs.DefaultsFeatures.{features-same, tables-accept}
-use Rattle.machine_laws.proofs.DefaultsChanged.{has_profiles, profile_change, drops-own, first-settled, project-accepted}
-use Rattle.machine_laws.proofs.LinksFinds.{left-other, other-found}
-use Rattle.machine_laws.proofs.LinksKeys.{tells-project, tells-profile, drops-profile, keyed-profile}
+use Rattle.machine_laws.proofs.DefaultsProjects.{has_profiles}
+use Rattle.machine_laws.proofs.LinksFinds.{left-other}
+use Rattle.machine_laws.proofs.LinksKeys.{tells-profile, drops-profile, keyed-profile}
 use Rattle.machine_laws.proofs.LinksRows.{project-put}
-use Rattle.machine_laws.proofs.LinksHomes.{StaysHome, IsAtHome, HasSameHomes, stays-found, stays-changed, at-home, home-at, own-home, home-own}
+use Rattle.machine_laws.proofs.LinksHomes.{IsAtHome, at-home, home-at, own-home, home-own}
 use Rattle.machine_laws.proofs.LinksProfiles.{profile-row_accepted}
-use Rattle.machine_laws.proofs.LinksElsewhere.{with_estate, estate-links, profile-stays, AreElsewhere, elsewhere-links, IsEmpty, empty-project}
+use Rattle.machine_laws.proofs.LinksElsewhere.{with_estate, AreElsewhere, elsewhere-links, IsEmpty, empty-project}
 
 -- what a profile of a state that comes needs
-abbrev IsPlacedProfile : State → Profile → Type 0
+abbrev pub IsPlacedProfile : State → Profile → Type 0
 IsPlacedProfile t r = (homeless t (row.Profile r) ≡ None) × (devices_miss t r.project r.devices ≡ None)
 
-distinct_profiles : {s : State} → IsWhole s → Distinct profile_names s.profiles
+pub distinct_profiles : {s : State} → IsWhole s → Distinct profile_names s.profiles
 distinct_profiles {s} h = Rise-Distinct profile_names s.profiles h.names.profiles
 
 -- the project `default` is there
@@ -59,9 +51,11 @@ default_there (Some p) e = refl
 -- each row and each operation is in a project that is there
 rows_there : (s : State) (Q : List ℕ → Type 0) → IsWhole s → ((name : List ℕ) → is_some (project_named s.projects name) ≡ true → Q name → ⊥) → AreElsewhere Q s
 rows_there s Q h never = record {
-  networks = Each-map (λ r home. never r.project (home-at s.projects r.project kind.Network home).there) rows.networks;
+  networks =
+      Each-map (λ r home. never r.project (home-at s.projects r.project kind.Network home).there) rows.networks;
   volumes = Each-map (λ r home. never r.project (home-at s.projects r.project kind.Volume home).there) rows.volumes;
-  instances = Each-map (λ r home. never r.project (home-at s.projects r.project kind.Instance home).there) rows.instances;
+  instances =
+      Each-map (λ r home. never r.project (home-at s.projects r.project kind.Instance home).there) rows.instances;
   operations = Each-map (λ o placed. never o.work.project placed.project) h.links.operations;
   default = never default_name (default_there (project_named s.projects default_name) h.defaults.project);
 } where
@@ -69,19 +63,24 @@ rows_there s Q h never = record {
   rows = each-row s h.links.homes
 
 profile_there : (s : State) → IsWhole s → Each (λ r. is_some (project_named s.projects r.project) ≡ true) s.profiles
-profile_there s h = Each-map (λ r home. (home-at s.projects r.project kind.Profile home).there) (each-row s h.links.homes).profiles
+profile_there s h =
+    Each-map (λ r home. (home-at s.projects r.project kind.Profile home).there) (each-row s h.links.homes).profiles
 
-not_fresh : (s : State) (fresh : List ℕ) → project_named s.projects fresh ≡ None → (name : List ℕ) → is_some (project_named s.projects name) ≡ true → name ≡ fresh → ⊥
-not_fresh s fresh none name there e = true≢false (sym there ∙ ap (λ n. is_some (project_named s.projects n)) e ∙ ap is_some none)
+not_fresh : (s : State) (fresh : List ℕ) → project_named s.projects fresh ≡ None → (name : List ℕ)
+    → is_some (project_named s.projects name) ≡ true → name ≡ fresh → ⊥
+not_fresh s fresh none name there e =
+    true≢false (sym there ∙ ap (λ n. is_some (project_named s.projects n)) e ∙ ap is_some none)
 
 -- a profile without devices, of a project that has profiles of its own
-own_placed : (t : State) (r : Project) (name : List ℕ) → project_named t.projects name ≡ Some r → has_profiles r ≡ true → IsPlacedProfile t (default_profile name)
+pub own_placed : (t : State) (r : Project) (name : List ℕ) → project_named t.projects name ≡ Some r
+    → has_profiles r ≡ true → IsPlacedProfile t (default_profile name)
 unfolding devices_miss
 own_placed t r name found on = (at-home t.projects name kind.Profile (own-home t.projects name r found on), refl)
 
 -- ---- a new project
 
-pub project-made_links : (s : State) (r : Project) → IsWhole s → project_named s.projects r.name ≡ None → AreLinked (applied s (project_creation r))
+pub project-made_links : (s : State) (r : Project) → IsWhole s → project_named s.projects r.name ≡ None
+    → AreLinked (applied s (project_creation r))
 project-made_links s r h fresh = at (has_profiles r) refl where
   Q : List ℕ → Type 0
   Q name = name ≡ r.name
@@ -97,7 +96,8 @@ project-made_links s r h fresh = at (has_profiles r) refl where
 
   at : (b : Bool) → has_profiles r ≡ b
       → AreLinked (applied s (cond b (put_all (row.Project r ∷ row.Profile (default_profile r.name) ∷ [])) (put_all (row.Project r ∷ []))))
-  at true on = elsewhere-links Q s (with_project r s.projects) (with_profile (default_profile r.name) s.profiles) h away
+  at true on =
+      elsewhere-links Q s (with_project r s.projects) (with_profile (default_profile r.name) s.profiles) h away
       (apart-both put (apart-profile (with_row (row.Project r) s) (default_profile r.name) refl))
       (λ y m. elim (Mem-replaced (is_profile r.name default_name) (λ x. texts_before (profile_names (default_profile r.name)) (profile_names x)) (default_profile r.name) y s.profiles m) [
         | inl e ↦ inr (subst (IsPlacedProfile (with_estate s (with_project r s.projects) (with_profile (default_profile r.name) s.profiles))) (sym e)
@@ -123,10 +123,11 @@ left_elsewhere s old h empty (Some p) is y m e =
     let names = profile-found s.profiles old.name default_name p is in
     let there = (find-some (is_profile old.name default_name) s.profiles p is).0 in
     let was = Mem-dropped y _ s.profiles m in
-    left-other profile_names s.profiles (distinct_profiles h) (drops-profile p h.names there) (λ x. keyed-profile p x) y m
+    left-other profile_names s.profiles (distinct_profiles h) (drops-profile p h.names there) (λ x. keyed-profile p x)
+    y m
     (λ i. (e ∙ sym names.0) i ∷ (empty.profiles.at y was e ∙ sym names.1) i ∷ [])
 
-emptied : (s : State) (name : List ℕ) → IsEmpty s name → name ≢ default_name → AreElsewhere (λ n. n ≡ name) s
+pub emptied : (s : State) (name : List ℕ) → IsEmpty s name → name ≢ default_name → AreElsewhere (λ n. n ≡ name) s
 emptied s name empty differs = record {
   networks = empty.networks;
   volumes = empty.volumes;
@@ -135,16 +136,20 @@ emptied s name empty differs = record {
   default = λ e. differs (sym e);
 }
 
-own_dropped : (Q : List ℕ → Type 0) (s : State) (old : Project) (p : Profile) → IsWhole s → own_profile s old ≡ Some p → Q old.name
+own_dropped : (Q : List ℕ → Type 0) (s : State) (old : Project) (p : Profile) → IsWhole s → own_profile s old ≡ Some p
+    → Q old.name
     → Each (λ y. has_key (key_of (row.Profile p)) (row.Profile y) ≡ true → Q y.project) s.profiles
-own_dropped Q s old p h is touched = record { at = λ y m hit.
-  let names = profile-found s.profiles old.name default_name p is in
-  let there = (find-some (is_profile old.name default_name) s.profiles p is).0 in
-  let same_names : profile_names y ≡ profile_names p = (drops-profile p h.names there).at y m hit in
-  let project : y.project ≡ p.project = cc in
-  subst Q (sym (project ∙ names.0)) touched }
+own_dropped Q s old p h is touched = record {
+  at = λ y m hit.
+      let names = profile-found s.profiles old.name default_name p is in
+      let there = (find-some (is_profile old.name default_name) s.profiles p is).0 in
+      let same_names : profile_names y ≡ profile_names p = (drops-profile p h.names there).at y m hit in
+      let project : y.project ≡ p.project = cc in
+      subst Q (sym (project ∙ names.0)) touched;
+}
 
-pub project-removed_links : (s : State) (old : Project) → IsWhole s → project_named s.projects old.name ≡ Some old → old.name ≢ default_name
+pub project-removed_links : (s : State) (old : Project) → IsWhole s → project_named s.projects old.name ≡ Some old
+    → old.name ≢ default_name
     → is_occupied s old.name ≡ false → AreLinked (applied s (project_deletion s old))
 project-removed_links s old h found differs free = at (own_profile s old) refl where
   Q : List ℕ → Type 0
@@ -156,17 +161,23 @@ project-removed_links s old h found differs free = at (own_profile s old) refl w
   gone : AreApart Q (λ project name. Q project) s (without_row kind.Project old.name s)
   gone = apart-no_project s old.name refl
 
-  at : (o : Option Profile) → own_profile s old ≡ o → AreLinked (applied s (map removal (row.Project old ∷ map row.Profile (option_to_list o))))
-  at None is = elsewhere-links Q s (dropped (λ y. has_key old.name (row.Project y)) s.projects) s.profiles h (emptied s old.name empty differs) gone
+  at : (o : Option Profile) → own_profile s old ≡ o
+      → AreLinked (applied s (map removal (row.Project old ∷ map row.Profile (option_to_list o))))
+  at None is =
+      elsewhere-links Q s (dropped (λ y. has_key old.name (row.Project y)) s.projects) s.profiles h
+      (emptied s old.name empty differs) gone
       (λ y m. inl (m, left_elsewhere s old h empty None is y m))
-  at (Some p) is = elsewhere-links Q s (dropped (λ y. has_key old.name (row.Project y)) s.projects) (without_own s (Some p)) h (emptied s old.name empty differs)
+  at (Some p) is =
+      elsewhere-links Q s (dropped (λ y. has_key old.name (row.Project y)) s.projects) (without_own s (Some p)) h
+      (emptied s old.name empty differs)
       (apart-both gone (apart-no_profile (without_row kind.Project old.name s) (key_of (row.Profile p)) (own_dropped Q s old p h is refl)))
       (λ y m. inl (Mem-dropped y _ s.profiles m, left_elsewhere s old h empty (Some p) is y m))
 
 -- ---- a project gets another name
 
 -- the second row that is put keeps the rules on settings
-second_settled : (t : State) (a b : Row) (rows : List Row) → settings_broken t (a ∷ b ∷ rows) ≡ None → row_settings t b ≡ None
+second_settled : (t : State) (a b : Row) (rows : List Row) → settings_broken t (a ∷ b ∷ rows) ≡ None
+    → row_settings t b ≡ None
 unfolding settings_broken
 second_settled t a b rows e = (none_both (row_settings t b) _ (none_both (row_settings t a) _ e).1).0
 
@@ -174,7 +185,8 @@ second_settled t a b rows e = (none_both (row_settings t b) _ (none_both (row_se
 abbrev own_moved : List ℕ → Option Profile → List RowChange
 own_moved to o = option_map_or (λ p. moved_row (row.Profile p) (row.Profile (record p { project = to }))) o []
 
-pub project-moved_links : (s : State) (old : Project) (to : List ℕ) → IsWhole s → project_named s.projects old.name ≡ Some old → old.name ≢ default_name
+pub project-moved_links : (s : State) (old : Project) (to : List ℕ) → IsWhole s
+    → project_named s.projects old.name ≡ Some old → old.name ≢ default_name
     → is_occupied s old.name ≡ false → project_named s.projects to ≡ None
     → settings_broken (applied s (project_rename s to old)) (rows_put (project_rename s to old)) ≡ None
     → AreLinked (applied s (project_rename s to old))
@@ -210,8 +222,11 @@ project-moved_links s old to h found differs free fresh settled = at (own_profil
   moved : AreApart Q (λ project name. Q project) s (with_row (row.Project new) rest)
   moved = apart-both (apart-no_project s old.name (inl refl)) (apart-project rest new (inr refl))
 
-  others : (o : Option Profile) → own_profile s old ≡ o → (y : Profile) → Mem y (without_own s o) → Mem y s.profiles → Q y.project → ⊥
-  others o is y m was = neither y.project (left_elsewhere s old h empty o is y m) (not_fresh s to fresh y.project ((profile_there s h).at y was))
+  others : (o : Option Profile) → own_profile s old ≡ o → (y : Profile) → Mem y (without_own s o) → Mem y s.profiles
+      → Q y.project → ⊥
+  others o is y m was =
+      neither y.project (left_elsewhere s old h empty o is y m)
+      (not_fresh s to fresh y.project ((profile_there s h).at y was))
 
   projects : List Project
   projects = with_project new (dropped (λ y. has_key old.name (row.Project y)) s.projects)
@@ -230,12 +245,13 @@ project-moved_links s old to h found differs free fresh settled = at (own_profil
   at None is settled = elsewhere-links Q s projects s.profiles h away moved (λ y m. inl (m, others None is y m m))
   at (Some p) is settled = elsewhere-links Q s projects profiles h away
       (apart-both (apart-both moved (apart-no_profile (with_row (row.Project new) rest) (key_of (row.Profile p)) (own_dropped Q s old p h is (inl refl))))
-        (apart-profile (without_row kind.Profile (key_of (row.Profile p)) (with_row (row.Project new) rest)) own (inr refl)))
+      (apart-profile (without_row kind.Profile (key_of (row.Profile p)) (with_row (row.Project new) rest)) own (inr refl)))
       (λ y m. elim (Mem-replaced (is_profile to p.name) (λ x. texts_before (profile_names own) (profile_names x)) own y (without_own s (Some p)) m) [
         | inl e ↦ inr (subst (IsPlacedProfile (with_estate s projects profiles)) (sym e) (
-            at-home projects to kind.Profile (own-home projects to new (project-put new (dropped (λ x. has_key old.name (row.Project x)) s.projects)) (on p is)),
-            (profile-row_accepted (with_estate s projects profiles) own (second_settled (with_estate s projects profiles) (row.Project new) (row.Profile own) [] settled)).0
-          ))
+          at-home projects to kind.Profile
+              (own-home projects to new (project-put new (dropped (λ x. has_key old.name (row.Project x)) s.projects)) (on p is)),
+          (profile-row_accepted (with_estate s projects profiles) own (second_settled (with_estate s projects profiles) (row.Project new) (row.Profile own) [] settled)).0,
+        ))
         | inr n ↦ let was = Mem-dropped y _ s.profiles n in inl (was, others (Some p) is y n was)
       ])
     where
@@ -244,139 +260,3 @@ project-moved_links s old to h found differs free fresh settled = at (own_profil
 
       profiles : List Profile
       profiles = with_profile own (without_own s (Some p))
-
--- ---- a project is changed
-
--- no feature changes
-same_features : (s : State) (old r : Project) → IsWhole s → project_named s.projects old.name ≡ Some old → r.name ≡ old.name
-    → Each (λ key. is_on r.config key ≡ is_on old.config key) feature_keys → AreLinked (with_estate s (with_project r s.projects) s.profiles)
-same_features s old r h found names features = estate-links s ps s.profiles h (record {
-  networks = record { at = λ x m. stays x.project };
-  volumes = record { at = λ x m. stays x.project };
-  instances = record { at = λ i m. (stays i.project, record { home = (stays i.project).home kind.Profile; profiles = λ name n. refl }) };
-  snapshots = record { at = λ x m. stays x.project };
-  operations = record { at = λ o m. stays o.work.project };
-  profiles = record { at = λ x m. profile-stays s ps s.profiles x h m (stays x.project) };
-}) where
-  ps : List Project
-  ps = with_project r s.projects
-
-  homes : HasSameHomes old r
-  homes = record {
-    profiles = features.at (codes "features.profiles") (inl refl);
-    networks = features.at (codes "features.networks") (inr (inl refl));
-    volumes = features.at (codes "features.storage.volumes") (inr (inr (inl refl)));
-  }
-
-  stays : (name : List ℕ) → StaysHome s.projects ps name
-  stays name = at (bytes_eq name r.name) refl where
-    at : (b : Bool) → bytes_eq name r.name ≡ b → StaysHome s.projects ps name
-    at true is =
-        let name_is : name ≡ r.name = same name r.name is in
-        stays-changed s.projects ps name old r (ap (project_named s.projects) (name_is ∙ names) ∙ found) (ap (project_named ps) name_is ∙ project-put r s.projects) homes
-    at false is = stays-found s.projects ps name
-        (other-found project_names (λ y. texts_before (project_names r) (project_names y)) r s.projects (tells-project r.name) (tells-project name)
-          (λ e. let name_is : r.name ≡ name = cc in true≢false (sym (ap (λ n. bytes_eq n r.name) (sym name_is) ∙ bytes_eq-itself r.name) ∙ is)))
-
--- the devices of the profile `default` that a changed project has
-own_accepted : (t : State) (r : Project) → row_settings t (row.Project r) ≡ None → own_default t r ≡ None
-unfolding row_settings
-own_accepted t r e = (none_both (own_default t r) None (none_both (tables_break r.config (project_fault r.config) []) (option_or (own_default t r) None) e).1).0
-
--- the changes of a project whose profiles were, and are now, its own
-abbrev changed_by : Project → Bool → Bool → List RowChange
-changed_by r was is_so = change.Put (row.Project r) ∷ profile_change r was is_so
-
--- features change, and nothing is in the project but its profile `default`
-other_features : (s : State) (old r : Project) → IsWhole s → project_named s.projects old.name ≡ Some old → r.name ≡ old.name
-    → is_occupied s old.name ≡ false → old.name ≢ default_name → (was is_so : Bool) → has_profiles old ≡ was → has_profiles r ≡ is_so
-    → row_settings (applied s (changed_by r was is_so)) (row.Project r) ≡ None → AreLinked (applied s (changed_by r was is_so))
-other_features s old r h found names free differs = at where
-  Q : List ℕ → Type 0
-  Q name = name ≡ r.name
-
-  empty : IsEmpty s r.name
-  empty = empty-project s r.name (ap (is_occupied s) names ∙ free)
-
-  away : AreElsewhere Q s
-  away = emptied s r.name empty (λ e. differs (sym names ∙ e))
-
-  ps : List Project
-  ps = with_project r s.projects
-
-  put : AreApart Q (λ project name. Q project) s (with_row (row.Project r) s)
-  put = apart-project s r refl
-
-  own : Profile
-  own = default_profile r.name
-
-  there : Mem old s.projects
-  there = (find-some (is_project old.name) s.projects old found).0
-
-  drops : Each (λ y. has_key (key_of (row.Profile own)) (row.Profile y) ≡ true → profile_names y ≡ profile_names own) s.profiles
-  drops = drops-own s old r.name h.names there names
-
-  own_names : (y : Profile) → Mem y s.profiles → y.project ≡ r.name → profile_names y ≡ profile_names own
-  own_names y m e = λ i. e i ∷ empty.profiles.at y m e i ∷ []
-
-  -- profiles of a project that had none of its own are elsewhere
-  without : has_profiles old ≡ false → (y : Profile) → Mem y s.profiles → y.project ≢ r.name
-  without off y m e =
-      let home = home-at s.projects y.project kind.Profile ((each-row s h.links.homes).profiles.at y m) in
-      true≢false (sym (home-own s.projects old.name old found differs (subst (λ n. IsAtHome s.projects n kind.Profile) (e ∙ names) home)) ∙ off)
-
-  -- the profile `default` of a project that keeps its own
-  kept : has_profiles r ≡ true → own_default (with_estate s ps s.profiles) r ≡ None → (y : Profile) → Mem y s.profiles → y.project ≡ r.name
-      → IsPlacedProfile (with_estate s ps s.profiles) y
-  kept on settled y m e =
-      let passes : is_profile r.name default_name y ≡ true = (tells-profile r.name default_name).passes y (own_names y m e) in
-      let found_own : profile_named s.profiles r.name default_name ≡ Some y =
-            find-mem profile_names (is_profile r.name default_name) y s.profiles (distinct_profiles h)
-            (λ x hit. (tells-profile r.name default_name).is x hit ∙ sym (own_names y m e)) m passes in
-      (
-        at-home ps y.project kind.Profile (subst (λ n. IsAtHome ps n kind.Profile) (sym e) (own-home ps r.name r (project-put r s.projects) on)),
-        ap (option_and_then (λ (x : Profile). devices_miss (with_estate s ps s.profiles) x.project x.devices)) (sym found_own) ∙ settled,
-      )
-
-  at : (was is_so : Bool) → has_profiles old ≡ was → has_profiles r ≡ is_so
-      → row_settings (applied s (changed_by r was is_so)) (row.Project r) ≡ None → AreLinked (applied s (changed_by r was is_so))
-  at true false on off settled = elsewhere-links Q s ps (dropped (λ y. has_key (key_of (row.Profile own)) (row.Profile y)) s.profiles) h away
-      (apart-both put (apart-no_profile (with_row (row.Project r) s) (key_of (row.Profile own))
-        (record { at = λ y m hit. let same_names : profile_names y ≡ profile_names own = drops.at y m hit in cc })))
-      (λ y m. let was = Mem-dropped y _ s.profiles m in
-        inl (was, λ e. left-other profile_names s.profiles (distinct_profiles h) drops (λ x. keyed-profile own x) y m (own_names y was e)))
-  at false true off on settled = elsewhere-links Q s ps (with_profile own s.profiles) h away
-      (apart-both put (apart-profile (with_row (row.Project r) s) own refl))
-      (λ y m. elim (Mem-replaced (is_profile r.name default_name) (λ x. texts_before (profile_names own) (profile_names x)) own y s.profiles m) [
-        | inl e ↦ inr (subst (IsPlacedProfile (with_estate s ps (with_profile own s.profiles))) (sym e)
-            (own_placed (with_estate s ps (with_profile own s.profiles)) r r.name (project-put r s.projects) on))
-        | inr n ↦ inl (n, without off y n)
-      ])
-  at true true was on settled = elsewhere-links Q s ps s.profiles h away put (λ y m. either y m (bytes_eq y.project r.name) refl) where
-    either : (y : Profile) → Mem y s.profiles → (b : Bool) → bytes_eq y.project r.name ≡ b
-        → (Mem y s.profiles × (Q y.project → ⊥)) ⊎ IsPlacedProfile (with_estate s ps s.profiles) y
-    either y m true is = inr (kept on (own_accepted (with_estate s ps s.profiles) r settled) y m (same y.project r.name is))
-    either y m false is = inl (m, λ e. true≢false (sym (ap (λ n. bytes_eq n r.name) e ∙ bytes_eq-itself r.name) ∙ is))
-  at false false was off settled = elsewhere-links Q s ps s.profiles h away put (λ y m. inl (m, without was y m))
-
-pub project-changed_links : (s : State) (old r : Project) → IsWhole s → project_named s.projects old.name ≡ Some old → r.name ≡ old.name
-    → (changes_features old r ≡ true → (is_occupied s old.name ≡ false) × (old.name ≢ default_name))
-    → settings_broken (applied s (project_change old r)) (rows_put (project_change old r)) ≡ None
-    → AreLinked (applied s (project_change old r))
-project-changed_links s old r h found names free settled = at (changes_features old r) refl where
-  accepted : row_settings (applied s (changed_by r (has_profiles old) (has_profiles r))) (row.Project r) ≡ None
-  accepted = first-settled (applied s (project_change old r)) (row.Project r) (rows_put (profile_change r (has_profiles old) (has_profiles r))) settled
-
-  plain : (features : Each (λ key. is_on r.config key ≡ is_on old.config key) feature_keys) (was is_so : Bool) → is_so ≡ was → AreLinked (applied s (changed_by r was is_so))
-  plain features true true e = same_features s old r h found names features
-  plain features false false e = same_features s old r h found names features
-  plain features true false e = cc
-  plain features false true e = cc
-
-  at : (b : Bool) → changes_features old r ≡ b → AreLinked (applied s (changed_by r (has_profiles old) (has_profiles r)))
-  at true changes =
-      let none = free changes in
-      other_features s old r h found names none.0 none.1 (has_profiles old) (has_profiles r) refl refl accepted
-  at false stays =
-      let features = features-same old r stays (tables-accept r (project-accepted (applied s (project_change old r)) r accepted)) in
-      plain features (has_profiles old) (has_profiles r) (features.at (codes "features.profiles") (inl refl))

@@ -1,11 +1,9 @@
 -- Links where networks, pools and volumes alone change.
-use Rattle.std.proofs.Common.{◌≡◌, ℕ, true, Option, Some, None, List, [], ◌∷◌, ◌++◌, refl}
+use Rattle.std.proofs.Common.{◌≡◌, ℕ, true, Some, None, List, refl}
 use Rattle.std.specs.Option.{is_some}
-use Rattle.plain_lists.specs.Members.{Mem, Each}
-use Rattle.plain_lists.proofs.Elements.{Each-map}
+use Rattle.plain_lists.specs.Members.{Each}
 use Rattle.size_values.specs.declared.kinds.ObjectKind.{ObjectKind}
 use Rattle.size_values.specs.declared.kinds.ObjectKind.TheVariants as kind
-use Rattle.operations.specs.declared.operation.Operation.{Operation}
 use Rattle.records.specs.declared.rows.Network.{Network}
 use Rattle.records.specs.declared.rows.Pool.{Pool}
 use Rattle.records.specs.declared.rows.Volume.{Volume}
@@ -19,11 +17,11 @@ use Rattle.row_machine.specs.Homes.{home_of}
 use Rattle.row_machine.specs.Expansions.{expanded_of}
 use Rattle.row_machine.specs.Claims.{judged_instances, claimed_volume}
 use Rattle.row_machine.specs.Opening.{homeless}
-use Rattle.row_machine.specs.Whole.{IsByDeed, IsLinked, AreLinked}
+use Rattle.row_machine.specs.Whole.{IsByDeed, AreLinked}
 use Rattle.machine_laws.proofs.Cases.{IsHome}
 use Rattle.machine_laws.proofs.Expansions.{IsAlike}
 use Rattle.machine_laws.proofs.NamesRows.{EachRow, each-row, rows-each}
-use Rattle.machine_laws.proofs.LinksHomes.{StaysHome, IsAtHome, stays-found}
+use Rattle.machine_laws.proofs.LinksHomes.{IsAtHome, stays-found}
 use Rattle.machine_laws.proofs.LinksDevices.{Serves, devices-stay, linked-stays}
 use Rattle.machine_laws.proofs.LinksPlaces.{Leaves, placed-stays}
 
@@ -40,7 +38,8 @@ pub record StoresServe (s : State) (ns : List Network) (ps : List Pool) (vs : Li
   pub instances : Each (λ i. Serves s (with_stores s ns ps vs) i.project (expanded_of s.projects s.profiles i).devices) (judged_instances s)
   pub operations : Each (λ o. Leaves s (with_stores s ns ps vs) o.work) s.operations.live
 
-pub stores-links : (s : State) (ns : List Network) (ps : List Pool) (vs : List Volume) → AreLinked s → Each (λ o. IsByDeed o.work) s.operations.live
+pub stores-links : (s : State) (ns : List Network) (ps : List Pool) (vs : List Volume) → AreLinked s
+    → Each (λ o. IsByDeed o.work) s.operations.live
     → StoresServe s ns ps vs → AreLinked (with_stores s ns ps vs)
 unfolding judged_instances
 stores-links s ns ps vs h deeds serve = record {
@@ -72,8 +71,8 @@ stores-links s ns ps vs h deeds serve = record {
 -- operations are left where the volumes that are copied and the pools of claimed volumes stay
 pub leaves-stores : (s : State) (ns : List Network) (ps : List Pool) (vs : List Volume) (task : Task)
     → ((of : Target) → task.source ≡ Some of → of.kind ≡ kind.Volume
-      → is_some (volume_named s.volumes (home_of s.projects task.project kind.Volume) of.pool of.name) ≡ true
-      → is_some (volume_named vs (home_of s.projects task.project kind.Volume) of.pool of.name) ≡ true)
+    → is_some (volume_named s.volumes (home_of s.projects task.project kind.Volume) of.pool of.name) ≡ true
+    → is_some (volume_named vs (home_of s.projects task.project kind.Volume) of.pool of.name) ≡ true)
     → ((v : Volume) → claimed_volume task ≡ Some v → is_some (pool_named s.pools v.pool) ≡ true → is_some (pool_named ps v.pool) ≡ true)
     → Leaves s (with_stores s ns ps vs) task
 leaves-stores s ns ps vs task sources claims = record {

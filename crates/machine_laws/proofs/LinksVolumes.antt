@@ -1,55 +1,55 @@
 -- Changes of volumes keep the links.
-use Rattle.std.proofs.Common.{◌≡◌, ◌≢◌, ℕ, Bool, true, false, ◌&&◌, Option, Some, None, List, [], ◌∷◌, refl, sym, ap, subst, ◌∙◌, true≢false}
-use Rattle.std.specs.Option.{option_map, option_map_or, is_some}
+use Rattle.std.proofs.Common.{◌≡◌, ◌≢◌, ℕ, true, false, Some, None, List, [], ◌∷◌, refl, sym, ap, subst, ◌∙◌, true≢false}
+use Rattle.std.specs.Option.{option_map_or, is_some}
 use Rattle.std.specs.Str.{bytes_eq}
 use Rattle.std.proofs.lemmas.Bool.{and_from}
 use Rattle.plain_lists.specs.Members.{Mem, Each}
 use Rattle.plain_lists.specs.Edits.{dropped}
 use Rattle.plain_lists.proofs.Elements.{Each-map}
 use Rattle.plain_lists.proofs.Searches.{find-some}
-use Rattle.plain_lists.proofs.EditLemmas.{Each-Replaces, Each-dropped, replaced-is}
+use Rattle.plain_lists.proofs.EditLemmas.{Each-dropped}
 use Rattle.config_lists.proofs.Keys.{bytes_eq-itself}
 use Rattle.config_lists.specs.Devices.{NamedDevices}
 use Rattle.estate_rules.specs.Uses.{names_volume}
 use Rattle.size_values.specs.declared.kinds.Deed.{Deed}
 use Rattle.size_values.specs.declared.kinds.Deed.TheVariants as deed
-use Rattle.size_values.specs.declared.kinds.ObjectKind.{ObjectKind}
 use Rattle.size_values.specs.declared.kinds.ObjectKind.TheVariants as kind
 use Rattle.operations.specs.declared.operation.Operation.{Operation}
 use Rattle.records.specs.declared.rows.Volume.{Volume}
-use Rattle.records.specs.declared.rows.Row.{Row}
 use Rattle.records.specs.declared.rows.Row.TheVariants as row
 use Rattle.records.specs.declared.commands.Target.{Target}
 use Rattle.row_codec.specs.Spelling.{key_of}
 use Rattle.row_machine.specs.Task.{Task}
 use Rattle.row_machine.specs.State.{State}
-use Rattle.row_machine.specs.Rows.{is_volume, volume_names, volume_named, pool_named, with_volume, texts_before}
+use Rattle.row_machine.specs.Rows.{is_volume, volume_names, volume_named, pool_named, with_volume}
 use Rattle.row_machine.specs.Homes.{home_of}
 use Rattle.row_machine.specs.Expansions.{expanded_of}
 use Rattle.row_machine.specs.Claims.{judged_instances}
 use Rattle.row_machine.specs.Changes.{applied, has_key, removal}
 use Rattle.row_machine.specs.Links.{target_of}
 use Rattle.row_machine.specs.Holders.{devices_name, source_uses, first_user_of}
-use Rattle.row_machine.specs.Plans.{put_all, moved_row}
+use Rattle.row_machine.specs.Plans.{moved_row}
 use Rattle.row_machine.specs.Opening.{homeless}
 use Rattle.row_machine.specs.Whole.{IsWhole, AreLinked, IsPlaced, IsByDeed, has_source, claim_kind}
 use Rattle.machine_laws.proofs.Cases.{IsHome}
 use Rattle.machine_laws.proofs.NamesRows.{each-row}
+use Rattle.machine_laws.proofs.LinksClaims.{volume-claimed}
 use Rattle.machine_laws.proofs.LinksHomes.{at-home, home-at}
-use Rattle.machine_laws.proofs.LinksDevices.{Serves, volume_there}
-use Rattle.machine_laws.proofs.LinksRows.{volume-still, volume-unremoved}
+use Rattle.machine_laws.proofs.LinksDevices.{volume_there}
+use Rattle.machine_laws.proofs.LinksRows.{volume-each, volume-still, volume-unremoved}
 use Rattle.machine_laws.proofs.LinksStores.{stores-links, leaves-stores, is-home}
 use Rattle.machine_laws.proofs.LinksUnused.{IsUnused, unused-volume, unused-claim}
 
 -- ---- the copy of a volume
 
 -- a deed that has a volume as its source claims a volume
-source_deed : (d : Deed) (of : Target) → of.kind ≡ kind.Volume → has_source d (Some of) ≡ true → claim_kind d ≡ Some kind.Volume
+source_deed : (d : Deed) (of : Target) → of.kind ≡ kind.Volume → has_source d (Some of) ≡ true
+    → claim_kind d ≡ Some kind.Volume
 source_deed d of is = at d where
   at : (d : Deed) → has_source d (Some of) ≡ true → claim_kind d ≡ Some kind.Volume
   at deed.CopyVolume e = refl
   at deed.Copy e = let not_instance : has_source deed.Copy (Some (record of { kind = kind.Volume })) ≡ true =
-                         subst (λ k. has_source deed.Copy (Some (record of { kind = k })) ≡ true) is e in cc
+      subst (λ k. has_source deed.Copy (Some (record of { kind = k })) ≡ true) is e in cc
   at deed.Create e = cc
   at deed.Update e = cc
   at deed.Restore e = cc
@@ -59,21 +59,12 @@ source_deed d of is = at d where
   at deed.Snap e = cc
   at deed.Unsnap e = cc
 
-volume_row : (o : Option Row) → option_map (λ r. (target_of r).kind) o ≡ Some kind.Volume → (v : Volume) × (o ≡ Some (row.Volume v))
-volume_row None e = cc
-volume_row (Some (row.Volume v)) e = (v, refl)
-volume_row (Some (row.Project r)) e = cc
-volume_row (Some (row.Profile r)) e = cc
-volume_row (Some (row.Network r)) e = cc
-volume_row (Some (row.Pool r)) e = cc
-volume_row (Some (row.Instance r)) e = cc
-volume_row (Some (row.Snapshot r)) e = cc
-
 -- the copy of a volume claims a volume of its project, which is its own home
-copy_claim : (s : State) (task : Task) (of : Target) → IsByDeed task → IsPlaced s task → task.source ≡ Some of → of.kind ≡ kind.Volume
+copy_claim : (s : State) (task : Task) (of : Target) → IsByDeed task → IsPlaced s task → task.source ≡ Some of
+    → of.kind ≡ kind.Volume
     → (v : Volume) × ((task.claim ≡ Some (row.Volume v)) × (home_of s.projects task.project kind.Volume ≡ task.project))
 copy_claim s task of by placed is same =
-    let claimed = volume_row task.claim (by.kind ∙ source_deed task.deed of same (ap (has_source task.deed) (sym is) ∙ by.source)) in
+    let claimed = volume-claimed task.claim (by.kind ∙ source_deed task.deed of same (ap (has_source task.deed) (sym is) ∙ by.source)) in
     let project = placed.claim_project (row.Volume claimed.0) claimed.1 in
     let own = (home-at s.projects claimed.0.project kind.Volume (placed.claim_home (row.Volume claimed.0) claimed.1)).own in
     (claimed.0, (claimed.1, ap (λ p. home_of s.projects p kind.Volume) (sym project) ∙ own ∙ project))
@@ -91,44 +82,64 @@ record AreEnough (s : State) (vs : List Volume) : Type 0 where
   sources : Each (λ o. (of : Target) → o.work.source ≡ Some of → of.kind ≡ kind.Volume → volume_there s o.work.project of.pool of.name
       → volume_there (record s { volumes = vs }) o.work.project of.pool of.name) s.operations.live
 
-serving : (s : State) (vs : List Volume) → AreLinked s → Each (λ o. IsByDeed o.work) s.operations.live → AreEnough s vs → AreLinked (record s { volumes = vs })
+serving : (s : State) (vs : List Volume) → AreLinked s → Each (λ o. IsByDeed o.work) s.operations.live
+    → AreEnough s vs → AreLinked (record s { volumes = vs })
 serving s vs h deeds enough = stores-links s s.networks s.pools vs h deeds (record {
   networks = (each-row s h.homes).networks;
   volumes = enough.homes;
   pools = enough.pools;
-  profiles = Each-map (λ r stays. record { networks = λ name names there. there; pools = λ name names there. there; volumes = stays }) enough.profiles;
-  instances = Each-map (λ i stays. record { networks = λ name names there. there; pools = λ name names there. there; volumes = stays }) enough.instances;
-  operations = Each-map (λ o stays. leaves-stores s s.networks s.pools vs o.work stays (λ v is there. there)) enough.sources;
+  profiles =
+      Each-map
+      (λ r stays. record { networks = λ name names there. there; pools = λ name names there. there; volumes = stays })
+      enough.profiles;
+  instances =
+      Each-map
+      (λ i stays. record { networks = λ name names there. there; pools = λ name names there. there; volumes = stays })
+      enough.instances;
+  operations =
+      Each-map (λ o stays. leaves-stores s s.networks s.pools vs o.work stays (λ v is there. there)) enough.sources;
 })
 
 -- where each but one stays, which nothing names
-fewer : (s : State) (old : Volume) (vs : List Volume) → IsWhole s → first_user_of s old.project (target_of (row.Volume old)) ≡ None
+fewer : (s : State) (old : Volume) (vs : List Volume) → IsWhole s
+    → first_user_of s old.project (target_of (row.Volume old)) ≡ None
     → Each (λ v. homeless s (row.Volume v) ≡ None) vs → Each (λ v. is_some (pool_named s.pools v.pool) ≡ true) vs
     → ((home pool name : List ℕ) → volume_names old ≢ home ∷ pool ∷ name ∷ [] → is_some (volume_named s.volumes home pool name) ≡ true
-      → is_some (volume_named vs home pool name) ≡ true)
+    → is_some (volume_named vs home pool name) ≡ true)
     → AreLinked (record s { volumes = vs })
 fewer s old vs h used homes pools stay = serving s vs h.links h.operations.deeds (record {
   homes = homes;
   pools = pools;
-  profiles = record { at = λ r m pool name names there.
-    stay (home_of s.projects r.project kind.Volume) pool name (other r.project r.devices (unused.profiles.at r m) pool name names) there };
-  instances = record { at = λ i m pool name names there.
-    stay (home_of s.projects i.project kind.Volume) pool name (other i.project (expanded_of s.projects s.profiles i).devices (unused.instances.at i m) pool name names) there };
+  profiles = record {
+    at = λ r m pool name names there.
+        stay (home_of s.projects r.project kind.Volume) pool name
+        (other r.project r.devices (unused.profiles.at r m) pool name names) there;
+  };
+  instances = record {
+    at = λ i m pool name names there.
+        stay (home_of s.projects i.project kind.Volume) pool name
+        (other i.project (expanded_of s.projects s.profiles i).devices (unused.instances.at i m) pool name names)
+        there;
+  };
   sources = record { at = λ o m of is same there. stay (home_of s.projects o.work.project kind.Volume) of.pool of.name (source o m of is same) there };
 }) where
   unused : IsUnused s old.project (target_of (row.Volume old))
   unused = unused-volume s old h.links used
 
-  other : (project : List ℕ) (devices : NamedDevices) → devices_name s old.project (target_of (row.Volume old)) project devices ≡ false
-      → (pool name : List ℕ) → names_volume devices pool name ≡ true → volume_names old ≢ home_of s.projects project kind.Volume ∷ pool ∷ name ∷ []
+  other : (project : List ℕ) (devices : NamedDevices)
+      → devices_name s old.project (target_of (row.Volume old)) project devices ≡ false
+      → (pool name : List ℕ) → names_volume devices pool name ≡ true
+      → volume_names old ≢ home_of s.projects project kind.Volume ∷ pool ∷ name ∷ []
   other project devices none pool name names e =
       let home : old.project ≡ home_of s.projects project kind.Volume = cc in
       let same_pool : old.pool ≡ pool = cc in
       let same_name : old.name ≡ name = cc in
       let at : bytes_eq (home_of s.projects project kind.Volume) old.project ≡ true = ap (λ p. bytes_eq p old.project) (sym home) ∙ bytes_eq-itself old.project in
-      true≢false (sym (and_from _ _ at (ap (λ p. names_volume devices p old.name) same_pool ∙ ap (names_volume devices pool) same_name ∙ names)) ∙ none)
+      true≢false
+      (sym (and_from _ _ at (ap (λ p. names_volume devices p old.name) same_pool ∙ ap (names_volume devices pool) same_name ∙ names)) ∙ none)
 
-  source : (o : Operation Task) → Mem o s.operations.live → (of : Target) → o.work.source ≡ Some of → of.kind ≡ kind.Volume
+  source : (o : Operation Task) → Mem o s.operations.live → (of : Target) → o.work.source ≡ Some of
+      → of.kind ≡ kind.Volume
       → volume_names old ≢ home_of s.projects o.work.project kind.Volume ∷ of.pool ∷ of.name ∷ []
   source o m of is same e =
       let claim = copy_claim s o.work of (h.operations.deeds.at o m) (h.links.operations.at o m) is same in
@@ -141,49 +152,57 @@ fewer s old vs h used homes pools stay = serving s vs h.links h.operations.deeds
       let name : bytes_eq of.name old.name ≡ true = ap (λ p. bytes_eq p old.name) (sym same_name) ∙ bytes_eq-itself old.name in
       let uses : source_uses old.project (target_of (row.Volume old)) o.work.project (record of { kind = kind.Volume }) ≡ true = and_from _ _ (and_from _ _ project pool) name in
       let used_so : source_uses old.project (target_of (row.Volume old)) o.work.project of ≡ true =
-            subst (λ k. source_uses old.project (target_of (row.Volume old)) o.work.project (record of { kind = k }) ≡ true) (sym same) uses in
-      true≢false (sym used_so ∙ ap (λ c. option_map_or (source_uses old.project (target_of (row.Volume old)) o.work.project) c false) (sym is) ∙ none)
+      subst (λ k. source_uses old.project (target_of (row.Volume old)) o.work.project (record of { kind = k }) ≡ true)
+      (sym same) uses in
+      true≢false
+      (sym used_so ∙ ap (λ c. option_map_or (source_uses old.project (target_of (row.Volume old)) o.work.project) c false) (sym is) ∙ none)
 
 -- ---- the changes
 
-put_each : (P : Volume → Type 0) (r : Volume) (vs : List Volume) → P r → Each P vs → Each P (with_volume r vs)
-put_each P r vs own others = Each-Replaces P
-    (replaced-is (is_volume r.project r.pool r.name) (λ y. texts_before (volume_names r) (volume_names y)) r vs) own others
-
 -- A volume is put.
-pub volume-put_links : (s : State) (r : Volume) → AreLinked s → Each (λ o. IsByDeed o.work) s.operations.live → homeless s (row.Volume r) ≡ None
+pub volume-put_links : (s : State) (r : Volume) → AreLinked s → Each (λ o. IsByDeed o.work) s.operations.live
+    → homeless s (row.Volume r) ≡ None
     → is_some (pool_named s.pools r.pool) ≡ true → AreLinked (record s { volumes = with_volume r s.volumes })
 volume-put_links s r h deeds home pool = serving s (with_volume r s.volumes) h deeds (record {
-  homes = put_each _ r s.volumes home (each-row s h.homes).volumes;
-  pools = put_each _ r s.volumes pool h.volumes;
+  homes = volume-each _ r s.volumes home (each-row s h.homes).volumes;
+  pools = volume-each _ r s.volumes pool h.volumes;
   profiles = record { at = λ x m pool name names there. volume-still r s.volumes (home_of s.projects x.project kind.Volume) pool name there };
   instances = record { at = λ i m pool name names there. volume-still r s.volumes (home_of s.projects i.project kind.Volume) pool name there };
   sources = record { at = λ o m of is same there. volume-still r s.volumes (home_of s.projects o.work.project kind.Volume) of.pool of.name there };
 })
 
-pub volume-home : (s : State) (r : Volume) (home : List ℕ) → IsHome s home kind.Volume → r.project ≡ home → homeless s (row.Volume r) ≡ None
-volume-home s r home is same = at-home s.projects r.project kind.Volume (is-home s r.project kind.Volume (subst (λ p. IsHome s p kind.Volume) (sym same) is))
+pub volume-home : (s : State) (r : Volume) (home : List ℕ) → IsHome s home kind.Volume → r.project ≡ home
+    → homeless s (row.Volume r) ≡ None
+volume-home s r home is same =
+    at-home s.projects r.project kind.Volume
+    (is-home s r.project kind.Volume (subst (λ p. IsHome s p kind.Volume) (sym same) is))
 
 -- the others stay where one is removed
 undropped : (s : State) (old : Volume) → IsWhole s → volume_named s.volumes old.project old.pool old.name ≡ Some old
-    → (home pool name : List ℕ) → volume_names old ≢ home ∷ pool ∷ name ∷ [] → is_some (volume_named s.volumes home pool name) ≡ true
+    → (home pool name : List ℕ) → volume_names old ≢ home ∷ pool ∷ name ∷ []
+    → is_some (volume_named s.volumes home pool name) ≡ true
     → is_some (volume_named (dropped (λ y. has_key (key_of (row.Volume old)) (row.Volume y)) s.volumes) home pool name) ≡ true
 undropped s old h found home pool name other there =
-    ap is_some (volume-unremoved old home pool name h.names (find-some (is_volume old.project old.pool old.name) s.volumes old found).0 other) ∙ there
+    ap is_some
+    (volume-unremoved old home pool name h.names (find-some (is_volume old.project old.pool old.name) s.volumes old found).0 other)
+    ∙ there
 
 pub volume-moved_links : (s : State) (old : Volume) (to : List ℕ) → IsWhole s → IsHome s old.project kind.Volume
-    → volume_named s.volumes old.project old.pool old.name ≡ Some old → first_user_of s old.project (target_of (row.Volume old)) ≡ None
+    → volume_named s.volumes old.project old.pool old.name ≡ Some old
+    → first_user_of s old.project (target_of (row.Volume old)) ≡ None
     → AreLinked (applied s (moved_row (row.Volume old) (row.Volume (record old { name = to }))))
 volume-moved_links s old to h is found used =
     let new : Volume = record old { name = to } in
     let rest : List Volume = dropped (λ y. has_key (key_of (row.Volume old)) (row.Volume y)) s.volumes in
     fewer s old (with_volume new rest) h used
-    (put_each _ new rest (volume-home s new old.project is refl) (Each-dropped _ (each-row s h.links.homes).volumes))
-    (put_each _ new rest (h.links.volumes.at old (find-some (is_volume old.project old.pool old.name) s.volumes old found).0) (Each-dropped _ h.links.volumes))
+    (volume-each _ new rest (volume-home s new old.project is refl) (Each-dropped _ (each-row s h.links.homes).volumes))
+    (volume-each _ new rest (h.links.volumes.at old (find-some (is_volume old.project old.pool old.name) s.volumes old found).0) (Each-dropped _ h.links.volumes))
     (λ home pool name other there. volume-still new rest home pool name (undropped s old h found home pool name other there))
 
-pub volume-removed_links : (s : State) (old : Volume) → IsWhole s → volume_named s.volumes old.project old.pool old.name ≡ Some old
-    → first_user_of s old.project (target_of (row.Volume old)) ≡ None → AreLinked (applied s (removal (row.Volume old) ∷ []))
+pub volume-removed_links : (s : State) (old : Volume) → IsWhole s
+    → volume_named s.volumes old.project old.pool old.name ≡ Some old
+    → first_user_of s old.project (target_of (row.Volume old)) ≡ None
+    → AreLinked (applied s (removal (row.Volume old) ∷ []))
 volume-removed_links s old h found used =
     fewer s old (dropped (λ y. has_key (key_of (row.Volume old)) (row.Volume y)) s.volumes) h used
     (Each-dropped _ (each-row s h.links.homes).volumes)

@@ -1,5 +1,5 @@
 -- An operation that begins is by its deed, and has all its calls before it.
-use Rattle.std.proofs.Common.{◌≡◌, ℕ, Bool, true, false, Option, Some, None, List, [], ◌∷◌, map, refl, sym, ap}
+use Rattle.std.proofs.Common.{◌≡◌, Bool, true, false, map, refl, ap}
 use Rattle.std.specs.Option.{option_map}
 use Rattle.size_values.specs.declared.kinds.Action.{Action}
 use Rattle.size_values.specs.declared.kinds.Action.TheVariants as action

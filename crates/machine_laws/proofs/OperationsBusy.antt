@@ -1,10 +1,10 @@
 -- No live operation keeps the instances of an operation busy that begins.
-use Rattle.std.proofs.Common.{◌≡◌, ◌≢◌, ◌⊎◌, inl, inr, ℕ, Bool, true, false, cond, ◌&&◌, ◌||◌, Option, Some, None, List, [], ◌∷◌, ◌++◌, refl, sym, ap, subst, ◌∙◌}
+use Rattle.std.proofs.Common.{◌≡◌, ◌≢◌, ◌⊎◌, inl, inr, ℕ, Bool, true, false, ◌&&◌, ◌||◌, Option, Some, None, List, refl, sym, ap, subst, ◌∙◌}
 use Rattle.std.specs.Str.{bytes_eq}
 use Rattle.std.specs.Option.{option_map, option_map_or, is_some}
 use Rattle.std.specs.Prelude.{IfSome}
-use Rattle.plain_lists.specs.Members.{Mem, Each}
-use Rattle.plain_lists.proofs.Searches.{none-find, find-none, find-some}
+use Rattle.plain_lists.specs.Members.{Mem}
+use Rattle.plain_lists.proofs.Searches.{none-find, find-some}
 use Rattle.config_lists.proofs.Keys.{same, bytes_eq-itself}
 use Rattle.size_values.specs.declared.kinds.Deed.{Deed}
 use Rattle.size_values.specs.declared.kinds.Deed.TheVariants as deed
@@ -28,7 +28,7 @@ use Rattle.row_machine.specs.Plans.{instance_target}
 use Rattle.row_machine.specs.Whole.{IsWhole, IsPlaced, IsByDeed, has_target, claim_kind, target_kind, instance_there}
 use Rattle.machine_laws.proofs.Cases.{Begins, IsNew, IsIdle}
 use Rattle.machine_laws.proofs.Cases.Begins.{creates, copies_instance, copies_snapshot, copies_volume, updates, restores, renames, deletes, acts, snaps, unsnaps}
-use Rattle.machine_laws.proofs.Found.{some-there, there-is, snapshot-found}
+use Rattle.machine_laws.proofs.Found.{there-is, snapshot-found}
 
 -- ---- a name that is new is no busy instance's
 
@@ -120,58 +120,58 @@ or_either false b e = inr e
 new-apart : (s : State) (project name : List ℕ) → IsWhole s → IsNew s project (instance_target name) → (o : Operation Task) → Mem o s.operations.live
     → keeps_busy project name o.work ≡ true → ⊥
 new-apart s project name h new o m e = elim (or_either (is_about name o.work.target) (option_map_or (is_about name) o.work.source false) tests.1) [
-    inl target ↦ by o.work.deed refl target
+  | inl target ↦ by o.work.deed refl target
   | inr source ↦ of_source o.work.source refl source
-  ] where
-    tests : (bytes_eq o.work.project project ≡ true) × ((is_about name o.work.target || option_map_or (is_about name) o.work.source false) ≡ true)
-    tests = both_true (bytes_eq o.work.project project) _ e
+] where
+  tests : (bytes_eq o.work.project project ≡ true) × ((is_about name o.work.target || option_map_or (is_about name) o.work.source false) ≡ true)
+  tests = both_true (bytes_eq o.work.project project) _ e
 
-    home : o.work.project ≡ project
-    home = same o.work.project project tests.0
+  home : o.work.project ≡ project
+  home = same o.work.project project tests.0
 
-    placed : IsPlaced s o.work
-    placed = h.links.operations.at o m
+  placed : IsPlaced s o.work
+  placed = h.links.operations.at o m
 
-    by_deed : IsByDeed o.work
-    by_deed = h.operations.deeds.at o m
+  by_deed : IsByDeed o.work
+  by_deed = h.operations.deeds.at o m
 
-    free : is_some (instance_named s.instances project name) ≡ true → ⊥
-    free there = false-true (sym new.free ∙ there)
+  free : is_some (instance_named s.instances project name) ≡ true → ⊥
+  free there = false-true (sym new.free ∙ there)
 
-    there : has_target o.work.deed ≡ true → is_about name o.work.target ≡ true → ⊥
-    there has about =
-        free (subst (λ p. is_some (instance_named s.instances p name) ≡ true) home
-        (about-instance s o.work.project name o.work.target.kind o.work.target.pool o.work.target.instance o.work.target.name about (placed.target has)))
+  there : has_target o.work.deed ≡ true → is_about name o.work.target ≡ true → ⊥
+  there has about =
+      free (subst (λ p. is_some (instance_named s.instances p name) ≡ true) home
+      (about-instance s o.work.project name o.work.target.kind o.work.target.pool o.work.target.instance o.work.target.name about (placed.target has)))
 
-    claimed : (r : Option Row) → o.work.claim ≡ r → option_map (λ r. (target_of r).kind) r ≡ Some kind.Instance → IfSome r (λ r. target_of r ≡ o.work.target)
-        → o.work.target.kind ≡ kind.Instance → is_about name o.work.target ≡ true → ⊥
-    claimed None is kinds named of_kind about = cc
-    claimed (Some r) is kinds named of_kind about =
-        let taken = claims-it s project name o.work r is (placed.claim_project r is ∙ home) (ap (λ (t : Target). t.kind) named ∙ of_kind)
-              (ap (λ (t : Target). t.name) named ∙ about-name name o.work.target of_kind about) in
-        false-true (sym (new.unclaimed.at o m) ∙ taken)
+  claimed : (r : Option Row) → o.work.claim ≡ r → option_map (λ r. (target_of r).kind) r ≡ Some kind.Instance → IfSome r (λ r. target_of r ≡ o.work.target)
+      → o.work.target.kind ≡ kind.Instance → is_about name o.work.target ≡ true → ⊥
+  claimed None is kinds named of_kind about = cc
+  claimed (Some r) is kinds named of_kind about =
+      let taken = claims-it s project name o.work r is (placed.claim_project r is ∙ home) (ap (λ (t : Target). t.kind) named ∙ of_kind)
+      (ap (λ (t : Target). t.name) named ∙ about-name name o.work.target of_kind about) in
+      false-true (sym (new.unclaimed.at o m) ∙ taken)
 
-    creates_it : (d : Deed) → o.work.deed ≡ d → claim_kind d ≡ Some kind.Instance → target_kind d ≡ kind.Instance → d ≢ deed.Rename → is_about name o.work.target ≡ true → ⊥
-    creates_it d is kinds of_kind other about =
-        claimed o.work.claim refl (by_deed.kind ∙ ap claim_kind is ∙ kinds) (by_deed.named (λ rename. other (sym is ∙ rename))) (by_deed.target ∙ ap target_kind is ∙ of_kind) about
+  creates_it : (d : Deed) → o.work.deed ≡ d → claim_kind d ≡ Some kind.Instance → target_kind d ≡ kind.Instance → d ≢ deed.Rename → is_about name o.work.target ≡ true → ⊥
+  creates_it d is kinds of_kind other about =
+      claimed o.work.claim refl (by_deed.kind ∙ ap claim_kind is ∙ kinds) (by_deed.named (λ rename. other (sym is ∙ rename))) (by_deed.target ∙ ap target_kind is ∙ of_kind) about
 
-    by : (d : Deed) → o.work.deed ≡ d → is_about name o.work.target ≡ true → ⊥
-    by deed.Create is about = creates_it deed.Create is refl refl (λ e. cc) about
-    by deed.Copy is about = creates_it deed.Copy is refl refl (λ e. cc) about
-    by deed.CopyVolume is about = about-no_volume name o.work.target (by_deed.target ∙ ap target_kind is) about
-    by deed.Update is about = there (ap has_target is) about
-    by deed.Restore is about = there (ap has_target is) about
-    by deed.Rename is about = there (ap has_target is) about
-    by deed.Delete is about = there (ap has_target is) about
-    by (deed.Act does ephemeral) is about = there (ap has_target is) about
-    by deed.Snap is about = there (ap has_target is) about
-    by deed.Unsnap is about = there (ap has_target is) about
+  by : (d : Deed) → o.work.deed ≡ d → is_about name o.work.target ≡ true → ⊥
+  by deed.Create is about = creates_it deed.Create is refl refl (λ e. cc) about
+  by deed.Copy is about = creates_it deed.Copy is refl refl (λ e. cc) about
+  by deed.CopyVolume is about = about-no_volume name o.work.target (by_deed.target ∙ ap target_kind is) about
+  by deed.Update is about = there (ap has_target is) about
+  by deed.Restore is about = there (ap has_target is) about
+  by deed.Rename is about = there (ap has_target is) about
+  by deed.Delete is about = there (ap has_target is) about
+  by (deed.Act does ephemeral) is about = there (ap has_target is) about
+  by deed.Snap is about = there (ap has_target is) about
+  by deed.Unsnap is about = there (ap has_target is) about
 
-    of_source : (source : Option Target) → o.work.source ≡ source → option_map_or (is_about name) source false ≡ true → ⊥
-    of_source None is about = false-true about
-    of_source (Some of) is about =
-        free (subst (λ p. is_some (instance_named s.instances p name) ≡ true) home
-        (about-there s o.work.project name h of.kind of.pool of.instance of.name about (placed.source of is)))
+  of_source : (source : Option Target) → o.work.source ≡ source → option_map_or (is_about name) source false ≡ true → ⊥
+  of_source None is about = false-true about
+  of_source (Some of) is about =
+      free (subst (λ p. is_some (instance_named s.instances p name) ≡ true) home
+      (about-there s o.work.project name h of.kind of.pool of.instance of.name about (placed.source of is)))
 
 pub new-idle : (s : State) (project name : List ℕ) → IsWhole s → IsNew s project (instance_target name) → busy_with s project name ≡ None
 unfolding busy_with
@@ -191,8 +191,8 @@ idle-target : (s : State) (project instance : List ℕ) (i : Instance) → IsIdl
 idle-target s project instance i idle e =
     let parts = both_true (bytes_eq i.project project) (bytes_eq i.name instance || false) e in
     elim (or_either (bytes_eq i.name instance) false parts.1) [
-      inl n ↦ idle-as idle (same i.project project parts.0) (same i.name instance n)
-    | inr never ↦ false-true never
+      | inl n ↦ idle-as idle (same i.project project parts.0) (same i.name instance n)
+      | inr never ↦ false-true never
     ]
 
 pub begins-idle : {s : State} {task : Task} → IsWhole s → Begins s task → (project instance : List ℕ) → keeps_busy project instance task ≡ true
@@ -207,15 +207,15 @@ begins-idle {s} h (copies_instance name body moment i idle new profiles early) p
     let parts = both_true (bytes_eq i.project project) _ e in
     let home = same i.project project parts.0 in
     elim (or_either (bytes_eq name instance) (bytes_eq i.name instance) parts.1) [
-      inl n ↦ ap (λ q. busy_with s q instance) (sym home) ∙ ap (busy_with s i.project) (sym (same name instance n)) ∙ new-idle s i.project name h new
-    | inr n ↦ idle-as idle home (same i.name instance n)
+      | inl n ↦ ap (λ q. busy_with s q instance) (sym home) ∙ ap (busy_with s i.project) (sym (same name instance n)) ∙ new-idle s i.project name h new
+      | inr n ↦ idle-as idle home (same i.name instance n)
     ]
 begins-idle {s} h (copies_snapshot name body moment i r idle found new profiles early) project instance e =
     let parts = both_true (bytes_eq i.project project) _ e in
     let home = same i.project project parts.0 in
     elim (or_either (bytes_eq name instance) (bytes_eq i.name instance) parts.1) [
-      inl n ↦ ap (λ q. busy_with s q instance) (sym home) ∙ ap (busy_with s i.project) (sym (same name instance n)) ∙ new-idle s i.project name h new
-    | inr n ↦ idle-as idle home (same i.name instance n)
+      | inl n ↦ ap (λ q. busy_with s q instance) (sym home) ∙ ap (busy_with s i.project) (sym (same name instance n)) ∙ new-idle s i.project name h new
+      | inr n ↦ idle-as idle home (same i.name instance n)
     ]
 begins-idle h (copies_volume pool name body moment v home found from_pool to_pool new early) project instance e =
     false-true (both_true (bytes_eq v.project project) _ e).1

@@ -1,5 +1,5 @@
 -- Fact 5 after every change: operations are numbered and few, each instance is kept busy by one of them, and each is by its deed.
-use Rattle.std.proofs.Common.{◌≡◌, ◌≢◌, ℕ, ◌+◌, ◌<◌, ◌≤◌, ◌==◌, ltb, suc, ◌⊎◌, inl, inr, Bool, true, false, cond, IsSome, Option, Some, None, List, [], ◌∷◌, ◌++◌, length, refl, sym, ◌∙◌, ap, subst, arith}
+use Rattle.std.proofs.Common.{◌≡◌, ◌≢◌, ℕ, ◌+◌, ◌<◌, ◌≤◌, ◌==◌, ltb, inl, inr, Bool, true, false, cond, IsSome, Option, Some, None, List, [], ◌∷◌, ◌++◌, length, refl, sym, ◌∙◌, ap, subst, arith}
 use Rattle.std.specs.Prelude.{filter}
 use Rattle.std.specs.Option.{option_map, is_some}
 use Rattle.std.proofs.lemmas.Bool.{eq-eqb, ltb-true, ltb-false}
@@ -11,7 +11,6 @@ use Rattle.plain_lists.specs.Edits.{changed_first, dropped}
 use Rattle.plain_lists.proofs.Elements.{Each-push, Each-head, Each-tail}
 use Rattle.plain_lists.proofs.EditLemmas.{Each-dropped, find-changed}
 use Rattle.plain_lists.proofs.Searches.{find-none}
-use Rattle.plain_lists.proofs.FirstLemmas.{not_mapped}
 use Rattle.size_values.specs.Moments.{moment_limit}
 use Rattle.instance_states.specs.Plans.{undo_of}
 use Rattle.host_model.specs.declared.call.HostCall.{HostCall}
@@ -22,9 +21,7 @@ use Rattle.operations.specs.declared.operation.OpFault.TheVariants as fault
 use Rattle.operations.specs.declared.status.Status.{Status}
 use Rattle.operations.specs.declared.status.Status.TheVariants as status
 use Rattle.operations.specs.declared.status.Status.TheVariants.{Running, Cancelling}
-use Rattle.operations.specs.declared.faults.EnterFault.{EnterFault}
 use Rattle.operations.specs.declared.faults.EnterFault.TheVariants.{Full, Spent}
-use Rattle.operations.specs.Statuses.{is_live}
 use Rattle.operations.specs.Kept.{Kept, has_number, live_at, enter_fault, ends}
 use Rattle.operations.specs.Kept as kept
 use Rattle.operations.specs.Facts.{AreKept}
@@ -42,10 +39,10 @@ use Rattle.row_machine.specs.Notices.{telling}
 use Rattle.row_machine.specs.Step.{first_pending}
 use Rattle.row_machine.specs.Work.{entered, with_task, moved, handing_out, one_more_done, undone, cancelled, failed, succeeded, success_changes, power_after, with_power_after, after_failure}
 use Rattle.row_machine.specs.Whole.{IsWhole, AreOperations, IsByDeed}
-use Rattle.machine_laws.proofs.Cases.{IsAccepted, IsLiveAs, IsEntryJudged}
+use Rattle.machine_laws.proofs.Cases.{IsAccepted, IsLiveAs}
 use Rattle.machine_laws.proofs.Judged.{entry_judged}
 use Rattle.machine_laws.proofs.BeginsCases.{begins}
-use Rattle.machine_laws.proofs.Base.{Each-found, count-found, changed-twice, first-live, taken-live, taken_state}
+use Rattle.machine_laws.proofs.Base.{Each-found, count-found, first-live}
 use Rattle.machine_laws.proofs.BooksSteps.{applied-same, power-keeps, failure-keeps, telling-keeps}
 use Rattle.machine_laws.proofs.OperationsBegin.{begins-by_deed}
 use Rattle.machine_laws.proofs.OperationsBusy.{begins-idle}

@@ -1,12 +1,10 @@
 -- Renames and deletions at once: nothing uses the object, and a new name is free.
-use Rattle.std.proofs.Common.{◌≡◌, ℕ, Bool, true, false, cond, ◌&&◌, ◌||◌, Option, Some, None, List, [], ◌∷◌, refl, sym, ap, subst, ◌∙◌}
+use Rattle.std.proofs.Common.{◌≡◌, ℕ, Bool, true, false, ◌||◌, Option, Some, None, List, [], refl, sym, ap, subst, ◌∙◌}
 use Rattle.std.specs.Str.{bytes_eq}
-use Rattle.std.specs.Option.{option_map, is_some}
+use Rattle.std.specs.Option.{option_map}
 use Rattle.size_values.specs.declared.kinds.ObjectKind.{ObjectKind}
 use Rattle.size_values.specs.declared.kinds.ObjectKind.TheVariants as kind
-use Rattle.records.specs.Forms.{is_empty}
 use Rattle.records.specs.declared.commands.What.TheVariants as what
-use Rattle.records.specs.declared.commands.Target.{Target}
 use Rattle.records.specs.declared.rows.Project.{Project}
 use Rattle.records.specs.declared.rows.Profile.{Profile}
 use Rattle.records.specs.declared.rows.Network.{Network}
@@ -20,8 +18,8 @@ use Rattle.row_machine.specs.State.{State}
 use Rattle.row_machine.specs.Rows.{default_name, project_named, profile_named, network_named, pool_named, volume_named, instance_named, snapshot_named}
 use Rattle.row_machine.specs.Homes.{home_of}
 use Rattle.row_machine.specs.Holders.{holder_of, first_user_of}
-use Rattle.row_machine.specs.StandingRules.{is_occupied, asks_for_features}
-use Rattle.row_machine.specs.Plans.{Plan, changes, plan_of, plan_move, plan_delete, if_there}
+use Rattle.row_machine.specs.StandingRules.{is_occupied}
+use Rattle.row_machine.specs.Plans.{changes, plan_of, plan_move, plan_delete, if_there}
 use Rattle.machine_laws.proofs.Cases.{IsAccepted, AtOnce, IsHome, IsNew, IsNotDefault}
 use Rattle.machine_laws.proofs.Cases.AtOnce.{renames_project, deletes_project, renames_profile, deletes_profile, renames_network, deletes_network, deletes_pool, renames_volume, deletes_volume}
 use Rattle.machine_laws.proofs.Found.{not-there, project-found, project-itself, profile-found, profile-itself, network-found, network-itself, pool-found, pool-itself, volume-found, volume-itself}
@@ -72,9 +70,9 @@ moves s project kind.Project pool instance name to moment cs h = by (project_nam
       let new = name-new s project (target kind.Project pool instance to) (accepted-names h).name in
       subst (AtOnce s) (changes-are e)
       (renames_project old to (project-itself s.projects name old is)
-        (subst IsNotDefault (sym named) (apart name default_name (and_first (bytes_eq name default_name) true (it-is_unprotected about way) refl)))
-        (subst (λ n. is_occupied s n ≡ false) (sym named) (and_false true (is_occupied s name) (it-is_empty about way) refl))
-        new.good (not-there _ new.free))
+      (subst IsNotDefault (sym named) (apart name default_name (and_first (bytes_eq name default_name) true (it-is_unprotected about way) refl)))
+      (subst (λ n. is_occupied s n ≡ false) (sym named) (and_false true (is_occupied s name) (it-is_empty about way) refl))
+      new.good (not-there _ new.free))
 moves s project kind.Profile pool instance name to moment cs h = by (profile_named s.profiles (home_of s.projects project kind.Profile) name) refl h.plan where
   by : (o : Option Profile) → profile_named s.profiles (home_of s.projects project kind.Profile) name ≡ o
       → if_there (plan_move s project (target kind.Profile pool instance name) to) (option_map row.Profile o) ≡ changes cs → AtOnce s cs
@@ -89,12 +87,12 @@ moves s project kind.Profile pool instance name to moment cs h = by (profile_nam
       let new = new-plain empty.0 empty.1 (name-new s project (target kind.Profile pool instance to) names.name) in
       subst (AtOnce s) (changes-are e)
       (renames_profile old to
-        (subst (λ p. IsHome s p kind.Profile) (sym named.0) (profile-home s project h.whole.defaults (its-project about names refl)))
-        (profile-itself s.profiles home name old is)
-        (subst IsNotDefault (sym named.1) (apart name default_name (and_first (bytes_eq name default_name) true (it-is_unprotected about way) refl)))
-        (user-same s kind.Profile named.0 (sym empty.0) (sym empty.1) named.1 (rename-unused way))
-        (holder-same s named.0 named.1 (it-is_unheld about way))
-        (subst (λ p. IsNew s p (target kind.Profile [] [] to)) (sym named.0) new))
+      (subst (λ p. IsHome s p kind.Profile) (sym named.0) (profile-home s project h.whole.defaults (its-project about names refl)))
+      (profile-itself s.profiles home name old is)
+      (subst IsNotDefault (sym named.1) (apart name default_name (and_first (bytes_eq name default_name) true (it-is_unprotected about way) refl)))
+      (user-same s kind.Profile named.0 (sym empty.0) (sym empty.1) named.1 (rename-unused way))
+      (holder-same s named.0 named.1 (it-is_unheld about way))
+      (subst (λ p. IsNew s p (target kind.Profile [] [] to)) (sym named.0) new))
 moves s project kind.Network pool instance name to moment cs h = by (network_named s.networks (home_of s.projects project kind.Network) name) refl h.plan where
   by : (o : Option Network) → network_named s.networks (home_of s.projects project kind.Network) name ≡ o
       → if_there (plan_move s project (target kind.Network pool instance name) to) (option_map row.Network o) ≡ changes cs → AtOnce s cs
@@ -108,10 +106,10 @@ moves s project kind.Network pool instance name to moment cs h = by (network_nam
       let new = new-plain empty.0 empty.1 (name-new s project (target kind.Network pool instance to) names.name) in
       subst (AtOnce s) (changes-are e)
       (renames_network old to
-        (subst (λ p. IsHome s p kind.Network) (sym named.0) (network-home s project h.whole.defaults (its-project about names refl)))
-        (network-itself s.networks home name old is)
-        (user-same s kind.Network named.0 (sym empty.0) (sym empty.1) named.1 (rename-unused (accepted-way h)))
-        (subst (λ p. IsNew s p (target kind.Network [] [] to)) (sym named.0) new))
+      (subst (λ p. IsHome s p kind.Network) (sym named.0) (network-home s project h.whole.defaults (its-project about names refl)))
+      (network-itself s.networks home name old is)
+      (user-same s kind.Network named.0 (sym empty.0) (sym empty.1) named.1 (rename-unused (accepted-way h)))
+      (subst (λ p. IsNew s p (target kind.Network [] [] to)) (sym named.0) new))
 moves s project kind.Pool pool instance name to moment cs h = by (pool_named s.pools name) h.plan where
   by : (o : Option Pool) → if_there (plan_move s project (target kind.Pool pool instance name) to) (option_map row.Pool o) ≡ changes cs → AtOnce s cs
   by None e = never_nothing e
@@ -129,11 +127,11 @@ moves s project kind.Volume pool instance name to moment cs h = by (volume_named
       let new = new-in_pool empty (name-new s project (target kind.Volume pool instance to) names.name) in
       subst (AtOnce s) (changes-are e)
       (renames_volume old to
-        (subst (λ p. IsHome s p kind.Volume) (sym named.0) (volume-home s project h.whole.defaults (its-project about names refl)))
-        (volume-itself s.volumes home pool name old is)
-        (user-same s kind.Volume named.0 named.1.0 (sym empty) named.1.1 (rename-unused (accepted-way h)))
-        (subst (λ q. IsNew s old.project (target kind.Volume q [] to)) (sym named.1.0)
-          (subst (λ p. IsNew s p (target kind.Volume pool [] to)) (sym named.0) new)))
+      (subst (λ p. IsHome s p kind.Volume) (sym named.0) (volume-home s project h.whole.defaults (its-project about names refl)))
+      (volume-itself s.volumes home pool name old is)
+      (user-same s kind.Volume named.0 named.1.0 (sym empty) named.1.1 (rename-unused (accepted-way h)))
+      (subst (λ q. IsNew s old.project (target kind.Volume q [] to)) (sym named.1.0)
+      (subst (λ p. IsNew s p (target kind.Volume pool [] to)) (sym named.0) new)))
 moves s project kind.Instance pool instance name to moment cs h = by (instance_named s.instances project name) h.plan where
   by : (o : Option Instance) → if_there (plan_move s project (target kind.Instance pool instance name) to) (option_map row.Instance o) ≡ changes cs → AtOnce s cs
   by None e = never_nothing e
@@ -159,8 +157,8 @@ removes s project kind.Project pool instance name moment cs h = by (project_name
       let way = accepted-way h in
       subst (AtOnce s) (changes-are e)
       (deletes_project old (project-itself s.projects name old is)
-        (subst IsNotDefault (sym named) (apart name default_name (and_first (bytes_eq name default_name) true (it-is_unprotected about way) refl)))
-        (subst (λ n. is_occupied s n ≡ false) (sym named) (and_false true (is_occupied s name) (it-is_empty about way) refl)))
+      (subst IsNotDefault (sym named) (apart name default_name (and_first (bytes_eq name default_name) true (it-is_unprotected about way) refl)))
+      (subst (λ n. is_occupied s n ≡ false) (sym named) (and_false true (is_occupied s name) (it-is_empty about way) refl)))
 removes s project kind.Profile pool instance name moment cs h = by (profile_named s.profiles (home_of s.projects project kind.Profile) name) refl h.plan where
   by : (o : Option Profile) → profile_named s.profiles (home_of s.projects project kind.Profile) name ≡ o
       → if_there (plan_delete s project (target kind.Profile pool instance name)) (option_map row.Profile o) ≡ changes cs → AtOnce s cs
@@ -173,11 +171,11 @@ removes s project kind.Profile pool instance name moment cs h = by (profile_name
       let empty = no-parts pool instance h.formed in
       subst (AtOnce s) (changes-are e)
       (deletes_profile old
-        (subst (λ p. IsHome s p kind.Profile) (sym named.0) (profile-home s project h.whole.defaults (its-project about (accepted-names h) refl)))
-        (profile-itself s.profiles home name old is)
-        (subst IsNotDefault (sym named.1) (apart name default_name (and_first (bytes_eq name default_name) true (it-is_unprotected about way) refl)))
-        (user-same s kind.Profile named.0 (sym empty.0) (sym empty.1) named.1 (deletion-unused way))
-        (holder-same s named.0 named.1 (it-is_unheld about way)))
+      (subst (λ p. IsHome s p kind.Profile) (sym named.0) (profile-home s project h.whole.defaults (its-project about (accepted-names h) refl)))
+      (profile-itself s.profiles home name old is)
+      (subst IsNotDefault (sym named.1) (apart name default_name (and_first (bytes_eq name default_name) true (it-is_unprotected about way) refl)))
+      (user-same s kind.Profile named.0 (sym empty.0) (sym empty.1) named.1 (deletion-unused way))
+      (holder-same s named.0 named.1 (it-is_unheld about way)))
 removes s project kind.Network pool instance name moment cs h = by (network_named s.networks (home_of s.projects project kind.Network) name) refl h.plan where
   by : (o : Option Network) → network_named s.networks (home_of s.projects project kind.Network) name ≡ o
       → if_there (plan_delete s project (target kind.Network pool instance name)) (option_map row.Network o) ≡ changes cs → AtOnce s cs
@@ -189,9 +187,9 @@ removes s project kind.Network pool instance name moment cs h = by (network_name
       let empty = no-parts pool instance h.formed in
       subst (AtOnce s) (changes-are e)
       (deletes_network old
-        (subst (λ p. IsHome s p kind.Network) (sym named.0) (network-home s project h.whole.defaults (its-project about (accepted-names h) refl)))
-        (network-itself s.networks home name old is)
-        (user-same s kind.Network named.0 (sym empty.0) (sym empty.1) named.1 (deletion-unused (accepted-way h))))
+      (subst (λ p. IsHome s p kind.Network) (sym named.0) (network-home s project h.whole.defaults (its-project about (accepted-names h) refl)))
+      (network-itself s.networks home name old is)
+      (user-same s kind.Network named.0 (sym empty.0) (sym empty.1) named.1 (deletion-unused (accepted-way h))))
 removes s project kind.Pool pool instance name moment cs h = by (pool_named s.pools name) refl h.plan where
   by : (o : Option Pool) → pool_named s.pools name ≡ o
       → if_there (plan_delete s project (target kind.Pool pool instance name)) (option_map row.Pool o) ≡ changes cs → AtOnce s cs
@@ -201,7 +199,7 @@ removes s project kind.Pool pool instance name moment cs h = by (pool_named s.po
       let empty = no-parts pool instance h.formed in
       subst (AtOnce s) (changes-are e)
       (deletes_pool (home_of s.projects project kind.Pool) old (pool-itself s.pools name old is)
-        (user-same s kind.Pool refl (sym empty.0) (sym empty.1) named (deletion-unused (accepted-way h))))
+      (user-same s kind.Pool refl (sym empty.0) (sym empty.1) named (deletion-unused (accepted-way h))))
 removes s project kind.Volume pool instance name moment cs h = by (volume_named s.volumes (home_of s.projects project kind.Volume) pool name) refl h.plan where
   by : (o : Option Volume) → volume_named s.volumes (home_of s.projects project kind.Volume) pool name ≡ o
       → if_there (plan_delete s project (target kind.Volume pool instance name)) (option_map row.Volume o) ≡ changes cs → AtOnce s cs
@@ -213,9 +211,9 @@ removes s project kind.Volume pool instance name moment cs h = by (volume_named 
       let empty = empty-is instance h.formed in
       subst (AtOnce s) (changes-are e)
       (deletes_volume old
-        (subst (λ p. IsHome s p kind.Volume) (sym named.0) (volume-home s project h.whole.defaults (its-project about (accepted-names h) refl)))
-        (volume-itself s.volumes home pool name old is)
-        (user-same s kind.Volume named.0 named.1.0 (sym empty) named.1.1 (deletion-unused (accepted-way h))))
+      (subst (λ p. IsHome s p kind.Volume) (sym named.0) (volume-home s project h.whole.defaults (its-project about (accepted-names h) refl)))
+      (volume-itself s.volumes home pool name old is)
+      (user-same s kind.Volume named.0 named.1.0 (sym empty) named.1.1 (deletion-unused (accepted-way h))))
 removes s project kind.Instance pool instance name moment cs h = by (instance_named s.instances project name) h.plan where
   by : (o : Option Instance) → if_there (plan_delete s project (target kind.Instance pool instance name)) (option_map row.Instance o) ≡ changes cs → AtOnce s cs
   by None e = never_nothing e

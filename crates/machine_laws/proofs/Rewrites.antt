@@ -1,15 +1,13 @@
 -- PUT and PATCH at once: the object under its name with other settings.
-use Rattle.std.proofs.Common.{◌≡◌, ℕ, Bool, true, false, cond, ◌&&◌, ◌||◌, Option, Some, None, List, [], ◌∷◌, refl, sym, ap, subst, ◌∙◌}
-use Rattle.std.specs.Prelude.{unwrap_or}
+use Rattle.std.proofs.Common.{◌≡◌, ℕ, Bool, true, false, ◌&&◌, ◌||◌, Option, Some, None, List, [], ◌∷◌, refl, sym, ap, subst, ◌∙◌}
 use Rattle.std.specs.Str.{bytes_eq}
-use Rattle.std.specs.Option.{option_map, option_map_or, is_some}
+use Rattle.std.specs.Option.{option_map, option_map_or}
 use Rattle.size_values.specs.declared.kinds.ObjectKind.{ObjectKind}
 use Rattle.size_values.specs.declared.kinds.ObjectKind.TheVariants as kind
 use Rattle.records.specs.Forms.{is_empty, is_change, are_profiles}
 use Rattle.records.specs.declared.commands.Body.{Body}
 use Rattle.records.specs.declared.commands.What.{What}
 use Rattle.records.specs.declared.commands.What.TheVariants as what
-use Rattle.records.specs.declared.commands.Target.{Target}
 use Rattle.records.specs.declared.rows.Project.{Project}
 use Rattle.records.specs.declared.rows.Profile.{Profile}
 use Rattle.records.specs.declared.rows.Network.{Network}
@@ -26,11 +24,11 @@ use Rattle.row_machine.specs.Homes.{home_of}
 use Rattle.row_machine.specs.Asked.{is_parting}
 use Rattle.row_machine.specs.Holders.{holder_of}
 use Rattle.row_machine.specs.StandingRules.{asks_for_features, changes_features, is_occupied}
-use Rattle.row_machine.specs.NewRows.{put_project, patched_project, put_profile, patched_profile, put_network, patched_network, put_pool, patched_pool, put_volume, patched_volume, put_instance, patched_instance}
-use Rattle.row_machine.specs.Plans.{Plan, nothing, changes, starts, plan_of, plan_put, plan_patch, row_of, put_all, project_change, if_there}
-use Rattle.machine_laws.proofs.Cases.{IsAccepted, AtOnce, IsHome, IsNotDefault, IsSameInstance}
+use Rattle.row_machine.specs.NewRows.{put_project, patched_project, put_profile, patched_profile, put_network, patched_network, put_pool, patched_pool, put_volume, patched_volume, patched_instance}
+use Rattle.row_machine.specs.Plans.{changes, plan_of, plan_put, plan_patch, put_all, project_change, if_there}
+use Rattle.machine_laws.proofs.Cases.{IsAccepted, AtOnce, IsHome, IsNotDefault}
 use Rattle.machine_laws.proofs.Cases.AtOnce.{changes_project, changes_profile, changes_network, changes_pool, changes_volume, changes_instance}
-use Rattle.machine_laws.proofs.Found.{project-found, project-itself, profile-found, profile-itself, network-found, network-itself, pool-found, pool-itself, volume-found, volume-itself}
+use Rattle.machine_laws.proofs.Found.{project-found, project-itself, profile-found, profile-itself, network-found, network-itself, pool-itself, volume-found, volume-itself}
 use Rattle.machine_laws.proofs.Commands.{command_of, target, changes-are, never_nothing, never_starts, change-profiles, profiles-or, few-profiles, idle-found, accepted-names, accepted-way}
 use Rattle.machine_laws.proofs.Told.{and_false, and_first, apart, profile-home, network-home, volume-home}
 use Rattle.machine_laws.proofs.Speaking.{IsAbout, about-put, about-patch, its-project, it-is_unprotected, it-is_empty, it-is_unheld, it-is_idle}
@@ -60,7 +58,7 @@ project-changed s project w pool instance name moment cs old r h about is same p
       features e = (
         subst (λ n. is_occupied s n ≡ false) (sym named) (and_false (is_parting w || asks_for_features s w) (is_occupied s name) (it-is_empty about (accepted-way h)) (wants e)),
         subst (λ n. IsNotDefault n) (sym named)
-        (apart name default_name (and_first (bytes_eq name default_name) (is_parting w || asks_for_features s w) (it-is_unprotected about (accepted-way h)) (wants e))),
+            (apart name default_name (and_first (bytes_eq name default_name) (is_parting w || asks_for_features s w) (it-is_unprotected about (accepted-way h)) (wants e))),
       )
 
 profile-changed : (s : State) (project : List ℕ) (w : What) (pool instance name : List ℕ) (moment : ℕ) (cs : List RowChange) (old r : Profile)
@@ -123,7 +121,7 @@ puts s project kind.Project pool instance name body moment cs h = by (project_na
   by None is e = never_nothing e
   by (Some old) is e = subst (AtOnce s) (changes-are e)
       (project-changed s project _ pool instance name moment cs old (put_project old body) h (about-put _ body) is refl refl
-        (ap (λ o. option_map_or (λ r. changes_features r (put_project r body)) o false) is))
+      (ap (λ o. option_map_or (λ r. changes_features r (put_project r body)) o false) is))
 puts s project kind.Profile pool instance name body moment cs h = by (profile_named s.profiles (home_of s.projects project kind.Profile) name) refl h.plan where
   by : (o : Option Profile) → profile_named s.profiles (home_of s.projects project kind.Profile) name ≡ o
       → if_there (plan_put s project (target kind.Profile pool instance name) body) (option_map row.Profile o) ≡ changes cs → AtOnce s cs
@@ -166,7 +164,7 @@ patches s project kind.Project pool instance name body moment cs h = by (project
   by None is e = never_nothing e
   by (Some old) is e = subst (AtOnce s) (changes-are e)
       (project-changed s project _ pool instance name moment cs old (patched_project old body) h (about-patch _ body) is refl refl
-        (ap (λ o. option_map_or (λ r. changes_features r (patched_project r body)) o false) is))
+      (ap (λ o. option_map_or (λ r. changes_features r (patched_project r body)) o false) is))
 patches s project kind.Profile pool instance name body moment cs h = by (profile_named s.profiles (home_of s.projects project kind.Profile) name) refl h.plan where
   by : (o : Option Profile) → profile_named s.profiles (home_of s.projects project kind.Profile) name ≡ o
       → if_there (plan_patch body) (option_map row.Profile o) ≡ changes cs → AtOnce s cs
@@ -194,7 +192,7 @@ patches s project kind.Instance pool instance name body moment cs h = by (instan
   by None is e = never_nothing e
   by (Some old) is e = subst (AtOnce s) (changes-are e)
       (instance-changed s project pool instance name body moment cs old h is
-        (change-profiles kind.Instance body (both_true (is_empty pool && is_empty instance) (is_change kind.Instance body) h.formed).1))
+      (change-profiles kind.Instance body (both_true (is_empty pool && is_empty instance) (is_change kind.Instance body) h.formed).1))
 patches s project kind.Snapshot pool instance name body moment cs h = by (snapshot_named s.snapshots project instance name) h.plan where
   by : (o : Option Snapshot) → if_there (plan_patch body) (option_map row.Snapshot o) ≡ changes cs → AtOnce s cs
   by None e = never_nothing e

@@ -1,24 +1,21 @@
 -- Commands that change, rename or delete the object of their path: what the rules say of this object.
-use Rattle.std.proofs.Common.{◌≡◌, ◌≢◌, ℕ, Bool, true, false, ◌&&◌, Option, Some, None, List, [], refl, sym, ap, subst, ◌∙◌}
-use Rattle.std.specs.Str.{bytes_eq}
+use Rattle.std.proofs.Common.{◌≡◌, ℕ, true, false, ◌&&◌, Option, Some, None, List, refl, sym, ap, ◌∙◌}
 use Rattle.std.specs.Prelude.{option_and_then}
 use Rattle.std.specs.Option.{is_some}
 use Rattle.plain_lists.proofs.FirstLemmas.{told_if, not_mapped}
-use Rattle.size_values.specs.declared.kinds.ObjectKind.{ObjectKind}
 use Rattle.size_values.specs.declared.kinds.ObjectKind.TheVariants as kind
 use Rattle.records.specs.declared.refusals.Refusal.{Refusal}
 use Rattle.records.specs.declared.commands.Body.{Body}
-use Rattle.records.specs.declared.commands.Command.{Command}
 use Rattle.records.specs.declared.commands.Target.{Target}
 use Rattle.records.specs.declared.commands.What.{What}
 use Rattle.records.specs.declared.commands.What.TheVariants as what
 use Rattle.row_machine.specs.State.{State}
 use Rattle.row_machine.specs.Rows.{project_named}
 use Rattle.row_machine.specs.Homes.{home_of}
-use Rattle.row_machine.specs.Asked.{object_of, instance_in, instance_changed, is_parting}
+use Rattle.row_machine.specs.Asked.{object_of, instance_in, instance_changed}
 use Rattle.row_machine.specs.Holders.{busy_with, holder_of, first_user_of}
 use Rattle.row_machine.specs.NameRules.{what_is_missing, object_missing, parent_missing, is_there, is_in_project}
-use Rattle.row_machine.specs.StandingRules.{object_changed, instance_busy, object_protected, is_protected, object_used, used_by_first, project_occupied, must_be_empty, is_occupied, profile_held, held_profile, busy}
+use Rattle.row_machine.specs.StandingRules.{object_changed, instance_busy, object_protected, is_protected, object_used, project_occupied, must_be_empty, is_occupied, profile_held, held_profile, busy}
 use Rattle.machine_laws.proofs.Commands.{command_of, target}
 use Rattle.machine_laws.proofs.Told.{AreNamesRight, IsWayFree, project-there, object-there}
 

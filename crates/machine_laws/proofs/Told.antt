@@ -1,11 +1,9 @@
 -- The rules on names and on what stands in the way, one by one, and what each establishes.
-use Rattle.std.proofs.Common.{◌≡◌, ◌≢◌, ℕ, Bool, true, false, cond, ◌&&◌, ◌||◌, ◌==◌, not, Option, Some, None, List, [], ◌∷◌, length, refl, sym, ap, subst, ◌∙◌, arith}
+use Rattle.std.proofs.Common.{◌≡◌, ◌≢◌, ℕ, Bool, true, false, cond, ◌&&◌, Option, Some, None, List, [], ◌∷◌, length, refl, sym, ap, subst, ◌∙◌, arith}
 use Rattle.std.specs.Prelude.{codes, option_and_then}
-use Rattle.std.specs.List.{find}
 use Rattle.std.specs.Option.{option_map, option_map_or, is_some, is_none}
 use Rattle.std.specs.Str.{bytes_eq}
 use Rattle.std.proofs.lemmas.Bool.{eqb-true}
-use Rattle.plain_lists.specs.Members.{Each}
 use Rattle.plain_lists.proofs.FirstLemmas.{none_both, told_if, told_unless, not_mapped}
 use Rattle.plain_lists.proofs.Searches.{find-none}
 use Rattle.config_lists.proofs.Keys.{bytes_eq-itself}
@@ -15,8 +13,6 @@ use Rattle.records.specs.Forms.{is_empty}
 use Rattle.records.specs.declared.rows.Project.{Project}
 use Rattle.records.specs.declared.commands.Target.{Target}
 use Rattle.records.specs.declared.commands.Command.{Command}
-use Rattle.records.specs.declared.commands.What.{What}
-use Rattle.row_codec.proofs.Fields.{both_true}
 use Rattle.row_machine.specs.State.{State}
 use Rattle.row_machine.specs.Rows.{default_name, project_named}
 use Rattle.row_machine.specs.Homes.{home_of, home_by, has_feature}
@@ -26,7 +22,7 @@ use Rattle.row_machine.specs.Asked.{object_of, named_anew}
 use Rattle.row_machine.specs.Opening.{has_all_features}
 use Rattle.row_machine.specs.Whole.{HasDefaults}
 use Rattle.machine_laws.proofs.Cases.{IsHome, IsNew, is_row}
-use Rattle.machine_laws.proofs.Found.{there-is, some-there, not-none}
+use Rattle.machine_laws.proofs.Found.{not-none}
 
 -- ---- truths
 
@@ -90,7 +86,7 @@ pub project-there : (s : State) (c : Command) (of : Target) → object_of c.what
 unfolding project_missing
 project-there s c of is belongs e =
     let speaks : option_map_or (λ (t : Target). is_in_project t.kind) (object_of c.what) false ≡ true =
-        ap (λ o. option_map_or (λ (t : Target). is_in_project t.kind) o false) is ∙ belongs in
+    ap (λ o. option_map_or (λ (t : Target). is_in_project t.kind) o false) is ∙ belongs in
     not-none (project_named s.projects c.project) (and_false _ (is_none (project_named s.projects c.project)) (told_if _ _ e) speaks)
 
 -- the home of a project for objects of a feature is there, and is its own

@@ -1,10 +1,9 @@
 -- Fact 6 after every change: the calls that are done, out and left are those of the deed, in order.
-use Rattle.std.proofs.Common.{◌≡◌, ◌≢◌, ℕ, zero, suc, ◌+◌, Bool, true, Option, Some, None, List, [], ◌∷◌, ◌++◌, map, length, drop, refl, sym, ◌∙◌, ap, subst, arith}
+use Rattle.std.proofs.Common.{◌≡◌, ◌≢◌, ℕ, zero, suc, ◌+◌, true, Option, Some, None, List, [], ◌∷◌, map, length, drop, refl, sym, ◌∙◌, ap, subst, arith}
 use Rattle.std.specs.Prelude.{IfSome}
 use Rattle.std.specs.Option.{option_map, is_some}
 use Rattle.std.proofs.lemmas.List.{length-map}
 use Rattle.plain_lists.specs.Members.{Each}
-use Rattle.plain_lists.specs.Edits.{dropped}
 use Rattle.plain_lists.proofs.Elements.{Each-push}
 use Rattle.plain_lists.proofs.EditLemmas.{Each-dropped}
 use Rattle.instance_states.specs.Plans.{calls_of, undo_of, name_of}
@@ -13,10 +12,8 @@ use Rattle.host_model.specs.declared.call.HostCall.{HostCall}
 use Rattle.operations.specs.declared.operation.Operation.{Operation}
 use Rattle.operations.specs.declared.operation.OpFault.{OpFault}
 use Rattle.operations.specs.declared.operation.OpFault.TheVariants as fault
-use Rattle.operations.specs.declared.status.Status.{Status}
-use Rattle.operations.specs.declared.status.Status.TheVariants as status
 use Rattle.operations.specs.declared.status.Status.TheVariants.{Pending, Running, Cancelling}
-use Rattle.operations.specs.Kept.{Kept, has_number, live_at, ends}
+use Rattle.operations.specs.Kept.{Kept, has_number, live_at}
 use Rattle.records.specs.declared.commands.Command.{Command}
 use Rattle.records.specs.declared.notices.Untold.{Untold}
 use Rattle.row_machine.specs.declared.changes.RowChange.{RowChange}
@@ -26,11 +23,11 @@ use Rattle.row_machine.specs.Changes.{applied}
 use Rattle.row_machine.specs.Plans.{changes, starts}
 use Rattle.row_machine.specs.Notices.{telling}
 use Rattle.row_machine.specs.Step.{first_pending}
-use Rattle.row_machine.specs.Work.{entered, with_task, moved, handing_out, one_more_done, undone, cancelled, failed, succeeded, success_changes, power_after, with_power_after, after_failure}
+use Rattle.row_machine.specs.Work.{entered, with_task, moved, handing_out, one_more_done, undone, cancelled, failed, succeeded, success_changes, power_after, with_power_after}
 use Rattle.row_machine.specs.Whole.{IsWhole, IsUnderWay, calls_out}
 use Rattle.machine_laws.proofs.Cases.{IsAccepted, IsLiveAs}
 use Rattle.machine_laws.proofs.BeginsCases.{begins}
-use Rattle.machine_laws.proofs.Base.{Each-found, first-live, live-mem, taken-each, handed}
+use Rattle.machine_laws.proofs.Base.{Each-found, first-live, taken-each, handed}
 use Rattle.machine_laws.proofs.BooksSteps.{applied-same, power-keeps, failure-keeps, telling-keeps}
 use Rattle.machine_laws.proofs.OperationsBegin.{IsPlanned, begins-planned}
 
@@ -176,16 +173,16 @@ unfolding failed
 under_way-failed s o why done moment l =
     Each-dropped (has_number o.number)
     (subst (λ (k : Kept Task). Each IsUnderWay k.live)
-      (sym (failure-keeps (λ t. t.operations ≡ s.operations) (λ t powers e. e) o.work done s refl)) l.whole.under_way)
+    (sym (failure-keeps (λ t. t.operations ≡ s.operations) (λ t powers e. e) o.work done s refl)) l.whole.under_way)
 
 pub under_way-succeeded : (s : State) (o : Operation Task) (moment : ℕ) → IsLiveAs s o Running → o.work.calls ≡ [] → AreUnderWay (succeeded s o moment)
 unfolding succeeded
 under_way-succeeded s o moment l none =
     Each-dropped (has_number o.number)
     (subst (λ (k : Kept Task). Each IsUnderWay k.live)
-      (sym ((applied-same (success_changes s o.work) (with_power_after o.work (power_after s o.work) s)).operations
-        ∙ power-keeps (λ t. t.operations ≡ s.operations) (λ t powers e. e) o.work (power_after s o.work) s refl))
-      l.whole.under_way)
+    (sym ((applied-same (success_changes s o.work) (with_power_after o.work (power_after s o.work) s)).operations
+    ∙ power-keeps (λ t. t.operations ≡ s.operations) (λ t powers e. e) o.work (power_after s o.work) s refl))
+    l.whole.under_way)
 
 -- ---- notices
 

@@ -1,5 +1,5 @@
 -- A creation that is sent again while its row, or the claim of its operation, stands.
-use Rattle.std.specs.Prelude.{◌≡◌, ◌≢◌, ◌⊎◌, ℕ, true, List, [], Option, Some, None, is_some}
+use Rattle.std.specs.Prelude.{◌≡◌, ◌≢◌, ◌⊎◌, ℕ, true, List, [], Some, None, is_some}
 use Rattle.size_values.specs.declared.kinds.ObjectKind.TheVariants as kind
 use Rattle.estate_rules.specs.Names.{good_name_of}
 use Rattle.records.specs.declared.commands.Target.{Target}
@@ -24,10 +24,12 @@ StandsAlready s project of = (is_there s project of ≡ true) ⊎ (is_some (held
 pub record IsRefusedAgain (s : State) (c : Command) (moment : ℕ) (of : Target) : Type 0 where
   pub refusal : Refusal
   pub answer : step s (event.Ask c moment) well ≡ Some (and_then (answer.Reply (reply.Refused refusal)) s)
-  pub rule : project_missing s c ≡ None → what_is_missing s c.project c.what ≡ None → good_name_of of.kind of.name ≡ true
+  pub rule : project_missing s c ≡ None → what_is_missing s c.project c.what ≡ None
+      → good_name_of of.kind of.name ≡ true
       → (refusal.rule ≡ rule.N4) ⊎ (refusal.rule ≡ rule.N5)
 
 -- A new snapshot may be made without a name, and then gets one of its own; every other creation names its object.
 abbrev pub SentAgain : Type 0
 SentAgain = (s : State) (c : Command) (moment : ℕ) (of : Target) (body : Body) →
-    c.what ≡ what.Create of body → (of.kind ≡ kind.Snapshot → of.name ≢ []) → StandsAlready s c.project of → IsRefusedAgain s c moment of
+    c.what ≡ what.Create of body → (of.kind ≡ kind.Snapshot → of.name ≢ []) → StandsAlready s c.project of
+        → IsRefusedAgain s c moment of

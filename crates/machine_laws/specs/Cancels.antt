@@ -1,5 +1,6 @@
--- A cancel of an operation that runs leads to the call that takes its deed back, and then to Cancelled, and no row changes.
-use Rattle.std.specs.Prelude.{◌≡◌, ℕ, true, Option, Some, None, is_some}
+-- A cancel of an operation that runs leads to the call that takes its deed back, and then to Cancelled, and no row
+-- changes.
+use Rattle.std.specs.Prelude.{◌≡◌, ℕ, true, Some, None, is_some}
 use Rattle.std.specs.Option.{option_map}
 use Rattle.host_model.specs.declared.call.HostCall.{HostCall}
 use Rattle.host_model.specs.declared.report.Report.{Report}
@@ -36,7 +37,8 @@ pub record IsBeingCancelled (s : State) (o : Operation Task) (moment : ℕ) (a :
 -- a cancel of an operation that runs and may be cancelled, by a client of any project, is accepted
 abbrev pub RunningIsCancelled : Type 0
 RunningIsCancelled = (s : State) (c : Command) (o : Operation Task) (moment : ℕ) →
-    IsWhole s → live_at s.operations o.number ≡ Some o → o.status ≡ status.Running → o.may_cancel ≡ true → c.what ≡ what.Cancel o.number →
+    IsWhole s → live_at s.operations o.number ≡ Some o → o.status ≡ status.Running → o.may_cancel ≡ true
+        → c.what ≡ what.Cancel o.number →
     (a : After) × ((step s (event.Ask c moment) well ≡ Some a) × IsBeingCancelled s o moment a)
 
 -- ---- what follows
@@ -56,8 +58,10 @@ pub record IsCancelled (s : State) (o : Operation Task) (a : After) : Type 0 whe
 
 -- the two reports that follow the cancel
 pub record CancelGoesOn (s : State) (o : Operation Task) (report : Report) (moment : ℕ) : Type 0 where
-  pub first : (call : HostCall) → o.work.undo ≡ Some call → (a : After) × ((step s (event.Done o.number report moment) well ≡ Some a) × IsTakenBack s o call a)
-  pub second : o.work.undo ≡ None → (a : After) × ((step s (event.Done o.number report moment) well ≡ Some a) × IsCancelled s o a)
+  pub first : (call : HostCall) → o.work.undo ≡ Some call
+      → (a : After) × ((step s (event.Done o.number report moment) well ≡ Some a) × IsTakenBack s o call a)
+  pub second : o.work.undo ≡ None
+      → (a : After) × ((step s (event.Done o.number report moment) well ≡ Some a) × IsCancelled s o a)
 
 abbrev pub CancellingGoesOn : Type 0
 CancellingGoesOn = (s : State) (o : Operation Task) (report : Report) (moment : ℕ) →
@@ -68,12 +72,15 @@ CancellingGoesOn = (s : State) (o : Operation Task) (report : Report) (moment : 
 -- it is as it was, or its deed is taken back, or it is Cancelled
 pub data StaysCancelling (s t : State) (o : Operation Task) : Type 0 where
   as_it_was : live_at t.operations o.number ≡ Some o → StaysCancelling s t o
-  taken_back : (call : HostCall) → o.work.undo ≡ Some call → live_at t.operations o.number ≡ Some (record o { work = undone o.work })
+  taken_back : (call : HostCall) → o.work.undo ≡ Some call
+      → live_at t.operations o.number ≡ Some (record o { work = undone o.work })
       → rows_of t ≡ rows_of s → StaysCancelling s t o
-  cancelled : o.work.undo ≡ None → IsKeptAs t o status.Cancelled → live_at t.operations o.number ≡ None → rows_of t ≡ rows_of s → StaysCancelling s t o
+  cancelled : o.work.undo ≡ None → IsKeptAs t o status.Cancelled → live_at t.operations o.number ≡ None
+      → rows_of t ≡ rows_of s → StaysCancelling s t o
 
 -- whatever other requests and reports come between
 abbrev pub CancellingStays : Type 0
 CancellingStays = (s : State) (e : Event) (outcome : Outcome) (after : After) (o : Operation Task) →
-    IsWhole s → IsPossible e → step s e outcome ≡ Some after → live_at s.operations o.number ≡ Some o → o.status ≡ status.Cancelling →
+    IsWhole s → IsPossible e → step s e outcome ≡ Some after → live_at s.operations o.number ≡ Some o
+        → o.status ≡ status.Cancelling →
     StaysCancelling s after.state o

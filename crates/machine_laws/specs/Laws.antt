@@ -1,5 +1,5 @@
 -- Laws of steps and of runs, as their public functions claim them.
-use Rattle.std.specs.Prelude.{◌≡◌, List, Option, Some}
+use Rattle.std.specs.Prelude.{◌≡◌, List, Some}
 use Rattle.row_machine.specs.declared.events.Event.{Event}
 use Rattle.row_machine.specs.State.{State}
 use Rattle.row_machine.specs.Accept.{After}
@@ -16,8 +16,10 @@ StepKeeps = (s : State) (e : Event) (outcome : Outcome) (after : After) →
 
 -- and so does each list of possible events, with any outcomes that they can have
 abbrev pub RunKeeps : Type 0
-RunKeeps = (s : State) (events : List (Event × Outcome)) (r : Ran) → IsWhole s → ArePossible events → run s events ≡ Some r → IsWhole r.state
+RunKeeps = (s : State) (events : List (Event × Outcome)) (r : Ran) → IsWhole s → ArePossible events
+    → run s events ≡ Some r → IsWhole r.state
 
 -- from a new server on
 abbrev pub NewRunKeeps : Type 0
-NewRunKeeps = (events : List (Event × Outcome)) (r : Ran) → ArePossible events → run (with_rows first_rows) events ≡ Some r → IsWhole r.state
+NewRunKeeps = (events : List (Event × Outcome)) (r : Ran) → ArePossible events
+    → run (with_rows first_rows) events ≡ Some r → IsWhole r.state

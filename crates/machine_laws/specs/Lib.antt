@@ -8,3 +8,6 @@ pub mod Cancels
 pub mod Waits
 pub mod Lowered
 pub mod Openings
+pub mod Accepted
+pub mod KindsOfChange
+pub mod Sorted

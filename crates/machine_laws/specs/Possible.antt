@@ -1,5 +1,5 @@
 -- Which events are possible.
-use Rattle.std.specs.Prelude.{◌≡◌, ℕ, ◌<◌, true, List}
+use Rattle.std.specs.Prelude.{◌≡◌, ◌<◌, true, List}
 use Rattle.plain_lists.specs.Members.{Each}
 use Rattle.size_values.specs.Moments.{moment_limit}
 use Rattle.records.specs.Forms.{is_formed}

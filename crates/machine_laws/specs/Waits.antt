@@ -1,4 +1,5 @@
--- A worker that serves alone while a client's wait is held: after at most four steps for each live operation all have ended.
+-- A worker that serves alone while a client's wait is held: after at most four steps for each live operation all have
+-- ended.
 use Rattle.std.specs.Prelude.{◌≡◌, ◌≢◌, ◌⊎◌, ℕ, ◌*◌, ◌<◌, ◌≤◌, List, [], ◌∷◌, length, Option, Some, None, option_and_then}
 use Rattle.std.specs.Option.{option_map}
 use Rattle.plain_lists.specs.Members.{Each}
@@ -19,7 +20,8 @@ use Rattle.row_machine.specs.Whole.{IsWhole}
 
 -- ---- one step
 
--- what the outside does with a step: the moment, what the host reports of the call, and what becomes of the store and of memory
+-- what the outside does with a step: the moment, what the host reports of the call, and what becomes of the store and
+-- of memory
 pub record Round : Type 0 where
   pub moment : ℕ
   pub report : Report
@@ -54,12 +56,14 @@ serves s hand (round ∷ rounds) = option_and_then (λ next. serves next.state n
 -- all live operations wait but for the one whose call the worker has in hand, and that one does not wait
 pub record IsAlone (s : State) (hand : Option ℕ) : Type 0 where
   pub others : Each (λ o. (o.status ≡ status.Pending) ⊎ (hand ≡ Some o.number)) s.operations.live
-  pub own : (n : ℕ) → hand ≡ Some n → (o : Operation Task) × ((live_at s.operations n ≡ Some o) × (o.status ≢ status.Pending))
+  pub own : (n : ℕ) → hand ≡ Some n
+      → (o : Operation Task) × ((live_at s.operations n ≡ Some o) × (o.status ≢ status.Pending))
 
 -- After four steps for each live operation none is live, whatever the host reports and however the store fails.
 abbrev pub WaitsEnd : Type 0
 WaitsEnd = (s : State) (hand : Option ℕ) (rounds : List Round) (after : Served) →
-    IsWhole s → IsAlone s hand → Each (λ round. round.moment < moment_limit) rounds → 4 * length s.operations.live ≤ length rounds →
+    IsWhole s → IsAlone s hand → Each (λ round. round.moment < moment_limit) rounds
+        → 4 * length s.operations.live ≤ length rounds →
     serves s hand rounds ≡ Some after → after.state.operations.live ≡ []
 
 -- and these are at most 4,096

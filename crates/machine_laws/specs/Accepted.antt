@@ -1,0 +1,27 @@
+-- An accepted command, and a live operation: what the laws by kind of change take for granted.
+use Rattle.std.specs.Prelude.{◌≡◌, ℕ, ◌<◌, true, Some, None}
+use Rattle.size_values.specs.Moments.{moment_limit}
+use Rattle.operations.specs.declared.operation.Operation.{Operation}
+use Rattle.operations.specs.declared.status.Status.{Status}
+use Rattle.operations.specs.Kept.{live_at}
+use Rattle.records.specs.Forms.{is_formed}
+use Rattle.records.specs.declared.commands.Command.{Command}
+use Rattle.row_machine.specs.Task.{Task}
+use Rattle.row_machine.specs.State.{State}
+use Rattle.row_machine.specs.Plans.{Plan, plan_of}
+use Rattle.row_machine.specs.Rules.{broken}
+use Rattle.row_machine.specs.Whole.{IsWhole}
+
+-- a command that a client can give, at a moment before the year 10000, which breaks no rule, and what is planned for it
+pub record IsAccepted (s : State) (c : Command) (moment : ℕ) (p : Plan) : Type 0 where
+  pub whole : IsWhole s
+  pub formed : is_formed c ≡ true
+  pub early : moment < moment_limit
+  pub unbroken : broken s c moment ≡ None
+  pub plan : plan_of s c moment ≡ p
+
+-- a live operation of this status
+pub record IsLiveAs (s : State) (o : Operation Task) (now : Status) : Type 0 where
+  pub whole : IsWhole s
+  pub live : live_at s.operations o.number ≡ Some o
+  pub status : o.status ≡ now

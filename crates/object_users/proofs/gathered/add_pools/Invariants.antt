@@ -1,0 +1,6 @@
+use Rattle.std.proofs.Common.{◌≡◌, ◌++◌, map, take}
+use Rattle.records.specs.declared.rows.Row.TheVariants as row
+use Rattle.object_users.proofs.gathered.add_pools.Given as goal
+
+abbrev pub invariant-loop-row : goal.invariant-loop-row
+invariant-loop-row l = l.all.items ≡ l.initial.all.items ++ map row.Pool (take l.row-index l.rows)

@@ -1,0 +1,142 @@
+//! Rows of one kind that have something in common, as rows of any kind.
+ghost use Rattle.std.specs.Prelude.{◌≡◌, ◌++◌, ◌&&◌, OnOk, map, filter, if◌then◌else◌, false};
+ghost use Rattle.std.specs.Str.{bytes_eq};
+ghost use Rattle.records.specs.declared.rows.Row.TheVariants as row;
+
+use crate::row_ref::{AnyRow, RowRef};
+use records::{Instance, Network, Pool, Profile, Project, Snapshot, Volume};
+use size_values::NoMemory;
+
+/// All projects.
+pub fn add_projects<'x>(rows: &'x [Project], all: &mut Vec<RowRef<'x>>) -> Result<(), NoMemory>
+    ensures { OnOk result (all.new.items ≡ all.old.items ++ map row.Project rows.now) }
+{
+    for row in rows {
+        all.push(RowRef {
+            row: AnyRow::Project(row),
+        })?;
+    }
+    Ok(())
+}
+
+/// All storage pools.
+pub fn add_pools<'x>(rows: &'x [Pool], all: &mut Vec<RowRef<'x>>) -> Result<(), NoMemory>
+    ensures { OnOk result (all.new.items ≡ all.old.items ++ map row.Pool rows.now) }
+{
+    for row in rows {
+        all.push(RowRef {
+            row: AnyRow::Pool(row),
+        })?;
+    }
+    Ok(())
+}
+
+/// The profiles of a project.
+pub fn add_profiles<'x>(
+    rows: &'x [Profile],
+    project: &str,
+    all: &mut Vec<RowRef<'x>>,
+) -> Result<(), NoMemory>
+    ensures { OnOk result (all.new.items ≡ all.old.items ++ map row.Profile (filter (λ r. bytes_eq r.project project.now) rows.now)) }
+{
+    for row in rows {
+        if row.project.view() == project {
+            all.push(RowRef {
+                row: AnyRow::Profile(row),
+            })?;
+        }
+    }
+    Ok(())
+}
+
+/// The networks of a project.
+pub fn add_networks<'x>(
+    rows: &'x [Network],
+    project: &str,
+    all: &mut Vec<RowRef<'x>>,
+) -> Result<(), NoMemory>
+    ensures { OnOk result (all.new.items ≡ all.old.items ++ map row.Network (filter (λ r. bytes_eq r.project project.now) rows.now)) }
+{
+    for row in rows {
+        if row.project.view() == project {
+            all.push(RowRef {
+                row: AnyRow::Network(row),
+            })?;
+        }
+    }
+    Ok(())
+}
+
+/// The volumes of a project.
+pub fn add_volumes<'x>(
+    rows: &'x [Volume],
+    project: &str,
+    all: &mut Vec<RowRef<'x>>,
+) -> Result<(), NoMemory>
+    ensures { OnOk result (all.new.items ≡ all.old.items ++ map row.Volume (filter (λ r. bytes_eq r.project project.now) rows.now)) }
+{
+    for row in rows {
+        if row.project.view() == project {
+            all.push(RowRef {
+                row: AnyRow::Volume(row),
+            })?;
+        }
+    }
+    Ok(())
+}
+
+/// The instances of a project.
+pub fn add_instances<'x>(
+    rows: &'x [Instance],
+    project: &str,
+    all: &mut Vec<RowRef<'x>>,
+) -> Result<(), NoMemory>
+    ensures { OnOk result (all.new.items ≡ all.old.items ++ map row.Instance (filter (λ r. bytes_eq r.project project.now) rows.now)) }
+{
+    for row in rows {
+        if row.project.view() == project {
+            all.push(RowRef {
+                row: AnyRow::Instance(row),
+            })?;
+        }
+    }
+    Ok(())
+}
+
+/// The volumes of a project and a storage pool.
+pub fn add_volumes_in<'x>(
+    rows: &'x [Volume],
+    project: &str,
+    pool: &str,
+    all: &mut Vec<RowRef<'x>>,
+) -> Result<(), NoMemory>
+    ensures { OnOk result (all.new.items ≡ all.old.items ++ map row.Volume (filter (λ r. bytes_eq r.project project.now && bytes_eq r.pool pool.now) rows.now)) }
+{
+    for row in rows {
+        if row.project.view() == project && row.pool.view() == pool {
+            all.push(RowRef {
+                row: AnyRow::Volume(row),
+            })?;
+        }
+    }
+    Ok(())
+}
+
+/// The snapshots of an instance.
+pub fn add_snapshots<'x>(
+    rows: &'x [Snapshot],
+    project: &str,
+    instance: &str,
+    all: &mut Vec<RowRef<'x>>,
+) -> Result<(), NoMemory>
+    ensures { OnOk result (all.new.items ≡ all.old.items ++ map row.Snapshot (filter (λ r. if bytes_eq r.project project.now then bytes_eq r.instance instance.now else false) rows.now)) }
+{
+    for row in rows {
+        if row.project.view() == project && row.instance.view() == instance {
+            all.push(RowRef {
+                row: AnyRow::Snapshot(row),
+            })?;
+        }
+    }
+    Ok(())
+}

@@ -1,0 +1,17 @@
+//! The users of objects: which rows use a row, and the links of rows.
+#![tactic(auto)]
+
+mod gathered;
+mod row_links;
+mod row_ref;
+mod users;
+mod uses;
+
+pub use gathered::{
+    add_instances, add_networks, add_pools, add_profiles, add_projects, add_snapshots, add_volumes,
+    add_volumes_in,
+};
+pub use row_links::{link, links};
+pub use row_ref::{AnyRow, RowRef};
+pub use users::used_by;
+pub use uses::{instance_uses, names_profile, profile_uses, volume_uses};

@@ -1,0 +1,171 @@
+//! The users of an object: the rows that name it, or that belong to it.
+ghost use Rattle.std.specs.Prelude.{◌≡◌, ◌++◌, [], IfOk, OnOk, map, filter};
+ghost use Rattle.records.specs.declared.rows.Row.TheVariants as row;
+ghost use Rattle.row_machine.specs.Holders.{instance_uses, names_profile, profile_uses, volume_uses};
+ghost use Rattle.row_machine.specs.Links.{sorted, target_of};
+ghost use Rattle.row_machine.specs.Views.{links, rows_in, rows_using, used_by};
+
+use crate::gathered::{add_instances, add_networks, add_profiles, add_volumes};
+use crate::row_links::{sorted_links, target_of};
+use crate::row_ref::{AnyRow, RowRef};
+use crate::uses::{instance_uses, names_profile, profile_uses, volume_uses};
+use records::Target;
+use row_readings::View;
+use size_values::{NoMemory, Seq, Text};
+use std::alloc::Global;
+
+/// The instances, networks, volumes and profiles of a project.
+fn rows_in<'x>(alloc: Global, view: &View<'x>, project: &str) -> Result<Vec<RowRef<'x>>, NoMemory>
+    ensures { IfOk result (λ all. all.items ≡ rows_in view.now project.now) }
+{
+    let mut all = Vec::new(alloc);
+    add_instances(view.instances, project, &mut all)?;
+    add_networks(view.networks, project, &mut all)?;
+    add_volumes(view.volumes, project, &mut all)?;
+    add_profiles(view.profiles, project, &mut all)?;
+    Ok(all)
+}
+
+/// The instances that name the profile of this home and name.
+fn naming<'x>(
+    alloc: Global,
+    view: &View<'x>,
+    home: &str,
+    profile: &str,
+) -> Result<Vec<RowRef<'x>>, NoMemory>
+    ensures { IfOk result (λ all. all.items ≡ map row.Instance (filter (names_profile view.now home.now profile.now) view.now.instances)) }
+{
+    let mut all = Vec::new(alloc);
+    for row in view.instances {
+        if names_profile(view, home, profile, row) {
+            all.push(RowRef {
+                row: AnyRow::Instance(row),
+            })?;
+        }
+    }
+    Ok(all)
+}
+
+fn add_using_instances<'x>(
+    alloc: Global,
+    view: &View<'x>,
+    home: &str,
+    of: &Target,
+    all: &mut Vec<RowRef<'x>>,
+) -> Result<(), NoMemory>
+    ensures { OnOk result (all.new.items ≡ all.old.items ++ map row.Instance (filter (instance_uses view.now home.now of.now) view.now.instances)) }
+{
+    for row in view.instances {
+        if instance_uses(alloc, view, home, of, row)? {
+            all.push(RowRef {
+                row: AnyRow::Instance(row),
+            })?;
+        }
+    }
+    Ok(())
+}
+
+fn add_using_profiles<'x>(
+    view: &View<'x>,
+    home: &str,
+    of: &Target,
+    all: &mut Vec<RowRef<'x>>,
+) -> Result<(), NoMemory>
+    ensures { OnOk result (all.new.items ≡ all.old.items ++ map row.Profile (filter (profile_uses view.now home.now of.now) view.now.profiles)) }
+{
+    for row in view.profiles {
+        if profile_uses(view, home, of, row) {
+            all.push(RowRef {
+                row: AnyRow::Profile(row),
+            })?;
+        }
+    }
+    Ok(())
+}
+
+fn add_using_volumes<'x>(
+    view: &View<'x>,
+    of: &Target,
+    all: &mut Vec<RowRef<'x>>,
+) -> Result<(), NoMemory>
+    ensures { OnOk result (all.new.items ≡ all.old.items ++ map row.Volume (filter (volume_uses of.now) view.now.volumes)) }
+{
+    for row in view.volumes {
+        if volume_uses(of, row) {
+            all.push(RowRef {
+                row: AnyRow::Volume(row),
+            })?;
+        }
+    }
+    Ok(())
+}
+
+/// The instances and profiles that name a network, pool or volume, and the volumes of a pool.
+fn rows_using<'x>(
+    alloc: Global,
+    view: &View<'x>,
+    home: &str,
+    of: &Target,
+) -> Result<Vec<RowRef<'x>>, NoMemory>
+    ensures { IfOk result (λ all. all.items ≡ rows_using view.now home.now of.now) }
+{
+    let mut all = Vec::new(alloc);
+    add_using_instances(alloc, view, home, of, &mut all)?;
+    add_using_profiles(view, home, of, &mut all)?;
+    add_using_volumes(view, of, &mut all)?;
+    Ok(all)
+}
+
+/// The links of the rows that name a row, in byte order.
+fn links_using(
+    alloc: Global,
+    view: &View<'_>,
+    home: &str,
+    row: &RowRef<'_>,
+) -> Result<Seq<Text>, NoMemory>
+    ensures { IfOk result (λ ts. ts ≡ sorted (links (rows_using view.now home.now (target_of row.now)))) }
+{
+    let of = target_of(alloc, row)?;
+    let using = rows_using(alloc, view, home, &of);
+    drop(of);
+    sorted_links(alloc, &using?)
+}
+
+/// The links of the rows of a project, in byte order.
+fn links_in(alloc: Global, view: &View<'_>, project: &str) -> Result<Seq<Text>, NoMemory>
+    ensures { IfOk result (λ ts. ts ≡ sorted (links (rows_in view.now project.now))) }
+{
+    let rows = rows_in(alloc, view, project)?;
+    sorted_links(alloc, &rows)
+}
+
+/// The links of the instances that name a profile, in byte order.
+fn links_naming(
+    alloc: Global,
+    view: &View<'_>,
+    home: &str,
+    profile: &str,
+) -> Result<Seq<Text>, NoMemory>
+    ensures { IfOk result (λ ts. ts ≡ sorted (links (map row.Instance (filter (names_profile view.now home.now profile.now) view.now.instances)))) }
+{
+    let rows = naming(alloc, view, home, profile)?;
+    sorted_links(alloc, &rows)
+}
+
+/// The links of the users of a row, in byte order. Rows count, claims do not.
+#[tactic(auto, unfolding(row_machine::specs::Views::used_by))]
+pub fn used_by(alloc: Global, view: &View<'_>, row: &RowRef<'_>) -> Result<Seq<Text>, NoMemory>
+    ensures { IfOk result (λ ts. ts ≡ used_by view.now row.now) }
+{
+    match row.row {
+        AnyRow::Project(project) => links_in(alloc, view, project.name.view()),
+        AnyRow::Profile(profile) => {
+            links_naming(alloc, view, profile.project.view(), profile.name.view())
+        }
+        AnyRow::Network(network) => links_using(alloc, view, network.project.view(), row),
+        AnyRow::Pool(_) => links_using(alloc, view, "", row),
+        AnyRow::Volume(volume) => links_using(alloc, view, volume.project.view(), row),
+        AnyRow::Instance(_) => Ok(Seq::new(alloc)),
+        AnyRow::Snapshot(_) => Ok(Seq::new(alloc)),
+    }
+}

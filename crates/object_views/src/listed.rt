@@ -1,0 +1,98 @@
+//! The rows of lists, and rows by what names them.
+ghost use Rattle.std.specs.Prelude.{◌≡◌, ◌++◌, IfOk, OnOk};
+ghost use Rattle.row_machine.specs.Plans.{row_of};
+ghost use Rattle.row_machine.specs.Views.{listed};
+
+use object_users::{
+    AnyRow, RowRef, add_instances, add_networks, add_pools, add_profiles, add_projects,
+    add_snapshots, add_volumes_in,
+};
+use records::Target;
+use row_readings::{
+    View, instance_named, network_home, network_named, pool_named, profile_home, profile_named,
+    project_named, snapshot_named, volume_home, volume_named,
+};
+use size_values::{NoMemory, ObjectKind};
+use std::alloc::Global;
+
+/// Adds the rows of a list.
+fn add_listed<'x>(
+    view: &View<'x>,
+    project: &str,
+    of: &Target,
+    all: &mut Vec<RowRef<'x>>,
+) -> Result<(), NoMemory>
+    ensures { OnOk result (all.new.items ≡ all.old.items ++ listed view.now project.now of.now) }
+{
+    let projects = view.projects;
+    match of.kind {
+        ObjectKind::Project => add_projects(projects, all),
+        ObjectKind::Profile => add_profiles(view.profiles, profile_home(projects, project), all),
+        ObjectKind::Network => add_networks(view.networks, network_home(projects, project), all),
+        ObjectKind::Pool => add_pools(view.pools, all),
+        ObjectKind::Volume => {
+            let home = volume_home(projects, project);
+            add_volumes_in(view.volumes, home, of.pool.view(), all)
+        }
+        ObjectKind::Instance => add_instances(view.instances, project, all),
+        ObjectKind::Snapshot => { add_snapshots(view.snapshots, project, of.instance.view(), all) }
+        ObjectKind::Operation => Ok(()),
+    }
+}
+
+/// The rows of a list: of all projects or pools, of a home, of a pool in a home, of an instance.
+pub(crate) fn listed<'x>(
+    alloc: Global,
+    view: &View<'x>,
+    project: &str,
+    of: &Target,
+) -> Result<Vec<RowRef<'x>>, NoMemory>
+    ensures { IfOk result (λ all. all.items ≡ listed view.now project.now of.now) }
+{
+    let mut all = Vec::new(alloc);
+    add_listed(view, project, of, &mut all)?;
+    Ok(all)
+}
+
+/// What stands under these names.
+pub(crate) fn row_of<'x>(view: &View<'x>, project: &str, of: &Target) -> Option<RowRef<'x>>
+    ensures { result ≡ row_of view.now project.now of.now }
+{
+    let name = of.name.view();
+    match of.kind {
+        ObjectKind::Project => Some(RowRef {
+            row: AnyRow::Project(project_named(view.projects, name)?),
+        }),
+        ObjectKind::Profile => {
+            let home = profile_home(view.projects, project);
+            Some(RowRef {
+                row: AnyRow::Profile(profile_named(view.profiles, home, name)?),
+            })
+        }
+        ObjectKind::Network => {
+            let home = network_home(view.projects, project);
+            Some(RowRef {
+                row: AnyRow::Network(network_named(view.networks, home, name)?),
+            })
+        }
+        ObjectKind::Pool => Some(RowRef {
+            row: AnyRow::Pool(pool_named(view.pools, name)?),
+        }),
+        ObjectKind::Volume => {
+            let home = volume_home(view.projects, project);
+            Some(RowRef {
+                row: AnyRow::Volume(volume_named(view.volumes, home, of.pool.view(), name)?),
+            })
+        }
+        ObjectKind::Instance => Some(RowRef {
+            row: AnyRow::Instance(instance_named(view.instances, project, name)?),
+        }),
+        ObjectKind::Snapshot => {
+            let instance = of.instance.view();
+            Some(RowRef {
+                row: AnyRow::Snapshot(snapshot_named(view.snapshots, project, instance, name)?),
+            })
+        }
+        ObjectKind::Operation => None,
+    }
+}

@@ -1,0 +1,81 @@
+//! How a row is shown.
+ghost use Rattle.std.specs.Prelude.{◌≡◌, IfOk, map, unwrap_or};
+ghost use Rattle.size_values.specs.declared.kinds.Power.TheVariants as power_of_kind;
+ghost use Rattle.records.specs.declared.rows.Row.TheVariants as row_of_kind;
+ghost use Rattle.row_machine.specs.StandingRules.{power_of};
+ghost use Rattle.row_machine.specs.Views.{instance_view, row_view};
+
+use object_users::{AnyRow, RowRef, used_by};
+use records::{Instance, View as Shown};
+use row_readings::{View, power_of};
+use size_values::{NoMemory, Power, Seq};
+use std::alloc::Global;
+
+fn shown_power(view: &View<'_>, row: &Instance) -> Power
+    ensures { result ≡ unwrap_or (power_of view.now row.now.project row.now.name) power_of_kind.Stopped }
+{
+    match power_of(view, row.project.view(), row.name.view()) {
+        Some(power) => power,
+        None => Power::Stopped,
+    }
+}
+
+/// An instance with what it has and its status.
+fn instance_view(alloc: Global, view: &View<'_>, row: &Instance) -> Result<Shown, NoMemory>
+    ensures { IfOk result (λ v. v ≡ instance_view view.now row.now) }
+{
+    let power = shown_power(view, row);
+    let expanded = view.expansion(alloc, row)?;
+    let row = row.copy(alloc)?;
+    Ok(Shown::Instance {
+        row,
+        config: expanded.config,
+        devices: expanded.devices,
+        power,
+    })
+}
+
+/// How a row is shown.
+pub(crate) fn row_view(alloc: Global, view: &View<'_>, row: &RowRef<'_>) -> Result<Shown, NoMemory>
+    ensures { IfOk result (λ v. v ≡ row_view view.now row.now) }
+{
+    match row.row {
+        AnyRow::Project(project) => {
+            let users = used_by(alloc, view, row)?;
+            Ok(Shown::Project(project.copy(alloc)?, users))
+        }
+        AnyRow::Profile(profile) => {
+            let users = used_by(alloc, view, row)?;
+            Ok(Shown::Profile(profile.copy(alloc)?, users))
+        }
+        AnyRow::Network(network) => {
+            let users = used_by(alloc, view, row)?;
+            Ok(Shown::Network(network.copy(alloc)?, users))
+        }
+        AnyRow::Pool(pool) => {
+            let users = used_by(alloc, view, row)?;
+            Ok(Shown::Pool(pool.copy(alloc)?, users))
+        }
+        AnyRow::Volume(volume) => {
+            let users = used_by(alloc, view, row)?;
+            Ok(Shown::Volume(volume.copy(alloc)?, users))
+        }
+        AnyRow::Instance(instance) => instance_view(alloc, view, instance),
+        AnyRow::Snapshot(snapshot) => Ok(Shown::Snapshot(snapshot.copy(alloc)?)),
+    }
+}
+
+/// How rows are shown.
+pub(crate) fn row_views(
+    alloc: Global,
+    view: &View<'_>,
+    rows: &[RowRef<'_>],
+) -> Result<Seq<Shown>, NoMemory>
+    ensures { IfOk result (λ vs. vs ≡ map (row_view view.now) rows.now) }
+{
+    let mut views = Seq::new(alloc);
+    for row in rows {
+        views.push(row_view(alloc, view, row)?)?;
+    }
+    Ok(views)
+}

@@ -1,0 +1,96 @@
+//! The usage of a project: each limit with what is used of it.
+ghost use Rattle.std.specs.Prelude.{◌≡◌, ◌++◌, ◌∷◌, [], length, filter, IfOk, OnOk, map};
+ghost use Rattle.std.specs.Str.{bytes_eq};
+ghost use Rattle.size_values.specs.Amounts.{part};
+ghost use Rattle.project_limits.specs.Admission.{limit_on, parts};
+ghost use Rattle.records.specs.declared.replies.LimitKeyName.TheVariants as line;
+ghost use Rattle.row_machine.specs.Views.{line_key, usage_view};
+
+use project_limits::{Limits, limits_of};
+use records::{LimitKeyName, Network, Project, UsageLine, View as Shown};
+use row_readings::View;
+use size_values::{Amounts, NoMemory, Seq};
+use std::alloc::Global;
+
+/// The number of networks of a project.
+fn networks_of(networks: &[Network], project: &str) -> u128
+    ensures { result ≡ length (filter (λ n. bytes_eq n.project project.now) networks.now) }
+{
+    networks
+        .iter()
+        .filter(|network| network.project.view() == project)
+        .count() as u128
+}
+
+/// Each limit with what is used of it.
+fn usage_lines(
+    alloc: Global,
+    limits: &Limits,
+    used: &Amounts,
+    networks: u128,
+) -> Result<Seq<UsageLine>, NoMemory>
+    ensures { IfOk result (λ lines. lines ≡ map (λ k. record { key = line_key k; used = part k used.now; limit = limit_on k limits.now }) parts ++ record { key = line.Networks; used = networks; limit = limits.now.networks } ∷ []) }
+{
+    let mut lines = Seq::new(alloc);
+    add(
+        &mut lines,
+        LimitKeyName::Instances,
+        used.instances,
+        limits.instances,
+    )?;
+    add(
+        &mut lines,
+        LimitKeyName::Containers,
+        used.containers,
+        limits.containers,
+    )?;
+    add(
+        &mut lines,
+        LimitKeyName::Machines,
+        used.machines,
+        limits.machines,
+    )?;
+    add(&mut lines, LimitKeyName::Cpu, used.cpu, limits.cpu)?;
+    add(&mut lines, LimitKeyName::Memory, used.memory, limits.memory)?;
+    add(
+        &mut lines,
+        LimitKeyName::Processes,
+        used.processes,
+        limits.processes,
+    )?;
+    add(&mut lines, LimitKeyName::Disk, used.disk, limits.disk)?;
+    add(
+        &mut lines,
+        LimitKeyName::Networks,
+        networks,
+        limits.networks,
+    )?;
+    Ok(lines)
+}
+
+fn add(
+    lines: &mut Seq<UsageLine>,
+    key: LimitKeyName,
+    used: u128,
+    limit: Option<u64>,
+) -> Result<(), NoMemory>
+    ensures { OnOk result (lines.new ≡ lines.old ++ record { key = key; used = used; limit = limit } ∷ []) }
+{
+    lines.push(UsageLine { key, used, limit })
+}
+
+/// The state of a project.
+#[tactic(auto, unfolding(row_machine::specs::Views::usage_view, row_machine::specs::Usage::usage_of, row_machine::specs::Usage::networks_of))]
+pub(crate) fn usage_view(
+    alloc: Global,
+    view: &View<'_>,
+    project: &Project,
+) -> Result<Shown, NoMemory>
+    ensures { IfOk result (λ v. v ≡ usage_view view.now project.now) }
+{
+    let limits = limits_of(&project.config);
+    let used = view.usage(alloc, project.name.view())?;
+    let networks = networks_of(view.networks, project.name.view());
+    let lines = usage_lines(alloc, &limits, &used, networks)?;
+    Ok(Shown::Usage(lines))
+}
