@@ -6,7 +6,7 @@ ghost use Rattle.records.specs.declared.refusals.Rule.TheVariants as rule_of;
 ghost use Rattle.row_machine.specs.Changes.{rows_put};
 ghost use Rattle.row_machine.specs.Refusals.{plainly};
 ghost use Rattle.row_machine.specs.State.{State};
-ghost use Rattle.limit_rules.specs.Counting.{counts_in};
+ghost use Rattle.limit_rules.specs.Exceeding.{Serves};
 ghost use Rattle.row_drafts.specs.Drafted.{former};
 ghost use Rattle.machine_laws.specs.Entries.{entry_changes};
 ghost use Rattle.core_rows.specs.Kept.{HasEntry};
@@ -68,7 +68,7 @@ pub(crate) fn judge(
     after: &View<'_>,
     changes: &[RowChange],
 ) -> Result<(), Or<Refusal>>
-    ensures { (s : State) → before.now ≡ counts_in s → Says result (changes_judged s after.now (rows_put changes.now)) }
+    ensures { (s : State) → Serves before.now s after.now → Says result (changes_judged s after.now (rows_put changes.now)) }
 {
     settings_broken(alloc, after, changes)?;
     policy_broken(alloc, after)?;

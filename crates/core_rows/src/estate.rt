@@ -1,12 +1,13 @@
 ghost use Rattle.std.specs.Prelude.{◌≡◌, ◌<◌, ◌∷◌, [], IfOk, IfSome, IfNone, OnOk};
-ghost use Rattle.limit_rules.specs.Counting.{counts_in};
+ghost use Rattle.limit_rules.specs.Exceeding.{Serves};
 ghost use Rattle.row_drafts.specs.Drafted.{IsReady};
+ghost use Rattle.row_machine.specs.Changes.{applied};
 ghost use Rattle.row_machine.specs.Whole.{IsWhole};
 ghost use Rattle.core_rows.specs.Kept.{IsSilent};
 ghost use Rattle.core_rows.specs.Planned.{Follows, IsToDo};
 
 use crate::changing::{commit, copy_changes, give_up, judge};
-use limit_rules::{Usage, usage_before};
+use limit_rules::{Usage, usage_before_changes};
 use plain_lists::push_reserved;
 use record_keeper::Keeper;
 use records::{Command, Reply, Untold};
@@ -47,14 +48,14 @@ struct Ready {
 /// Takes all memory that a change needs, but for its entries.
 fn make_ready(alloc: Global, draft: &mut Draft, changes: &Seq<RowChange>) -> Result<Ready, NoMemory>
     requires settled { draft.old.log ≡ [] }
-    ensures before { IfOk result (λ r. r.before ≡ counts_in draft.old.state) }
+    ensures before { IfOk result (λ r. Serves r.before draft.old.state (applied draft.old.state changes.now)) }
     ensures changes { IfOk result (λ r. r.changes ≡ changes.now) }
     ensures ready { OnOk result (IsReady draft.new changes.now) }
     ensures state { draft.new.state ≡ draft.old.state }
     ensures log { draft.new.log ≡ [] }
 {
     draft.reserve_for(alloc, changes)?;
-    let before = usage_before(alloc, &draft.view())?;
+    let before = usage_before_changes(alloc, &draft.view(), changes.view())?;
     let changes = copy_changes(alloc, changes)?;
     Ok(Ready { before, changes })
 }

@@ -1,10 +1,16 @@
-//! How rows are opened over a keeper, and read and told after that.
-ghost use Rattle.std.specs.Prelude.{◌≡◌, []};
+//! How rows are opened over a keeper, and read, changed and told after that.
+ghost use Rattle.std.specs.Prelude.{◌≡◌, [], true, IfOk};
+ghost use Rattle.records.specs.Built.{is_built_command};
+ghost use Rattle.records.specs.Forms.{is_formed};
 
+use core_objects::do_object;
 use core_rows::{Estate, OpenFault, default_profile, entry_changes, load_rows};
 use record_keeper::MapKeeper;
-use records::{Life, Told, Untold};
-use size_values::{NoMemory, Seq, Text};
+use records::{Body, Command, Origin, Reply, Row, Target, What};
+use row_drafts::Draft;
+use row_machine::RowChange;
+use row_readings::{profile_home, profile_named, project_named};
+use size_values::{NoMemory, ObjectKind, Seq, Text};
 use std::alloc::Global;
 
 /// How many projects and profiles an opening gives, or why it was refused.
@@ -18,10 +24,16 @@ const OPENINGS: [(&[u64], Opened, Opened); 4] = [
     (&[3], Ok((1, 1)), Err(OpenFault::KeeperFailed)),
 ];
 
+/// How many projects and profiles there are.
+fn count_rows(estate: &Estate) -> (usize, usize) {
+    let view = estate.view();
+    (view.projects.len(), view.profiles.len())
+}
+
 fn counted(alloc: Global, keeper: &mut MapKeeper) -> Opened {
     match load_rows(alloc, keeper) {
         Ok(estate) => {
-            let counts = (estate.projects().len(), estate.profiles().len());
+            let counts = count_rows(&estate);
             drop(estate);
             Ok(counts)
         }
@@ -53,32 +65,51 @@ fn rows_are_opened_once(rt: HostRuntime) {
     }
 }
 
-fn notice(alloc: Global) -> Result<Untold, NoMemory> {
+/// A PATCH of the profile `default` that changes nothing.
+fn patch(alloc: Global) -> Result<Command, NoMemory>
+    ensures formed { IfOk result (λ c. is_formed c ≡ true) }
+    ensures built { IfOk result (λ c. is_built_command c ≡ true) }
+{
     let project = Text::from_text(alloc, "default")?;
-    let source = Text::from_text(alloc, "/1.0/profiles/default")?;
-    Ok(Untold {
-        moment: 0,
+    let name = Text::from_text(alloc, "default")?;
+    let of = Target {
+        kind: ObjectKind::Profile,
+        pool: Text::new(alloc),
+        instance: Text::new(alloc),
+        name,
+    };
+    let body = Body {
+        description: None,
+        config: None,
+        devices: None,
+        profiles: None,
+        kind: None,
+        ephemeral: None,
+        driver: None,
+        origin: Origin::None,
+    };
+    Ok(Command {
         project,
-        told: Told::Life {
-            action: Life::ProfileUpdated,
-            source,
-        },
+        what: What::Patch { of, body },
     })
 }
 
 /// Whether the first rows are read back by their names.
 fn is_first(estate: &Estate) -> bool {
-    estate.profile_home("default") == "default"
-        && estate.project("default").is_some()
-        && estate.project("lab").is_none()
-        && estate.profile("default", "default").is_some()
-        && estate.profile("default", "lab").is_none()
+    let view = estate.view();
+    profile_home(view.projects, "default") == "default"
+        && project_named(view.projects, "default").is_some()
+        && project_named(view.projects, "lab").is_none()
+        && profile_named(view.profiles, "default", "default").is_some()
+        && profile_named(view.profiles, "default", "lab").is_none()
 }
 
-/// Whether no changes leave the rows as they are.
-fn stays(alloc: Global, estate: &mut Estate) -> bool {
+/// Whether no changes have no entries, and leave a draft as it is.
+fn stays(alloc: Global, draft: &mut Draft) -> bool
+    requires { draft.old.log ≡ [] }
+{
     let changes = Seq::new(alloc);
-    if estate.reserve_for(&changes).is_err() {
+    if draft.reserve_for(alloc, &changes).is_err() {
         return false;
     }
     let Ok(entries) = entry_changes(alloc, &changes) else {
@@ -86,35 +117,77 @@ fn stays(alloc: Global, estate: &mut Estate) -> bool {
     };
     let none = entries.is_empty();
     drop(entries);
-    estate.apply(changes);
-    none && is_first(estate)
+    draft.apply(changes);
+    draft.settle();
+    none && draft.view().profiles.is_empty()
 }
 
-/// Whether a notice is handed out once.
-fn tells_once(estate: &mut Estate, notice: Untold) -> bool
-    requires { estate.old.untold ≡ [] }
+/// A profile `default` that is put.
+fn one_put(alloc: Global) -> Result<Seq<RowChange>, NoMemory> {
+    let project = Text::from_text(alloc, "lab")?;
+    let profile = default_profile(alloc, &project)?;
+    let mut changes = Seq::new(alloc);
+    changes.push(RowChange::Put(Row::Profile(profile)))?;
+    Ok(changes)
+}
+
+/// Whether a row that is put is there, and is gone once it is taken back.
+fn is_taken_back(alloc: Global, draft: &mut Draft) -> bool
+    requires { draft.old.log ≡ [] }
 {
-    estate.tell(notice);
+    let Ok(changes) = one_put(alloc) else {
+        return false;
+    };
+    if draft.reserve_for(alloc, &changes).is_err() {
+        return false;
+    }
+    draft.apply(changes);
+    let put = draft.view().profiles.len() == 1;
+    draft.take_back();
+    put && draft.view().profiles.is_empty()
+}
+
+/// Whether a change of rows leaves a notice, which is handed out once.
+fn tells_once(alloc: Global, estate: &mut Estate, keeper: &mut MapKeeper, command: &Command) -> bool
+    requires quiet { estate.old.untold ≡ [] }
+    requires formed { is_formed command.now ≡ true }
+    requires built { is_built_command command.now ≡ true }
+{
+    let reply = do_object(alloc, estate, keeper, command, 0);
+    let done = matches!(&reply, Reply::Empty);
+    drop(reply);
     let told = estate.take_told().is_some();
     let more = estate.take_told().is_some();
-    told && !more
+    done && told && !more
 }
 
-/// Whether the first rows are opened, tell a notice once, and stay where nothing is changed.
+/// Whether the first rows are opened, tell a notice of a change once, and stay where nothing is changed.
 fn tells(alloc: Global) -> bool {
-    let Ok(notice) = notice(alloc) else {
+    let Ok(command) = patch(alloc) else {
         return false;
     };
     let mut keeper = MapKeeper::new(alloc, Seq::new(alloc));
     match load_rows(alloc, &mut keeper) {
         Ok(mut estate) => {
-            let told = tells_once(&mut estate, notice);
-            let same = stays(alloc, &mut estate);
+            let told = tells_once(alloc, &mut estate, &mut keeper, &command);
+            drop(command);
+            let same = is_first(&estate);
             drop(estate);
             told && same
         }
         Err(_) => false,
     }
+}
+
+/// Whether a draft stays where nothing is changed, and where a change is taken back.
+fn drafts(alloc: Global) -> bool {
+    let mut draft = Draft::new(alloc);
+    let same = stays(alloc, &mut draft);
+    let mut fresh = Draft::new(alloc);
+    let back = is_taken_back(alloc, &mut fresh);
+    drop(draft);
+    drop(fresh);
+    same && back
 }
 
 /// Whether the profile `default` of a project is made without devices.
@@ -136,5 +209,6 @@ fn is_default_made(alloc: Global) -> bool {
 fn rows_are_read_and_told(rt: HostRuntime) {
     let alloc = rt.alloc();
     assert!(rt; tells(alloc));
+    assert!(rt; drafts(alloc));
     assert!(rt; is_default_made(alloc));
 }

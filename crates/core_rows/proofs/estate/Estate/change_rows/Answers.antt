@@ -1,6 +1,7 @@
 use Rattle.std.proofs.Common.{◌∷◌, [], ◌++◌, ◌∙◌, ap, sym, subst, arith}
 use Rattle.std.specs.List.{AllByRecursion}
 use Rattle.record_keeper.specs.Store.{after_commit}
+use Rattle.limit_rules.specs.Exceeding.{Serves}
 use Rattle.row_machine.specs.Changes.{applied}
 use Rattle.row_machine.specs.Whole.{IsWhole}
 use Rattle.machine_laws.specs.Entries.{entry_changes}
@@ -24,7 +25,8 @@ returns-in-Err g c =
     c.view-2.result.now c.self.inside.untold.items c.in-Err.why c.give_up.result (g.R.Keeper.store c.args.keeper.now)
     (ap (λ (k : Kept). k.state) c.self.view_is) c.requires.planned
     (c.view.ensures ∙ c.apply.ensures.state ∙ ap (λ t. applied t c.args.changes) c.make_ready.ensures.state)
-    (c.view-2.ensures ∙ c.in-Ok.ensures.changes) (c.in-Err.ensures c.self.inside.draft.state c.in-Ok.ensures.before)
+    (c.view-2.ensures ∙ c.in-Ok.ensures.changes) (c.in-Err.ensures c.self.inside.draft.state
+    (subst (Serves c.in-Ok.ready.before c.self.inside.draft.state) (sym (c.view.ensures ∙ c.apply.ensures.state ∙ ap (λ t. applied t c.args.changes) c.make_ready.ensures.state)) c.in-Ok.ensures.before))
     (c.give_up.ensures.state ∙ c.apply.ensures.former ∙ ap (λ us. before_changes us c.make_ready.new.draft.state) c.make_ready.ensures.log ∙ c.make_ready.ensures.state)
     (ap (λ (k : Kept). k.untold) c.self.view_is ∙ c.requires.quiet) c.give_up.ensures.reply
 
@@ -35,7 +37,8 @@ commit-committed-requires g c = record {
       (accepted-from c.args.self.now.state c.args.command.now c.args.moment c.args.changes c.args.notice c.self.inside.draft.state c.view.result c.view-2.result.now
       c.self.invariant.whole (ap (λ (k : Kept). k.state) c.self.view_is) c.requires.planned
       (c.view.ensures ∙ c.apply.ensures.state ∙ ap (λ t. applied t c.args.changes) c.make_ready.ensures.state)
-      (c.view-2.ensures ∙ c.in-Ok.ensures.changes) (c.in_default-judged.ensures c.self.inside.draft.state c.in-Ok.ensures.before)));
+      (c.view-2.ensures ∙ c.in-Ok.ensures.changes) (c.in_default-judged.ensures c.self.inside.draft.state
+      (subst (Serves c.in-Ok.ready.before c.self.inside.draft.state) (sym (c.view.ensures ∙ c.apply.ensures.state ∙ ap (λ t. applied t c.args.changes) c.make_ready.ensures.state)) c.in-Ok.ensures.before))));
 }
 
 pub returns-in-Err-committed : goal.returns-in-Err-committed
@@ -47,7 +50,8 @@ returns-in-Err-committed g c =
     (accepted-from c.args.self.now.state c.args.command.now c.args.moment c.args.changes c.args.notice c.self.inside.draft.state c.view.result c.view-2.result.now
     c.self.invariant.whole (ap (λ (k : Kept). k.state) c.self.view_is) c.requires.planned
     (c.view.ensures ∙ c.apply.ensures.state ∙ ap (λ t. applied t c.args.changes) c.make_ready.ensures.state)
-    (c.view-2.ensures ∙ c.in-Ok.ensures.changes) (c.in_default-judged.ensures c.self.inside.draft.state c.in-Ok.ensures.before))
+    (c.view-2.ensures ∙ c.in-Ok.ensures.changes) (c.in_default-judged.ensures c.self.inside.draft.state
+    (subst (Serves c.in-Ok.ready.before c.self.inside.draft.state) (sym (c.view.ensures ∙ c.apply.ensures.state ∙ ap (λ t. applied t c.args.changes) c.make_ready.ensures.state)) c.in-Ok.ensures.before)))
     c.in-Ok.ensures.changes c.in-Err-committed.ensures
     (c.give_up-in-Err-committed.ensures.state ∙ c.apply.ensures.former ∙ ap (λ us. before_changes us c.make_ready.new.draft.state) c.make_ready.ensures.log ∙ c.make_ready.ensures.state)
     (ap (λ (k : Kept). k.untold) c.self.view_is ∙ c.requires.quiet) c.give_up-in-Err-committed.ensures.reply
@@ -63,7 +67,8 @@ invariant_of-self-2 g c = record {
       (accepted-from c.args.self.now.state c.args.command.now c.args.moment c.args.changes c.args.notice c.self.inside.draft.state c.view.result c.view-2.result.now
       c.self.invariant.whole (ap (λ (k : Kept). k.state) c.self.view_is) c.requires.planned
       (c.view.ensures ∙ c.apply.ensures.state ∙ ap (λ t. applied t c.args.changes) c.make_ready.ensures.state)
-      (c.view-2.ensures ∙ c.in-Ok.ensures.changes) (c.in_default-judged.ensures c.self.inside.draft.state c.in-Ok.ensures.before)));
+      (c.view-2.ensures ∙ c.in-Ok.ensures.changes) (c.in_default-judged.ensures c.self.inside.draft.state
+      (subst (Serves c.in-Ok.ready.before c.self.inside.draft.state) (sym (c.view.ensures ∙ c.apply.ensures.state ∙ ap (λ t. applied t c.args.changes) c.make_ready.ensures.state)) c.in-Ok.ensures.before))));
   silent = subst IsSilent (sym (c.settle.ensures.state ∙ c.apply.ensures.state ∙ ap (λ t. applied t c.args.changes) c.make_ready.ensures.state))
       (applied-silent c.args.changes c.self.inside.draft.state c.self.invariant.silent);
   settled = c.settle.ensures.log;
@@ -77,7 +82,8 @@ returns g c =
     (accepted-from c.args.self.now.state c.args.command.now c.args.moment c.args.changes c.args.notice c.self.inside.draft.state c.view.result c.view-2.result.now
     c.self.invariant.whole (ap (λ (k : Kept). k.state) c.self.view_is) c.requires.planned
     (c.view.ensures ∙ c.apply.ensures.state ∙ ap (λ t. applied t c.args.changes) c.make_ready.ensures.state)
-    (c.view-2.ensures ∙ c.in-Ok.ensures.changes) (c.in_default-judged.ensures c.self.inside.draft.state c.in-Ok.ensures.before))
+    (c.view-2.ensures ∙ c.in-Ok.ensures.changes) (c.in_default-judged.ensures c.self.inside.draft.state
+    (subst (Serves c.in-Ok.ready.before c.self.inside.draft.state) (sym (c.view.ensures ∙ c.apply.ensures.state ∙ ap (λ t. applied t c.args.changes) c.make_ready.ensures.state)) c.in-Ok.ensures.before)))
     c.requires.planned.notice
     (c.in_default-committed.ensures ∙ ap (λ cs. after_commit (entry_changes cs) (g.R.Keeper.store c.args.keeper.now)) c.in-Ok.ensures.changes)
     (c.settle.ensures.state
