@@ -32,4 +32,4 @@ pub record IsRefusedAgain (s : State) (c : Command) (moment : ℕ) (of : Target)
 abbrev pub SentAgain : Type 0
 SentAgain = (s : State) (c : Command) (moment : ℕ) (of : Target) (body : Body) →
     c.what ≡ what.Create of body → (of.kind ≡ kind.Snapshot → of.name ≢ []) → StandsAlready s c.project of
-        → IsRefusedAgain s c moment of
+    → IsRefusedAgain s c moment of

@@ -38,7 +38,7 @@ pub record IsBeingCancelled (s : State) (o : Operation Task) (moment : ℕ) (a :
 abbrev pub RunningIsCancelled : Type 0
 RunningIsCancelled = (s : State) (c : Command) (o : Operation Task) (moment : ℕ) →
     IsWhole s → live_at s.operations o.number ≡ Some o → o.status ≡ status.Running → o.may_cancel ≡ true
-        → c.what ≡ what.Cancel o.number →
+    → c.what ≡ what.Cancel o.number →
     (a : After) × ((step s (event.Ask c moment) well ≡ Some a) × IsBeingCancelled s o moment a)
 
 -- ---- what follows
@@ -82,5 +82,5 @@ pub data StaysCancelling (s t : State) (o : Operation Task) : Type 0 where
 abbrev pub CancellingStays : Type 0
 CancellingStays = (s : State) (e : Event) (outcome : Outcome) (after : After) (o : Operation Task) →
     IsWhole s → IsPossible e → step s e outcome ≡ Some after → live_at s.operations o.number ≡ Some o
-        → o.status ≡ status.Cancelling →
+    → o.status ≡ status.Cancelling →
     StaysCancelling s after.state o

@@ -57,4 +57,4 @@ AreSortedRows s = Each IsSortedRow (rows_of s ++ claims_of s)
 abbrev pub StepsKeepOrder : Type 0
 StepsKeepOrder = (s : State) (e : Event) (outcome : Outcome) (after : After) →
     IsWhole s → IsPossible e → IsSortedEvent e → AreSortedRows s → step s e outcome ≡ Some after
-        → AreSortedRows after.state
+    → AreSortedRows after.state

@@ -63,7 +63,7 @@ pub record IsAlone (s : State) (hand : Option ℕ) : Type 0 where
 abbrev pub WaitsEnd : Type 0
 WaitsEnd = (s : State) (hand : Option ℕ) (rounds : List Round) (after : Served) →
     IsWhole s → IsAlone s hand → Each (λ round. round.moment < moment_limit) rounds
-        → 4 * length s.operations.live ≤ length rounds →
+    → 4 * length s.operations.live ≤ length rounds →
     serves s hand rounds ≡ Some after → after.state.operations.live ≡ []
 
 -- and these are at most 4,096

@@ -13,7 +13,8 @@ use Rattle.object_plans.specs.Planning.{changes_in, IsPlanned}
 
 -- what is told of an action is told of the one that there is
 pub noted : (plan : Plan) (notice : Life → Untold) (action : Life) (tells : Option Life) (r : Result (Option Planned) NoMemory)
-    → Some action ≡ tells → IfOk r (λ p. IsPlanned p plan (notice action ∷ [])) → IfOk r (λ p. IsPlanned p plan (option_to_list (option_map notice tells)))
+    → Some action ≡ tells → IfOk r (λ p. IsPlanned p plan (notice action ∷ []))
+    → IfOk r (λ p. IsPlanned p plan (option_to_list (option_map notice tells)))
 noted plan notice action tells r is h = subst (λ t. IfOk r (λ p. IsPlanned p plan (option_to_list (option_map notice t)))) is h
 
 -- the changes of what is there are those of the plan

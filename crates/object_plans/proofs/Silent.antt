@@ -22,12 +22,14 @@ use Rattle.object_plans.specs.Planning.{changes_in}
 -- ---- parts of plans
 
 -- a plan for what is there changes nothing, where it never does
-pub never-there : {X : Type 0} (plan : X → Plan) → ((x : X) → changes_in (plan x) ≡ None) → (o : Option X) → changes_in (if_there plan o) ≡ None
+pub never-there : {X : Type 0} (plan : X → Plan) → ((x : X) → changes_in (plan x) ≡ None)
+    → (o : Option X) → changes_in (if_there plan o) ≡ None
 never-there plan never None = refl
 never-there plan never (Some x) = never x
 
 -- the same of a row, of the kinds for which it never does
-never-row : {X : Type 0} (plan : Row → Plan) (at : X → Row) → ((x : X) → changes_in (plan (at x)) ≡ None) → (o : Option X) → changes_in (if_there plan (option_map at o)) ≡ None
+never-row : {X : Type 0} (plan : Row → Plan) (at : X → Row) → ((x : X) → changes_in (plan (at x)) ≡ None)
+    → (o : Option X) → changes_in (if_there plan (option_map at o)) ≡ None
 never-row plan at never None = refl
 never-row plan at never (Some x) = never x
 

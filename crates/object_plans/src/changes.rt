@@ -1,6 +1,6 @@
 //! Lists of changes of rows.
 ghost use Rattle.std.specs.Prelude.{◌≡◌, [], ◌∷◌, ◌++◌, IfOk};
-ghost use Rattle.row_codec.specs.Spelling.{two_names};
+ghost use Rattle.row_codec.specs.Spelling.{two_names, key_of};
 ghost use Rattle.records.specs.declared.rows.Row.TheVariants as row_of;
 ghost use Rattle.row_machine.specs.declared.changes.RowChange.TheVariants as change;
 ghost use Rattle.row_machine.specs.NewRows.{default_profile};
@@ -31,39 +31,34 @@ fn three_names(alloc: Global, first: &Text, second: &Text, third: &Text) -> Resu
     two_names(alloc, first.view(), behind.view())
 }
 
+/// The key of a row.
+fn key_of(alloc: Global, row: Found<'_>) -> Result<Text, NoMemory>
+    ensures { IfOk result (λ key. key ≡ key_of (row_at row.entry)) }
+{
+    match row {
+        Found::Project(row) => row.name.copy(alloc),
+        Found::Profile(row) => two_names(alloc, row.project.view(), row.name.view()),
+        Found::Network(row) => two_names(alloc, row.project.view(), row.name.view()),
+        Found::Pool(row) => row.name.copy(alloc),
+        Found::Volume(row) => three_names(alloc, &row.project, &row.pool, &row.name),
+        Found::Instance(row) => two_names(alloc, row.project.view(), row.name.view()),
+        Found::Snapshot(row) => three_names(alloc, &row.project, &row.instance, &row.name),
+    }
+}
+
 /// The change that removes a row.
 fn removal(alloc: Global, row: Found<'_>) -> Result<RowChange, NoMemory>
     ensures { IfOk result (λ c. c ≡ removal (row_at row.entry)) }
 {
+    let key = key_of(alloc, row)?;
     match row {
-        Found::Project(row) => {
-            let key = row.name.copy(alloc)?;
-            Ok(RowChange::Remove(ObjectKind::Project, key))
-        }
-        Found::Profile(row) => {
-            let key = two_names(alloc, row.project.view(), row.name.view())?;
-            Ok(RowChange::Remove(ObjectKind::Profile, key))
-        }
-        Found::Network(row) => {
-            let key = two_names(alloc, row.project.view(), row.name.view())?;
-            Ok(RowChange::Remove(ObjectKind::Network, key))
-        }
-        Found::Pool(row) => {
-            let key = row.name.copy(alloc)?;
-            Ok(RowChange::Remove(ObjectKind::Pool, key))
-        }
-        Found::Volume(row) => {
-            let key = three_names(alloc, &row.project, &row.pool, &row.name)?;
-            Ok(RowChange::Remove(ObjectKind::Volume, key))
-        }
-        Found::Instance(row) => {
-            let key = two_names(alloc, row.project.view(), row.name.view())?;
-            Ok(RowChange::Remove(ObjectKind::Instance, key))
-        }
-        Found::Snapshot(row) => {
-            let key = three_names(alloc, &row.project, &row.instance, &row.name)?;
-            Ok(RowChange::Remove(ObjectKind::Snapshot, key))
-        }
+        Found::Project(_) => Ok(RowChange::Remove(ObjectKind::Project, key)),
+        Found::Profile(_) => Ok(RowChange::Remove(ObjectKind::Profile, key)),
+        Found::Network(_) => Ok(RowChange::Remove(ObjectKind::Network, key)),
+        Found::Pool(_) => Ok(RowChange::Remove(ObjectKind::Pool, key)),
+        Found::Volume(_) => Ok(RowChange::Remove(ObjectKind::Volume, key)),
+        Found::Instance(_) => Ok(RowChange::Remove(ObjectKind::Instance, key)),
+        Found::Snapshot(_) => Ok(RowChange::Remove(ObjectKind::Snapshot, key)),
     }
 }
 

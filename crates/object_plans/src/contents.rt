@@ -34,7 +34,10 @@ pub(crate) fn patched_content(
     config: &Config,
     body: &Body,
 ) -> Result<Content, NoMemory>
-    ensures { IfOk result (λ c. c ≡ record { description = patched_description description.now body.now; config = patched_config config.now body.now }) }
+    ensures { IfOk result (λ c. c ≡ record {
+      description = patched_description description.now body.now;
+      config = patched_config config.now body.now;
+    }) }
 {
     let config = patched_config(config, body)?;
     let description = patched_description(alloc, description, body)?;

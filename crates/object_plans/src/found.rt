@@ -30,16 +30,21 @@ pub(crate) fn row_of<'x>(view: &View<'x>, project: &str, of: &Target) -> Option<
     let home = home_of(view.projects, project, of.kind);
     let name = of.name.view();
     match of.kind {
-        ObjectKind::Project => project_named(view.projects, name).map(Found::Project),
-        ObjectKind::Profile => profile_named(view.profiles, home, name).map(Found::Profile),
-        ObjectKind::Network => network_named(view.networks, home, name).map(Found::Network),
-        ObjectKind::Pool => pool_named(view.pools, name).map(Found::Pool),
+        ObjectKind::Project => Some(Found::Project(project_named(view.projects, name)?)),
+        ObjectKind::Profile => Some(Found::Profile(profile_named(view.profiles, home, name)?)),
+        ObjectKind::Network => Some(Found::Network(network_named(view.networks, home, name)?)),
+        ObjectKind::Pool => Some(Found::Pool(pool_named(view.pools, name)?)),
         ObjectKind::Volume => {
-            volume_named(view.volumes, home, of.pool.view(), name).map(Found::Volume)
+            let row = volume_named(view.volumes, home, of.pool.view(), name)?;
+            Some(Found::Volume(row))
         }
-        ObjectKind::Instance => instance_named(view.instances, project, name).map(Found::Instance),
+        ObjectKind::Instance => {
+            let row = instance_named(view.instances, project, name)?;
+            Some(Found::Instance(row))
+        }
         ObjectKind::Snapshot => {
-            snapshot_named(view.snapshots, project, of.instance.view(), name).map(Found::Snapshot)
+            let row = snapshot_named(view.snapshots, project, of.instance.view(), name)?;
+            Some(Found::Snapshot(row))
         }
         ObjectKind::Operation => None,
     }

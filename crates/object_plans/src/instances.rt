@@ -38,7 +38,10 @@ fn patched_profiles(alloc: Global, old: &Instance, body: &Body) -> Result<Seq<Te
 }
 
 fn patched_layers(alloc: Global, old: &Instance, body: &Body) -> Result<Layers, NoMemory>
-    ensures { IfOk result (λ l. l ≡ record { profiles = unwrap_or body.now.profiles old.now.profiles; devices = patched_devices old.now.devices body.now }) }
+    ensures { IfOk result (λ l. l ≡ record {
+      profiles = unwrap_or body.now.profiles old.now.profiles;
+      devices = patched_devices old.now.devices body.now;
+    }) }
 {
     let devices = patched_devices(&old.devices, body)?;
     let profiles = patched_profiles(alloc, old, body)?;
@@ -54,7 +57,11 @@ struct Names {
 }
 
 fn names_of(alloc: Global, old: &Instance) -> Result<Names, NoMemory>
-    ensures { IfOk result (λ n. n ≡ record { project = old.now.project; name = old.now.name; origin = old.now.origin }) }
+    ensures { IfOk result (λ n. n ≡ record {
+      project = old.now.project;
+      name = old.now.name;
+      origin = old.now.origin;
+    }) }
 {
     let project = old.project.copy(alloc)?;
     let name = old.name.copy(alloc)?;

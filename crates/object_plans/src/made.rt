@@ -39,18 +39,17 @@ fn volume_made(
     body: &Body,
     moment: u64,
 ) -> Result<Option<Seq<RowChange>>, NoMemory>
-    ensures { (s : State) → IfOk result (λ cs. cs ≡ changes_in (volume_creation s home.now of.now body.now moment body.now.origin)) }
+    ensures { (s : State)
+        → IfOk result (λ cs. cs ≡ changes_in (volume_creation s home.now of.now body.now moment body.now.origin)) }
 {
     match &body.origin {
-        Origin::None => row_alone(
-            alloc,
-            Row::Volume(made_volume(alloc, home, of, body, moment)?),
-        ),
+        Origin::None => {
+            let row = made_volume(alloc, home, of, body, moment)?;
+            row_alone(alloc, Row::Volume(row))
+        }
         Origin::Image(_) => {
-            row_alone(
-                alloc,
-                Row::Volume(made_volume(alloc, home, of, body, moment)?),
-            )
+            let row = made_volume(alloc, home, of, body, moment)?;
+            row_alone(alloc, Row::Volume(row))
         }
         Origin::Copy { .. } => Ok(None),
     }
@@ -98,7 +97,8 @@ pub(crate) fn put_changes(
     old: Found<'_>,
     body: &Body,
 ) -> Result<Option<Seq<RowChange>>, NoMemory>
-    ensures { (s : State) (project : List ℕ) (of : TargetValue) → IfOk result (λ cs. cs ≡ changes_in (plan_put s project of body.now (row_at old.entry))) }
+    ensures { (s : State) (project : List ℕ) (of : TargetValue)
+        → IfOk result (λ cs. cs ≡ changes_in (plan_put s project of body.now (row_at old.entry))) }
 {
     match old {
         Found::Project(old) => {
@@ -178,7 +178,8 @@ pub(crate) fn move_changes(
     old: Found<'_>,
     to: &Text,
 ) -> Result<Option<Seq<RowChange>>, NoMemory>
-    ensures { (project : List ℕ) (of : TargetValue) → IfOk result (λ cs. cs ≡ changes_in (plan_move view.now project of to.now (row_at old.entry))) }
+    ensures { (project : List ℕ) (of : TargetValue)
+        → IfOk result (λ cs. cs ≡ changes_in (plan_move view.now project of to.now (row_at old.entry))) }
 {
     match old {
         Found::Project(old) => {
@@ -212,7 +213,8 @@ pub(crate) fn deletion_changes(
     view: &View<'_>,
     old: Found<'_>,
 ) -> Result<Option<Seq<RowChange>>, NoMemory>
-    ensures { (project : List ℕ) (of : TargetValue) → IfOk result (λ cs. cs ≡ changes_in (plan_delete view.now project of (row_at old.entry))) }
+    ensures { (project : List ℕ) (of : TargetValue)
+        → IfOk result (λ cs. cs ≡ changes_in (plan_delete view.now project of (row_at old.entry))) }
 {
     match old {
         Found::Project(old) => {

@@ -14,7 +14,12 @@ fn network_of(
     name: &Text,
     content: Content,
 ) -> Result<Network, NoMemory>
-    ensures { IfOk result (λ r. r ≡ record { project = project.now; name = name.now; description = content.description; config = content.config }) }
+    ensures { IfOk result (λ r. r ≡ record {
+      project = project.now;
+      name = name.now;
+      description = content.description;
+      config = content.config;
+    }) }
 {
     let project = Text::from_text(alloc, project)?;
     let name = name.copy(alloc)?;

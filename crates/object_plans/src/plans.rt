@@ -22,7 +22,8 @@ fn plan_creation(
     body: &Body,
     moment: u64,
 ) -> Result<Option<Planned>, NoMemory>
-    ensures { IfOk result (λ p. IsPlanOf p view.now (record { project = project.now; what = what.Create of.now body.now }) moment) }
+    ensures { IfOk result (λ p. IsPlanOf p view.now
+        (record { project = project.now; what = what.Create of.now body.now }) moment) }
 {
     let Some(action) = made_life(of.kind) else {
         return Ok(None);
@@ -40,7 +41,8 @@ fn plan_put(
     body: &Body,
     moment: u64,
 ) -> Result<Option<Planned>, NoMemory>
-    ensures { IfOk result (λ p. IsPlanOf p view.now (record { project = project.now; what = what.Put of.now body.now }) moment) }
+    ensures { IfOk result (λ p. IsPlanOf p view.now
+        (record { project = project.now; what = what.Put of.now body.now }) moment) }
 {
     let Some(action) = changed_life(of.kind) else {
         return Ok(None);
@@ -61,7 +63,8 @@ fn plan_patch(
     body: &Body,
     moment: u64,
 ) -> Result<Option<Planned>, NoMemory>
-    ensures { IfOk result (λ p. IsPlanOf p view.now (record { project = project.now; what = what.Patch of.now body.now }) moment) }
+    ensures { IfOk result (λ p. IsPlanOf p view.now
+        (record { project = project.now; what = what.Patch of.now body.now }) moment) }
 {
     let Some(action) = changed_life(of.kind) else {
         return Ok(None);
@@ -97,7 +100,8 @@ fn plan_move(
     to: &Text,
     moment: u64,
 ) -> Result<Option<Planned>, NoMemory>
-    ensures { IfOk result (λ p. IsPlanOf p view.now (record { project = project.now; what = what.Move of.now to.now }) moment) }
+    ensures { IfOk result (λ p. IsPlanOf p view.now
+        (record { project = project.now; what = what.Move of.now to.now }) moment) }
 {
     let Some(action) = moved_life(of.kind) else {
         return Ok(None);
@@ -120,7 +124,8 @@ fn plan_deletion(
     of: &Target,
     moment: u64,
 ) -> Result<Option<Planned>, NoMemory>
-    ensures { IfOk result (λ p. IsPlanOf p view.now (record { project = project.now; what = what.Delete of.now }) moment) }
+    ensures { IfOk result (λ p. IsPlanOf p view.now
+        (record { project = project.now; what = what.Delete of.now }) moment) }
 {
     let Some(action) = deleted_life(of.kind) else {
         return Ok(None);

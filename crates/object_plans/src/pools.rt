@@ -9,7 +9,12 @@ use std::alloc::Global;
 
 /// The pool of this name and driver.
 fn pool_of(alloc: Global, name: &Text, driver: Driver, content: Content) -> Result<Pool, NoMemory>
-    ensures { IfOk result (λ r. r ≡ record { name = name.now; driver = driver; description = content.description; config = content.config }) }
+    ensures { IfOk result (λ r. r ≡ record {
+      name = name.now;
+      driver = driver;
+      description = content.description;
+      config = content.config;
+    }) }
 {
     let name = name.copy(alloc)?;
     Ok(Pool {

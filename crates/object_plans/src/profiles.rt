@@ -33,7 +33,13 @@ fn profile_of(
     content: Content,
     devices: Devices,
 ) -> Result<Profile, NoMemory>
-    ensures { IfOk result (λ r. r ≡ record { project = project.now; name = name.now; description = content.description; config = content.config; devices = devices }) }
+    ensures { IfOk result (λ r. r ≡ record {
+      project = project.now;
+      name = name.now;
+      description = content.description;
+      config = content.config;
+      devices = devices;
+    }) }
 {
     let project = Text::from_text(alloc, project)?;
     let name = name.copy(alloc)?;

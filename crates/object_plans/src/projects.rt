@@ -1,5 +1,5 @@
-//! The rows of projects that commands make, and the changes that projects bring with them: a project that has profiles of its
-//! own has a profile `default` (<https://linuxcontainers.org/incus/docs/main/reference/projects/>).
+//! The rows of projects that commands make, and the changes that projects bring with them: a project that has profiles
+//! of its own has a profile `default` (<https://linuxcontainers.org/incus/docs/main/reference/projects/>).
 ghost use Rattle.std.specs.Prelude.{◌≡◌, ◌≢◌, [], ◌∷◌, ◌++◌, IfOk, OnOk};
 ghost use Rattle.records.specs.declared.rows.Row.TheVariants as row_of;
 ghost use Rattle.row_machine.specs.declared.changes.RowChange.TheVariants as change;
@@ -44,7 +44,11 @@ fn project_config(alloc: Global, body: &Body) -> Result<Config, NoMemory>
 
 /// The project of this name.
 fn project_of(alloc: Global, name: &Text, content: Content) -> Result<Project, NoMemory>
-    ensures { IfOk result (λ r. r ≡ record { name = name.now; description = content.description; config = content.config }) }
+    ensures { IfOk result (λ r. r ≡ record {
+      name = name.now;
+      description = content.description;
+      config = content.config;
+    }) }
 {
     let name = name.copy(alloc)?;
     Ok(Project {
@@ -132,12 +136,13 @@ fn project_change(alloc: Global, old: &Project, row: Project) -> Result<Seq<RowC
     let had = is_on(&old.config, "features.profiles");
     let has = is_on(&row.config, "features.profiles");
     let changes = one_put(alloc, Row::Project(row))?;
-    match (had, has) {
-        (true, false) => and_default_removal(alloc, changes, &old.name),
-        (false, true) => and_default_put(alloc, changes, &old.name),
-        (true, true) => Ok(changes),
-        (false, false) => Ok(changes),
+    if had && !has {
+        return and_default_removal(alloc, changes, &old.name);
     }
+    if has && !had {
+        return and_default_put(alloc, changes, &old.name);
+    }
+    Ok(changes)
 }
 
 /// What a PUT of a project changes.

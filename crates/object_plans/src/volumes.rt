@@ -7,39 +7,35 @@ use records::{Body, Target, Volume};
 use size_values::{NoMemory, Text};
 use std::alloc::Global;
 
-/// The names of a volume, of its own.
-#[derive(Drop)]
-struct Names {
-    project: Text,
-    pool: Text,
-    name: Text,
-}
-
-fn names_of(alloc: Global, project: &str, pool: &Text, name: &Text) -> Result<Names, NoMemory>
-    ensures { IfOk result (λ n. n ≡ record { project = project.now; pool = pool.now; name = name.now }) }
+/// The volume of these names with this content.
+fn volume_of(
+    alloc: Global,
+    project: &str,
+    pool: &Text,
+    name: &Text,
+    content: Content,
+    created: u64,
+) -> Result<Volume, NoMemory>
+    ensures { IfOk result (λ r. r ≡ record {
+      project = project.now;
+      pool = pool.now;
+      name = name.now;
+      description = content.description;
+      config = content.config;
+      created = created;
+    }) }
 {
     let project = Text::from_text(alloc, project)?;
     let pool = pool.copy(alloc)?;
     let name = name.copy(alloc)?;
-    Ok(Names {
+    Ok(Volume {
         project,
         pool,
         name,
-    })
-}
-
-/// The volume of these names with this content.
-fn volume_of(names: Names, content: Content, created: u64) -> Volume
-    ensures { result ≡ record { project = names.project; pool = names.pool; name = names.name; description = content.description; config = content.config; created = created } }
-{
-    Volume {
-        project: names.project,
-        pool: names.pool,
-        name: names.name,
         description: content.description,
         config: content.config,
         created,
-    }
+    })
 }
 
 /// A volume as it is created in the project that it belongs to.
@@ -53,8 +49,7 @@ pub(crate) fn made_volume(
     ensures { IfOk result (λ r. r ≡ made_volume project.now of.now body.now moment) }
 {
     let content = new_content(alloc, body)?;
-    let names = names_of(alloc, project, &of.pool, &of.name)?;
-    Ok(volume_of(names, content, moment))
+    volume_of(alloc, project, &of.pool, &of.name, content, moment)
 }
 
 /// A volume after a PUT.
@@ -62,8 +57,14 @@ pub(crate) fn put_volume(alloc: Global, old: &Volume, body: &Body) -> Result<Vol
     ensures { IfOk result (λ r. r ≡ put_volume old.now body.now) }
 {
     let content = new_content(alloc, body)?;
-    let names = names_of(alloc, old.project.view(), &old.pool, &old.name)?;
-    Ok(volume_of(names, content, old.created))
+    volume_of(
+        alloc,
+        old.project.view(),
+        &old.pool,
+        &old.name,
+        content,
+        old.created,
+    )
 }
 
 /// A volume after a PATCH.
@@ -71,8 +72,14 @@ pub(crate) fn patched_volume(alloc: Global, old: &Volume, body: &Body) -> Result
     ensures { IfOk result (λ r. r ≡ patched_volume old.now body.now) }
 {
     let content = patched_content(alloc, &old.description, &old.config, body)?;
-    let names = names_of(alloc, old.project.view(), &old.pool, &old.name)?;
-    Ok(volume_of(names, content, old.created))
+    volume_of(
+        alloc,
+        old.project.view(),
+        &old.pool,
+        &old.name,
+        content,
+        old.created,
+    )
 }
 
 /// A volume under another name.
@@ -80,6 +87,12 @@ pub(crate) fn renamed_volume(alloc: Global, old: &Volume, to: &Text) -> Result<V
     ensures { IfOk result (λ r. r ≡ record old.now { name = to.now }) }
 {
     let content = copied_content(alloc, &old.description, &old.config)?;
-    let names = names_of(alloc, old.project.view(), &old.pool, to)?;
-    Ok(volume_of(names, content, old.created))
+    volume_of(
+        alloc,
+        old.project.view(),
+        &old.pool,
+        to,
+        content,
+        old.created,
+    )
 }

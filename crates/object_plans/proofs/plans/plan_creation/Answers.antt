@@ -12,7 +12,10 @@ returns-in_default c = creation-silent c.args.view.now c.args.project.now c.args
 pub returns : goal.returns
 unfolding plan_of
 returns c =
-    noted (plan_of c.args.view.now (command_of c.args.project.now (what.Create c.args.of.now c.args.body.now)) c.args.moment) (life_notice c.args.moment (home_of c.args.view.now.projects c.args.project.now c.args.of.now.kind) c.args.of.now)
-    c.in-Some.action (made_life c.args.of.now.kind) c.with_notice.result c.in-Some.ensures
-    (c.with_notice.ensures (plan_of c.args.view.now (command_of c.args.project.now (what.Create c.args.of.now c.args.body.now)) c.args.moment)
-    (c.in_ok-changes.ensures))
+    let s = c.args.view.now in
+    let project = c.args.project.now in
+    let of = c.args.of.now in
+    let plan = plan_of s (command_of project (what.Create of c.args.body.now)) c.args.moment in
+    noted plan (life_notice c.args.moment (home_of s.projects project of.kind) of)
+    c.in-Some.action (made_life of.kind) c.with_notice.result c.in-Some.ensures
+    (c.with_notice.ensures plan c.in_ok-changes.ensures)

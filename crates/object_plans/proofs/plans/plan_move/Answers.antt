@@ -17,20 +17,26 @@ returns-in_default c = move-silent c.args.view.now c.args.project.now c.args.of.
 
 pub returns-in_default-row_of : goal.returns-in_default-row_of
 unfolding plan_of
-returns-in_default-row_of c = changes-gone (plan_move c.args.view.now c.args.project.now c.args.of.now c.args.to.now) (row_of c.args.view.now c.args.project.now c.args.of.now) c.in_default-row_of.ensures
+returns-in_default-row_of c =
+    let s = c.args.view.now in
+    let project = c.args.project.now in
+    let of = c.args.of.now in
+    changes-gone (plan_move s project of c.args.to.now) (row_of s project of) c.in_default-row_of.ensures
 
 pub returns : goal.returns
 unfolding plan_of
 returns c =
     let s = c.args.view.now in
+    let project = c.args.project.now in
     let of = c.args.of.now in
-    let plan = plan_of s (command_of c.args.project.now (what.Move of c.args.to.now)) c.args.moment in
+    let renamed = c.in_ok-renamed.renamed in
+    let plan = plan_of s (command_of project (what.Move of c.args.to.now)) c.args.moment in
     subst
     (λ (t : Target). IfOk c.with_notice-planned.result (λ p. IsPlanned p plan
-    (option_to_list (option_map (life_notice c.args.moment (home_of s.projects c.args.project.now t.kind) t) (moved_life of.kind)))))
+    (option_to_list (option_map (life_notice c.args.moment (home_of s.projects project t.kind) t) (moved_life of.kind)))))
     c.in_ok-renamed.ensures
-    (noted plan (life_notice c.args.moment (home_of s.projects c.args.project.now c.in_ok-renamed.renamed.kind) c.in_ok-renamed.renamed)
+    (noted plan (life_notice c.args.moment (home_of s.projects project renamed.kind) renamed)
     c.in-Some.action (moved_life of.kind) c.with_notice-planned.result c.in-Some.ensures
     (c.with_notice-planned.ensures plan
-    (changes-there (plan_move s c.args.project.now of c.args.to.now) (row_at c.in-Some-row_of.old) (row_of s c.args.project.now of)
-    c.in_ok-changes.changes c.in-Some-row_of.ensures (c.in_ok-changes.ensures c.args.project.now of))))
+    (changes-there (plan_move s project of c.args.to.now) (row_at c.in-Some-row_of.old) (row_of s project of)
+    c.in_ok-changes.changes c.in-Some-row_of.ensures (c.in_ok-changes.ensures project of))))

@@ -12,12 +12,21 @@ returns-in_default c = patch-silent c.args.view.now c.args.project.now c.args.of
 
 pub returns-in_default-row_of : goal.returns-in_default-row_of
 unfolding plan_of
-returns-in_default-row_of c = changes-gone (plan_patch c.args.body.now) (row_of c.args.view.now c.args.project.now c.args.of.now) c.in_default-row_of.ensures
+returns-in_default-row_of c =
+    let s = c.args.view.now in
+    let project = c.args.project.now in
+    let of = c.args.of.now in
+    changes-gone (plan_patch c.args.body.now) (row_of s project of) c.in_default-row_of.ensures
 
 pub returns : goal.returns
 unfolding plan_of
 returns c =
-    noted (plan_of c.args.view.now (command_of c.args.project.now (what.Patch c.args.of.now c.args.body.now)) c.args.moment) (life_notice c.args.moment (home_of c.args.view.now.projects c.args.project.now c.args.of.now.kind) c.args.of.now)
-    c.in-Some.action (changed_life c.args.of.now.kind) c.with_notice.result c.in-Some.ensures
-    (c.with_notice.ensures (plan_of c.args.view.now (command_of c.args.project.now (what.Patch c.args.of.now c.args.body.now)) c.args.moment)
-    (changes-there (plan_patch c.args.body.now) (row_at c.in-Some-row_of.old) (row_of c.args.view.now c.args.project.now c.args.of.now) c.in_ok-changes.changes c.in-Some-row_of.ensures (c.in_ok-changes.ensures)))
+    let s = c.args.view.now in
+    let project = c.args.project.now in
+    let of = c.args.of.now in
+    let plan = plan_of s (command_of project (what.Patch of c.args.body.now)) c.args.moment in
+    noted plan (life_notice c.args.moment (home_of s.projects project of.kind) of)
+    c.in-Some.action (changed_life of.kind) c.with_notice.result c.in-Some.ensures
+    (c.with_notice.ensures plan
+    (changes-there (plan_patch c.args.body.now) (row_at c.in-Some-row_of.old) (row_of s project of)
+    c.in_ok-changes.changes c.in-Some-row_of.ensures c.in_ok-changes.ensures))
