@@ -1,11 +1,10 @@
 //! N3 to N5: a new name is malformed, a row's, or a live claim's.
-ghost use Rattle.std.specs.Prelude.{◌≡◌, ◌&&◌, find};
+ghost use Rattle.std.specs.Prelude.{◌≡◌, find};
 ghost use Rattle.std.specs.Option.{option_copied};
-ghost use Rattle.std.specs.Str.{bytes_eq};
 ghost use Rattle.size_values.specs.Causes.{Says};
 ghost use Rattle.row_machine.specs.Links.{target_of};
 ghost use Rattle.row_machine.specs.NameRules.{malformed, taken, same_target, claims_object, held, name_broken};
-ghost use Rattle.name_rules.specs.Pointed.{target_at};
+ghost use Rattle.name_rules.specs.Pointed.{target_at, has_names};
 
 use crate::places::{Place, is_there};
 use estate_rules::good_name;
@@ -39,7 +38,7 @@ fn taken(alloc: Global, view: &View<'_>, project: &str, of: Place<'_>) -> Result
 
 /// Whether an object has these names.
 fn is_named(pool: &str, instance: &str, name: &str, of: Place<'_>) -> bool
-    ensures { result ≡ (bytes_eq pool.now of.entry.pool.now && bytes_eq instance.now of.entry.instance.now && bytes_eq name.now of.entry.name.now) }
+    ensures { result ≡ has_names pool.now instance.now name.now (target_at of.entry) }
 {
     pool == of.pool && instance == of.instance && name == of.name
 }

@@ -1,10 +1,10 @@
 //! Rules on names: N1 to N5.
 ghost use Rattle.std.specs.Prelude.{option_and_then};
 ghost use Rattle.size_values.specs.Causes.{Says};
-ghost use Rattle.records.specs.declared.commands.What.TheVariants as what_of;
 ghost use Rattle.records.specs.declared.commands.Body.{Body};
 ghost use Rattle.row_machine.specs.Asked.{named_anew, with_name};
 ghost use Rattle.name_rules.specs.Pointed.{target_at};
+ghost use Rattle.name_rules.specs.Sought.{new_name_broken};
 ghost use Rattle.row_machine.specs.NameRules.{name_broken, names_broken};
 
 use crate::free::name_broken;
@@ -43,7 +43,7 @@ fn new_name_broken(
     project: &str,
     of: Place<'_>,
 ) -> Result<(), Or<Refusal>>
-    ensures { (body : Body) → Says result (option_and_then (name_broken view.now project.now) (named_anew view.now project.now (what_of.Create (target_at of.entry) body))) }
+    ensures { (body : Body) → Says result (new_name_broken view.now project.now (target_at of.entry) body) }
 {
     match of.kind {
         ObjectKind::Snapshot => snapshot_name_broken(alloc, view, project, of),

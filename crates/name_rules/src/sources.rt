@@ -1,12 +1,9 @@
 //! N2 of what a new object is copied from.
-ghost use Rattle.std.specs.Prelude.{◌≡◌, ◌==◌, ◌∷◌, [], length, is_some, None, if◌then◌else◌};
 ghost use Rattle.size_values.specs.Causes.{Says};
-ghost use Rattle.size_values.specs.declared.kinds.ObjectKind.TheVariants as kind_of;
-ghost use Rattle.plain_lists.specs.Firsts.{first};
-ghost use Rattle.row_machine.specs.NameRules.{missing_unless, snapshot_missing, source_missing};
-ghost use Rattle.row_machine.specs.Rows.{instance_named};
 ghost use Rattle.records.specs.declared.commands.Origin.TheVariants as origin_of;
 ghost use Rattle.name_rules.specs.Pointed.{target_at};
+ghost use Rattle.name_rules.specs.Sought.{instance_source_missing};
+ghost use Rattle.row_machine.specs.NameRules.{source_missing};
 
 use crate::missing::{missing_unless, object_missing, snapshot_missing};
 use crate::places::{Place, moved};
@@ -23,7 +20,7 @@ fn instance_source_missing(
     from: &str,
     snapshot: &str,
 ) -> Result<(), Or<Refusal>>
-    ensures { Says result (first (missing_unless (is_some (instance_named view.now.instances project.now from.now)) kind_of.Instance from.now ∷ (if length snapshot.now == 0 then None else snapshot_missing view.now project.now from.now snapshot.now) ∷ [])) }
+    ensures { Says result (instance_source_missing view.now project.now from.now snapshot.now) }
 {
     let there = instance_named(view.instances, project, from).is_some();
     missing_unless(alloc, there, ObjectKind::Instance, from)?;

@@ -1,7 +1,8 @@
 -- The links of single users, each of which may be the first one.
-use Rattle.std.specs.Prelude.{ℕ, ◌&&◌, false, List, Option, Some, None, if◌then◌else◌}
+use Rattle.std.specs.Prelude.{ℕ, ◌&&◌, false, List, Option, Some, None, filter, if◌then◌else◌}
 use Rattle.std.specs.Option.{option_map_or}
 use Rattle.std.specs.Str.{bytes_eq}
+use Rattle.plain_lists.specs.Firsts.{first_of}
 use Rattle.operations.specs.declared.operation.Operation.{Operation}
 use Rattle.records.specs.declared.rows.Profile.{Profile}
 use Rattle.records.specs.declared.rows.Volume.{Volume}
@@ -35,3 +36,27 @@ claim_link s home of project o =
 -- an instance that names the profile
 abbrev pub naming_link : State → List ℕ → List ℕ → Instance → Option (List ℕ)
 naming_link s home profile r = user_link (names_profile s home profile r) (row.Instance r)
+
+-- the first profile of a project that names the object
+abbrev pub first_profile_link : State → List ℕ → Target → List ℕ → List Profile → Option (List ℕ)
+first_profile_link s home of project rows = first_of (profile_link s home of) (filter (λ r. bytes_eq r.project project) rows)
+
+-- the same of one profile
+abbrev pub profile_link_in : State → List ℕ → Target → List ℕ → Profile → Option (List ℕ)
+profile_link_in s home of project r = if bytes_eq r.project project then profile_link s home of r else None
+
+-- the first instance of a project that names the object
+abbrev pub first_instance_link : State → List ℕ → Target → List ℕ → List Instance → Option (List ℕ)
+first_instance_link s home of project rows = first_of (instance_link s home of) (filter (λ r. bytes_eq r.project project) rows)
+
+-- the same of one instance
+abbrev pub instance_link_in : State → List ℕ → Target → List ℕ → Instance → Option (List ℕ)
+instance_link_in s home of project r = if bytes_eq r.project project then instance_link s home of r else None
+
+-- the first volume of a project that names the object
+abbrev pub first_volume_link : Target → List ℕ → List Volume → Option (List ℕ)
+first_volume_link of project rows = first_of (volume_link of) (filter (λ r. bytes_eq r.project project) rows)
+
+-- the same of one volume
+abbrev pub volume_link_in : Target → List ℕ → Volume → Option (List ℕ)
+volume_link_in of project r = if bytes_eq r.project project then volume_link of r else None

@@ -2,8 +2,8 @@
 ghost use Rattle.std.specs.Prelude.{◌≡◌, IfOk};
 ghost use Rattle.std.specs.List.{list_any};
 ghost use Rattle.records.specs.declared.commands.What.TheVariants as what_of;
-ghost use Rattle.row_machine.specs.NewRows.{new_config, patched_config};
-ghost use Rattle.row_machine.specs.StandingRules.{asks_for_features, feature_changes, feature_keys};
+ghost use Rattle.row_machine.specs.NewRows.{patched_project, put_project};
+ghost use Rattle.row_machine.specs.StandingRules.{asks_for_features, changes_features, feature_changes, feature_keys};
 
 use config_lists::Config;
 use new_rows::{new_config, patched_config};
@@ -38,7 +38,7 @@ fn changes_features(old: &Config, new: &Config) -> bool
 }
 
 fn put_changes(alloc: Global, row: &Project, body: &Body) -> Result<bool, NoMemory>
-    ensures { IfOk result (λ b. b ≡ list_any (feature_changes row.now.config (new_config body.now)) feature_keys) }
+    ensures { IfOk result (λ b. b ≡ changes_features row.now (put_project row.now body.now)) }
 {
     let config = new_config(alloc, body)?;
     let changes = changes_features(&row.config, &config);
@@ -47,7 +47,7 @@ fn put_changes(alloc: Global, row: &Project, body: &Body) -> Result<bool, NoMemo
 }
 
 fn patch_changes(row: &Project, body: &Body) -> Result<bool, NoMemory>
-    ensures { IfOk result (λ b. b ≡ list_any (feature_changes row.now.config (patched_config row.now.config body.now)) feature_keys) }
+    ensures { IfOk result (λ b. b ≡ changes_features row.now (patched_project row.now body.now)) }
 {
     let config = patched_config(&row.config, body)?;
     let changes = changes_features(&row.config, &config);

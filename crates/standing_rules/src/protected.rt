@@ -1,12 +1,8 @@
 //! B3: the object of the path is protected against the command.
-ghost use Rattle.std.specs.Prelude.{◌≡◌, ◌&&◌, ◌||◌, IfOk, codes};
-ghost use Rattle.std.specs.Str.{bytes_eq};
+ghost use Rattle.std.specs.Prelude.{◌≡◌, IfOk};
 ghost use Rattle.size_values.specs.Causes.{Says};
-ghost use Rattle.row_machine.specs.Expansions.{expanded_of};
-ghost use Rattle.row_machine.specs.Homes.{is_on};
-ghost use Rattle.row_machine.specs.Asked.{is_parting};
-ghost use Rattle.row_machine.specs.Rows.{default_name};
-ghost use Rattle.row_machine.specs.StandingRules.{asks_for_features, is_deletion, is_protected, object_protected, protects_itself};
+ghost use Rattle.row_machine.specs.StandingRules.{is_protected, object_protected, protects_itself};
+ghost use Rattle.standing_rules.specs.Protected.{is_kept, instance_protected, project_protected};
 
 use crate::asked::{is_deletion, is_parting, object_changed};
 use crate::features::asks_for_features;
@@ -17,7 +13,7 @@ use size_values::{NoMemory, ObjectKind, Or};
 use std::alloc::Global;
 
 fn protects(alloc: Global, view: &View<'_>, row: &Instance) -> Result<bool, NoMemory>
-    ensures { IfOk result (λ b. b ≡ is_on (expanded_of view.now.projects view.now.profiles row.now).config (codes "security.protection.delete")) }
+    ensures { IfOk result (λ b. b ≡ is_kept view.now row.now) }
 {
     let expanded = view.expansion(alloc, row)?;
     let protects = is_on(&expanded.config, "security.protection.delete");
@@ -47,7 +43,7 @@ fn project_protected(
     what: &What,
     name: &str,
 ) -> Result<bool, NoMemory>
-    ensures { IfOk result (λ b. b ≡ (bytes_eq name.now default_name && (is_parting what.now || asks_for_features view.now what.now))) }
+    ensures { IfOk result (λ b. b ≡ project_protected view.now what.now name.now) }
 {
     if name != "default" {
         return Ok(false);
@@ -64,7 +60,7 @@ fn instance_protected(
     command: &Command,
     name: &str,
 ) -> Result<bool, NoMemory>
-    ensures { IfOk result (λ b. b ≡ (is_deletion command.now.what && protects_itself view.now command.now.project name.now)) }
+    ensures { IfOk result (λ b. b ≡ instance_protected view.now command.now name.now) }
 {
     if !is_deletion(&command.what) {
         return Ok(false);

@@ -1,10 +1,8 @@
 //! B4: the object that a command renames or deletes has a user.
 ghost use Rattle.std.specs.Prelude.{◌≡◌, IfOk};
-ghost use Rattle.records.specs.declared.refusals.Rule.TheVariants as rule_of;
-ghost use Rattle.row_machine.specs.Links.{kind_text};
-ghost use Rattle.row_machine.specs.Refusals.{untold};
 ghost use Rattle.size_values.specs.Causes.{Says};
 ghost use Rattle.row_machine.specs.StandingRules.{object_used, used_by_first};
+ghost use Rattle.standing_rules.specs.Protected.{on_user};
 
 use crate::asked::{is_parting, object_changed};
 use crate::users::unused;
@@ -16,7 +14,7 @@ use std::alloc::Global;
 
 /// The refusal of an object that has a user.
 fn on_user(alloc: Global, of: &Target, link: Text) -> Result<Refusal, NoMemory>
-    ensures { IfOk result (λ r. r ≡ record { rule = rule_of.B4; kept = record untold { key = link; kind = kind_text of.now.kind; name = of.now.name } }) }
+    ensures { IfOk result (λ r. r ≡ on_user of.now link) }
 {
     let mut refusal = on_object(alloc, Rule::B4, of.kind, of.name.view())?;
     refusal.kept.key = link;

@@ -1,6 +1,6 @@
 //! The first user of a profile, a network, a storage pool or a volume. These functions answer `Ok` where there is none, and
 //! else the link of the first one as the reason why the object may not go.
-ghost use Rattle.std.specs.Prelude.{◌≡◌, IfOk, [], filter, if◌then◌else◌, None, false};
+ghost use Rattle.std.specs.Prelude.{◌≡◌, IfOk, [], false};
 ghost use Rattle.std.specs.Option.{option_map_or};
 ghost use Rattle.std.specs.Str.{bytes_eq};
 ghost use Rattle.plain_lists.specs.Firsts.{first_of};
@@ -8,7 +8,7 @@ ghost use Rattle.size_values.specs.Causes.{Says};
 ghost use Rattle.row_machine.specs.Claims.{project_of_row};
 ghost use Rattle.row_machine.specs.Holders.{first_user_of, profile_user, user_in};
 ghost use Rattle.row_machine.specs.Links.{link_of};
-ghost use Rattle.standing_rules.specs.Users.{claim_link, instance_link, naming_link, profile_link, volume_link};
+ghost use Rattle.standing_rules.specs.Users.{claim_link, first_instance_link, first_profile_link, first_volume_link, instance_link_in, naming_link, profile_link_in, volume_link_in};
 
 use crate::uses::claim_uses;
 use object_links::link_of;
@@ -52,7 +52,7 @@ fn unused_by_profile(
     project: &str,
     row: &Profile,
 ) -> Result<(), Or<Text>>
-    ensures { Says result (if bytes_eq row.now.project project.now then profile_link view.now home.now of.now row.now else None) }
+    ensures { Says result (profile_link_in view.now home.now of.now project.now row.now) }
 {
     if row.project.view() != project || !profile_uses(view, home, of, row) {
         return Ok(());
@@ -76,7 +76,7 @@ fn unused_by_profiles(
     project: &str,
     rows: &[Profile],
 ) -> Result<(), Or<Text>>
-    ensures { Says result (first_of (profile_link view.now home.now of.now) (filter (λ r. bytes_eq r.project project.now) rows.now)) }
+    ensures { Says result (first_profile_link view.now home.now of.now project.now rows.now) }
 {
     for row in rows {
         if let Err(link) = unused_by_profile(alloc, view, home, of, project, row) {
@@ -95,7 +95,7 @@ fn unused_by_instance(
     project: &str,
     row: &Instance,
 ) -> Result<(), Or<Text>>
-    ensures { Says result (if bytes_eq row.now.project project.now then instance_link view.now home.now of.now row.now else None) }
+    ensures { Says result (instance_link_in view.now home.now of.now project.now row.now) }
 {
     if row.project.view() != project || !instance_uses(alloc, view, home, of, row)? {
         return Ok(());
@@ -119,7 +119,7 @@ fn unused_by_instances(
     project: &str,
     rows: &[Instance],
 ) -> Result<(), Or<Text>>
-    ensures { Says result (first_of (instance_link view.now home.now of.now) (filter (λ r. bytes_eq r.project project.now) rows.now)) }
+    ensures { Says result (first_instance_link view.now home.now of.now project.now rows.now) }
 {
     for row in rows {
         if let Err(link) = unused_by_instance(alloc, view, home, of, project, row) {
@@ -131,7 +131,7 @@ fn unused_by_instances(
 
 /// The link of a volume of the project, where it names the object.
 fn unused_by_volume(alloc: Global, of: &Target, project: &str, row: &Volume) -> Result<(), Or<Text>>
-    ensures { Says result (if bytes_eq row.now.project project.now then volume_link of.now row.now else None) }
+    ensures { Says result (volume_link_in of.now project.now row.now) }
 {
     if row.project.view() != project || !volume_uses(of, row) {
         return Ok(());
@@ -153,7 +153,7 @@ fn unused_by_volumes(
     project: &str,
     rows: &[Volume],
 ) -> Result<(), Or<Text>>
-    ensures { Says result (first_of (volume_link of.now) (filter (λ r. bytes_eq r.project project.now) rows.now)) }
+    ensures { Says result (first_volume_link of.now project.now rows.now) }
 {
     for row in rows {
         if let Err(link) = unused_by_volume(alloc, of, project, row) {
