@@ -1,1 +1,1 @@
-pub mod Ordered
+mod Sorting

@@ -1,9 +1,6 @@
 //! The links of rows, as they stand and in byte order.
-ghost use Rattle.std.specs.Prelude.{◌≡◌, [], length, unwrap_or, IfOk, OnOk};
-ghost use Rattle.std.specs.List.{position};
-ghost use Rattle.plain_lists.specs.Edits.{inserted};
+ghost use Rattle.std.specs.Prelude.{◌≡◌, [], IfOk, OnOk};
 ghost use Rattle.records.specs.declared.rows.Row.TheVariants as row;
-ghost use Rattle.row_machine.specs.Rows.{text_before};
 ghost use Rattle.row_machine.specs.Claims.{project_of_row};
 ghost use Rattle.row_machine.specs.Links.{sorted, target_of};
 ghost use Rattle.row_machine.specs.Views.{row_link, links};
@@ -13,7 +10,6 @@ use object_links::link_of;
 use records::{Snapshot, Target, Volume};
 use size_values::{NoMemory, ObjectKind, Seq, Text};
 use std::alloc::Global;
-use std::cmp::Ordering;
 
 fn named(alloc: Global, kind: ObjectKind, name: &Text) -> Result<Target, NoMemory>
     ensures { IfOk result (λ t. t ≡ record { kind = kind; pool = []; instance = []; name = name.now }) }
@@ -93,63 +89,37 @@ pub fn link(alloc: Global, row: &RowRef<'_>) -> Result<Text, NoMemory>
     link
 }
 
-/// The links of rows.
-pub fn links(alloc: Global, rows: &[RowRef<'_>]) -> Result<Seq<Text>, NoMemory>
-    ensures { IfOk result (λ ts. ts ≡ links rows.now) }
+fn link_texts(alloc: Global, rows: &[RowRef<'_>]) -> Result<Vec<Text>, NoMemory>
+    ensures { IfOk result (λ ts. ts.items ≡ links rows.now) }
 {
-    let mut texts = Seq::new(alloc);
+    let mut texts = Vec::new(alloc);
     for row in rows {
         texts.push(link(alloc, row)?)?;
     }
     Ok(texts)
 }
 
-/// Whether a text goes before another one.
-fn text_before(one: &Text, other: &Text) -> bool
-    ensures { result ≡ text_before one.now other.now }
+/// The links of rows.
+pub fn links(alloc: Global, rows: &[RowRef<'_>]) -> Result<Seq<Text>, NoMemory>
+    ensures { IfOk result (λ ts. ts ≡ links rows.now) }
 {
-    match one.compare(other) {
-        Ordering::Less => true,
-        Ordering::Equal => false,
-        Ordering::Greater => false,
-    }
+    let texts = link_texts(alloc, rows)?;
+    Ok(Seq::from_vec(texts))
 }
 
-/// The place of the first text that another one goes before.
-fn first_behind(texts: &[Text], text: &Text) -> Option<usize>
-    ensures { result ≡ position (text_before text.now) texts.now }
+/// Puts texts in byte order.
+fn sort(texts: &mut Vec<Text>) -> Result<(), NoMemory>
+    ensures { OnOk result (texts.new.items ≡ sorted texts.old.items) }
 {
-    texts.iter().position(|other| text_before(text, other))
-}
-
-/// The place that a new text takes: in front of the first that it goes before, or behind all.
-fn gap(texts: &[Text], text: &Text) -> usize
-    ensures { result ≡ unwrap_or (position (text_before text.now) texts.now) (length texts.now) }
-{
-    match first_behind(texts, text) {
-        Some(place) => place,
-        None => texts.len(),
-    }
-}
-
-/// Puts a text in front of the first that it goes before.
-fn insert_text(texts: &mut Vec<Text>, text: Text) -> Result<(), NoMemory>
-    ensures { OnOk result (texts.new.items ≡ inserted (text_before text) text texts.old.items) }
-{
-    let place = gap(texts, &text);
-    texts.insert(place, text)?;
+    texts.sort_by(|one, other| one.compare(other))?;
     Ok(())
 }
 
-/// The links of rows in byte order. Rows stand in the order of their names, so that the last first is the quick way.
+/// The links of rows in byte order.
 pub(crate) fn sorted_links(alloc: Global, rows: &[RowRef<'_>]) -> Result<Seq<Text>, NoMemory>
     ensures { IfOk result (λ ts. ts ≡ sorted (links rows.now)) }
 {
-    let mut texts = Vec::new(alloc);
-    let mut place = rows.len();
-    while place > 0 {
-        place -= 1;
-        insert_text(&mut texts, link(alloc, &rows[place])?)?;
-    }
+    let mut texts = link_texts(alloc, rows)?;
+    sort(&mut texts)?;
     Ok(Seq::from_vec(texts))
 }

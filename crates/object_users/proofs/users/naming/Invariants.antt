@@ -1,4 +1,4 @@
-use Rattle.std.proofs.Common.{◌≡◌, ◌++◌, map, take, filter}
+use Rattle.std.proofs.Common.{◌≡◌, map, take, filter}
 use Rattle.records.specs.declared.rows.Row.TheVariants as row
 use Rattle.row_machine.specs.Holders.{names_profile}
 use Rattle.object_users.proofs.users.naming.Given as goal
