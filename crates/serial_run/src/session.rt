@@ -12,7 +12,7 @@ pub fn sessions_end_after_a_million_requests()
 {}
 
 /// Where a session stops.
-#[derive(Clone, Copy, Debug, PartialEq, Eq)]
+#[derive(Clone, Copy, PartialEq, Eq)]
 pub enum SessionEnd {
     /// The source has ended between two requests, or a request was answered behind which the connection ends.
     Ended,
@@ -31,7 +31,7 @@ pub enum SessionEnd {
 }
 
 /// What one turn of a session comes to.
-#[derive(Clone, Copy, Debug, PartialEq, Eq)]
+#[derive(Clone, Copy, PartialEq, Eq)]
 pub enum Turn {
     /// A request was answered, and the next one may come.
     GoOn,
