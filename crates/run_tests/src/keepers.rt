@@ -259,7 +259,22 @@ fn is_done_again(
     is
 }
 
-const FAILING: [&[u64]; 12] = [
+/// The calls of the keeper that fail in a run of the changes of profiles: none, each of them in turn, and every other one.
+const PROFILE_FAILURES: [&[u64]; 10] = [
+    &[],
+    &[3],
+    &[4],
+    &[5],
+    &[6],
+    &[7],
+    &[8],
+    &[9],
+    &[10],
+    &[3, 5, 7, 9, 11, 13, 15, 17],
+];
+
+/// The same in a run of the changes of a project.
+const TENANT_FAILURES: [&[u64]; 12] = [
     &[],
     &[3],
     &[4],
@@ -276,7 +291,7 @@ const FAILING: [&[u64]; 12] = [
 
 #[test]
 fn failing_calls_of_the_keeper(rt: HostRuntime) {
-    for fails in FAILING {
+    for fails in PROFILE_FAILURES {
         assert!(rt;
             is_done_again(rt.alloc(), &PROFILES, fails, 6) == Ok(true),
             "calls {fails:?}"
@@ -286,7 +301,7 @@ fn failing_calls_of_the_keeper(rt: HostRuntime) {
 
 #[test]
 fn a_tenant_is_changed_whole_or_not_at_all(rt: HostRuntime) {
-    for fails in FAILING {
+    for fails in TENANT_FAILURES {
         assert!(rt;
             is_done_again(rt.alloc(), &TENANT, fails, 2) == Ok(true),
             "calls {fails:?}"
