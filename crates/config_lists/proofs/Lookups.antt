@@ -23,7 +23,7 @@ apart q key differs = by (bytes_eq q key) refl
     by false is = refl
 
 module _ {V : Type 0} where
-  -- the first entry, and those behind it
+  -- the first entry, and those after it
   value_of-cons : (e : List ℕ × V) (es : List (List ℕ × V)) (q : List ℕ) → value_of (e ∷ es) q ≡ cond (bytes_eq q e.0) (Some e.1) (value_of es q)
   unfolding value_of
   value_of-cons e es q = refl

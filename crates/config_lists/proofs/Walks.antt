@@ -83,7 +83,7 @@ module _ {V : Type 0} where
       ∙ ap (λ b. filter p (take i es) ++ cond b ((key, value) ∷ []) []) dropped
       ∙ append-nil (filter p (take i es)))
 
-  -- entries that are put one after the other behind those before them are appended
+  -- entries that are put one after the other after those before them are appended
   replaced-append : (front es : List (List ℕ × V)) → KeysRise (front ++ es) → replaced front es ≡ front ++ es
   unfolding replaced
   replaced-append front [] up = sym (append-nil front)

@@ -34,7 +34,7 @@ one_of (place ∷ other ∷ more) = root.Several
 unfoldable pub root_of : NamedDevices → Root
 root_of devices = one_of (root_places 0 devices)
 
--- what a further root disk, behind those found before, makes of the answer
+-- what a further root disk, after those found before, makes of the answer
 abbrev pub and_one : Root → ℕ → Root
 and_one root.None place = root.One place
 and_one (root.One other) place = root.Several

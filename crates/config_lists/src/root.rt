@@ -14,7 +14,7 @@ pub enum Root {
 impl Root {
     ghost use Rattle.config_lists.specs.Devices.{and_one};
 
-    /// With one more root disk, behind those that were found before.
+    /// With one more root disk, after those that were found before.
     pub(crate) fn and(self, place: usize) -> Root
         ensures { result ≡ and_one self place }
     {

@@ -10,11 +10,11 @@ use Rattle.records.specs.declared.commands.Body.{Body}
 use Rattle.records.specs.declared.commands.Command.{Command}
 use Rattle.records.specs.declared.commands.What.{What}
 use Rattle.records.specs.declared.commands.What.TheVariants as what
-use Rattle.row_machine.specs.State.{State}
-use Rattle.row_machine.specs.Rows.{project_named, profile_named}
-use Rattle.row_machine.specs.Homes.{home_of}
-use Rattle.row_machine.specs.Plans.{Plan, if_there, plan_of, plan_put, plan_patch, plan_move, plan_delete}
-use Rattle.row_machine.specs.NameRules.{names_broken}
+use Rattle.row_machine.specs.machine.State.{State}
+use Rattle.row_machine.specs.machine.Rows.{project_named, profile_named}
+use Rattle.row_machine.specs.machine.Homes.{home_of}
+use Rattle.row_machine.specs.machine.Plans.{Plan, if_there, plan_of, plan_put, plan_patch, plan_move, plan_delete}
+use Rattle.row_machine.specs.machine.Rules.{names_broken}
 use Rattle.machine_laws.proofs.Commands.{command_of, target}
 use Rattle.machine_laws.proofs.Speaking.{IsAbout, about-put, about-patch, about-move, about-delete, it-is_there}
 use Rattle.machine_laws.proofs.Told.{names-right, row-there}

@@ -7,11 +7,11 @@ use Rattle.size_values.specs.declared.memory.Or.{Or}
 use Rattle.size_values.specs.declared.memory.Or.TheVariants as or
 use Rattle.records.specs.declared.commands.Command.{Command}
 use Rattle.records.specs.declared.refusals.Refusal.{Refusal}
-use Rattle.row_machine.specs.State.{State}
-use Rattle.row_machine.specs.Plans.{plan_of}
-use Rattle.row_machine.specs.NameRules.{names_broken}
-use Rattle.row_machine.specs.StandingRules.{standing_broken}
-use Rattle.row_machine.specs.Rules.{broken, plan_broken}
+use Rattle.row_machine.specs.machine.State.{State}
+use Rattle.row_machine.specs.machine.Plans.{plan_of}
+use Rattle.row_machine.specs.machine.Rules.{names_broken}
+use Rattle.row_machine.specs.machine.Rules.{standing_broken}
+use Rattle.row_machine.specs.machine.Rules.{broken, plan_broken}
 
 -- the first of two is the first of three
 first-stays : {R : Type 0} (a b c : Option R) (r : R) → first (a ∷ b ∷ []) ≡ Some r → first (a ∷ b ∷ c ∷ []) ≡ Some r

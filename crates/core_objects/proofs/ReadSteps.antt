@@ -12,16 +12,16 @@ use Rattle.records.specs.declared.replies.Reply.TheVariants as reply
 use Rattle.plain_lists.specs.Firsts.{first}
 use Rattle.row_machine.specs.declared.events.Answer.TheVariants as answer
 use Rattle.row_machine.specs.declared.events.Event.TheVariants as event
-use Rattle.row_machine.specs.State.{State}
-use Rattle.row_machine.specs.Accept.{and_then, accepted}
-use Rattle.row_machine.specs.NameRules.{names_broken}
-use Rattle.row_machine.specs.Notices.{telling}
-use Rattle.row_machine.specs.Plans.{plan_of, nothing}
-use Rattle.row_machine.specs.Rules.{broken, plan_broken}
-use Rattle.row_machine.specs.StandingRules.{standing_broken}
-use Rattle.row_machine.specs.Step.{well, asked, step}
-use Rattle.row_machine.specs.TableRules.{cancel_broken}
-use Rattle.row_machine.specs.Views.{read}
+use Rattle.row_machine.specs.machine.State.{State}
+use Rattle.row_machine.specs.machine.Accept.{and_then, accepted}
+use Rattle.row_machine.specs.machine.Rules.{names_broken}
+use Rattle.row_machine.specs.shown.Notices.{telling}
+use Rattle.row_machine.specs.machine.Plans.{plan_of, nothing}
+use Rattle.row_machine.specs.machine.Rules.{broken, plan_broken}
+use Rattle.row_machine.specs.machine.Rules.{standing_broken}
+use Rattle.row_machine.specs.machine.Step.{well, asked, step}
+use Rattle.row_machine.specs.machine.TableRules.{cancel_broken}
+use Rattle.row_machine.specs.shown.Views.{read}
 use Rattle.core_rows.specs.Asked.{answered, changes_of, unless_refused}
 use Rattle.core_rows.specs.Planned.{Follows}
 use Rattle.core_rows.specs.Stores.{Stores}

@@ -3,9 +3,9 @@ ghost use Rattle.size_values.specs.Causes.{Says};
 ghost use Rattle.plain_lists.specs.Firsts.{first};
 ghost use Rattle.records.specs.Built.{is_built_command};
 ghost use Rattle.records.specs.Forms.{is_formed};
-ghost use Rattle.row_machine.specs.NameRules.{names_broken};
-ghost use Rattle.row_machine.specs.StandingRules.{standing_broken};
-ghost use Rattle.row_machine.specs.Views.{read};
+ghost use Rattle.row_machine.specs.machine.Rules.{names_broken};
+ghost use Rattle.row_machine.specs.machine.Rules.{standing_broken};
+ghost use Rattle.row_machine.specs.shown.Views.{read};
 ghost use Rattle.core_rows.specs.Planned.{Follows};
 ghost use Rattle.core_objects.specs.Answers.{IsAnswer, is_read};
 

@@ -9,10 +9,10 @@ use Rattle.records.specs.declared.notices.Untold.{Untold}
 use Rattle.records.specs.declared.refusals.Refusal.{Refusal}
 use Rattle.records.specs.declared.replies.Reply.{Reply}
 use Rattle.row_machine.specs.declared.changes.RowChange.{RowChange}
-use Rattle.row_machine.specs.State.{State}
-use Rattle.row_machine.specs.Changes.{applied, rows_put}
-use Rattle.row_machine.specs.Plans.{changes}
-use Rattle.row_machine.specs.Whole.{IsWhole}
+use Rattle.row_machine.specs.machine.State.{State}
+use Rattle.row_machine.specs.machine.Changes.{applied, rows_put}
+use Rattle.row_machine.specs.machine.Plans.{changes}
+use Rattle.row_machine.specs.facts.Whole.{IsWhole}
 use Rattle.machine_laws.specs.Entries.{entry_changes}
 use Rattle.machine_laws.proofs.Cases.{IsAccepted}
 use Rattle.core_rows.specs.Planned.{Follows, IsToDo, changes_judged, reply_for}

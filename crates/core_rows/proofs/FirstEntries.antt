@@ -3,8 +3,8 @@ use Rattle.std.proofs.Common.{◌≡◌, ◌<◌, ◌^◌, ℕ, true, refl, nat_
 use Rattle.std.proofs.lemmas.Bool.{ltb-true}
 use Rattle.std.specs.List.{AllByRecursion}
 use Rattle.estate_rules.specs.Names.{is_instance_name, is_project_name, is_object_name}
-use Rattle.row_machine.specs.Opening.{first_rows}
-use Rattle.row_machine.specs.Plans.{put_all}
+use Rattle.row_machine.specs.opening.Opening.{first_rows}
+use Rattle.row_machine.specs.machine.Plans.{put_all}
 use Rattle.core_rows.specs.Kept.{HasEntry}
 
 -- a length that computes below the bound

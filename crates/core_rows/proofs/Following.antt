@@ -16,16 +16,16 @@ use Rattle.records.specs.declared.rows.Project.{Project}
 use Rattle.records.specs.declared.rows.Row.TheVariants as row
 use Rattle.row_machine.specs.declared.changes.RowChange.{RowChange}
 use Rattle.row_machine.specs.declared.events.Answer.TheVariants as answer
-use Rattle.row_machine.specs.State.{State}
-use Rattle.row_machine.specs.Homes.{is_on}
-use Rattle.row_machine.specs.Changes.{applied, rows_put}
-use Rattle.row_machine.specs.NewRows.{default_profile}
-use Rattle.row_machine.specs.Plans.{plan_of, changes, put_all}
-use Rattle.row_machine.specs.Records.{records_of}
-use Rattle.row_machine.specs.Rules.{broken}
-use Rattle.row_machine.specs.Notices.{telling, change_notices}
-use Rattle.row_machine.specs.Accept.{and_then}
-use Rattle.row_machine.specs.Step.{well, keeper_failed, no_memory}
+use Rattle.row_machine.specs.machine.State.{State}
+use Rattle.row_machine.specs.machine.Homes.{is_on}
+use Rattle.row_machine.specs.machine.Changes.{applied, rows_put}
+use Rattle.row_machine.specs.machine.NewRows.{default_profile}
+use Rattle.row_machine.specs.machine.Plans.{plan_of, changes, put_all}
+use Rattle.row_machine.specs.opening.Records.{records_of}
+use Rattle.row_machine.specs.machine.Rules.{broken}
+use Rattle.row_machine.specs.shown.Notices.{telling, change_notices}
+use Rattle.row_machine.specs.machine.Accept.{and_then}
+use Rattle.row_machine.specs.machine.Step.{well, keeper_failed, no_memory}
 use Rattle.machine_laws.specs.Entries.{entry_changes}
 use Rattle.machine_laws.proofs.Cases.{IsAccepted, AtOnce}
 use Rattle.machine_laws.proofs.AtOnceCases.{at_once}

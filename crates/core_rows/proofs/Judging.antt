@@ -15,19 +15,20 @@ use Rattle.row_codec.specs.Rows.{HasGoodKey, HasMoments, HasShortParts}
 use Rattle.row_sizes.proofs.ShortParts.{short-parts}
 use Rattle.row_machine.specs.declared.changes.RowChange.{RowChange}
 use Rattle.row_machine.specs.declared.changes.RowChange.TheVariants as change
-use Rattle.row_machine.specs.State.{State}
-use Rattle.row_machine.specs.Task.{Task}
-use Rattle.row_machine.specs.Rows.{instance_named}
-use Rattle.row_machine.specs.Changes.{applied, rows_put}
-use Rattle.row_machine.specs.Asked.{with_name}
-use Rattle.row_machine.specs.Plans.{changes, starts, if_there, plan_of, snapshot_creation}
-use Rattle.row_machine.specs.StandingRules.{standing_broken}
-use Rattle.row_machine.specs.SettingRules.{settings_broken}
-use Rattle.row_machine.specs.PolicyRules.{policy_broken, snapshot_blocked}
-use Rattle.row_machine.specs.LimitRules.{counts_broken, limits_broken}
-use Rattle.row_machine.specs.TableRules.{tables_broken}
-use Rattle.row_machine.specs.Rules.{broken, plan_broken}
-use Rattle.row_machine.specs.Whole.{IsWhole}
+use Rattle.row_machine.specs.machine.State.{State}
+use Rattle.row_machine.specs.machine.Task.{Task}
+use Rattle.row_machine.specs.machine.Rows.{instance_named}
+use Rattle.row_machine.specs.machine.Changes.{applied, rows_put}
+use Rattle.row_machine.specs.machine.Asked.{with_name}
+use Rattle.row_machine.specs.machine.Plans.{changes, starts, if_there, plan_of}
+use Rattle.row_machine.specs.machine.Tasks.{snapshot_creation}
+use Rattle.row_machine.specs.machine.Rules.{standing_broken}
+use Rattle.row_machine.specs.machine.SettingRules.{settings_broken}
+use Rattle.row_machine.specs.machine.PolicyRules.{policy_broken, snapshot_blocked}
+use Rattle.row_machine.specs.machine.LimitRules.{counts_broken, limits_broken}
+use Rattle.row_machine.specs.machine.TableRules.{tables_broken}
+use Rattle.row_machine.specs.machine.Rules.{broken, plan_broken}
+use Rattle.row_machine.specs.facts.Whole.{IsWhole}
 use Rattle.machine_laws.proofs.Cases.{IsAccepted}
 use Rattle.machine_laws.proofs.Judged.{judged}
 use Rattle.machine_laws.proofs.NamesKept.{puts-named}

@@ -4,9 +4,9 @@ use Rattle.size_values.specs.CallCounts.{called}
 use Rattle.size_values.specs.declared.entry.Entry.{Entry}
 use Rattle.record_keeper.specs.Entries.{after_changes, put_entry}
 use Rattle.record_keeper.specs.Store.{Store, FailsAtCall, IsAfterUpTo, after_calls, after_commit}
-use Rattle.row_machine.specs.Opening.{first_rows, with_rows}
-use Rattle.row_machine.specs.Records.{records_of}
-use Rattle.row_machine.specs.Plans.{put_all}
+use Rattle.row_machine.specs.opening.Opening.{first_rows, with_rows}
+use Rattle.row_machine.specs.opening.Records.{records_of}
+use Rattle.row_machine.specs.machine.Plans.{put_all}
 use Rattle.machine_laws.specs.Entries.{entry_changes}
 use Rattle.core_rows.specs.Kept.{Kept}
 use Rattle.core_rows.specs.Opening.{Opens, Begins, FindsNothing, first_state, opened_store}

@@ -1,8 +1,8 @@
 -- Changes of rows tell nothing.
 use Rattle.std.proofs.Common.{List, ◌∙◌, ap}
 use Rattle.row_machine.specs.declared.changes.RowChange.{RowChange}
-use Rattle.row_machine.specs.State.{State}
-use Rattle.row_machine.specs.Changes.{applied}
+use Rattle.row_machine.specs.machine.State.{State}
+use Rattle.row_machine.specs.machine.Changes.{applied}
 use Rattle.machine_laws.proofs.SizesSteps.{applied-notices}
 use Rattle.core_rows.specs.Kept.{IsSilent}
 

@@ -8,14 +8,14 @@ use Rattle.records.specs.declared.commands.Command.{Command}
 use Rattle.row_machine.specs.declared.changes.RowChange.{RowChange}
 use Rattle.row_machine.specs.declared.events.Event.TheVariants as event
 use Rattle.row_machine.specs.declared.events.Answer.TheVariants as answer
-use Rattle.row_machine.specs.State.{State}
-use Rattle.row_machine.specs.Changes.{applied}
-use Rattle.row_machine.specs.Refusals.{plainly}
-use Rattle.row_machine.specs.Plans.{changes, plan_of}
-use Rattle.row_machine.specs.Rules.{broken}
-use Rattle.row_machine.specs.Notices.{telling, change_notices}
-use Rattle.row_machine.specs.Accept.{and_then, accepted, carried_out}
-use Rattle.row_machine.specs.Step.{well, keeper_failed, no_memory, asked, unavailable, step}
+use Rattle.row_machine.specs.machine.State.{State}
+use Rattle.row_machine.specs.machine.Changes.{applied}
+use Rattle.row_machine.specs.machine.Refusals.{plainly}
+use Rattle.row_machine.specs.machine.Plans.{changes, plan_of}
+use Rattle.row_machine.specs.machine.Rules.{broken}
+use Rattle.row_machine.specs.shown.Notices.{telling, change_notices}
+use Rattle.row_machine.specs.machine.Accept.{and_then, accepted, carried_out}
+use Rattle.row_machine.specs.machine.Step.{well, keeper_failed, no_memory, asked, unavailable, step}
 
 -- a request that breaks no rule and makes changes at once
 pub changes-step : (s : State) (c : Command) (moment : ℕ) (cs : List RowChange) → plan_of s c moment ≡ changes cs → broken s c moment ≡ None

@@ -10,15 +10,15 @@ use Rattle.row_machine.specs.declared.changes.RowChange.{RowChange}
 use Rattle.row_machine.specs.declared.events.Answer.{Answer}
 use Rattle.row_machine.specs.declared.events.Answer.TheVariants as answer
 use Rattle.row_machine.specs.declared.events.Event.TheVariants as event
-use Rattle.row_machine.specs.State.{State}
-use Rattle.row_machine.specs.Notices.{telling}
-use Rattle.row_machine.specs.Plans.{Plan, nothing, changes, starts, plan_of}
-use Rattle.row_machine.specs.Rules.{broken}
-use Rattle.row_machine.specs.Accept.{and_then}
-use Rattle.row_machine.specs.Step.{Outcome, step}
+use Rattle.row_machine.specs.machine.State.{State}
+use Rattle.row_machine.specs.shown.Notices.{telling}
+use Rattle.row_machine.specs.machine.Plans.{Plan, nothing, changes, starts, plan_of}
+use Rattle.row_machine.specs.machine.Rules.{broken}
+use Rattle.row_machine.specs.machine.Accept.{and_then}
+use Rattle.row_machine.specs.machine.Step.{Outcome, step}
 use Rattle.core_rows.specs.Stores.{IsCaused, Stores}
 
--- the answer that a reply is: want of memory is an answer of its own
+-- the answer that a reply is: out of memory is an answer of its own
 abbrev pub answered : Reply → Answer
 answered reply.NoMemory = answer.NoMemory
 answered other = answer.Reply other

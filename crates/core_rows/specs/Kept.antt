@@ -4,7 +4,7 @@ use Rattle.records.specs.declared.notices.Untold.{Untold}
 use Rattle.row_codec.specs.Rows.{HasGoodKey, HasMoments, HasShortParts}
 use Rattle.row_machine.specs.declared.changes.RowChange.{RowChange}
 use Rattle.row_machine.specs.declared.changes.RowChange.TheVariants as change
-use Rattle.row_machine.specs.State.{State}
+use Rattle.row_machine.specs.machine.State.{State}
 
 -- the state, and the notices that were not yet taken
 pub record Kept : Type 0 where

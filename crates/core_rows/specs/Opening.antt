@@ -3,11 +3,11 @@ use Rattle.std.specs.Prelude.{◌≡◌, ◌≢◌, ◌⊎◌, List, [], IfSome,
 use Rattle.size_values.specs.CallCounts.{called}
 use Rattle.size_values.specs.declared.entry.EntryChange.{EntryChange}
 use Rattle.record_keeper.specs.Store.{Store, FailsAtCall, IsAfterUpTo, after_calls, after_commit}
-use Rattle.row_machine.specs.Plans.{put_all}
+use Rattle.row_machine.specs.machine.Plans.{put_all}
 use Rattle.machine_laws.specs.Entries.{entry_changes}
-use Rattle.row_machine.specs.State.{State}
-use Rattle.row_machine.specs.Opening.{first_rows, with_rows}
-use Rattle.row_machine.specs.Records.{records_of}
+use Rattle.row_machine.specs.machine.State.{State}
+use Rattle.row_machine.specs.opening.Opening.{first_rows, with_rows}
+use Rattle.row_machine.specs.opening.Records.{records_of}
 use Rattle.core_rows.specs.Kept.{Kept}
 use Rattle.core_rows.specs.declared.opening.OpenFault.{OpenFault}
 use Rattle.core_rows.specs.declared.opening.OpenFault.TheVariants as fault

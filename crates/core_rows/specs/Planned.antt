@@ -13,15 +13,15 @@ use Rattle.records.specs.declared.replies.Reply.{Reply}
 use Rattle.records.specs.declared.replies.Reply.TheVariants as reply
 use Rattle.records.specs.declared.rows.Row.{Row}
 use Rattle.row_machine.specs.declared.changes.RowChange.{RowChange}
-use Rattle.row_machine.specs.State.{State}
-use Rattle.row_machine.specs.Plans.{changes, plan_of}
-use Rattle.row_machine.specs.Notices.{change_notices}
-use Rattle.row_machine.specs.NameRules.{names_broken}
-use Rattle.row_machine.specs.StandingRules.{standing_broken}
-use Rattle.row_machine.specs.SettingRules.{settings_broken}
-use Rattle.row_machine.specs.PolicyRules.{policy_broken}
-use Rattle.row_machine.specs.LimitRules.{counts_broken, limits_broken}
-use Rattle.row_machine.specs.TableRules.{tables_broken}
+use Rattle.row_machine.specs.machine.State.{State}
+use Rattle.row_machine.specs.machine.Plans.{changes, plan_of}
+use Rattle.row_machine.specs.shown.Notices.{change_notices}
+use Rattle.row_machine.specs.machine.Rules.{names_broken}
+use Rattle.row_machine.specs.machine.Rules.{standing_broken}
+use Rattle.row_machine.specs.machine.SettingRules.{settings_broken}
+use Rattle.row_machine.specs.machine.PolicyRules.{policy_broken}
+use Rattle.row_machine.specs.machine.LimitRules.{counts_broken, limits_broken}
+use Rattle.row_machine.specs.machine.TableRules.{tables_broken}
 use Rattle.core_rows.specs.Asked.{IsAsked}
 use Rattle.core_rows.specs.Stores.{KeepsRecords}
 

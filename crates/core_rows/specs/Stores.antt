@@ -6,12 +6,12 @@ use Rattle.size_values.specs.declared.memory.Or.{Or}
 use Rattle.size_values.specs.declared.memory.Or.TheVariants as or
 use Rattle.records.specs.declared.refusals.Rule.TheVariants as rule
 use Rattle.records.specs.declared.refusals.Refusal.{Refusal}
-use Rattle.row_machine.specs.Refusals.{plainly}
+use Rattle.row_machine.specs.machine.Refusals.{plainly}
 use Rattle.record_keeper.specs.Store.{Store, FailsAtCall, IsAfterUpTo, after_commit}
 use Rattle.row_machine.specs.declared.changes.RowChange.{RowChange}
-use Rattle.row_machine.specs.Records.{records_of}
-use Rattle.row_machine.specs.State.{State}
-use Rattle.row_machine.specs.Step.{Outcome, well, keeper_failed, no_memory}
+use Rattle.row_machine.specs.opening.Records.{records_of}
+use Rattle.row_machine.specs.machine.State.{State}
+use Rattle.row_machine.specs.machine.Step.{Outcome, well, keeper_failed, no_memory}
 use Rattle.machine_laws.specs.Entries.{entry_changes}
 
 -- The keeper's count of failures bears the outcome out: where the keeper failed it rose from before to now (that it rose is part

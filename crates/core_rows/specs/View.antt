@@ -1,6 +1,6 @@
 -- What contracts see of the rows of the server, and what is true of the fields.
 use Rattle.std.specs.Prelude.{◌≡◌, ◌≤◌, [], vec_capacity}
-use Rattle.row_machine.specs.Whole.{IsWhole}
+use Rattle.row_machine.specs.facts.Whole.{IsWhole}
 use Rattle.core_rows.specs.declared.estate.Estate.TheInside.{Inside}
 use Rattle.core_rows.specs.Kept.{Kept, IsSilent, untold_limit}
 

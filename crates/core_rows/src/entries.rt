@@ -1,7 +1,7 @@
 //! Changes of rows as changes of their entries, and rows as they are made.
 ghost use Rattle.std.specs.Prelude.{◌≡◌, IfOk};
 ghost use Rattle.std.specs.List.{AllByRecursion};
-ghost use Rattle.row_machine.specs.NewRows.{default_profile};
+ghost use Rattle.row_machine.specs.machine.NewRows.{default_profile};
 ghost use Rattle.machine_laws.specs.Entries.{number_of, entry_change, entry_changes};
 ghost use Rattle.core_rows.specs.Kept.{HasEntry};
 

@@ -1,8 +1,8 @@
 ghost use Rattle.std.specs.Prelude.{◌≡◌, ◌<◌, ◌∷◌, [], IfOk, IfSome, IfNone, OnOk};
 ghost use Rattle.limit_rules.specs.Exceeding.{Serves};
 ghost use Rattle.row_drafts.specs.Drafted.{IsReady};
-ghost use Rattle.row_machine.specs.Changes.{applied};
-ghost use Rattle.row_machine.specs.Whole.{IsWhole};
+ghost use Rattle.row_machine.specs.machine.Changes.{applied};
+ghost use Rattle.row_machine.specs.facts.Whole.{IsWhole};
 ghost use Rattle.core_rows.specs.Kept.{IsSilent};
 ghost use Rattle.core_rows.specs.Planned.{Follows, IsToDo};
 

@@ -1,6 +1,6 @@
 ghost use Rattle.std.specs.Prelude.{◌≡◌, [], IfOk};
-ghost use Rattle.row_machine.specs.Opening.{first_rows, default_project};
-ghost use Rattle.row_machine.specs.Plans.{put_all};
+ghost use Rattle.row_machine.specs.opening.Opening.{first_rows, default_project};
+ghost use Rattle.row_machine.specs.machine.Plans.{put_all};
 ghost use Rattle.machine_laws.specs.Entries.{entry_changes};
 ghost use Rattle.core_rows.specs.Opening.{Opens, Begins, Commits, FindsNothing, first_state};
 

@@ -1,4 +1,4 @@
--- Calls of `read_request` one behind the other.
+-- Calls of `read_request` one after the other.
 use Rattle.std.proofs.Common.{◌≡◌, ℕ, List, [], ◌∷◌, refl, sym, subst}
 use Rattle.std.proofs.lemmas.Option.{same_Some}
 use Rattle.http_heads.specs.declared.request.Request.{Request}

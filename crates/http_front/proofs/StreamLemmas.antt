@@ -68,7 +68,7 @@ keeps_appends (Some x) (Some y) kept = kept ∙ sym (append-nil x)
 pub appends_none : (a b c : Option (List ℕ)) (bs : List ℕ) → Appends a b bs → Appends b c [] → Appends a c bs
 appends_none a b c bs first then = subst (Appends a c) (append-nil bs) (appends_twice a b c bs [] first then)
 
--- a write of the bytes behind a place appends what comes behind the bytes before it
+-- a write of the bytes after a place appends what comes after the bytes before it
 pub appends_more : (a b c : Option (List ℕ)) (done n : ℕ) (bytes rest : List ℕ) → rest ≡ drop done bytes → Appends a b (take done bytes) → Appends b c (take n rest) → Appends a c (take (done + n) bytes)
 appends_more a b c done n bytes rest is first then =
     subst (Appends a c) ((ap (λ l. take done bytes ++ take n l) is ∙ sym (take-add done n bytes))) (appends_twice a b c (take done bytes) (take n rest) first then)

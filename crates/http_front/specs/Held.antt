@@ -29,7 +29,7 @@ pub record IsBuffer (len start piece : ℕ) : Type 0 where
   pub whole : piece ≡ max_piece
   pub few : len ≤ most_held
 
--- the buffer took some bytes in behind those that it held, and the source lost them
+-- the buffer took some bytes in after those that it held, and the source lost them
 pub record TakesIn (old new : List ℕ) (left left' : Option (List ℕ)) : Type 0 where
   pub more : List ℕ
   pub grown : new ≡ old ++ more
@@ -102,7 +102,7 @@ OnFault (Err (stop.Cut n)) P = Unit {0}
 OnFault (Err (stop.Malformed fault)) P = Unit {0}
 OnFault (Err stop.NoMemory) P = Unit {0}
 
--- a request of the bytes that were held and those that were taken in, and what is held behind it
+-- a request of the bytes that were held and those that were taken in, and what is held after it
 pub record Takes (old new : List ℕ) (left left' : Option (List ℕ)) (m : Request) : Type 0 where
   pub more : List ℕ
   pub is : IsMessage (old ++ more) m new

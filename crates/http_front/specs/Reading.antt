@@ -52,7 +52,7 @@ answer_of ended = got.End
 answer_of (cut n) = got.Cut n
 answer_of (malformed fault) = got.Malformed fault
 
--- calls of `read_request`, one behind the other, answer these messages of the bytes to come, and then this ending
+-- calls of `read_request`, one after the other, answer these messages of the bytes to come, and then this ending
 abbrev pub Answers : List ℕ → List Request → Ending → Type 0
 Answers bytes [] ending = (new : Option (List ℕ)) × (held : List ℕ) × ReadsNext bytes new held (answer_of ending)
 Answers bytes (m ∷ messages) ending =

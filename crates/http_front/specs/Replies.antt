@@ -28,7 +28,7 @@ length_line len = line (codes "Content-Length: " ++ decimal len)
 abbrev pub location_line : List ℕ → List ℕ
 location_line location = if length location == 0 then [] else line (codes "Location: " ++ location)
 
--- the line that says that the connection ends behind this reply
+-- the line that says that the connection ends after this reply
 abbrev pub last_line : Bool → List ℕ
 last_line last = if last then line (codes "Connection: close") else []
 

@@ -7,7 +7,7 @@ use size_values::{NoMemory, Seq, Text};
 use std::alloc::Global;
 
 /// A reply: its status code, its JSON body, the text of a Location header or none where it is empty, and whether
-/// the connection ends behind it.
+/// the connection ends after it.
 #[derive(Drop)]
 pub struct Printed {
     pub code: u16,

@@ -1,4 +1,4 @@
--- More bytes behind a whole head change nothing of it.
+-- More bytes after a whole head change nothing of it.
 use Rattle.std.proofs.Common.{◌≡◌, ℕ, suc, ◌+◌, ◌-◌, ◌<◌, ◌≤◌, ◌==◌, Bool, true, false, cond, List, [], ◌∷◌, ◌++◌, length, take, drop, Option, Some, None, Result, Ok, Err, IfOk, refl, sym, ap, ◌∙◌, ◌⊎◌, inl, inr, arith, length-take}
 use Rattle.std.specs.Option.{option_map, option_or}
 use Rattle.std.proofs.lemmas.Option.{same_Some}
@@ -45,7 +45,7 @@ line_end-le (b ∷ c ∷ bytes) n e = by_tests (b == 10) (b == 13) (c == 10) e
     by_tests false true false f = cc
     by_tests false false v f = cc
 
--- where an empty line stands behind this place, the bytes up to it were enough to tell
+-- where an empty line stands after this place, the bytes up to it were enough to tell
 line_end-told : (bytes more : List ℕ) (n : ℕ) → line_end bytes ≡ None → empty_line_end bytes ≡ Some n → line_end (bytes ++ more) ≡ None
 line_end-told [] more n e f = cc
 line_end-told (b ∷ []) more n e f = by_test (b == 10) refl
@@ -76,7 +76,7 @@ end_behind-le b bytes n e = by_test (b == 10) refl
     by_test true is = let f : line_end bytes ≡ Some n = rw is at e in line_end-le bytes n f
     by_test false is = let f : None ≡ Some n = rw is at e in cc
 
--- what an LF with an empty line behind it gives, and what another byte gives
+-- what an LF with an empty line after it gives, and what another byte gives
 abbrev end_or : Option ℕ → List ℕ → Option ℕ
 end_or o bytes = option_map suc (option_or o (empty_line_end bytes))
 
@@ -150,7 +150,7 @@ pub head_len-short : (bytes : List ℕ) → length bytes ≤ max_head → head_l
 unfolding head_len
 head_len-short bytes h = ap head_end (take_all max_head bytes h)
 
--- the bytes behind the first 16,384 do not count
+-- the bytes after the first 16,384 do not count
 pub head_len-long : (bytes more : List ℕ) → max_head ≤ length bytes → head_len (bytes ++ more) ≡ head_len bytes
 unfolding head_len
 head_len-long bytes more h = ap head_end (take-append-le max_head bytes more h)

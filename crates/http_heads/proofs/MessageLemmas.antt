@@ -231,7 +231,7 @@ splits_unique text (m ∷ ms) (n ∷ ns) e d h k =
     let later = splits_unique h.begins.0 ms ns e d first (subst (λ t. Splits t ns d) (sym one.1) second) in
     (ap₂ (λ x xs. x ∷ xs) one.0 later.0, later.1)
 
--- ---- messages one behind the other
+-- ---- messages one after the other
 
 pub Begins-append : (bytes middle rest : List ℕ) (ms ns : List Request) → Begins bytes ms middle → Begins middle ns rest → Begins bytes (ms ++ ns) rest
 Begins-append bytes middle rest [] ns first second = subst (λ b. Begins b ns rest) first second

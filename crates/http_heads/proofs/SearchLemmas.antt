@@ -48,7 +48,7 @@ begin_step n b bytes at is =
     ∙ ap (option_map (λ k. n + k)) (head_end-begins b (drop (n + 1) bytes) is)
     ∙ ap (λ l. option_map (λ k. n + k) (empty_line_end l)) (sym at)
 
--- what stands behind a byte, if it is an LF
+-- what stands after a byte, if it is an LF
 abbrev pub end_behind : ℕ → List ℕ → Option ℕ
 end_behind b bytes = cond (b == 10) (line_end bytes) None
 

@@ -47,6 +47,6 @@ lists word value = list_any (λ part. str_eq_ignore_ascii_case (trim_ows part) w
 abbrev pub some_lists : List ℕ → List ℕ → List (List ℕ × List ℕ) → Bool
 some_lists name word fields = list_any (lists word) (values_of name fields)
 
--- the connection ends behind this request: it is of HTTP/1.0, or a Connection header lists `close`
+-- the connection ends after this request: it is of HTTP/1.0, or a Connection header lists `close`
 abbrev pub is_last : RequestHead → Bool
 is_last head = head.minor == 0 || some_lists (codes "connection") (codes "close") (fields_of head)

@@ -23,7 +23,7 @@ abbrev pub empty_line_end : List ℕ → Option ℕ
 empty_line_end [] = None
 empty_line_end (b ∷ bytes) = option_map suc (option_or (if b == 10 then line_end bytes else None) (empty_line_end bytes))
 
--- the length up to and with the first empty line behind the first byte that is neither CR nor LF
+-- the length up to and with the first empty line after the first byte that is neither CR nor LF
 abbrev pub head_end : List ℕ → Option ℕ
 head_end bytes = let blank = blank_len bytes in option_map (λ n. blank + n) (empty_line_end (drop blank bytes))
 

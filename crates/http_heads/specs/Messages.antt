@@ -87,13 +87,13 @@ pub data Ending : Type 0 where
   cut : ℕ → Ending
   malformed : HeadFault → Ending
 
--- what is left behind the last message ends so; Cut carries the number of bytes left
+-- what is left after the last message ends so; Cut carries the number of bytes left
 abbrev pub EndsAs : List ℕ → Ending → Type 0
 EndsAs bytes ended = IsBlank bytes
 EndsAs bytes (cut n) = IsCut bytes × (n ≡ length bytes)
 EndsAs bytes (malformed fault) = IsMalformed bytes fault
 
--- the text begins with these messages, one behind the other, and then has the rest
+-- the text begins with these messages, one after the other, and then has the rest
 abbrev pub Begins : List ℕ → List Request → List ℕ → Type 0
 Begins bytes [] rest = rest ≡ bytes
 Begins bytes (m ∷ messages) rest = (middle : List ℕ) × IsMessage bytes m middle × Begins middle messages rest

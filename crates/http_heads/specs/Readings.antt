@@ -34,7 +34,7 @@ HasFault text H2 = ⊥
 HasFault text H3 = IsHeadWith text H3
 HasFault text H4 = IsHeadWith text H4
 
--- the same where it was not want of memory
+-- the same where it was not out of memory
 abbrev pub HasReason : List ℕ → Or HeadFault → Type 0
 HasReason text or.NoMemory = Unit {0}
 HasReason text (or.Why fault) = HasFault text fault

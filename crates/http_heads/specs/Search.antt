@@ -31,7 +31,7 @@ pub record HasSearched (search : Search) (bytes : List ℕ) : Type 0 where
   pub within : place_of search ≤ length bytes
   pub same : (more : List ℕ) → head_end (bytes ++ more) ≡ resumed search (bytes ++ more)
 
--- the bytes behind an LF begin with a line end, or with none, whatever follows them; or they are too few to tell
+-- the bytes after an LF begin with a line end, or with none, whatever follows them; or they are too few to tell
 abbrev pub Follows : List ℕ → After → Type 0
 Follows bytes (LineEnd n) = (n ≤ length bytes) × ((more : List ℕ) → line_end (bytes ++ more) ≡ Some n)
 Follows bytes Other = (more : List ℕ) → line_end (bytes ++ more) ≡ None

@@ -13,7 +13,7 @@ use httparse::spans::{EMPTY_HEADER_SPAN, HeaderSpan, RequestSpans, parse_request
 use size_values::{NoMemory, Or, Text};
 use std::alloc::Global;
 
-/// What a head says: the method, the target, the length of the body, and whether the connection ends behind it.
+/// What a head says: the method, the target, the length of the body, and whether the connection ends after it.
 #[derive(Drop)]
 pub struct Head {
     pub method: Text,

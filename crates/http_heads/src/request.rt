@@ -20,7 +20,7 @@ pub fn limits_are_those_of_the_definitions()
 {}
 
 /// One request: the method and the target of its request line (RFC 9112, section 3), and its body of
-/// Content-Length bytes. `last` says that the connection ends behind its reply: it is of HTTP/1.0, or a
+/// Content-Length bytes. `last` says that the connection ends after its reply: it is of HTTP/1.0, or a
 /// Connection header lists `close`.
 #[derive(Drop)]
 pub struct Request {

@@ -74,7 +74,7 @@ fn end_in_lines(bytes: &[u8], from: usize) -> Result<usize, Search>
     Err(Search::Lines(bytes.len()))
 }
 
-/// What stands at the place: an LF and a line end behind it, or no such thing.
+/// What stands at the place: an LF and a line end after it, or no such thing.
 fn empty_line_at(bytes: &[u8], at: usize) -> After
     requires { at < length bytes.now }
     ensures { StandsAt bytes.now at result }

@@ -17,7 +17,7 @@ fn fault_of(error: &io::Error) -> StartFault {
     }
 }
 
-/// The words behind the program's own name.
+/// The words after the program's own name.
 fn words_of(rt: &HostRuntime) -> io::Result<Vec<String>> {
     let mut words = Vec::new(rt.alloc());
     for word in env::args(rt)?.skip(1) {

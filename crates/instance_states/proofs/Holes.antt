@@ -8,7 +8,7 @@ holes-some [] ys = omega arith
 holes-some (a ∷ []) ys = omega (arith, holes-some [] ys)
 holes-some (a ∷ b ∷ xs) ys = omega (arith, holes-some (b ∷ xs) ys)
 
--- where a text has one hole, it is found: what stands before and behind
+-- where a text has one hole, it is found: what stands before and after
 pub holes-one : (xs ys : List ℕ) → holes (xs ++ 37 ∷ 100 ∷ ys) ≡ 1
     → (before_hole (xs ++ 37 ∷ 100 ∷ ys) ≡ xs) × (behind_hole (xs ++ 37 ∷ 100 ∷ ys) ≡ ys)
 holes-one [] ys e = (refl, refl)

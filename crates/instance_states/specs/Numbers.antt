@@ -21,13 +21,13 @@ before_hole [] = []
 before_hole (a ∷ []) = a ∷ []
 before_hole (a ∷ b ∷ rest) = if is_hole a b then [] else a ∷ before_hole (b ∷ rest)
 
--- the text behind the first `%d`
+-- the text after the first `%d`
 abbrev pub behind_hole : List ℕ → List ℕ
 behind_hole [] = []
 behind_hole (a ∷ []) = []
 behind_hole (a ∷ b ∷ rest) = if is_hole a b then rest else behind_hole (b ∷ rest)
 
--- the numbers that were seen in names: the text before and behind the number, and the greatest
+-- the numbers that were seen in names: the text before and after the number, and the greatest
 pub record Numbering : Type 0 where
   pub before : List ℕ
   pub behind : List ℕ
@@ -47,7 +47,7 @@ is_number digits =
 abbrev pub number_of : List ℕ → Option ℕ
 number_of digits = if is_number digits then Some (digits_value 10 digits) else None
 
--- the part of a name between the text before and the text behind
+-- the part of a name between the text before and the text after
 abbrev pub between : List ℕ → List ℕ → List ℕ → Option (List ℕ)
 between before behind name =
     if nat_le (length before + length behind) (length name) && starts_with nat_eq name before && ends_with nat_eq name behind

@@ -95,7 +95,7 @@ fn number_in(before: &[u8], behind: &[u8], name: &[u8]) -> Option<u32>
     }
 }
 
-/// The part of a name between the text before and the text behind.
+/// The part of a name between the text before and the text after.
 fn between<'x>(before: &[u8], behind: &[u8], name: &'x [u8]) -> Option<&'x [u8]>
     requires { length before.now + length behind.now < 2 ^ 64 }
     ensures { option_copied result ≡ between before.now behind.now name.now }

@@ -1,7 +1,7 @@
 //! The rows that the creation of an instance makes.
 ghost use Rattle.std.specs.Prelude.{◌≡◌, IfOk, ◌∷◌, [], unwrap_or};
-ghost use Rattle.row_machine.specs.Rows.{default_name};
-ghost use Rattle.row_machine.specs.NewRows.{new_description, new_config, new_devices, patched_config, patched_devices, image_of, made_instance, copied_instance};
+ghost use Rattle.row_machine.specs.machine.Rows.{default_name};
+ghost use Rattle.row_machine.specs.machine.NewRows.{new_description, new_config, new_devices, patched_config, patched_devices, image_of, made_instance, copied_instance};
 
 use crate::pairs::both;
 use config_lists::{Config, Devices};

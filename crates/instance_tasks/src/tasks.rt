@@ -5,9 +5,10 @@ ghost use Rattle.size_values.specs.declared.kinds.Deed.TheVariants as deed;
 ghost use Rattle.host_model.specs.declared.call.HostCall.TheVariants as call;
 ghost use Rattle.records.specs.declared.rows.Row.TheVariants as row_of;
 ghost use Rattle.instance_states.specs.Plans.{undo_of};
-ghost use Rattle.row_machine.specs.NewRows.{source_instance, source_snapshot};
-ghost use Rattle.row_machine.specs.HostCalls.{place_of, create_calls, copy_calls};
-ghost use Rattle.row_machine.specs.Plans.{plain_task, creation, copy, instance_target, snapshot_target, copy_from, instance_creation};
+ghost use Rattle.row_machine.specs.machine.NewRows.{source_instance, source_snapshot};
+ghost use Rattle.row_machine.specs.machine.HostCalls.{place_of, create_calls, copy_calls};
+ghost use Rattle.row_machine.specs.machine.Plans.{instance_target, snapshot_target, copy_from, instance_creation};
+ghost use Rattle.row_machine.specs.machine.Tasks.{plain_task, creation, copy};
 ghost use Rattle.instance_tasks.specs.Planned.{planned};
 
 use crate::making::{Source, copied_instance, image_of, made_instance};

@@ -7,9 +7,9 @@ use Rattle.project_limits.specs.declared.admission.LimitKey.TheVariants.{Network
 use Rattle.project_limits.specs.Limits.{limits_of}
 use Rattle.records.specs.declared.rows.Network.{Network}
 use Rattle.records.specs.declared.rows.Project.{Project}
-use Rattle.row_machine.specs.State.{State}
-use Rattle.row_machine.specs.Usage.{loads, networks_of}
-use Rattle.row_machine.specs.LimitRules.{exceeds, part_exceeds, networks_exceed, limits_broken}
+use Rattle.row_machine.specs.machine.State.{State}
+use Rattle.row_machine.specs.machine.Usage.{loads, networks_of}
+use Rattle.row_machine.specs.machine.LimitRules.{exceeds, part_exceeds, networks_exceed, limits_broken}
 use Rattle.limit_rules.specs.Counting.{Counts, counts_in}
 use Rattle.limit_rules.specs.Exceeding.{parts_over, networks_over, all_over, is_any_limited, Serves}
 

@@ -12,9 +12,9 @@ use Rattle.records.specs.declared.rows.Row.{Row}
 use Rattle.records.specs.declared.rows.Row.TheVariants as row
 use Rattle.row_machine.specs.declared.changes.RowChange.{RowChange}
 use Rattle.row_machine.specs.declared.changes.RowChange.TheVariants as change
-use Rattle.row_machine.specs.State.{State}
-use Rattle.row_machine.specs.Rows.{is_project, project_names, texts_before}
-use Rattle.row_machine.specs.Changes.{with_row, without_row, changed, applied, has_key}
+use Rattle.row_machine.specs.machine.State.{State}
+use Rattle.row_machine.specs.machine.Rows.{is_project, project_names, texts_before}
+use Rattle.row_machine.specs.machine.Changes.{with_row, without_row, changed, applied, has_key}
 use Rattle.limit_rules.specs.Exceeding.{limits_any, is_any_limited, is_limited_row, sets_limit}
 use Rattle.limit_rules.proofs.Unlimited.{neither}
 

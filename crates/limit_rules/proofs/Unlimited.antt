@@ -22,11 +22,11 @@ use Rattle.records.specs.declared.rows.Project.{Project}
 use Rattle.records.specs.declared.rows.Volume.{Volume}
 use Rattle.records.specs.declared.rows.Instance.{Instance}
 use Rattle.operations.specs.declared.operation.Operation.{Operation}
-use Rattle.row_machine.specs.Task.{Task}
-use Rattle.row_machine.specs.State.{State}
-use Rattle.row_machine.specs.Usage.{used, networks_of}
-use Rattle.row_machine.specs.Expansions.{expanded_of}
-use Rattle.row_machine.specs.LimitRules.{project_uncounted, claim_uncounted, instance_uncounted, volume_uncounts, limits_broken, part_exceeds, networks_exceed, exceeds, uncounted}
+use Rattle.row_machine.specs.machine.Task.{Task}
+use Rattle.row_machine.specs.machine.State.{State}
+use Rattle.row_machine.specs.machine.Usage.{used, networks_of}
+use Rattle.row_machine.specs.machine.Expansions.{expanded_of}
+use Rattle.row_machine.specs.machine.LimitRules.{project_uncounted, claim_uncounted, instance_uncounted, volume_uncounts, limits_broken, part_exceeds, networks_exceed, exceeds, uncounted}
 use Rattle.rule_refusals.proofs.Saying.{none-or}
 use Rattle.limit_rules.specs.Exceeding.{limits_sum, limits_any, is_any_limited}
 

@@ -1,7 +1,7 @@
 -- What counts for limits at one time, apart from the state: what is kept of it while a change is made.
 use Rattle.std.specs.Prelude.{ℕ, List, map}
-use Rattle.row_machine.specs.State.{State}
-use Rattle.row_machine.specs.Usage.{Load, loads}
+use Rattle.row_machine.specs.machine.State.{State}
+use Rattle.row_machine.specs.machine.Usage.{Load, loads}
 use Rattle.row_readings.specs.Loads.{AreSmall}
 use Rattle.limit_rules.specs.declared.usage.Usage.TheInside.{Inside}
 

@@ -15,9 +15,9 @@ use Rattle.records.specs.declared.rows.Row.{Row}
 use Rattle.records.specs.declared.rows.Row.TheVariants as row
 use Rattle.row_machine.specs.declared.changes.RowChange.{RowChange}
 use Rattle.row_machine.specs.declared.changes.RowChange.TheVariants as change
-use Rattle.row_machine.specs.State.{State}
-use Rattle.row_machine.specs.Usage.{Load, loads, counted}
-use Rattle.row_machine.specs.LimitRules.{exceeds}
+use Rattle.row_machine.specs.machine.State.{State}
+use Rattle.row_machine.specs.machine.Usage.{Load, loads, counted}
+use Rattle.row_machine.specs.machine.LimitRules.{exceeds}
 use Rattle.limit_rules.specs.Counting.{Counts, counts_in}
 
 -- one part of what a project uses

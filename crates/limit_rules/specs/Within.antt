@@ -6,8 +6,8 @@ use Rattle.records.specs.declared.refusals.Refusal.{Refusal}
 use Rattle.records.specs.declared.rows.Project.{Project}
 use Rattle.records.specs.declared.rows.Volume.{Volume}
 use Rattle.records.specs.declared.rows.Instance.{Instance}
-use Rattle.row_machine.specs.State.{State}
-use Rattle.row_machine.specs.LimitRules.{instance_uncounted, volume_uncounts, claim_uncounted}
+use Rattle.row_machine.specs.machine.State.{State}
+use Rattle.row_machine.specs.machine.LimitRules.{instance_uncounted, volume_uncounts, claim_uncounted}
 
 -- an instance of the project
 abbrev pub own_instance : State → Project → Instance → Option Refusal

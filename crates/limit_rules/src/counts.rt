@@ -2,8 +2,8 @@
 ghost use Rattle.std.specs.Prelude.{◌≡◌, option_and_then};
 ghost use Rattle.plain_lists.specs.Firsts.{first_of};
 ghost use Rattle.size_values.specs.Causes.{Says};
-ghost use Rattle.row_machine.specs.Claims.{claimed_instance, claimed_volume};
-ghost use Rattle.row_machine.specs.LimitRules.{sum_text, uncounted, claim_uncounted, project_uncounted, counts_broken};
+ghost use Rattle.row_machine.specs.machine.Claims.{claimed_instance, claimed_volume};
+ghost use Rattle.row_machine.specs.machine.LimitRules.{sum_text, uncounted, claim_uncounted, project_uncounted, counts_broken};
 ghost use Rattle.limit_rules.specs.Within.{own_instance, own_volume, own_objects};
 
 use crate::parts::limits_sum;
@@ -44,7 +44,7 @@ fn uncounted(
 }
 
 /// An instance of the project gives no number for a sum that the project limits.
-#[tactic(auto, unfolding(row_machine::specs::LimitRules::instance_uncounted))]
+#[tactic(auto, unfolding(row_machine::specs::machine::LimitRules::instance_uncounted))]
 fn instance_uncounted(
     alloc: Global,
     view: &View<'_>,
@@ -80,7 +80,7 @@ fn instances_uncounted(
 }
 
 /// A volume of the project has no size although the project limits its disk.
-#[tactic(auto, unfolding(row_machine::specs::LimitRules::volume_uncounts))]
+#[tactic(auto, unfolding(row_machine::specs::machine::LimitRules::volume_uncounts))]
 fn volume_uncounted(alloc: Global, project: &Project, row: &Volume) -> Result<(), Or<Refusal>>
     ensures { Says result (own_volume project.now row.now) }
 {
@@ -192,7 +192,7 @@ fn projects_uncounted(
 }
 
 /// The first instance, volume or claim that gives no number for a sum that its project limits.
-#[tactic(auto, unfolding(row_machine::specs::LimitRules::counts_broken))]
+#[tactic(auto, unfolding(row_machine::specs::machine::LimitRules::counts_broken))]
 pub fn counts_broken(alloc: Global, after: &View<'_>) -> Result<(), Or<Refusal>>
     ensures { Says result (counts_broken after.now) }
 {

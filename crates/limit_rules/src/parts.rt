@@ -4,7 +4,7 @@ ghost use Rattle.std.specs.List.{list_any};
 ghost use Rattle.size_values.specs.Amounts.{part};
 ghost use Rattle.project_limits.specs.Admission.{key_of, limit_on};
 ghost use Rattle.project_limits.specs.Limits.{limits_of};
-ghost use Rattle.row_machine.specs.LimitRules.{limit_rule, limit_text};
+ghost use Rattle.row_machine.specs.machine.LimitRules.{limit_rule, limit_text};
 ghost use Rattle.limit_rules.specs.Exceeding.{limits_any, limits_sum, is_any_limited, is_limited_row, sets_limit};
 
 use project_limits::{LimitKey, Limits, limits_of};

@@ -1,7 +1,7 @@
 //! What counts for the limits of projects before a change.
 ghost use Rattle.std.specs.Prelude.{◌≡◌, IfOk, map};
-ghost use Rattle.row_machine.specs.Changes.{applied};
-ghost use Rattle.row_machine.specs.Usage.{usage_of};
+ghost use Rattle.row_machine.specs.machine.Changes.{applied};
+ghost use Rattle.row_machine.specs.machine.Usage.{usage_of};
 ghost use Rattle.row_readings.specs.Loads.{AreSmall};
 ghost use Rattle.limit_rules.specs.Counting.{counts_in};
 ghost use Rattle.limit_rules.specs.Exceeding.{Serves};

@@ -14,23 +14,24 @@ use Rattle.records.specs.declared.refusals.Rule.TheVariants as rule
 use Rattle.records.specs.declared.replies.Reply.TheVariants as reply
 use Rattle.operations.specs.declared.operation.Operation.{Operation}
 use Rattle.row_machine.specs.declared.events.Answer.TheVariants as answer
-use Rattle.row_machine.specs.Task.{Task}
-use Rattle.row_machine.specs.State.{State}
-use Rattle.row_machine.specs.Asked.{named_anew, with_name, next_snapshot}
-use Rattle.row_machine.specs.Rows.{instance_named}
-use Rattle.row_machine.specs.Refusals.{on_object, on_held}
-use Rattle.row_machine.specs.NameRules.{project_missing, what_is_missing, names_broken, name_broken, malformed, taken, held, is_there}
-use Rattle.row_machine.specs.StandingRules.{standing_broken}
-use Rattle.row_machine.specs.Plans.{plan_of}
-use Rattle.row_machine.specs.Rules.{broken, plan_broken}
-use Rattle.row_machine.specs.Accept.{and_then}
-use Rattle.row_machine.specs.Step.{step, well, asked}
+use Rattle.row_machine.specs.machine.Task.{Task}
+use Rattle.row_machine.specs.machine.State.{State}
+use Rattle.row_machine.specs.machine.Asked.{named_anew, with_name, next_snapshot}
+use Rattle.row_machine.specs.machine.Rows.{instance_named}
+use Rattle.row_machine.specs.machine.Refusals.{on_object, on_held}
+use Rattle.row_machine.specs.machine.NameRules.{project_missing, what_is_missing, name_broken, malformed, taken, held, is_there}
+use Rattle.row_machine.specs.machine.Rules.{names_broken}
+use Rattle.row_machine.specs.machine.Rules.{standing_broken}
+use Rattle.row_machine.specs.machine.Plans.{plan_of}
+use Rattle.row_machine.specs.machine.Rules.{broken, plan_broken}
+use Rattle.row_machine.specs.machine.Accept.{and_then}
+use Rattle.row_machine.specs.machine.Step.{step, well, asked}
 use Rattle.machine_laws.proofs.Found.{there-is}
 use Rattle.machine_laws.specs.Again.{StandsAlready, SentAgain}
 
 -- ---- the first of several answers
 
--- what one gives is given, first or behind another
+-- what one gives is given, first or after another
 over : {R : Type 0} (a b : Option R) → is_some b ≡ true → is_some (option_or a b) ≡ true
 over None b e = e
 over (Some x) b e = refl

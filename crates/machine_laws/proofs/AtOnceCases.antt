@@ -6,10 +6,10 @@ use Rattle.records.specs.declared.commands.What.TheVariants as what
 use Rattle.row_machine.specs.declared.changes.RowChange.{RowChange}
 use Rattle.records.specs.declared.rows.Instance.{Instance}
 use Rattle.records.specs.declared.rows.Snapshot.{Snapshot}
-use Rattle.row_machine.specs.Task.{Task}
-use Rattle.row_machine.specs.State.{State}
-use Rattle.row_machine.specs.Rows.{instance_named, snapshot_named}
-use Rattle.row_machine.specs.Plans.{changes, starts, plan_of, if_there}
+use Rattle.row_machine.specs.machine.Task.{Task}
+use Rattle.row_machine.specs.machine.State.{State}
+use Rattle.row_machine.specs.machine.Rows.{instance_named, snapshot_named}
+use Rattle.row_machine.specs.machine.Plans.{changes, starts, plan_of, if_there}
 use Rattle.machine_laws.proofs.Cases.{IsAccepted, AtOnce}
 use Rattle.machine_laws.proofs.Commands.{command_of, never_nothing, never_starts}
 use Rattle.machine_laws.proofs.Creations.{creates}

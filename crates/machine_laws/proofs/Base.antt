@@ -20,12 +20,12 @@ use Rattle.operations.specs.declared.status.Status.TheVariants as status
 use Rattle.operations.specs.Statuses.{is_pending}
 use Rattle.operations.specs.Kept.{has_number, live_at}
 use Rattle.host_model.specs.declared.call.HostCall.{HostCall}
-use Rattle.row_machine.specs.Task.{Task}
-use Rattle.row_machine.specs.State.{State}
-use Rattle.row_machine.specs.Claims.{of_live}
-use Rattle.row_machine.specs.Work.{claiming, entered, with_task, moved, handing_out, ended}
-use Rattle.row_machine.specs.Step.{first_pending}
-use Rattle.row_machine.specs.Whole.{IsWhole}
+use Rattle.row_machine.specs.machine.Task.{Task}
+use Rattle.row_machine.specs.machine.State.{State}
+use Rattle.row_machine.specs.machine.Claims.{of_live}
+use Rattle.row_machine.specs.machine.Work.{claiming, entered, with_task, moved, handing_out, ended}
+use Rattle.row_machine.specs.machine.Step.{first_pending}
+use Rattle.row_machine.specs.facts.Whole.{IsWhole}
 
 -- ---- lists: the found element changed
 

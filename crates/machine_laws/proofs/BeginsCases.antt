@@ -10,12 +10,12 @@ use Rattle.records.specs.declared.commands.What.{What}
 use Rattle.records.specs.declared.commands.What.TheVariants as what
 use Rattle.records.specs.declared.rows.Row.{Row}
 use Rattle.records.specs.declared.rows.Row.TheVariants as row
-use Rattle.row_machine.specs.Task.{Task}
-use Rattle.row_machine.specs.State.{State}
-use Rattle.row_machine.specs.Rows.{project_named, profile_named, network_named, pool_named, volume_named, instance_named, snapshot_named}
-use Rattle.row_machine.specs.Homes.{home_of}
+use Rattle.row_machine.specs.machine.Task.{Task}
+use Rattle.row_machine.specs.machine.State.{State}
+use Rattle.row_machine.specs.machine.Rows.{project_named, profile_named, network_named, pool_named, volume_named, instance_named, snapshot_named}
+use Rattle.row_machine.specs.machine.Homes.{home_of}
 use Rattle.row_machine.specs.declared.changes.RowChange.{RowChange}
-use Rattle.row_machine.specs.Plans.{Plan, nothing, changes, starts, plan_of, if_there, plan_put, plan_patch, plan_move, plan_delete}
+use Rattle.row_machine.specs.machine.Plans.{Plan, nothing, changes, starts, plan_of, if_there, plan_put, plan_patch, plan_move, plan_delete}
 use Rattle.machine_laws.proofs.Cases.{IsAccepted, Begins}
 use Rattle.machine_laws.proofs.Commands.{command_of, target, nothing_begins, never_changes}
 use Rattle.machine_laws.proofs.Entering.{updates-instance, renames-instance, deletes-instance, deletes-snapshot, acts-on, restores-to}

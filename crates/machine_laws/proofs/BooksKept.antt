@@ -21,15 +21,15 @@ use Rattle.operations.specs.Kept.{live_at}
 use Rattle.records.specs.declared.commands.Command.{Command}
 use Rattle.records.specs.declared.notices.Untold.{Untold}
 use Rattle.row_machine.specs.declared.changes.RowChange.{RowChange}
-use Rattle.row_machine.specs.Task.{Task}
-use Rattle.row_machine.specs.State.{State, Held}
-use Rattle.row_machine.specs.Changes.{applied}
-use Rattle.row_machine.specs.Claims.{share_of}
-use Rattle.row_machine.specs.Plans.{changes, starts}
-use Rattle.row_machine.specs.Notices.{telling}
-use Rattle.row_machine.specs.Step.{first_pending}
-use Rattle.row_machine.specs.Work.{project_of_task, is_held_by, held_share, converted, returned, entered, with_task, moved, handing_out, one_more_done, undone, cancelled, failed, succeeded, ended, success_changes, with_power_after, power_after, after_failure}
-use Rattle.row_machine.specs.Whole.{IsWhole, AreBalanced}
+use Rattle.row_machine.specs.machine.Task.{Task}
+use Rattle.row_machine.specs.machine.State.{State, Held}
+use Rattle.row_machine.specs.machine.Changes.{applied}
+use Rattle.row_machine.specs.machine.Claims.{share_of}
+use Rattle.row_machine.specs.machine.Plans.{changes, starts}
+use Rattle.row_machine.specs.shown.Notices.{telling}
+use Rattle.row_machine.specs.machine.Step.{first_pending}
+use Rattle.row_machine.specs.machine.Work.{project_of_task, is_held_by, held_share, converted, returned, entered, with_task, moved, handing_out, one_more_done, undone, cancelled, failed, succeeded, ended, success_changes, with_power_after, power_after, after_failure}
+use Rattle.row_machine.specs.facts.Whole.{IsWhole, AreBalanced}
 use Rattle.machine_laws.proofs.Cases.{IsAccepted, IsLiveAs}
 use Rattle.machine_laws.proofs.BooksSteps.{HasSameWork, applied-same, power-keeps, failure-keeps, telling-keeps}
 

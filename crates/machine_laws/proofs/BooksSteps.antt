@@ -11,11 +11,11 @@ use Rattle.records.specs.declared.rows.Row.{Row}
 use Rattle.records.specs.declared.rows.Row.TheVariants as row
 use Rattle.row_machine.specs.declared.changes.RowChange.{RowChange}
 use Rattle.row_machine.specs.declared.changes.RowChange.TheVariants as change
-use Rattle.row_machine.specs.Task.{Task}
-use Rattle.row_machine.specs.State.{State, Held}
-use Rattle.row_machine.specs.Changes.{with_row, without_row, applied}
-use Rattle.row_machine.specs.Notices.{telling, push_notice}
-use Rattle.row_machine.specs.Work.{with_power_after, after_failure}
+use Rattle.row_machine.specs.machine.Task.{Task}
+use Rattle.row_machine.specs.machine.State.{State, Held}
+use Rattle.row_machine.specs.machine.Changes.{with_row, without_row, applied}
+use Rattle.row_machine.specs.shown.Notices.{telling, push_notice}
+use Rattle.row_machine.specs.machine.Work.{with_power_after, after_failure}
 
 -- what is read off a state that neither a put nor a removal of a row changes, a list of them leaves
 pub applied-read : {X : Type 0} (read : State → X) → ((r : Row) (s : State) → read (with_row r s) ≡ read s)

@@ -20,19 +20,21 @@ use Rattle.records.specs.declared.replies.Reply.TheVariants as reply
 use Rattle.records.specs.declared.notices.Untold.{Untold}
 use Rattle.row_machine.specs.declared.events.Event.TheVariants as event
 use Rattle.row_machine.specs.declared.events.Answer.TheVariants as answer
-use Rattle.row_machine.specs.Task.{Task}
-use Rattle.row_machine.specs.State.{State}
-use Rattle.row_machine.specs.Records.{rows_of}
-use Rattle.row_machine.specs.NameRules.{names_broken, project_missing, what_is_missing, missing_unless}
-use Rattle.row_machine.specs.StandingRules.{standing_broken, instance_busy, wrong_state, object_protected, object_used, project_occupied, profile_held}
-use Rattle.row_machine.specs.TableRules.{cancel_broken, cancel_refusal}
-use Rattle.row_machine.specs.Plans.{plan_of}
-use Rattle.row_machine.specs.Notices.{telling, operation_notice}
-use Rattle.row_machine.specs.Rules.{broken, plan_broken}
-use Rattle.row_machine.specs.Work.{moved}
-use Rattle.row_machine.specs.Accept.{and_then, accepted, told, after_cancel}
-use Rattle.row_machine.specs.Step.{step, well, asked}
-use Rattle.row_machine.specs.Whole.{IsUnderWay}
+use Rattle.row_machine.specs.machine.Task.{Task}
+use Rattle.row_machine.specs.machine.State.{State}
+use Rattle.row_machine.specs.opening.Records.{rows_of}
+use Rattle.row_machine.specs.machine.NameRules.{project_missing, what_is_missing, missing_unless}
+use Rattle.row_machine.specs.machine.Rules.{names_broken}
+use Rattle.row_machine.specs.machine.StandingRules.{instance_busy, wrong_state, object_protected, object_used, project_occupied, profile_held}
+use Rattle.row_machine.specs.machine.Rules.{standing_broken}
+use Rattle.row_machine.specs.machine.TableRules.{cancel_broken, cancel_refusal}
+use Rattle.row_machine.specs.machine.Plans.{plan_of}
+use Rattle.row_machine.specs.shown.Notices.{telling, operation_notice}
+use Rattle.row_machine.specs.machine.Rules.{broken, plan_broken}
+use Rattle.row_machine.specs.machine.Work.{moved}
+use Rattle.row_machine.specs.machine.Accept.{and_then, accepted, told, after_cancel}
+use Rattle.row_machine.specs.machine.Step.{step, well, asked}
+use Rattle.row_machine.specs.facts.Whole.{IsUnderWay}
 use Rattle.machine_laws.specs.Cancels.{RunningIsCancelled}
 use Rattle.machine_laws.proofs.Base.{live-mem}
 use Rattle.machine_laws.proofs.BooksSteps.{telling-keeps}

@@ -18,15 +18,15 @@ use Rattle.operations.specs.Kept.{Kept, has_number, live_at, kept_at}
 use Rattle.records.specs.declared.notices.Untold.{Untold}
 use Rattle.row_machine.specs.declared.events.Event.TheVariants as event
 use Rattle.row_machine.specs.declared.events.Answer.TheVariants as answer
-use Rattle.row_machine.specs.Task.{Task}
-use Rattle.row_machine.specs.State.{State}
-use Rattle.row_machine.specs.Records.{rows_of}
-use Rattle.row_machine.specs.Changes.{applied}
-use Rattle.row_machine.specs.Notices.{telling, operation_notice}
-use Rattle.row_machine.specs.Work.{entered, with_task, moved, handing_out, undone, cancelled, failed, succeeded}
-use Rattle.row_machine.specs.Accept.{and_then}
-use Rattle.row_machine.specs.Step.{step, well, done, reported, while_cancelling, over}
-use Rattle.row_machine.specs.Whole.{IsWhole}
+use Rattle.row_machine.specs.machine.Task.{Task}
+use Rattle.row_machine.specs.machine.State.{State}
+use Rattle.row_machine.specs.opening.Records.{rows_of}
+use Rattle.row_machine.specs.machine.Changes.{applied}
+use Rattle.row_machine.specs.shown.Notices.{telling, operation_notice}
+use Rattle.row_machine.specs.machine.Work.{entered, with_task, moved, handing_out, undone, cancelled, failed, succeeded}
+use Rattle.row_machine.specs.machine.Accept.{and_then}
+use Rattle.row_machine.specs.machine.Step.{step, well, done, reported, while_cancelling, over}
+use Rattle.row_machine.specs.facts.Whole.{IsWhole}
 use Rattle.machine_laws.specs.Headline.{IsKeptAs}
 use Rattle.machine_laws.specs.Cancels.{CancellingGoesOn, CancellingStays, StaysCancelling}
 use Rattle.machine_laws.specs.Cancels.StaysCancelling.{as_it_was, taken_back, cancelled as is_cancelled}

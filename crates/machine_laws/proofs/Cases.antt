@@ -23,22 +23,25 @@ use Rattle.records.specs.declared.commands.Target.{Target}
 use Rattle.records.specs.declared.commands.Body.{Body}
 use Rattle.records.specs.declared.commands.Command.{Command}
 use Rattle.row_machine.specs.declared.changes.RowChange.{RowChange}
-use Rattle.row_machine.specs.Task.{Task}
-use Rattle.row_machine.specs.State.{State}
-use Rattle.row_machine.specs.Rows.{default_name, project_named, profile_named, network_named, pool_named, volume_named, instance_named, snapshot_named}
-use Rattle.row_machine.specs.Homes.{home_of}
-use Rattle.row_machine.specs.Changes.{applied, rows_put, removal}
-use Rattle.row_machine.specs.Links.{target_of}
-use Rattle.row_machine.specs.Holders.{busy_with, holder_of, first_user_of}
-use Rattle.row_machine.specs.NameRules.{claims_object, names_broken}
-use Rattle.row_machine.specs.StandingRules.{standing_broken, power_of, changes_features, is_occupied}
-use Rattle.row_machine.specs.SettingRules.{settings_broken}
-use Rattle.row_machine.specs.PolicyRules.{policy_broken, snapshot_blocked}
-use Rattle.row_machine.specs.LimitRules.{counts_broken, limits_broken}
-use Rattle.row_machine.specs.TableRules.{entry_broken, tables_broken}
-use Rattle.row_machine.specs.NewRows.{source_instance, source_snapshot}
-use Rattle.row_machine.specs.Plans.{put_all, moved_row, project_creation, project_change, project_rename, project_deletion, creation, copy, volume_copy, snapshot_creation, update, restoring, renaming, deletion, snapshot_deletion, acting, instance_target, snapshot_target}
-use Rattle.row_machine.specs.Work.{claiming}
+use Rattle.row_machine.specs.machine.Task.{Task}
+use Rattle.row_machine.specs.machine.State.{State}
+use Rattle.row_machine.specs.machine.Rows.{default_name, project_named, profile_named, network_named, pool_named, volume_named, instance_named, snapshot_named}
+use Rattle.row_machine.specs.machine.Homes.{home_of}
+use Rattle.row_machine.specs.machine.Changes.{applied, rows_put, removal}
+use Rattle.row_machine.specs.shown.Links.{target_of}
+use Rattle.row_machine.specs.machine.Holders.{busy_with, holder_of, first_user_of}
+use Rattle.row_machine.specs.machine.NameRules.{claims_object}
+use Rattle.row_machine.specs.machine.Rules.{names_broken}
+use Rattle.row_machine.specs.machine.StandingRules.{power_of, changes_features, is_occupied}
+use Rattle.row_machine.specs.machine.Rules.{standing_broken}
+use Rattle.row_machine.specs.machine.SettingRules.{settings_broken}
+use Rattle.row_machine.specs.machine.PolicyRules.{policy_broken, snapshot_blocked}
+use Rattle.row_machine.specs.machine.LimitRules.{counts_broken, limits_broken}
+use Rattle.row_machine.specs.machine.TableRules.{entry_broken, tables_broken}
+use Rattle.row_machine.specs.machine.NewRows.{source_instance, source_snapshot}
+use Rattle.row_machine.specs.machine.Plans.{put_all, moved_row, project_creation, project_change, project_rename, project_deletion, instance_target, snapshot_target}
+use Rattle.row_machine.specs.machine.Tasks.{creation, copy, volume_copy, snapshot_creation, update, restoring, renaming, deletion, snapshot_deletion, acting}
+use Rattle.row_machine.specs.machine.Work.{claiming}
 pub use Rattle.machine_laws.specs.Accepted.{IsAccepted, IsLiveAs}
 
 -- ---- no rule is broken

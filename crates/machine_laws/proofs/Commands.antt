@@ -13,13 +13,13 @@ use Rattle.records.specs.declared.commands.Target.{Target}
 use Rattle.records.specs.declared.rows.Instance.{Instance}
 use Rattle.row_codec.proofs.Fields.{both_true}
 use Rattle.row_machine.specs.declared.changes.RowChange.{RowChange}
-use Rattle.row_machine.specs.Task.{Task}
-use Rattle.row_machine.specs.State.{State}
-use Rattle.row_machine.specs.Rows.{is_instance, instance_named, project_named}
-use Rattle.row_machine.specs.Claims.{judged_instances, of_live, claimed_instance}
-use Rattle.row_machine.specs.Plans.{Plan, nothing, changes, starts}
-use Rattle.row_machine.specs.Holders.{busy_with}
-use Rattle.row_machine.specs.Whole.{IsWhole}
+use Rattle.row_machine.specs.machine.Task.{Task}
+use Rattle.row_machine.specs.machine.State.{State}
+use Rattle.row_machine.specs.machine.Rows.{is_instance, instance_named, project_named}
+use Rattle.row_machine.specs.machine.Claims.{judged_instances, of_live, claimed_instance}
+use Rattle.row_machine.specs.machine.Plans.{Plan, nothing, changes, starts}
+use Rattle.row_machine.specs.machine.Holders.{busy_with}
+use Rattle.row_machine.specs.facts.Whole.{IsWhole}
 use Rattle.machine_laws.proofs.Cases.{IsAccepted, IsIdle}
 use Rattle.machine_laws.proofs.Found.{instance-found, instance-itself}
 use Rattle.machine_laws.proofs.Judged.{groups}

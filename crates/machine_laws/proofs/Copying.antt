@@ -15,16 +15,17 @@ use Rattle.records.specs.declared.rows.Volume.{Volume}
 use Rattle.records.specs.declared.rows.Instance.{Instance}
 use Rattle.records.specs.declared.rows.Snapshot.{Snapshot}
 use Rattle.row_codec.proofs.Fields.{both_true}
-use Rattle.row_machine.specs.Task.{Task}
-use Rattle.row_machine.specs.State.{State}
-use Rattle.row_machine.specs.Rows.{project_named, pool_named, volume_named, instance_named, snapshot_named}
-use Rattle.row_machine.specs.Homes.{home_of}
-use Rattle.row_machine.specs.Holders.{busy_with}
-use Rattle.row_machine.specs.Asked.{with_name, next_snapshot, copied_from}
-use Rattle.row_machine.specs.NameRules.{what_is_missing, parent_missing, source_missing, volume_source}
-use Rattle.row_machine.specs.StandingRules.{instance_busy, busy}
-use Rattle.row_machine.specs.NewRows.{source_instance, source_snapshot}
-use Rattle.row_machine.specs.Plans.{starts, plan_of, if_there, instance_creation, volume_creation, creation, copy, volume_copy, snapshot_creation, instance_target, snapshot_target}
+use Rattle.row_machine.specs.machine.Task.{Task}
+use Rattle.row_machine.specs.machine.State.{State}
+use Rattle.row_machine.specs.machine.Rows.{project_named, pool_named, volume_named, instance_named, snapshot_named}
+use Rattle.row_machine.specs.machine.Homes.{home_of}
+use Rattle.row_machine.specs.machine.Holders.{busy_with}
+use Rattle.row_machine.specs.machine.Asked.{with_name, next_snapshot, copied_from}
+use Rattle.row_machine.specs.machine.NameRules.{what_is_missing, parent_missing, source_missing, volume_source}
+use Rattle.row_machine.specs.machine.StandingRules.{instance_busy, busy}
+use Rattle.row_machine.specs.machine.NewRows.{source_instance, source_snapshot}
+use Rattle.row_machine.specs.machine.Plans.{starts, plan_of, if_there, instance_creation, volume_creation, instance_target, snapshot_target}
+use Rattle.row_machine.specs.machine.Tasks.{creation, copy, volume_copy, snapshot_creation}
 use Rattle.machine_laws.proofs.Cases.{IsAccepted, Begins, IsHome, IsNew, IsIdle, volume_target}
 use Rattle.machine_laws.proofs.Cases.Begins.{creates, copies_instance, copies_snapshot, copies_volume, snaps}
 use Rattle.machine_laws.proofs.Found.{instance-found, snapshot-found, volume-found, volume-itself}

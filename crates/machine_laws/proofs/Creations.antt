@@ -16,13 +16,13 @@ use Rattle.records.specs.declared.rows.Row.TheVariants as row
 use Rattle.row_codec.proofs.Fields.{both_true}
 use Rattle.row_machine.specs.declared.changes.RowChange.{RowChange}
 use Rattle.records.specs.declared.commands.Target.{Target}
-use Rattle.row_machine.specs.Task.{Task}
-use Rattle.row_machine.specs.State.{State}
-use Rattle.row_machine.specs.Rows.{pool_named, instance_named, snapshot_named}
-use Rattle.row_machine.specs.Homes.{home_of}
-use Rattle.row_machine.specs.NameRules.{what_is_missing, parent_missing}
-use Rattle.row_machine.specs.NewRows.{made_project, made_profile, made_network, made_pool, made_volume}
-use Rattle.row_machine.specs.Plans.{changes, starts, plan_of, put_all, project_creation, volume_creation, instance_creation, if_there}
+use Rattle.row_machine.specs.machine.Task.{Task}
+use Rattle.row_machine.specs.machine.State.{State}
+use Rattle.row_machine.specs.machine.Rows.{pool_named, instance_named, snapshot_named}
+use Rattle.row_machine.specs.machine.Homes.{home_of}
+use Rattle.row_machine.specs.machine.NameRules.{what_is_missing, parent_missing}
+use Rattle.row_machine.specs.machine.NewRows.{made_project, made_profile, made_network, made_pool, made_volume}
+use Rattle.row_machine.specs.machine.Plans.{changes, starts, plan_of, put_all, project_creation, volume_creation, instance_creation, if_there}
 use Rattle.machine_laws.proofs.Cases.{IsAccepted, AtOnce}
 use Rattle.machine_laws.proofs.Cases.AtOnce.{makes_project, makes_profile, makes_network, makes_pool, makes_volume}
 use Rattle.machine_laws.proofs.Found.{not-there}

@@ -19,16 +19,17 @@ use Rattle.records.specs.declared.rows.Row.TheVariants as row
 use Rattle.records.specs.declared.notices.Untold.{Untold}
 use Rattle.row_machine.specs.declared.changes.RowChange.{RowChange}
 use Rattle.row_machine.specs.declared.changes.RowChange.TheVariants as change
-use Rattle.row_machine.specs.Task.{Task}
-use Rattle.row_machine.specs.State.{State}
-use Rattle.row_machine.specs.Rows.{instance_named, snapshot_named}
-use Rattle.row_machine.specs.Claims.{claimed_instance}
-use Rattle.row_machine.specs.Changes.{applied, changed, removal}
-use Rattle.row_machine.specs.Asked.{snapshots_of}
-use Rattle.row_machine.specs.Links.{target_of}
-use Rattle.row_machine.specs.Notices.{telling}
-use Rattle.row_machine.specs.Work.{entered, cancelled, failed, succeeded, success_changes, removes_instance, renames_instance, with_power_after, power_after}
-use Rattle.row_machine.specs.Whole.{HasDefaults, IsByDeed, claim_kind}
+use Rattle.row_machine.specs.machine.Task.{Task}
+use Rattle.row_machine.specs.machine.State.{State}
+use Rattle.row_machine.specs.machine.Rows.{instance_named, snapshot_named}
+use Rattle.row_machine.specs.machine.Claims.{claimed_instance}
+use Rattle.row_machine.specs.machine.Changes.{applied, changed, removal}
+use Rattle.row_machine.specs.machine.Asked.{snapshots_of}
+use Rattle.row_machine.specs.shown.Links.{target_of}
+use Rattle.row_machine.specs.shown.Notices.{telling}
+use Rattle.row_machine.specs.machine.Work.{entered, cancelled, failed, succeeded, success_changes, removes_instance, renames_instance, with_power_after, power_after}
+use Rattle.row_machine.specs.facts.Whole.{HasDefaults, IsByDeed}
+use Rattle.row_machine.specs.machine.Deeds.{claim_kind}
 use Rattle.machine_laws.proofs.LinksOperations.{failure_core, telling_core}
 
 pub defaults-same : {s t : State} → t.projects ≡ s.projects → t.profiles ≡ s.profiles → HasDefaults s → HasDefaults t

@@ -26,9 +26,9 @@ use Rattle.option_tables.specs.declared.form.Form.TheVariants as form
 use Rattle.option_tables.specs.declared.tables.Table.TheVariants as table
 use Rattle.restrictions.specs.Words.{is_true, read_true}
 use Rattle.records.specs.declared.rows.Project.{Project}
-use Rattle.row_machine.specs.Homes.{is_on}
-use Rattle.row_machine.specs.SettingRules.{tables_break}
-use Rattle.row_machine.specs.StandingRules.{feature_keys, feature_changes, changes_features}
+use Rattle.row_machine.specs.machine.Homes.{is_on}
+use Rattle.row_machine.specs.machine.SettingRules.{tables_break}
+use Rattle.row_machine.specs.machine.StandingRules.{feature_keys, feature_changes, changes_features}
 
 -- a value that reads as a truth
 abbrev ReadsTruth : List ℕ → Type 0

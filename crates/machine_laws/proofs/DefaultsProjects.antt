@@ -11,14 +11,14 @@ use Rattle.records.specs.declared.rows.Project.{Project}
 use Rattle.records.specs.declared.rows.Profile.{Profile}
 use Rattle.records.specs.declared.rows.Row.TheVariants as row
 use Rattle.row_codec.specs.Spelling.{key_of}
-use Rattle.row_machine.specs.State.{State}
-use Rattle.row_machine.specs.Rows.{default_name, is_project, is_profile, project_named, profile_named, project_names, profile_names, with_project, with_profile, texts_before}
-use Rattle.row_machine.specs.Homes.{is_on}
-use Rattle.row_machine.specs.Changes.{applied, has_key, removal}
-use Rattle.row_machine.specs.NewRows.{default_profile}
-use Rattle.row_machine.specs.Plans.{put_all, moved_row, project_creation, project_rename, project_deletion, own_profile}
-use Rattle.row_machine.specs.Opening.{has_all_features}
-use Rattle.row_machine.specs.Whole.{IsWhole, AreNamed, HasDefaults}
+use Rattle.row_machine.specs.machine.State.{State}
+use Rattle.row_machine.specs.machine.Rows.{default_name, is_project, is_profile, project_named, profile_named, project_names, profile_names, with_project, with_profile, texts_before}
+use Rattle.row_machine.specs.machine.Homes.{is_on}
+use Rattle.row_machine.specs.machine.Changes.{applied, has_key, removal}
+use Rattle.row_machine.specs.machine.NewRows.{default_profile}
+use Rattle.row_machine.specs.machine.Plans.{put_all, moved_row, project_creation, project_rename, project_deletion, own_profile}
+use Rattle.row_machine.specs.opening.Opening.{has_all_features}
+use Rattle.row_machine.specs.facts.Whole.{IsWhole, AreNamed, HasDefaults}
 use Rattle.machine_laws.proofs.NamesRise.{Rise-Distinct}
 use Rattle.machine_laws.proofs.Found.{profile-found}
 use Rattle.machine_laws.proofs.LinksFinds.{still-there, other-found, other-undropped, left-other, after-put}

@@ -5,8 +5,8 @@ use Rattle.option_tables.specs.Checks.{project_fault}
 use Rattle.records.specs.declared.rows.Project.{Project}
 use Rattle.records.specs.declared.rows.Row.{Row}
 use Rattle.records.specs.declared.rows.Row.TheVariants as row
-use Rattle.row_machine.specs.State.{State}
-use Rattle.row_machine.specs.SettingRules.{settings_broken, row_settings, tables_break}
+use Rattle.row_machine.specs.machine.State.{State}
+use Rattle.row_machine.specs.machine.SettingRules.{settings_broken, row_settings, tables_break}
 
 -- the first row that is put keeps the rules on settings
 pub first-settled : (t : State) (r : Row) (rows : List Row) → settings_broken t (r ∷ rows) ≡ None

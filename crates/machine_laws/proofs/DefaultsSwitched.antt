@@ -19,16 +19,16 @@ use Rattle.row_codec.specs.Rows.{HasGoodKey, IsGood}
 use Rattle.row_codec.specs.Spelling.{key_of}
 use Rattle.row_machine.specs.declared.changes.RowChange.{RowChange}
 use Rattle.row_machine.specs.declared.changes.RowChange.TheVariants as change
-use Rattle.row_machine.specs.State.{State}
-use Rattle.row_machine.specs.Rows.{default_name, is_project, project_named, project_names, profile_names, with_project, texts_before}
-use Rattle.row_machine.specs.Homes.{is_on}
-use Rattle.row_machine.specs.Changes.{applied, has_key, removal}
-use Rattle.row_machine.specs.NewRows.{default_profile}
-use Rattle.row_machine.specs.SettingRules.{tables_break}
-use Rattle.row_machine.specs.StandingRules.{feature_keys, changes_features}
-use Rattle.row_machine.specs.Plans.{project_change}
-use Rattle.row_machine.specs.Opening.{has_all_features}
-use Rattle.row_machine.specs.Whole.{IsWhole, AreNamed, HasDefaults}
+use Rattle.row_machine.specs.machine.State.{State}
+use Rattle.row_machine.specs.machine.Rows.{default_name, is_project, project_named, project_names, profile_names, with_project, texts_before}
+use Rattle.row_machine.specs.machine.Homes.{is_on}
+use Rattle.row_machine.specs.machine.Changes.{applied, has_key, removal}
+use Rattle.row_machine.specs.machine.NewRows.{default_profile}
+use Rattle.row_machine.specs.machine.SettingRules.{tables_break}
+use Rattle.row_machine.specs.machine.StandingRules.{feature_keys, changes_features}
+use Rattle.row_machine.specs.machine.Plans.{project_change}
+use Rattle.row_machine.specs.opening.Opening.{has_all_features}
+use Rattle.row_machine.specs.facts.Whole.{IsWhole, AreNamed, HasDefaults}
 use Rattle.machine_laws.proofs.LinksFinds.{other-undropped}
 use Rattle.machine_laws.proofs.LinksKeys.{tells-project, tells-profile, good-rows, key-profile}
 use Rattle.machine_laws.proofs.DefaultsFeatures.{tables-accept, features-same}

@@ -18,13 +18,13 @@ use Rattle.operations.specs.declared.status.Status.TheVariants as status
 use Rattle.operations.specs.declared.status.Status.TheVariants.{Running, Cancelling}
 use Rattle.operations.specs.Kept.{Kept, has_number, live_at, kept_at, ends}
 use Rattle.records.specs.declared.notices.Untold.{Untold}
-use Rattle.row_machine.specs.Task.{Task}
-use Rattle.row_machine.specs.State.{State, Held}
-use Rattle.row_machine.specs.Changes.{applied}
-use Rattle.row_machine.specs.Claims.{share_of}
-use Rattle.row_machine.specs.Notices.{telling}
-use Rattle.row_machine.specs.Work.{is_held_by, held_share, converted, returned, entered, with_task, moved, handing_out, one_more_done, undone, ended, cancelled, failed, succeeded, success_changes, power_after, with_power_after, after_failure}
-use Rattle.row_machine.specs.Whole.{IsWhole, held_by}
+use Rattle.row_machine.specs.machine.Task.{Task}
+use Rattle.row_machine.specs.machine.State.{State, Held}
+use Rattle.row_machine.specs.machine.Changes.{applied}
+use Rattle.row_machine.specs.machine.Claims.{share_of}
+use Rattle.row_machine.specs.shown.Notices.{telling}
+use Rattle.row_machine.specs.machine.Work.{is_held_by, held_share, converted, returned, entered, with_task, moved, handing_out, one_more_done, undone, ended, cancelled, failed, succeeded, success_changes, power_after, with_power_after, after_failure}
+use Rattle.row_machine.specs.facts.Whole.{IsWhole, held_by}
 use Rattle.machine_laws.specs.Headline.{EndsWhole, SharesGoWhole}
 use Rattle.machine_laws.specs.Headline.EndsWhole.{became_its_objects, went_back}
 use Rattle.machine_laws.proofs.Base.{mem-live}
@@ -136,7 +136,7 @@ still s t o live gone same = false-true (sym (ap is_some gone) ∙ same ∙ ap i
 told-live : (s : State) (ns : List Untold) (n : ℕ) → live_at (telling ns s).operations n ≡ live_at s.operations n
 told-live s ns n = ap (λ k. live_at k n) (told-same ns s).operations
 
--- what is live behind each end, and behind an entry
+-- what is live after each end, and after an entry
 pub cancelled-left : (s : State) (n moment : ℕ) → (cancelled s n moment).operations.live ≡ dropped (has_number n) s.operations.live
 unfolding cancelled
 cancelled-left s n moment = refl

@@ -19,13 +19,14 @@ use Rattle.records.specs.declared.rows.Instance.{Instance}
 use Rattle.records.specs.declared.rows.Snapshot.{Snapshot}
 use Rattle.records.specs.declared.rows.Row.TheVariants as row
 use Rattle.row_codec.proofs.Fields.{both_true}
-use Rattle.row_machine.specs.Task.{Task}
-use Rattle.row_machine.specs.State.{State}
-use Rattle.row_machine.specs.Rows.{instance_named, snapshot_named}
-use Rattle.row_machine.specs.Homes.{home_of}
-use Rattle.row_machine.specs.StandingRules.{power_of, wrong_state, in_wrong_state, deed_asked, instance_busy}
-use Rattle.row_machine.specs.NewRows.{put_instance}
-use Rattle.row_machine.specs.Plans.{starts, plan_of, plan_put, plan_move, plan_delete, plan_restore, if_there, update, restoring, renaming, deletion, snapshot_deletion, acting, instance_target, snapshot_target}
+use Rattle.row_machine.specs.machine.Task.{Task}
+use Rattle.row_machine.specs.machine.State.{State}
+use Rattle.row_machine.specs.machine.Rows.{instance_named, snapshot_named}
+use Rattle.row_machine.specs.machine.Homes.{home_of}
+use Rattle.row_machine.specs.machine.StandingRules.{power_of, wrong_state, in_wrong_state, deed_asked, instance_busy}
+use Rattle.row_machine.specs.machine.NewRows.{put_instance}
+use Rattle.row_machine.specs.machine.Plans.{starts, plan_of, plan_put, plan_move, plan_delete, plan_restore, if_there, instance_target, snapshot_target}
+use Rattle.row_machine.specs.machine.Tasks.{update, restoring, renaming, deletion, snapshot_deletion, acting}
 use Rattle.machine_laws.proofs.Cases.{IsAccepted, Begins, IsNew, IsSameInstance, Allows}
 use Rattle.machine_laws.proofs.Cases.Begins.{updates, restores, renames, deletes, acts, unsnaps}
 use Rattle.machine_laws.proofs.Found.{there-is, instance-found, snapshot-found}

@@ -8,20 +8,20 @@ use Rattle.expansion.specs.Layers.{expanded}
 use Rattle.records.specs.declared.rows.Project.{Project}
 use Rattle.records.specs.declared.rows.Profile.{Profile}
 use Rattle.records.specs.declared.rows.Instance.{Instance}
-use Rattle.row_machine.specs.State.{State}
-use Rattle.row_machine.specs.Rows.{profile_named}
-use Rattle.row_machine.specs.Homes.{home_of}
-use Rattle.row_machine.specs.Expansions.{layer_of, own_layer, layers_by, expanded_of}
-use Rattle.row_machine.specs.Claims.{amounts_of_instance}
-use Rattle.row_machine.specs.SettingRules.{root_missing, is_one}
-use Rattle.row_machine.specs.LimitRules.{instance_uncounted, uncounted}
+use Rattle.row_machine.specs.machine.State.{State}
+use Rattle.row_machine.specs.machine.Rows.{profile_named}
+use Rattle.row_machine.specs.machine.Homes.{home_of}
+use Rattle.row_machine.specs.machine.Expansions.{layer_of, own_layer, layers_by, expanded_of}
+use Rattle.row_machine.specs.machine.Claims.{amounts_of_instance}
+use Rattle.row_machine.specs.machine.SettingRules.{root_missing, is_one}
+use Rattle.row_machine.specs.machine.LimitRules.{instance_uncounted, uncounted}
 use Rattle.project_limits.specs.Instance.{instance_amounts}
 use Rattle.project_limits.specs.Limits.{limits_of}
 use Rattle.project_limits.specs.Countable.{first_uncounted}
 use Rattle.config_lists.specs.Devices.{root_of}
-use Rattle.row_machine.specs.Refusals.{on_name}
+use Rattle.row_machine.specs.machine.Refusals.{on_name}
 use Rattle.records.specs.declared.refusals.Rule.TheVariants as rule
-use Rattle.row_machine.specs.PolicyRules.{forbids_instance, forbids, subject_of}
+use Rattle.row_machine.specs.machine.PolicyRules.{forbids_instance, forbids, subject_of}
 
 -- ---- one instance
 

@@ -20,11 +20,11 @@ use Rattle.row_codec.specs.Rows.{HasGoodKey}
 use Rattle.row_codec.specs.Spelling.{key_of, two_names}
 use Rattle.row_codec.proofs.Fields.{both_true}
 use Rattle.row_codec.proofs.Names.{two_again}
-use Rattle.row_machine.specs.State.{State}
-use Rattle.row_machine.specs.Rows.{default_name, is_project, is_profile, project_named, profile_named, project_names, profile_names, texts_before}
-use Rattle.row_machine.specs.Homes.{home_of, has_feature, is_on}
-use Rattle.row_machine.specs.Changes.{has_key, with_row, without_row}
-use Rattle.row_machine.specs.Holders.{names_profile}
+use Rattle.row_machine.specs.machine.State.{State}
+use Rattle.row_machine.specs.machine.Rows.{default_name, is_project, is_profile, project_named, profile_named, project_names, profile_names, texts_before}
+use Rattle.row_machine.specs.machine.Homes.{home_of, has_feature, is_on}
+use Rattle.row_machine.specs.machine.Changes.{has_key, with_row, without_row}
+use Rattle.row_machine.specs.machine.Holders.{names_profile}
 use Rattle.machine_laws.proofs.Expansions.{home_in, IsAlike}
 
 -- ---- tests on names

@@ -17,15 +17,15 @@ use Rattle.estate_rules.specs.Names.{is_object_name}
 use Rattle.plain_lists.proofs.Elements.{Each-left}
 use Rattle.row_codec.specs.Spelling.{two_names}
 use Rattle.row_machine.specs.declared.changes.RowChange.{RowChange}
-use Rattle.row_machine.specs.State.{State}
-use Rattle.row_machine.specs.Rows.{default_name, is_project, is_profile, project_named, project_names, texts_before, with_project}
-use Rattle.row_machine.specs.Homes.{home_of, is_on}
-use Rattle.row_machine.specs.Changes.{has_key, with_row, without_row, applied, rows_put, removal}
-use Rattle.row_machine.specs.Claims.{judged_instances}
-use Rattle.row_machine.specs.Holders.{names_profile, holder_of}
-use Rattle.row_machine.specs.NewRows.{default_profile}
-use Rattle.row_machine.specs.Plans.{put_all, moved_row, project_creation, project_change, project_rename, project_deletion, own_profile}
-use Rattle.row_machine.specs.Whole.{IsWhole, claims_of}
+use Rattle.row_machine.specs.machine.State.{State}
+use Rattle.row_machine.specs.machine.Rows.{default_name, is_project, is_profile, project_named, project_names, texts_before, with_project}
+use Rattle.row_machine.specs.machine.Homes.{home_of, is_on}
+use Rattle.row_machine.specs.machine.Changes.{has_key, with_row, without_row, applied, rows_put, removal}
+use Rattle.row_machine.specs.machine.Claims.{judged_instances}
+use Rattle.row_machine.specs.machine.Holders.{names_profile, holder_of}
+use Rattle.row_machine.specs.machine.NewRows.{default_profile}
+use Rattle.row_machine.specs.machine.Plans.{put_all, moved_row, project_creation, project_change, project_rename, project_deletion, own_profile}
+use Rattle.row_machine.specs.facts.Whole.{IsWhole, claims_of}
 use Rattle.machine_laws.proofs.Expansions.{home_in, IsAlike}
 use Rattle.machine_laws.proofs.ExpansionsApart.{AreApart, apart-both, apart-project, apart-profile, apart-no_project, apart-no_profile, apart-alike, not-named, profile-key}
 use Rattle.machine_laws.proofs.Found.{profile-found}

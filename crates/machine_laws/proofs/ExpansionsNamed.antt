@@ -21,16 +21,16 @@ use Rattle.records.specs.declared.rows.Instance.{Instance}
 use Rattle.records.specs.declared.rows.Row.{Row}
 use Rattle.records.specs.declared.rows.Row.TheVariants as row
 use Rattle.row_codec.proofs.Fields.{both_true}
-use Rattle.row_machine.specs.Task.{Task}
-use Rattle.row_machine.specs.State.{State}
-use Rattle.row_machine.specs.Rows.{default_name, project_named, profile_named}
-use Rattle.row_machine.specs.Claims.{of_live, claimed_instance, judged_instances, replaced_instance}
-use Rattle.row_machine.specs.Links.{target_of}
-use Rattle.row_machine.specs.Holders.{names_profile, claim_rows, holder_of, first_user_of, user_link}
-use Rattle.row_machine.specs.SettingRules.{profile_missing}
-use Rattle.row_machine.specs.StandingRules.{is_occupied}
-use Rattle.row_machine.specs.Opening.{has_all_features}
-use Rattle.row_machine.specs.Whole.{IsWhole}
+use Rattle.row_machine.specs.machine.Task.{Task}
+use Rattle.row_machine.specs.machine.State.{State}
+use Rattle.row_machine.specs.machine.Rows.{default_name, project_named, profile_named}
+use Rattle.row_machine.specs.machine.Claims.{of_live, claimed_instance, judged_instances, replaced_instance}
+use Rattle.row_machine.specs.shown.Links.{target_of}
+use Rattle.row_machine.specs.machine.Holders.{names_profile, claim_rows, holder_of, first_user_of, user_link}
+use Rattle.row_machine.specs.machine.SettingRules.{profile_missing}
+use Rattle.row_machine.specs.machine.StandingRules.{is_occupied}
+use Rattle.row_machine.specs.opening.Opening.{has_all_features}
+use Rattle.row_machine.specs.facts.Whole.{IsWhole}
 use Rattle.machine_laws.proofs.Expansions.{home_in}
 use Rattle.machine_laws.proofs.NamesRows.{each-row}
 

@@ -14,17 +14,17 @@ use Rattle.records.specs.declared.rows.Row.{Row}
 use Rattle.records.specs.declared.rows.Row.TheVariants as row
 use Rattle.option_tables.specs.Checks.{project_fault}
 use Rattle.row_machine.specs.declared.changes.RowChange.{RowChange}
-use Rattle.row_machine.specs.State.{State}
-use Rattle.row_machine.specs.Rows.{default_name, is_profile, project_named, profile_named}
-use Rattle.row_machine.specs.Homes.{is_on}
-use Rattle.row_machine.specs.Changes.{applied, rows_put}
-use Rattle.row_machine.specs.Claims.{judged_instances}
-use Rattle.row_machine.specs.Holders.{names_profile, holder_of, claim_rows}
-use Rattle.row_machine.specs.StandingRules.{changes_features, is_occupied}
-use Rattle.row_machine.specs.SettingRules.{settings_broken, row_settings, tables_break}
-use Rattle.row_machine.specs.Plans.{project_change, put_all}
-use Rattle.row_machine.specs.Task.{Task}
-use Rattle.row_machine.specs.Whole.{IsWhole}
+use Rattle.row_machine.specs.machine.State.{State}
+use Rattle.row_machine.specs.machine.Rows.{default_name, is_profile, project_named, profile_named}
+use Rattle.row_machine.specs.machine.Homes.{is_on}
+use Rattle.row_machine.specs.machine.Changes.{applied, rows_put}
+use Rattle.row_machine.specs.machine.Claims.{judged_instances}
+use Rattle.row_machine.specs.machine.Holders.{names_profile, holder_of, claim_rows}
+use Rattle.row_machine.specs.machine.StandingRules.{changes_features, is_occupied}
+use Rattle.row_machine.specs.machine.SettingRules.{settings_broken, row_settings, tables_break}
+use Rattle.row_machine.specs.machine.Plans.{project_change, put_all}
+use Rattle.row_machine.specs.machine.Task.{Task}
+use Rattle.row_machine.specs.facts.Whole.{IsWhole}
 use Rattle.machine_laws.proofs.Cases.{AtOnce, IsNotDefault, makes_project, changes_project, renames_project, deletes_project, makes_profile, changes_profile, renames_profile, deletes_profile, makes_network, changes_network, renames_network, deletes_network, makes_pool, changes_pool, deletes_pool, makes_volume, changes_volume, renames_volume, deletes_volume, changes_instance}
 use Rattle.machine_laws.proofs.DefaultsFeatures.{tables-accept, features-same}
 use Rattle.machine_laws.proofs.Expansions.{IsAlike}

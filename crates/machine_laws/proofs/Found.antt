@@ -12,7 +12,7 @@ use Rattle.records.specs.declared.rows.Volume.{Volume}
 use Rattle.records.specs.declared.rows.Instance.{Instance}
 use Rattle.records.specs.declared.rows.Snapshot.{Snapshot}
 use Rattle.row_codec.proofs.Fields.{both_true}
-use Rattle.row_machine.specs.Rows.{is_project, is_profile, is_network, is_pool, is_volume, is_instance, is_snapshot, project_named, profile_named, network_named, pool_named, volume_named, instance_named, snapshot_named}
+use Rattle.row_machine.specs.machine.Rows.{is_project, is_profile, is_network, is_pool, is_volume, is_instance, is_snapshot, project_named, profile_named, network_named, pool_named, volume_named, instance_named, snapshot_named}
 
 -- ---- options
 

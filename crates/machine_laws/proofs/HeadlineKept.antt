@@ -1,10 +1,10 @@
 -- The promise holds over every list of events.
 use Rattle.std.proofs.Common.{List, [], ◌∷◌}
 use Rattle.plain_lists.proofs.Elements.{Each-head, Each-tail}
-use Rattle.row_machine.specs.Whole.{IsWhole}
+use Rattle.row_machine.specs.facts.Whole.{IsWhole}
 use Rattle.row_machine.specs.declared.events.Event.{Event}
-use Rattle.row_machine.specs.State.{State}
-use Rattle.row_machine.specs.Step.{Outcome}
+use Rattle.row_machine.specs.machine.State.{State}
+use Rattle.row_machine.specs.machine.Step.{Outcome}
 use Rattle.row_machine.proofs.Running.{ends-once}
 use Rattle.machine_laws.specs.Possible.{ArePossible}
 use Rattle.machine_laws.specs.Sorted.{AreSortedEvents, AreSortedRows}

@@ -23,15 +23,15 @@ use Rattle.project_limits.specs.declared.sums.SumKey.{SumKey}
 use Rattle.project_limits.specs.Limits.{limits_of}
 use Rattle.plain_lists.proofs.FirstLemmas.{not_mapped}
 use Rattle.records.specs.declared.refusals.Rule.TheVariants as rule
-use Rattle.row_machine.specs.LimitRules.{uncounted, sum_text, instance_uncounted, volume_uncounts}
+use Rattle.row_machine.specs.machine.LimitRules.{uncounted, sum_text, instance_uncounted, volume_uncounts}
 use Rattle.records.specs.declared.rows.Project.{Project}
 use Rattle.records.specs.declared.rows.Instance.{Instance}
-use Rattle.row_machine.specs.State.{State}
-use Rattle.row_machine.specs.Expansions.{expanded_of}
-use Rattle.row_machine.specs.Usage.{used, usage_of}
-use Rattle.row_machine.specs.Refusals.{on_key_of}
-use Rattle.row_machine.specs.PolicyRules.{forbids, forbids_profile, forbids_instance, subject_of, policy_rule, forbidden_key}
-use Rattle.row_machine.specs.Whole.{IsWhole, IsWithin, IsClean}
+use Rattle.row_machine.specs.machine.State.{State}
+use Rattle.row_machine.specs.machine.Expansions.{expanded_of}
+use Rattle.row_machine.specs.machine.Usage.{used, usage_of}
+use Rattle.row_machine.specs.machine.Refusals.{on_key_of}
+use Rattle.row_machine.specs.machine.PolicyRules.{forbids, forbids_profile, forbids_instance, subject_of, policy_rule, forbidden_key}
+use Rattle.row_machine.specs.facts.Whole.{IsWhole, IsWithin, IsClean}
 use Rattle.machine_laws.specs.Sorted.{AreSortedRows}
 use Rattle.machine_laws.proofs.SortedOpening.{layers-sorted}
 use Rattle.machine_laws.specs.Headline.{KeepsLimits, KeepsPolicy, HasItsLayers, StandsAsPromised, layers_of}

@@ -4,18 +4,18 @@ use Rattle.std.specs.Option.{option_to_list}
 use Rattle.plain_lists.proofs.FirstLemmas.{none_both}
 use Rattle.records.specs.declared.commands.Command.{Command}
 use Rattle.row_machine.specs.declared.changes.RowChange.{RowChange}
-use Rattle.row_machine.specs.Task.{Task}
-use Rattle.row_machine.specs.State.{State}
-use Rattle.row_machine.specs.Changes.{applied, rows_put}
-use Rattle.row_machine.specs.Work.{claiming}
-use Rattle.row_machine.specs.NameRules.{names_broken}
-use Rattle.row_machine.specs.StandingRules.{standing_broken}
-use Rattle.row_machine.specs.SettingRules.{settings_broken}
-use Rattle.row_machine.specs.PolicyRules.{policy_broken, snapshot_blocked}
-use Rattle.row_machine.specs.LimitRules.{counts_broken, limits_broken}
-use Rattle.row_machine.specs.TableRules.{entry_broken, tables_broken}
-use Rattle.row_machine.specs.Plans.{Plan, changes, starts, plan_of}
-use Rattle.row_machine.specs.Rules.{broken, plan_broken, after_broken}
+use Rattle.row_machine.specs.machine.Task.{Task}
+use Rattle.row_machine.specs.machine.State.{State}
+use Rattle.row_machine.specs.machine.Changes.{applied, rows_put}
+use Rattle.row_machine.specs.machine.Work.{claiming}
+use Rattle.row_machine.specs.machine.Rules.{names_broken}
+use Rattle.row_machine.specs.machine.Rules.{standing_broken}
+use Rattle.row_machine.specs.machine.SettingRules.{settings_broken}
+use Rattle.row_machine.specs.machine.PolicyRules.{policy_broken, snapshot_blocked}
+use Rattle.row_machine.specs.machine.LimitRules.{counts_broken, limits_broken}
+use Rattle.row_machine.specs.machine.TableRules.{entry_broken, tables_broken}
+use Rattle.row_machine.specs.machine.Plans.{Plan, changes, starts, plan_of}
+use Rattle.row_machine.specs.machine.Rules.{broken, plan_broken, after_broken}
 use Rattle.machine_laws.proofs.Cases.{IsAccepted, IsJudged, IsEntryJudged}
 
 -- the three groups of rules, the last by the plan

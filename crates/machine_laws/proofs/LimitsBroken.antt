@@ -24,13 +24,13 @@ use Rattle.records.specs.declared.rows.Project.{Project}
 use Rattle.records.specs.declared.rows.Profile.{Profile}
 use Rattle.records.specs.declared.rows.Volume.{Volume}
 use Rattle.records.specs.declared.rows.Instance.{Instance}
-use Rattle.row_machine.specs.Task.{Task}
-use Rattle.row_machine.specs.State.{State}
-use Rattle.row_machine.specs.Claims.{of_live, claimed_instance, claimed_volume, judged_instances, judged_volumes}
-use Rattle.row_machine.specs.Usage.{used, networks_of}
-use Rattle.row_machine.specs.LimitRules.{exceeds, over_refusal, part_exceeds, networks_exceed, limits_broken, instance_uncounted, volume_uncounts, claim_uncounted, project_uncounted, counts_broken}
-use Rattle.row_machine.specs.PolicyRules.{forbids_profile, forbids_instance, project_forbids, policy_broken, subject_of}
-use Rattle.row_machine.specs.Whole.{AreWithin}
+use Rattle.row_machine.specs.machine.Task.{Task}
+use Rattle.row_machine.specs.machine.State.{State}
+use Rattle.row_machine.specs.machine.Claims.{of_live, claimed_instance, claimed_volume, judged_instances, judged_volumes}
+use Rattle.row_machine.specs.machine.Usage.{used, networks_of}
+use Rattle.row_machine.specs.machine.LimitRules.{exceeds, over_refusal, part_exceeds, networks_exceed, limits_broken, instance_uncounted, volume_uncounts, claim_uncounted, project_uncounted, counts_broken}
+use Rattle.row_machine.specs.machine.PolicyRules.{forbids_profile, forbids_instance, project_forbids, policy_broken, subject_of}
+use Rattle.row_machine.specs.facts.Whole.{AreWithin}
 use Rattle.machine_laws.proofs.LimitsForbidden.{rule_numbers, is_rule, forbids-none, rule-or_not}
 
 -- ---- lists

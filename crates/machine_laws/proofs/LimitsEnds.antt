@@ -26,15 +26,16 @@ use Rattle.records.specs.declared.rows.Instance.{Instance}
 use Rattle.records.specs.declared.rows.Row.{Row}
 use Rattle.records.specs.declared.rows.Row.TheVariants as row
 use Rattle.row_codec.specs.Spelling.{two_names}
-use Rattle.row_machine.specs.Task.{Task}
-use Rattle.row_machine.specs.State.{State}
-use Rattle.row_machine.specs.Rows.{is_instance, is_volume, instance_named, instance_names, volume_names, with_instance, with_volume, texts_before}
-use Rattle.row_machine.specs.Changes.{has_key}
-use Rattle.row_machine.specs.Expansions.{expanded_of}
-use Rattle.row_machine.specs.Claims.{claimed_instance, replaced_instance, amounts_of_instance, amounts_of, share_of, share_over, project_of_row}
-use Rattle.row_machine.specs.Links.{target_of}
-use Rattle.row_machine.specs.Usage.{used, counted}
-use Rattle.row_machine.specs.Whole.{IsWhole, IsByDeed, IsPlaced, IsRenamed, claim_kind, replaces_target}
+use Rattle.row_machine.specs.machine.Task.{Task}
+use Rattle.row_machine.specs.machine.State.{State}
+use Rattle.row_machine.specs.machine.Rows.{is_instance, is_volume, instance_named, instance_names, volume_names, with_instance, with_volume, texts_before}
+use Rattle.row_machine.specs.machine.Changes.{has_key}
+use Rattle.row_machine.specs.machine.Expansions.{expanded_of}
+use Rattle.row_machine.specs.machine.Claims.{claimed_instance, replaced_instance, amounts_of_instance, amounts_of, share_of, share_over, project_of_row}
+use Rattle.row_machine.specs.shown.Links.{target_of}
+use Rattle.row_machine.specs.machine.Usage.{used, counted}
+use Rattle.row_machine.specs.facts.Whole.{IsWhole, IsByDeed, IsPlaced, IsRenamed}
+use Rattle.row_machine.specs.machine.Deeds.{claim_kind, replaces_target}
 use Rattle.machine_laws.proofs.Found.{instance-found, some-is}
 use Rattle.machine_laws.proofs.LimitsRows.{Tables, tables, IsDone, stays, puts_volume, puts_instance, drops_instance, renames_instance_to, renames_none}
 use Rattle.machine_laws.proofs.LimitsSums.{instance_part, volume_part, claim_part, used-split, sum-instead, sum-more, sum-put, sum-dropped}

@@ -13,11 +13,11 @@ use Rattle.records.specs.declared.rows.Volume.{Volume}
 use Rattle.records.specs.declared.rows.Instance.{Instance}
 use Rattle.records.specs.declared.rows.Row.TheVariants as row
 use Rattle.row_codec.specs.Spelling.{two_names}
-use Rattle.row_machine.specs.Task.{Task}
-use Rattle.row_machine.specs.State.{State}
-use Rattle.row_machine.specs.Rows.{is_instance, is_volume, instance_names, volume_names, texts_before}
-use Rattle.row_machine.specs.Changes.{has_key}
-use Rattle.row_machine.specs.Claims.{of_live, claimed_instance, claimed_volume, judged_instances, judged_volumes}
+use Rattle.row_machine.specs.machine.Task.{Task}
+use Rattle.row_machine.specs.machine.State.{State}
+use Rattle.row_machine.specs.machine.Rows.{is_instance, is_volume, instance_names, volume_names, texts_before}
+use Rattle.row_machine.specs.machine.Changes.{has_key}
+use Rattle.row_machine.specs.machine.Claims.{of_live, claimed_instance, claimed_volume, judged_instances, judged_volumes}
 use Rattle.machine_laws.proofs.NamesLists.{Mem-replaced}
 use Rattle.machine_laws.proofs.LimitsRows.{Tables, tables, IsDone, stays, puts_volume, puts_instance, drops_instance, renames_instance_to, renames_none}
 

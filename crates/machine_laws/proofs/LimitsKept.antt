@@ -14,16 +14,16 @@ use Rattle.operations.specs.Kept as kept
 use Rattle.records.specs.declared.commands.Command.{Command}
 use Rattle.records.specs.declared.notices.Untold.{Untold}
 use Rattle.row_machine.specs.declared.changes.RowChange.{RowChange}
-use Rattle.row_machine.specs.Task.{Task}
-use Rattle.row_machine.specs.State.{State}
-use Rattle.row_machine.specs.Changes.{applied}
-use Rattle.row_machine.specs.Claims.{share_of, amounts_of_instance, judged_instances, judged_volumes}
-use Rattle.row_machine.specs.Usage.{loads, used}
-use Rattle.row_machine.specs.Plans.{changes, starts}
-use Rattle.row_machine.specs.Notices.{telling}
-use Rattle.row_machine.specs.Step.{first_pending}
-use Rattle.row_machine.specs.Work.{claiming, converted, returned, entered, with_task, moved, handing_out, one_more_done, undone, cancelled, failed, succeeded, ended, success_changes, with_power_after, power_after, after_failure}
-use Rattle.row_machine.specs.Whole.{IsWhole, AreWithin}
+use Rattle.row_machine.specs.machine.Task.{Task}
+use Rattle.row_machine.specs.machine.State.{State}
+use Rattle.row_machine.specs.machine.Changes.{applied}
+use Rattle.row_machine.specs.machine.Claims.{share_of, amounts_of_instance, judged_instances, judged_volumes}
+use Rattle.row_machine.specs.machine.Usage.{loads, used}
+use Rattle.row_machine.specs.machine.Plans.{changes, starts}
+use Rattle.row_machine.specs.shown.Notices.{telling}
+use Rattle.row_machine.specs.machine.Step.{first_pending}
+use Rattle.row_machine.specs.machine.Work.{claiming, converted, returned, entered, with_task, moved, handing_out, one_more_done, undone, cancelled, failed, succeeded, ended, success_changes, with_power_after, power_after, after_failure}
+use Rattle.row_machine.specs.facts.Whole.{IsWhole, AreWithin}
 use Rattle.machine_laws.proofs.Cases.{IsAccepted, IsLiveAs}
 use Rattle.machine_laws.proofs.Judged.{judged, entry_judged}
 use Rattle.machine_laws.proofs.BooksSteps.{applied-same, power-keeps, failure-keeps, telling-keeps}

@@ -12,11 +12,11 @@ use Rattle.records.specs.declared.rows.Profile.{Profile}
 use Rattle.records.specs.declared.rows.Network.{Network}
 use Rattle.records.specs.declared.rows.Volume.{Volume}
 use Rattle.records.specs.declared.rows.Instance.{Instance}
-use Rattle.row_machine.specs.State.{State}
-use Rattle.row_machine.specs.Claims.{judged_instances, judged_volumes}
-use Rattle.row_machine.specs.Usage.{used, networks_of}
-use Rattle.row_machine.specs.PolicyRules.{forbids_profile}
-use Rattle.row_machine.specs.Whole.{IsWithin, IsClean, AreWithin}
+use Rattle.row_machine.specs.machine.State.{State}
+use Rattle.row_machine.specs.machine.Claims.{judged_instances, judged_volumes}
+use Rattle.row_machine.specs.machine.Usage.{used, networks_of}
+use Rattle.row_machine.specs.machine.PolicyRules.{forbids_profile}
+use Rattle.row_machine.specs.facts.Whole.{IsWithin, IsClean, AreWithin}
 use Rattle.machine_laws.proofs.Expansions.{uncounted-alike, forbids-alike}
 use Rattle.machine_laws.proofs.ExpansionsRows.{alike-rows}
 

@@ -18,12 +18,12 @@ use Rattle.records.specs.declared.rows.Row.TheVariants as row
 use Rattle.row_codec.specs.Spelling.{two_names}
 use Rattle.row_machine.specs.declared.changes.RowChange.{RowChange}
 use Rattle.row_machine.specs.declared.changes.RowChange.TheVariants as change
-use Rattle.row_machine.specs.Task.{Task}
-use Rattle.row_machine.specs.State.{State}
-use Rattle.row_machine.specs.Rows.{with_instance, with_volume, instance_named}
-use Rattle.row_machine.specs.Changes.{has_key, with_row, without_row, applied, removal}
-use Rattle.row_machine.specs.Links.{target_of}
-use Rattle.row_machine.specs.Whole.{claim_kind, keeps_name, replaces_target, target_kind}
+use Rattle.row_machine.specs.machine.Task.{Task}
+use Rattle.row_machine.specs.machine.State.{State}
+use Rattle.row_machine.specs.machine.Rows.{with_instance, with_volume, instance_named}
+use Rattle.row_machine.specs.machine.Changes.{has_key, with_row, without_row, applied, removal}
+use Rattle.row_machine.specs.shown.Links.{target_of}
+use Rattle.row_machine.specs.machine.Deeds.{claim_kind, keeps_name, replaces_target, target_kind}
 
 -- the rows that limits and policy read
 pub record Tables : Type 0 where

@@ -6,12 +6,12 @@ use Rattle.plain_lists.specs.Members.{Mem}
 use Rattle.plain_lists.specs.Edits.{dropped}
 use Rattle.operations.specs.declared.operation.Operation.{Operation}
 use Rattle.operations.specs.Kept.{Kept, has_number, live_at}
-use Rattle.row_machine.specs.Task.{Task}
+use Rattle.row_machine.specs.machine.Task.{Task}
 use Rattle.records.specs.declared.notices.Notice.{Notice}
-use Rattle.row_machine.specs.State.{State, Standing}
-use Rattle.row_machine.specs.Claims.{claimed_instance, claimed_volume, judged_instances, judged_volumes, share_of, amounts_of_instance}
-use Rattle.row_machine.specs.Usage.{Load, loads, used, claim_load, counted, instance_load, volume_load}
-use Rattle.row_machine.specs.Whole.{IsWhole, AreWithin}
+use Rattle.row_machine.specs.machine.State.{State, Standing}
+use Rattle.row_machine.specs.machine.Claims.{claimed_instance, claimed_volume, judged_instances, judged_volumes, share_of, amounts_of_instance}
+use Rattle.row_machine.specs.machine.Usage.{Load, loads, used, claim_load, counted, instance_load, volume_load}
+use Rattle.row_machine.specs.facts.Whole.{IsWhole, AreWithin}
 use Rattle.machine_laws.proofs.LimitsRows.{Tables, tables, IsDone}
 use Rattle.machine_laws.proofs.LimitsLess.{IsLess, within-less}
 use Rattle.machine_laws.proofs.LimitsEnds.{used-done, used-returned}

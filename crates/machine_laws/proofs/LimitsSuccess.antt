@@ -13,15 +13,16 @@ use Rattle.records.specs.declared.rows.Snapshot.{Snapshot}
 use Rattle.records.specs.declared.rows.Row.{Row}
 use Rattle.records.specs.declared.rows.Row.TheVariants as row
 use Rattle.row_machine.specs.declared.changes.RowChange.TheVariants as change
-use Rattle.row_machine.specs.Task.{Task}
-use Rattle.row_machine.specs.State.{State}
-use Rattle.row_machine.specs.Rows.{snapshot_named}
-use Rattle.row_machine.specs.Asked.{snapshots_of}
-use Rattle.row_machine.specs.Changes.{applied}
-use Rattle.row_machine.specs.Claims.{claimed_instance}
-use Rattle.row_machine.specs.Links.{target_of}
-use Rattle.row_machine.specs.Work.{success_changes, with_power_after, removes_instance}
-use Rattle.row_machine.specs.Whole.{IsByDeed, claim_kind}
+use Rattle.row_machine.specs.machine.Task.{Task}
+use Rattle.row_machine.specs.machine.State.{State}
+use Rattle.row_machine.specs.machine.Rows.{snapshot_named}
+use Rattle.row_machine.specs.machine.Asked.{snapshots_of}
+use Rattle.row_machine.specs.machine.Changes.{applied}
+use Rattle.row_machine.specs.machine.Claims.{claimed_instance}
+use Rattle.row_machine.specs.shown.Links.{target_of}
+use Rattle.row_machine.specs.machine.Work.{success_changes, with_power_after, removes_instance}
+use Rattle.row_machine.specs.facts.Whole.{IsByDeed}
+use Rattle.row_machine.specs.machine.Deeds.{claim_kind}
 use Rattle.machine_laws.proofs.SharesCores.{map-map}
 use Rattle.machine_laws.proofs.LimitsRows.{tables, IsDone, stays, puts, drops, renames, unsnapped}
 

@@ -13,10 +13,10 @@ use Rattle.size_values.specs.declared.amounts.Part.{Part}
 use Rattle.operations.specs.declared.operation.Operation.{Operation}
 use Rattle.records.specs.declared.rows.Volume.{Volume}
 use Rattle.records.specs.declared.rows.Instance.{Instance}
-use Rattle.row_machine.specs.Task.{Task}
-use Rattle.row_machine.specs.State.{State}
-use Rattle.row_machine.specs.Claims.{of_live}
-use Rattle.row_machine.specs.Usage.{loads, used, counted, instance_load, volume_load, claim_load}
+use Rattle.row_machine.specs.machine.Task.{Task}
+use Rattle.row_machine.specs.machine.State.{State}
+use Rattle.row_machine.specs.machine.Claims.{of_live}
+use Rattle.row_machine.specs.machine.Usage.{loads, used, counted, instance_load, volume_load, claim_load}
 
 -- ---- lists
 

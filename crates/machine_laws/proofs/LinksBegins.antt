@@ -11,16 +11,17 @@ use Rattle.records.specs.declared.rows.Snapshot.{Snapshot}
 use Rattle.records.specs.declared.rows.Row.{Row}
 use Rattle.records.specs.declared.rows.Row.TheVariants as row
 use Rattle.records.specs.declared.commands.Target.{Target}
-use Rattle.row_machine.specs.Task.{Task}
-use Rattle.row_machine.specs.State.{State}
-use Rattle.row_machine.specs.Rows.{default_name, is_instance, is_snapshot, project_named, pool_named, volume_named, snapshot_named}
-use Rattle.row_machine.specs.Homes.{home_of}
-use Rattle.row_machine.specs.Claims.{of_live, project_of_row, claimed_instance, claimed_snapshot}
-use Rattle.row_machine.specs.Links.{target_of}
-use Rattle.row_machine.specs.NewRows.{copied_volume}
-use Rattle.row_machine.specs.NameRules.{is_there}
-use Rattle.row_machine.specs.Opening.{homeless}
-use Rattle.row_machine.specs.Whole.{IsPlaced, IsRenamed, AreLinked, has_target, instance_there}
+use Rattle.row_machine.specs.machine.Task.{Task}
+use Rattle.row_machine.specs.machine.State.{State}
+use Rattle.row_machine.specs.machine.Rows.{default_name, is_instance, is_snapshot, project_named, pool_named, volume_named, snapshot_named}
+use Rattle.row_machine.specs.machine.Homes.{home_of}
+use Rattle.row_machine.specs.machine.Claims.{of_live, project_of_row, claimed_instance, claimed_snapshot}
+use Rattle.row_machine.specs.shown.Links.{target_of}
+use Rattle.row_machine.specs.machine.NewRows.{copied_volume}
+use Rattle.row_machine.specs.machine.NameRules.{is_there}
+use Rattle.row_machine.specs.opening.Opening.{homeless}
+use Rattle.row_machine.specs.facts.Whole.{IsPlaced, IsRenamed, AreLinked, instance_there}
+use Rattle.row_machine.specs.machine.Deeds.{has_target}
 use Rattle.machine_laws.proofs.Cases.{Begins, IsIdle, volume_target}
 use Rattle.machine_laws.proofs.Cases.Begins.{creates, copies_instance, copies_snapshot, copies_volume, updates, restores, renames, deletes, acts, snaps, unsnaps}
 use Rattle.machine_laws.proofs.Found.{some-is}

@@ -8,10 +8,10 @@ use Rattle.plain_lists.specs.Edits.{dropped}
 use Rattle.plain_lists.proofs.EditLemmas.{dropped-Puts}
 use Rattle.operations.specs.declared.operation.Operation.{Operation}
 use Rattle.operations.specs.Kept.{has_number, live_at}
-use Rattle.row_machine.specs.Task.{Task}
-use Rattle.row_machine.specs.State.{State}
-use Rattle.row_machine.specs.Holders.{keeps_busy}
-use Rattle.row_machine.specs.Whole.{IsWhole}
+use Rattle.row_machine.specs.machine.Task.{Task}
+use Rattle.row_machine.specs.machine.State.{State}
+use Rattle.row_machine.specs.machine.Holders.{keeps_busy}
+use Rattle.row_machine.specs.facts.Whole.{IsWhole}
 use Rattle.machine_laws.proofs.LinksUnused.{Mem-filter}
 use Rattle.machine_laws.proofs.ExpansionsApart.{fails-by}
 

@@ -7,9 +7,9 @@ use Rattle.records.specs.declared.rows.Instance.{Instance}
 use Rattle.records.specs.declared.rows.Snapshot.{Snapshot}
 use Rattle.records.specs.declared.rows.Row.{Row}
 use Rattle.records.specs.declared.rows.Row.TheVariants as row
-use Rattle.row_machine.specs.Task.{Task}
-use Rattle.row_machine.specs.Links.{target_of}
-use Rattle.row_machine.specs.Claims.{claimed_instance, claimed_volume, claimed_snapshot}
+use Rattle.row_machine.specs.machine.Task.{Task}
+use Rattle.row_machine.specs.shown.Links.{target_of}
+use Rattle.row_machine.specs.machine.Claims.{claimed_instance, claimed_volume, claimed_snapshot}
 use Rattle.machine_laws.proofs.Found.{some-is}
 
 pub claim-instance : (task : Task) (i : Instance) → claimed_instance task ≡ Some i

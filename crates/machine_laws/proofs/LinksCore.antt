@@ -7,11 +7,11 @@ use Rattle.plain_lists.proofs.Readings.{Mem-read, Mem-from_read}
 use Rattle.operations.specs.declared.operation.Operation.{Operation}
 use Rattle.operations.specs.Kept.{no_operations}
 use Rattle.records.specs.declared.rows.Instance.{Instance}
-use Rattle.row_machine.specs.Task.{Task}
-use Rattle.row_machine.specs.State.{State, empty_state}
-use Rattle.row_machine.specs.Claims.{of_live, claimed_instance, claimed_snapshot, judged_instances}
-use Rattle.row_machine.specs.SettingRules.{profile_missing, devices_miss}
-use Rattle.row_machine.specs.Whole.{IsLinked, IsPlaced, AreLinked}
+use Rattle.row_machine.specs.machine.Task.{Task}
+use Rattle.row_machine.specs.machine.State.{State, empty_state}
+use Rattle.row_machine.specs.machine.Claims.{of_live, claimed_instance, claimed_snapshot, judged_instances}
+use Rattle.row_machine.specs.machine.SettingRules.{profile_missing, devices_miss}
+use Rattle.row_machine.specs.facts.Whole.{IsLinked, IsPlaced, AreLinked}
 
 -- ---- rows and live operations alone
 

@@ -19,13 +19,13 @@ use Rattle.size_values.specs.declared.kinds.ObjectKind.TheVariants as kind
 use Rattle.records.specs.declared.rows.Instance.{Instance}
 use Rattle.records.specs.declared.refusals.Refusal.{Refusal}
 use Rattle.records.specs.declared.refusals.Rule.TheVariants as rule
-use Rattle.row_machine.specs.Refusals.{on_object}
-use Rattle.row_machine.specs.State.{State}
-use Rattle.row_machine.specs.Rows.{network_named, pool_named, volume_named, profile_named}
-use Rattle.row_machine.specs.Homes.{home_of}
-use Rattle.row_machine.specs.Expansions.{expanded_of}
-use Rattle.row_machine.specs.SettingRules.{network_missing, pool_missing, volume_missing, disk_misses, device_misses, devices_miss, profile_missing}
-use Rattle.row_machine.specs.Whole.{IsLinked}
+use Rattle.row_machine.specs.machine.Refusals.{on_object}
+use Rattle.row_machine.specs.machine.State.{State}
+use Rattle.row_machine.specs.machine.Rows.{network_named, pool_named, volume_named, profile_named}
+use Rattle.row_machine.specs.machine.Homes.{home_of}
+use Rattle.row_machine.specs.machine.Expansions.{expanded_of}
+use Rattle.row_machine.specs.machine.SettingRules.{network_missing, pool_missing, volume_missing, disk_misses, device_misses, devices_miss, profile_missing}
+use Rattle.row_machine.specs.facts.Whole.{IsLinked}
 use Rattle.machine_laws.proofs.Found.{not-none}
 use Rattle.machine_laws.proofs.Expansions.{IsAlike, home_in, expanded-alike}
 use Rattle.machine_laws.proofs.LinksHomes.{StaysHome}

@@ -17,15 +17,15 @@ use Rattle.records.specs.declared.rows.Volume.{Volume}
 use Rattle.records.specs.declared.rows.Instance.{Instance}
 use Rattle.records.specs.declared.rows.Snapshot.{Snapshot}
 use Rattle.records.specs.declared.rows.Row.TheVariants as row
-use Rattle.row_machine.specs.Task.{Task}
-use Rattle.row_machine.specs.State.{State}
-use Rattle.row_machine.specs.Rows.{default_name, is_instance, volume_named, instance_named}
-use Rattle.row_machine.specs.Expansions.{expanded_of}
-use Rattle.row_machine.specs.Claims.{claimed_instance, judged_instances}
-use Rattle.row_machine.specs.SettingRules.{devices_miss}
-use Rattle.row_machine.specs.StandingRules.{is_occupied}
-use Rattle.row_machine.specs.Opening.{homeless}
-use Rattle.row_machine.specs.Whole.{IsWhole, IsLinked, AreLinked}
+use Rattle.row_machine.specs.machine.Task.{Task}
+use Rattle.row_machine.specs.machine.State.{State}
+use Rattle.row_machine.specs.machine.Rows.{default_name, is_instance, volume_named, instance_named}
+use Rattle.row_machine.specs.machine.Expansions.{expanded_of}
+use Rattle.row_machine.specs.machine.Claims.{claimed_instance, judged_instances}
+use Rattle.row_machine.specs.machine.SettingRules.{devices_miss}
+use Rattle.row_machine.specs.machine.StandingRules.{is_occupied}
+use Rattle.row_machine.specs.opening.Opening.{homeless}
+use Rattle.row_machine.specs.facts.Whole.{IsWhole, IsLinked, AreLinked}
 use Rattle.machine_laws.proofs.Found.{there-is, instance-found}
 use Rattle.machine_laws.proofs.Expansions.{IsAlike}
 use Rattle.machine_laws.proofs.ExpansionsApart.{AreApart, apart-elsewhere}

@@ -13,12 +13,12 @@ use Rattle.records.specs.Forms.{are_profiles}
 use Rattle.records.specs.declared.rows.Instance.{Instance}
 use Rattle.records.specs.declared.rows.Snapshot.{Snapshot}
 use Rattle.records.specs.declared.rows.Row.TheVariants as row
-use Rattle.row_machine.specs.Task.{Task}
-use Rattle.row_machine.specs.State.{State}
-use Rattle.row_machine.specs.Claims.{of_live, claimed_instance, claimed_snapshot, judged_instances}
-use Rattle.row_machine.specs.SettingRules.{devices_miss, settings_broken}
-use Rattle.row_machine.specs.Work.{entered, claiming}
-use Rattle.row_machine.specs.Whole.{IsLinked, IsPlaced, AreLinked}
+use Rattle.row_machine.specs.machine.Task.{Task}
+use Rattle.row_machine.specs.machine.State.{State}
+use Rattle.row_machine.specs.machine.Claims.{of_live, claimed_instance, claimed_snapshot, judged_instances}
+use Rattle.row_machine.specs.machine.SettingRules.{devices_miss, settings_broken}
+use Rattle.row_machine.specs.machine.Work.{entered, claiming}
+use Rattle.row_machine.specs.facts.Whole.{IsLinked, IsPlaced, AreLinked}
 use Rattle.machine_laws.proofs.DefaultsSettled.{first-settled}
 use Rattle.machine_laws.proofs.LinksClaims.{claim-instance}
 use Rattle.machine_laws.proofs.LinksGuests.{instance-row_accepted}

@@ -17,15 +17,15 @@ use Rattle.records.specs.declared.rows.Row.TheVariants as row
 use Rattle.row_codec.specs.Spelling.{key_of}
 use Rattle.row_machine.specs.declared.changes.RowChange.{RowChange}
 use Rattle.row_machine.specs.declared.changes.RowChange.TheVariants as change
-use Rattle.row_machine.specs.State.{State}
-use Rattle.row_machine.specs.Rows.{default_name, is_project, is_profile, project_named, profile_named, project_names, profile_names, with_project, with_profile, texts_before}
-use Rattle.row_machine.specs.Homes.{is_on}
-use Rattle.row_machine.specs.Changes.{applied, has_key, rows_put, with_row}
-use Rattle.row_machine.specs.NewRows.{default_profile}
-use Rattle.row_machine.specs.SettingRules.{settings_broken, row_settings, tables_break, own_default, devices_miss}
-use Rattle.row_machine.specs.StandingRules.{feature_keys, changes_features, is_occupied}
-use Rattle.row_machine.specs.Plans.{project_change}
-use Rattle.row_machine.specs.Whole.{IsWhole, AreLinked}
+use Rattle.row_machine.specs.machine.State.{State}
+use Rattle.row_machine.specs.machine.Rows.{default_name, is_project, is_profile, project_named, profile_named, project_names, profile_names, with_project, with_profile, texts_before}
+use Rattle.row_machine.specs.machine.Homes.{is_on}
+use Rattle.row_machine.specs.machine.Changes.{applied, has_key, rows_put, with_row}
+use Rattle.row_machine.specs.machine.NewRows.{default_profile}
+use Rattle.row_machine.specs.machine.SettingRules.{settings_broken, row_settings, tables_break, own_default, devices_miss}
+use Rattle.row_machine.specs.machine.StandingRules.{feature_keys, changes_features, is_occupied}
+use Rattle.row_machine.specs.machine.Plans.{project_change}
+use Rattle.row_machine.specs.facts.Whole.{IsWhole, AreLinked}
 use Rattle.machine_laws.proofs.ExpansionsApart.{AreApart, apart-both, apart-project, apart-profile, apart-no_profile}
 use Rattle.machine_laws.proofs.NamesLists.{Mem-replaced}
 use Rattle.machine_laws.proofs.NamesRows.{each-row}

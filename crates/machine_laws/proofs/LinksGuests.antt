@@ -10,16 +10,16 @@ use Rattle.records.specs.Forms.{are_profiles}
 use Rattle.records.specs.declared.rows.Instance.{Instance}
 use Rattle.records.specs.declared.rows.Snapshot.{Snapshot}
 use Rattle.records.specs.declared.rows.Row.TheVariants as row
-use Rattle.row_machine.specs.Task.{Task}
-use Rattle.row_machine.specs.State.{State}
-use Rattle.row_machine.specs.Rows.{is_instance, instance_named, with_instance}
-use Rattle.row_machine.specs.Claims.{of_live, claimed_instance, claimed_snapshot, judged_instances}
-use Rattle.row_machine.specs.Changes.{applied}
-use Rattle.row_machine.specs.Holders.{keeps_busy, busy_with}
-use Rattle.row_machine.specs.SettingRules.{profile_missing, devices_miss, instance_settings, row_settings}
-use Rattle.row_machine.specs.Plans.{put_all}
-use Rattle.row_machine.specs.Opening.{homeless}
-use Rattle.row_machine.specs.Whole.{IsWhole, IsLinked, IsByDeed, AreLinked}
+use Rattle.row_machine.specs.machine.Task.{Task}
+use Rattle.row_machine.specs.machine.State.{State}
+use Rattle.row_machine.specs.machine.Rows.{is_instance, instance_named, with_instance}
+use Rattle.row_machine.specs.machine.Claims.{of_live, claimed_instance, claimed_snapshot, judged_instances}
+use Rattle.row_machine.specs.machine.Changes.{applied}
+use Rattle.row_machine.specs.machine.Holders.{keeps_busy, busy_with}
+use Rattle.row_machine.specs.machine.SettingRules.{profile_missing, devices_miss, instance_settings, row_settings}
+use Rattle.row_machine.specs.machine.Plans.{put_all}
+use Rattle.row_machine.specs.opening.Opening.{homeless}
+use Rattle.row_machine.specs.facts.Whole.{IsWhole, IsLinked, IsByDeed, AreLinked}
 use Rattle.machine_laws.proofs.Cases.{IsIdle, IsSameInstance}
 use Rattle.machine_laws.proofs.NamesRows.{EachRow, each-row, rows-each}
 use Rattle.machine_laws.proofs.LinksCore.{links-core}

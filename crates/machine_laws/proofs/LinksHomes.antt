@@ -11,11 +11,11 @@ use Rattle.records.specs.declared.rows.Project.{Project}
 use Rattle.records.specs.declared.rows.Row.{Row}
 use Rattle.records.specs.declared.rows.Row.TheVariants as row
 use Rattle.records.specs.declared.refusals.Rule.TheVariants as rule
-use Rattle.row_machine.specs.State.{State}
-use Rattle.row_machine.specs.Rows.{default_name, project_named}
-use Rattle.row_machine.specs.Homes.{home_of, is_on}
-use Rattle.row_machine.specs.Claims.{project_of_row}
-use Rattle.row_machine.specs.Opening.{homeless}
+use Rattle.row_machine.specs.machine.State.{State}
+use Rattle.row_machine.specs.machine.Rows.{default_name, project_named}
+use Rattle.row_machine.specs.machine.Homes.{home_of, is_on}
+use Rattle.row_machine.specs.machine.Claims.{project_of_row}
+use Rattle.row_machine.specs.opening.Opening.{homeless}
 
 -- ---- a project that is there as before
 

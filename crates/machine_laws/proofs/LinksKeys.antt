@@ -16,10 +16,10 @@ use Rattle.records.specs.declared.rows.Row.TheVariants as row
 use Rattle.row_codec.specs.Rows.{HasGoodKey}
 use Rattle.row_codec.specs.Spelling.{key_of, two_names, three_names}
 use Rattle.row_codec.proofs.Names.{two_again, three_again}
-use Rattle.row_machine.specs.State.{State}
-use Rattle.row_machine.specs.Rows.{is_project, is_profile, is_network, is_pool, is_volume, is_instance, is_snapshot, project_names, profile_names, network_names, pool_names, volume_names, instance_names, snapshot_names}
-use Rattle.row_machine.specs.Changes.{has_key}
-use Rattle.row_machine.specs.Whole.{AreNamed, claims_of}
+use Rattle.row_machine.specs.machine.State.{State}
+use Rattle.row_machine.specs.machine.Rows.{is_project, is_profile, is_network, is_pool, is_volume, is_instance, is_snapshot, project_names, profile_names, network_names, pool_names, volume_names, instance_names, snapshot_names}
+use Rattle.row_machine.specs.machine.Changes.{has_key}
+use Rattle.row_machine.specs.facts.Whole.{AreNamed, claims_of}
 use Rattle.machine_laws.proofs.NamesRows.{EachRow, each-row}
 use Rattle.machine_laws.proofs.NamesTests.{project_is, project_passes, profile_is, profile_passes, network_is, network_passes, pool_is, pool_passes, volume_is, volume_passes, instance_is, instance_passes, snapshot_is, snapshot_passes}
 use Rattle.machine_laws.proofs.LinksFinds.{Tells}

@@ -12,11 +12,11 @@ use Rattle.operations.specs.declared.operation.OpFault.{OpFault}
 use Rattle.operations.specs.declared.status.Status.{Status}
 use Rattle.operations.specs.Kept.{has_number, live_at}
 use Rattle.records.specs.declared.notices.Untold.{Untold}
-use Rattle.row_machine.specs.Task.{Task}
-use Rattle.row_machine.specs.State.{State}
-use Rattle.row_machine.specs.Notices.{telling, push_notice}
-use Rattle.row_machine.specs.Work.{with_task, moved, failed, cancelled, after_failure}
-use Rattle.row_machine.specs.Whole.{AreLinked}
+use Rattle.row_machine.specs.machine.Task.{Task}
+use Rattle.row_machine.specs.machine.State.{State}
+use Rattle.row_machine.specs.shown.Notices.{telling, push_notice}
+use Rattle.row_machine.specs.machine.Work.{with_task, moved, failed, cancelled, after_failure}
+use Rattle.row_machine.specs.facts.Whole.{AreLinked}
 use Rattle.machine_laws.proofs.LinksCore.{bare, core, AreOf, IsSameWork, links-fewer, links-core}
 
 -- ---- lists of live operations

@@ -13,15 +13,16 @@ use Rattle.records.specs.declared.rows.Volume.{Volume}
 use Rattle.records.specs.declared.rows.Row.{Row}
 use Rattle.records.specs.declared.rows.Row.TheVariants as row
 use Rattle.records.specs.declared.commands.Target.{Target}
-use Rattle.row_machine.specs.Task.{Task}
-use Rattle.row_machine.specs.State.{State}
-use Rattle.row_machine.specs.Rows.{pool_named, volume_named, instance_named, snapshot_named}
-use Rattle.row_machine.specs.Homes.{home_of}
-use Rattle.row_machine.specs.Claims.{claimed_volume, replaced_instance}
-use Rattle.row_machine.specs.Links.{target_of}
-use Rattle.row_machine.specs.Holders.{is_about, keeps_busy}
-use Rattle.row_machine.specs.NameRules.{is_there}
-use Rattle.row_machine.specs.Whole.{has_target, instance_there, IsRenamed, IsPlaced, IsByDeed, has_source, replaces_target, target_kind, claim_kind}
+use Rattle.row_machine.specs.machine.Task.{Task}
+use Rattle.row_machine.specs.machine.State.{State}
+use Rattle.row_machine.specs.machine.Rows.{pool_named, volume_named, instance_named, snapshot_named}
+use Rattle.row_machine.specs.machine.Homes.{home_of}
+use Rattle.row_machine.specs.machine.Claims.{claimed_volume, replaced_instance}
+use Rattle.row_machine.specs.shown.Links.{target_of}
+use Rattle.row_machine.specs.machine.Holders.{is_about, keeps_busy}
+use Rattle.row_machine.specs.machine.NameRules.{is_there}
+use Rattle.row_machine.specs.facts.Whole.{instance_there, IsRenamed, IsPlaced, IsByDeed}
+use Rattle.row_machine.specs.machine.Deeds.{has_target, has_source, replaces_target, target_kind, claim_kind}
 use Rattle.machine_laws.proofs.LinksHomes.{StaysHome, homeless-stays}
 
 -- What a live operation is about in s stays in t: its project, the instances that it keeps busy, the snapshot or the volume

@@ -14,16 +14,16 @@ use Rattle.records.specs.declared.rows.Pool.{Pool}
 use Rattle.records.specs.declared.rows.Volume.{Volume}
 use Rattle.records.specs.declared.rows.Row.TheVariants as row
 use Rattle.row_codec.specs.Spelling.{key_of}
-use Rattle.row_machine.specs.Task.{Task}
-use Rattle.row_machine.specs.State.{State}
-use Rattle.row_machine.specs.Rows.{is_pool, pool_names, pool_named, with_pool}
-use Rattle.row_machine.specs.Expansions.{expanded_of}
-use Rattle.row_machine.specs.Claims.{judged_instances, claimed_volume}
-use Rattle.row_machine.specs.Changes.{applied, has_key, removal}
-use Rattle.row_machine.specs.Links.{target_of}
-use Rattle.row_machine.specs.Holders.{volume_uses, first_user_of}
-use Rattle.row_machine.specs.Plans.{put_all}
-use Rattle.row_machine.specs.Whole.{IsWhole, AreLinked}
+use Rattle.row_machine.specs.machine.Task.{Task}
+use Rattle.row_machine.specs.machine.State.{State}
+use Rattle.row_machine.specs.machine.Rows.{is_pool, pool_names, pool_named, with_pool}
+use Rattle.row_machine.specs.machine.Expansions.{expanded_of}
+use Rattle.row_machine.specs.machine.Claims.{judged_instances, claimed_volume}
+use Rattle.row_machine.specs.machine.Changes.{applied, has_key, removal}
+use Rattle.row_machine.specs.shown.Links.{target_of}
+use Rattle.row_machine.specs.machine.Holders.{volume_uses, first_user_of}
+use Rattle.row_machine.specs.machine.Plans.{put_all}
+use Rattle.row_machine.specs.facts.Whole.{IsWhole, AreLinked}
 use Rattle.machine_laws.proofs.NamesRows.{each-row}
 use Rattle.machine_laws.proofs.LinksDevices.{pool_there}
 use Rattle.machine_laws.proofs.LinksClaims.{claim-volume}

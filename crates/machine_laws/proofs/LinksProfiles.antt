@@ -18,18 +18,18 @@ use Rattle.records.specs.declared.rows.Profile.{Profile}
 use Rattle.records.specs.declared.rows.Instance.{Instance}
 use Rattle.records.specs.declared.rows.Row.TheVariants as row
 use Rattle.row_codec.specs.Spelling.{key_of}
-use Rattle.row_machine.specs.Task.{Task}
-use Rattle.row_machine.specs.State.{State}
-use Rattle.row_machine.specs.Rows.{is_profile, profile_named, with_profile}
-use Rattle.row_machine.specs.Expansions.{expanded_of}
-use Rattle.row_machine.specs.Claims.{claimed_instance, judged_instances, project_of_row, replaced_instance}
-use Rattle.row_machine.specs.Changes.{applied, has_key, removal, without_row}
-use Rattle.row_machine.specs.Links.{target_of, link_of}
-use Rattle.row_machine.specs.Holders.{names_profile, claim_rows, holder_of, first_user_of, user_link}
-use Rattle.row_machine.specs.SettingRules.{tables_break, scope_of, root_missing, profile_missing, devices_miss, instance_settings, profile_settings, row_settings, naming}
-use Rattle.row_machine.specs.Plans.{moved_row}
-use Rattle.row_machine.specs.Opening.{homeless}
-use Rattle.row_machine.specs.Whole.{IsWhole, IsLinked, AreLinked}
+use Rattle.row_machine.specs.machine.Task.{Task}
+use Rattle.row_machine.specs.machine.State.{State}
+use Rattle.row_machine.specs.machine.Rows.{is_profile, profile_named, with_profile}
+use Rattle.row_machine.specs.machine.Expansions.{expanded_of}
+use Rattle.row_machine.specs.machine.Claims.{claimed_instance, judged_instances, project_of_row, replaced_instance}
+use Rattle.row_machine.specs.machine.Changes.{applied, has_key, removal, without_row}
+use Rattle.row_machine.specs.shown.Links.{target_of, link_of}
+use Rattle.row_machine.specs.machine.Holders.{names_profile, claim_rows, holder_of, first_user_of, user_link}
+use Rattle.row_machine.specs.machine.SettingRules.{tables_break, scope_of, root_missing, profile_missing, devices_miss, instance_settings, profile_settings, row_settings, naming}
+use Rattle.row_machine.specs.machine.Plans.{moved_row}
+use Rattle.row_machine.specs.opening.Opening.{homeless}
+use Rattle.row_machine.specs.facts.Whole.{IsWhole, IsLinked, AreLinked}
 use Rattle.machine_laws.proofs.Cases.{IsHome}
 use Rattle.machine_laws.proofs.Expansions.{home_in, IsAlike}
 use Rattle.machine_laws.proofs.ExpansionsApart.{AreApart, apart-both, apart-profile, apart-no_profile, apart-alike, not-named}

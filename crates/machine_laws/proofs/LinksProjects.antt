@@ -14,15 +14,15 @@ use Rattle.records.specs.declared.rows.Row.{Row}
 use Rattle.records.specs.declared.rows.Row.TheVariants as row
 use Rattle.row_codec.specs.Spelling.{key_of}
 use Rattle.row_machine.specs.declared.changes.RowChange.{RowChange}
-use Rattle.row_machine.specs.State.{State}
-use Rattle.row_machine.specs.Rows.{default_name, is_profile, project_named, profile_names, with_project, with_profile, texts_before}
-use Rattle.row_machine.specs.Changes.{applied, has_key, removal, rows_put, with_row, without_row}
-use Rattle.row_machine.specs.NewRows.{default_profile}
-use Rattle.row_machine.specs.SettingRules.{settings_broken, row_settings, devices_miss}
-use Rattle.row_machine.specs.StandingRules.{is_occupied}
-use Rattle.row_machine.specs.Plans.{put_all, moved_row, project_creation, project_rename, project_deletion, own_profile}
-use Rattle.row_machine.specs.Opening.{homeless, has_all_features}
-use Rattle.row_machine.specs.Whole.{IsWhole, AreLinked}
+use Rattle.row_machine.specs.machine.State.{State}
+use Rattle.row_machine.specs.machine.Rows.{default_name, is_profile, project_named, profile_names, with_project, with_profile, texts_before}
+use Rattle.row_machine.specs.machine.Changes.{applied, has_key, removal, rows_put, with_row, without_row}
+use Rattle.row_machine.specs.machine.NewRows.{default_profile}
+use Rattle.row_machine.specs.machine.SettingRules.{settings_broken, row_settings, devices_miss}
+use Rattle.row_machine.specs.machine.StandingRules.{is_occupied}
+use Rattle.row_machine.specs.machine.Plans.{put_all, moved_row, project_creation, project_rename, project_deletion, own_profile}
+use Rattle.row_machine.specs.opening.Opening.{homeless, has_all_features}
+use Rattle.row_machine.specs.facts.Whole.{IsWhole, AreLinked}
 use Rattle.machine_laws.proofs.Found.{profile-found}
 use Rattle.machine_laws.proofs.ExpansionsApart.{AreApart, apart-both, apart-project, apart-profile, apart-no_project, apart-no_profile}
 use Rattle.machine_laws.proofs.NamesLists.{Mem-replaced}

@@ -17,14 +17,15 @@ use Rattle.records.specs.declared.rows.Snapshot.{Snapshot}
 use Rattle.records.specs.declared.rows.Row.TheVariants as row
 use Rattle.row_codec.specs.Rows.{HasGoodKey}
 use Rattle.row_codec.specs.Spelling.{key_of}
-use Rattle.row_machine.specs.Task.{Task}
-use Rattle.row_machine.specs.State.{State}
-use Rattle.row_machine.specs.Rows.{is_instance, project_named, instance_names, snapshot_names, instance_named, snapshot_named, with_instance}
-use Rattle.row_machine.specs.Claims.{of_live, claimed_instance}
-use Rattle.row_machine.specs.Changes.{has_key}
-use Rattle.row_machine.specs.Asked.{snapshots_of}
-use Rattle.row_machine.specs.Holders.{keeps_busy}
-use Rattle.row_machine.specs.Whole.{IsWhole, AreLinked, new_instance, keeps_name}
+use Rattle.row_machine.specs.machine.Task.{Task}
+use Rattle.row_machine.specs.machine.State.{State}
+use Rattle.row_machine.specs.machine.Rows.{is_instance, project_named, instance_names, snapshot_names, instance_named, snapshot_named, with_instance}
+use Rattle.row_machine.specs.machine.Claims.{of_live, claimed_instance}
+use Rattle.row_machine.specs.machine.Changes.{has_key}
+use Rattle.row_machine.specs.machine.Asked.{snapshots_of}
+use Rattle.row_machine.specs.machine.Holders.{keeps_busy}
+use Rattle.row_machine.specs.facts.Whole.{IsWhole, AreLinked, new_instance}
+use Rattle.row_machine.specs.machine.Deeds.{keeps_name}
 use Rattle.machine_laws.proofs.Found.{there-is, instance-found}
 use Rattle.machine_laws.proofs.NamesRise.{Rise-Distinct}
 use Rattle.machine_laws.proofs.NamesRows.{each-row}

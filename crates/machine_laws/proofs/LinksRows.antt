@@ -13,10 +13,10 @@ use Rattle.records.specs.declared.rows.Instance.{Instance}
 use Rattle.records.specs.declared.rows.Snapshot.{Snapshot}
 use Rattle.records.specs.declared.rows.Row.TheVariants as row
 use Rattle.row_codec.specs.Spelling.{key_of}
-use Rattle.row_machine.specs.State.{State}
-use Rattle.row_machine.specs.Rows.{texts_before, is_project, project_names, project_named, with_project, is_profile, profile_names, with_profile, is_network, is_pool, is_volume, is_instance, is_snapshot, network_names, pool_names, volume_names, instance_names, snapshot_names, with_network, with_pool, with_volume, with_instance, with_snapshot, network_named, pool_named, volume_named, instance_named, snapshot_named}
-use Rattle.row_machine.specs.Changes.{has_key}
-use Rattle.row_machine.specs.Whole.{AreNamed}
+use Rattle.row_machine.specs.machine.State.{State}
+use Rattle.row_machine.specs.machine.Rows.{texts_before, is_project, project_names, project_named, with_project, is_profile, profile_names, with_profile, is_network, is_pool, is_volume, is_instance, is_snapshot, network_names, pool_names, volume_names, instance_names, snapshot_names, with_network, with_pool, with_volume, with_instance, with_snapshot, network_named, pool_named, volume_named, instance_named, snapshot_named}
+use Rattle.row_machine.specs.machine.Changes.{has_key}
+use Rattle.row_machine.specs.facts.Whole.{AreNamed}
 use Rattle.machine_laws.proofs.LinksFinds.{still-there, other-found, other-undropped}
 use Rattle.machine_laws.proofs.LinksKeys.{tells-project, tells-network, tells-pool, tells-volume, tells-instance, tells-snapshot, drops-network, drops-pool, drops-volume, drops-instance, drops-snapshot}
 

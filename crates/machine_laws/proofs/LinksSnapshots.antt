@@ -15,10 +15,10 @@ use Rattle.row_codec.specs.Rows.{HasGoodKey}
 use Rattle.row_codec.specs.Spelling.{key_of}
 use Rattle.row_machine.specs.declared.changes.RowChange.{RowChange}
 use Rattle.row_machine.specs.declared.changes.RowChange.TheVariants as change
-use Rattle.row_machine.specs.State.{State}
-use Rattle.row_machine.specs.Rows.{is_snapshot, snapshot_names, snapshot_named, with_snapshot, texts_before}
-use Rattle.row_machine.specs.Changes.{applied, changed, has_key, removal}
-use Rattle.row_machine.specs.Asked.{snapshots_of}
+use Rattle.row_machine.specs.machine.State.{State}
+use Rattle.row_machine.specs.machine.Rows.{is_snapshot, snapshot_names, snapshot_named, with_snapshot, texts_before}
+use Rattle.row_machine.specs.machine.Changes.{applied, changed, has_key, removal}
+use Rattle.row_machine.specs.machine.Asked.{snapshots_of}
 use Rattle.machine_laws.proofs.NamesLists.{Mem-replaced}
 use Rattle.machine_laws.proofs.LinksFinds.{left-other, other-undropped}
 use Rattle.machine_laws.proofs.LinksKeys.{tells-snapshot, key-snapshot, keyed-snapshot}

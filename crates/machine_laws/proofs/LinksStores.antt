@@ -10,14 +10,14 @@ use Rattle.records.specs.declared.rows.Volume.{Volume}
 use Rattle.records.specs.declared.rows.Instance.{Instance}
 use Rattle.records.specs.declared.rows.Row.TheVariants as row
 use Rattle.records.specs.declared.commands.Target.{Target}
-use Rattle.row_machine.specs.Task.{Task}
-use Rattle.row_machine.specs.State.{State}
-use Rattle.row_machine.specs.Rows.{pool_named, volume_named}
-use Rattle.row_machine.specs.Homes.{home_of}
-use Rattle.row_machine.specs.Expansions.{expanded_of}
-use Rattle.row_machine.specs.Claims.{judged_instances, claimed_volume}
-use Rattle.row_machine.specs.Opening.{homeless}
-use Rattle.row_machine.specs.Whole.{IsByDeed, AreLinked}
+use Rattle.row_machine.specs.machine.Task.{Task}
+use Rattle.row_machine.specs.machine.State.{State}
+use Rattle.row_machine.specs.machine.Rows.{pool_named, volume_named}
+use Rattle.row_machine.specs.machine.Homes.{home_of}
+use Rattle.row_machine.specs.machine.Expansions.{expanded_of}
+use Rattle.row_machine.specs.machine.Claims.{judged_instances, claimed_volume}
+use Rattle.row_machine.specs.opening.Opening.{homeless}
+use Rattle.row_machine.specs.facts.Whole.{IsByDeed, AreLinked}
 use Rattle.machine_laws.proofs.Cases.{IsHome}
 use Rattle.machine_laws.proofs.Expansions.{IsAlike}
 use Rattle.machine_laws.proofs.NamesRows.{EachRow, each-row, rows-each}

@@ -17,15 +17,16 @@ use Rattle.records.specs.declared.rows.Row.{Row}
 use Rattle.records.specs.declared.rows.Row.TheVariants as row
 use Rattle.row_machine.specs.declared.changes.RowChange.{RowChange}
 use Rattle.row_machine.specs.declared.changes.RowChange.TheVariants as change
-use Rattle.row_machine.specs.Task.{Task}
-use Rattle.row_machine.specs.State.{State}
-use Rattle.row_machine.specs.Rows.{instance_named, snapshot_named, with_instance}
-use Rattle.row_machine.specs.Claims.{claimed_instance}
-use Rattle.row_machine.specs.Changes.{applied, changed, removal}
-use Rattle.row_machine.specs.Asked.{snapshots_of}
-use Rattle.row_machine.specs.Links.{target_of}
-use Rattle.row_machine.specs.Work.{succeeded, success_changes, removes_instance, renames_instance, with_power_after, power_after}
-use Rattle.row_machine.specs.Whole.{IsWhole, AreLinked, has_target, target_kind, claim_kind, instance_there}
+use Rattle.row_machine.specs.machine.Task.{Task}
+use Rattle.row_machine.specs.machine.State.{State}
+use Rattle.row_machine.specs.machine.Rows.{instance_named, snapshot_named, with_instance}
+use Rattle.row_machine.specs.machine.Claims.{claimed_instance}
+use Rattle.row_machine.specs.machine.Changes.{applied, changed, removal}
+use Rattle.row_machine.specs.machine.Asked.{snapshots_of}
+use Rattle.row_machine.specs.shown.Links.{target_of}
+use Rattle.row_machine.specs.machine.Work.{succeeded, success_changes, removes_instance, renames_instance, with_power_after, power_after}
+use Rattle.row_machine.specs.facts.Whole.{IsWhole, AreLinked, instance_there}
+use Rattle.row_machine.specs.machine.Deeds.{has_target, target_kind, claim_kind}
 use Rattle.machine_laws.proofs.Found.{there-is}
 use Rattle.machine_laws.proofs.LinksCore.{bare, AreOf, AreOf-itself, links-fewer, links-core}
 use Rattle.machine_laws.proofs.LinksClaims.{instance-claimed, snapshot-claimed, volume-claimed}

@@ -17,14 +17,14 @@ use Rattle.records.specs.declared.rows.Instance.{Instance}
 use Rattle.records.specs.declared.rows.Snapshot.{Snapshot}
 use Rattle.records.specs.declared.rows.Row.TheVariants as row
 use Rattle.row_codec.specs.Spelling.{key_of}
-use Rattle.row_machine.specs.Task.{Task}
-use Rattle.row_machine.specs.State.{State}
-use Rattle.row_machine.specs.Rows.{is_snapshot, instance_named, snapshot_named, with_instance, with_snapshot, with_volume}
-use Rattle.row_machine.specs.Claims.{of_live, claimed_instance, claimed_snapshot, judged_instances}
-use Rattle.row_machine.specs.Changes.{has_key}
-use Rattle.row_machine.specs.Links.{target_of}
-use Rattle.row_machine.specs.Holders.{keeps_busy, is_about}
-use Rattle.row_machine.specs.Whole.{IsWhole, IsByDeed, IsPlaced, IsLinked, AreLinked}
+use Rattle.row_machine.specs.machine.Task.{Task}
+use Rattle.row_machine.specs.machine.State.{State}
+use Rattle.row_machine.specs.machine.Rows.{is_snapshot, instance_named, snapshot_named, with_instance, with_snapshot, with_volume}
+use Rattle.row_machine.specs.machine.Claims.{of_live, claimed_instance, claimed_snapshot, judged_instances}
+use Rattle.row_machine.specs.machine.Changes.{has_key}
+use Rattle.row_machine.specs.shown.Links.{target_of}
+use Rattle.row_machine.specs.machine.Holders.{keeps_busy, is_about}
+use Rattle.row_machine.specs.facts.Whole.{IsWhole, IsByDeed, IsPlaced, IsLinked, AreLinked}
 use Rattle.machine_laws.proofs.Found.{snapshot-found}
 use Rattle.machine_laws.proofs.NamesRows.{each-row}
 use Rattle.machine_laws.proofs.LinksCore.{links-fewer, linked-rows}

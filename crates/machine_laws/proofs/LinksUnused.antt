@@ -21,16 +21,16 @@ use Rattle.records.specs.declared.rows.Instance.{Instance}
 use Rattle.records.specs.declared.rows.Row.{Row}
 use Rattle.records.specs.declared.rows.Row.TheVariants as row
 use Rattle.records.specs.declared.commands.Target.{Target}
-use Rattle.row_machine.specs.Task.{Task}
-use Rattle.row_machine.specs.State.{State}
-use Rattle.row_machine.specs.Rows.{is_project, project_named}
-use Rattle.row_machine.specs.Claims.{claimed_instance, claimed_volume, judged_instances, project_of_row, replaced_instance}
-use Rattle.row_machine.specs.Links.{target_of, link_of}
-use Rattle.row_machine.specs.Holders.{user_link, work_link, profile_uses, instance_uses, volume_uses, source_uses, claim_rows, claim_uses, user_in, first_user_of}
-use Rattle.row_machine.specs.Whole.{AreLinked}
+use Rattle.row_machine.specs.machine.Task.{Task}
+use Rattle.row_machine.specs.machine.State.{State}
+use Rattle.row_machine.specs.machine.Rows.{is_project, project_named}
+use Rattle.row_machine.specs.machine.Claims.{claimed_instance, claimed_volume, judged_instances, project_of_row, replaced_instance}
+use Rattle.row_machine.specs.shown.Links.{target_of, link_of}
+use Rattle.row_machine.specs.machine.Holders.{user_link, work_link, profile_uses, instance_uses, volume_uses, source_uses, claim_rows, claim_uses, user_in, first_user_of}
+use Rattle.row_machine.specs.facts.Whole.{AreLinked}
 use Rattle.machine_laws.proofs.Found.{there-is, project-found}
 use Rattle.machine_laws.proofs.NamesRows.{EachRow, each-row}
-use Rattle.row_machine.specs.Opening.{homeless}
+use Rattle.row_machine.specs.opening.Opening.{homeless}
 use Rattle.machine_laws.proofs.LinksHomes.{home-at}
 use Rattle.machine_laws.proofs.LinksClaims.{claim-instance}
 

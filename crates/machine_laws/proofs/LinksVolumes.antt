@@ -19,18 +19,19 @@ use Rattle.records.specs.declared.rows.Volume.{Volume}
 use Rattle.records.specs.declared.rows.Row.TheVariants as row
 use Rattle.records.specs.declared.commands.Target.{Target}
 use Rattle.row_codec.specs.Spelling.{key_of}
-use Rattle.row_machine.specs.Task.{Task}
-use Rattle.row_machine.specs.State.{State}
-use Rattle.row_machine.specs.Rows.{is_volume, volume_names, volume_named, pool_named, with_volume}
-use Rattle.row_machine.specs.Homes.{home_of}
-use Rattle.row_machine.specs.Expansions.{expanded_of}
-use Rattle.row_machine.specs.Claims.{judged_instances}
-use Rattle.row_machine.specs.Changes.{applied, has_key, removal}
-use Rattle.row_machine.specs.Links.{target_of}
-use Rattle.row_machine.specs.Holders.{devices_name, source_uses, first_user_of}
-use Rattle.row_machine.specs.Plans.{moved_row}
-use Rattle.row_machine.specs.Opening.{homeless}
-use Rattle.row_machine.specs.Whole.{IsWhole, AreLinked, IsPlaced, IsByDeed, has_source, claim_kind}
+use Rattle.row_machine.specs.machine.Task.{Task}
+use Rattle.row_machine.specs.machine.State.{State}
+use Rattle.row_machine.specs.machine.Rows.{is_volume, volume_names, volume_named, pool_named, with_volume}
+use Rattle.row_machine.specs.machine.Homes.{home_of}
+use Rattle.row_machine.specs.machine.Expansions.{expanded_of}
+use Rattle.row_machine.specs.machine.Claims.{judged_instances}
+use Rattle.row_machine.specs.machine.Changes.{applied, has_key, removal}
+use Rattle.row_machine.specs.shown.Links.{target_of}
+use Rattle.row_machine.specs.machine.Holders.{devices_name, source_uses, first_user_of}
+use Rattle.row_machine.specs.machine.Plans.{moved_row}
+use Rattle.row_machine.specs.opening.Opening.{homeless}
+use Rattle.row_machine.specs.facts.Whole.{IsWhole, AreLinked, IsPlaced, IsByDeed}
+use Rattle.row_machine.specs.machine.Deeds.{has_source, claim_kind}
 use Rattle.machine_laws.proofs.Cases.{IsHome}
 use Rattle.machine_laws.proofs.NamesRows.{each-row}
 use Rattle.machine_laws.proofs.LinksClaims.{volume-claimed}

@@ -30,18 +30,19 @@ use Rattle.records.specs.declared.rows.Row.TheVariants as row
 use Rattle.row_machine.specs.declared.changes.RowChange.{RowChange}
 use Rattle.row_machine.specs.declared.changes.RowChange.TheVariants as change
 use Rattle.row_machine.specs.declared.events.Event.TheVariants as event
-use Rattle.row_machine.specs.Task.{Task}
-use Rattle.row_machine.specs.State.{State}
-use Rattle.row_machine.specs.Rows.{is_instance, instance_named, instance_names, with_instance, texts_before}
-use Rattle.row_machine.specs.Changes.{applied}
-use Rattle.row_machine.specs.Claims.{claimed_instance, replaced_instance, amounts_of_instance, share_of}
-use Rattle.row_machine.specs.Links.{target_of}
-use Rattle.row_machine.specs.Usage.{loads, used, usage_of, counted}
-use Rattle.row_machine.specs.Notices.{telling, success_notices, operation_notice}
-use Rattle.row_machine.specs.Accept.{After}
-use Rattle.row_machine.specs.Step.{well, step, success, committed, done, reported, call_done}
-use Rattle.row_machine.specs.Work.{converted, ended, succeeded, success_changes, with_power_after, power_after}
-use Rattle.row_machine.specs.Whole.{IsByDeed, IsPlaced, keeps_name, replaces_target, claim_kind}
+use Rattle.row_machine.specs.machine.Task.{Task}
+use Rattle.row_machine.specs.machine.State.{State}
+use Rattle.row_machine.specs.machine.Rows.{is_instance, instance_named, instance_names, with_instance, texts_before}
+use Rattle.row_machine.specs.machine.Changes.{applied}
+use Rattle.row_machine.specs.machine.Claims.{claimed_instance, replaced_instance, amounts_of_instance, share_of}
+use Rattle.row_machine.specs.shown.Links.{target_of}
+use Rattle.row_machine.specs.machine.Usage.{loads, used, usage_of, counted}
+use Rattle.row_machine.specs.shown.Notices.{telling, success_notices, operation_notice}
+use Rattle.row_machine.specs.machine.Accept.{After}
+use Rattle.row_machine.specs.machine.Step.{well, step, success, committed, done, reported, call_done}
+use Rattle.row_machine.specs.machine.Work.{converted, ended, succeeded, success_changes, with_power_after, power_after}
+use Rattle.row_machine.specs.facts.Whole.{IsByDeed, IsPlaced}
+use Rattle.row_machine.specs.machine.Deeds.{keeps_name, replaces_target, claim_kind}
 use Rattle.machine_laws.specs.Lowered.{IsLastDone, LowersUsage, UpdatesLower, SuccessesRaiseNothing}
 use Rattle.machine_laws.proofs.ExpansionsApart.{fails-by}
 use Rattle.machine_laws.proofs.BooksSteps.{applied-same, power-keeps, telling-keeps}

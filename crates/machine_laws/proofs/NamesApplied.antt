@@ -10,10 +10,10 @@ use Rattle.records.specs.declared.rows.Row.TheVariants as row
 use Rattle.row_codec.specs.Rows.{HasGoodKey, HasMoments}
 use Rattle.row_machine.specs.declared.changes.RowChange.{RowChange}
 use Rattle.row_machine.specs.declared.changes.RowChange.TheVariants as change
-use Rattle.row_machine.specs.Task.{Task}
-use Rattle.row_machine.specs.State.{State}
-use Rattle.row_machine.specs.Changes.{with_row, without_row, changed, applied, rows_put, removal}
-use Rattle.row_machine.specs.Whole.{AreNamed}
+use Rattle.row_machine.specs.machine.Task.{Task}
+use Rattle.row_machine.specs.machine.State.{State}
+use Rattle.row_machine.specs.machine.Changes.{with_row, without_row, changed, applied, rows_put, removal}
+use Rattle.row_machine.specs.facts.Whole.{AreNamed}
 use Rattle.machine_laws.specs.Records.{StaysNamed}
 use Rattle.machine_laws.proofs.NamesPut.{IsUnclaimed, AreNamed-with}
 use Rattle.machine_laws.proofs.NamesDrop.{AreNamed-without}

@@ -17,14 +17,14 @@ use Rattle.records.specs.declared.rows.Row.{Row}
 use Rattle.records.specs.declared.rows.Row.TheVariants as row
 use Rattle.row_codec.specs.Rows.{IsGood, HasGoodKey, HasMoments}
 use Rattle.row_machine.specs.declared.changes.RowChange.{RowChange}
-use Rattle.row_machine.specs.State.{State}
-use Rattle.row_machine.specs.Rows.{default_name, is_project, is_profile, is_network, is_pool, is_volume, instance_names, volume_names}
-use Rattle.row_machine.specs.Homes.{is_on}
-use Rattle.row_machine.specs.Changes.{rows_put, removal}
-use Rattle.row_machine.specs.Claims.{of_live, claimed_volume}
-use Rattle.row_machine.specs.NewRows.{default_profile}
-use Rattle.row_machine.specs.Plans.{put_all, moved_row, project_creation, project_change, project_rename, project_deletion, own_profile}
-use Rattle.row_machine.specs.Whole.{AreNamed, new_instance}
+use Rattle.row_machine.specs.machine.State.{State}
+use Rattle.row_machine.specs.machine.Rows.{default_name, is_project, is_profile, is_network, is_pool, is_volume, instance_names, volume_names}
+use Rattle.row_machine.specs.machine.Homes.{is_on}
+use Rattle.row_machine.specs.machine.Changes.{rows_put, removal}
+use Rattle.row_machine.specs.machine.Claims.{of_live, claimed_volume}
+use Rattle.row_machine.specs.machine.NewRows.{default_profile}
+use Rattle.row_machine.specs.machine.Plans.{put_all, moved_row, project_creation, project_change, project_rename, project_deletion, own_profile}
+use Rattle.row_machine.specs.facts.Whole.{AreNamed, new_instance}
 use Rattle.machine_laws.proofs.Cases.{AtOnce}
 use Rattle.machine_laws.proofs.Cases.AtOnce.{makes_project, changes_project, renames_project, deletes_project, makes_profile, changes_profile, renames_profile, deletes_profile, makes_network, changes_network, renames_network, deletes_network, makes_pool, changes_pool, deletes_pool, makes_volume, changes_volume, renames_volume, deletes_volume, changes_instance}
 use Rattle.machine_laws.proofs.NamesPut.{IsUnclaimed}

@@ -17,13 +17,13 @@ use Rattle.records.specs.declared.rows.Instance.{Instance}
 use Rattle.records.specs.declared.rows.Row.{Row}
 use Rattle.records.specs.declared.rows.Row.TheVariants as row
 use Rattle.row_codec.specs.Rows.{IsGood, HasGoodKey, HasMoments}
-use Rattle.row_machine.specs.Task.{Task}
-use Rattle.row_machine.specs.State.{State}
-use Rattle.row_machine.specs.Rows.{project_named, pool_named, is_project, is_pool, is_instance, volume_names, instance_names, snapshot_names}
-use Rattle.row_machine.specs.Claims.{of_live, claimed_volume, claimed_snapshot}
-use Rattle.row_machine.specs.Records.{rows_of}
-use Rattle.row_machine.specs.Work.{claiming, entered}
-use Rattle.row_machine.specs.Whole.{AreNamed, claims_of, new_instance}
+use Rattle.row_machine.specs.machine.Task.{Task}
+use Rattle.row_machine.specs.machine.State.{State}
+use Rattle.row_machine.specs.machine.Rows.{project_named, pool_named, is_project, is_pool, is_instance, volume_names, instance_names, snapshot_names}
+use Rattle.row_machine.specs.machine.Claims.{of_live, claimed_volume, claimed_snapshot}
+use Rattle.row_machine.specs.opening.Records.{rows_of}
+use Rattle.row_machine.specs.machine.Work.{claiming, entered}
+use Rattle.row_machine.specs.facts.Whole.{AreNamed, claims_of, new_instance}
 use Rattle.machine_laws.proofs.Cases.{IsIdle, Begins}
 use Rattle.machine_laws.proofs.Cases.Begins.{creates, copies_instance, copies_snapshot, copies_volume, updates, restores, renames, deletes, acts, snaps, unsnaps}
 use Rattle.machine_laws.proofs.NamesRows.{EachRow, each-row}

@@ -21,14 +21,15 @@ use Rattle.records.specs.declared.rows.Row.{Row}
 use Rattle.records.specs.declared.rows.Row.TheVariants as row
 use Rattle.row_codec.specs.Rows.{HasGoodKey, HasMoments}
 use Rattle.row_machine.specs.declared.changes.RowChange.{RowChange}
-use Rattle.row_machine.specs.Task.{Task}
-use Rattle.row_machine.specs.State.{State}
-use Rattle.row_machine.specs.Rows.{instance_named, snapshot_named, instance_names}
-use Rattle.row_machine.specs.Asked.{snapshots_of}
-use Rattle.row_machine.specs.Changes.{applied, rows_put}
-use Rattle.row_machine.specs.Claims.{of_live, claimed_instance, claimed_snapshot}
-use Rattle.row_machine.specs.Work.{success_changes, removes_instance, renames_instance, power_after, with_power_after, ended, succeeded}
-use Rattle.row_machine.specs.Whole.{IsWhole, AreNamed, IsPlaced, claims_of, new_instance, keeps_name}
+use Rattle.row_machine.specs.machine.Task.{Task}
+use Rattle.row_machine.specs.machine.State.{State}
+use Rattle.row_machine.specs.machine.Rows.{instance_named, snapshot_named, instance_names}
+use Rattle.row_machine.specs.machine.Asked.{snapshots_of}
+use Rattle.row_machine.specs.machine.Changes.{applied, rows_put}
+use Rattle.row_machine.specs.machine.Claims.{of_live, claimed_instance, claimed_snapshot}
+use Rattle.row_machine.specs.machine.Work.{success_changes, removes_instance, renames_instance, power_after, with_power_after, ended, succeeded}
+use Rattle.row_machine.specs.facts.Whole.{IsWhole, AreNamed, IsPlaced, claims_of, new_instance}
+use Rattle.row_machine.specs.machine.Deeds.{keeps_name}
 use Rattle.machine_laws.proofs.NamesRows.{EachRow, each-row}
 use Rattle.machine_laws.proofs.NamesPut.{IsUnclaimed}
 use Rattle.machine_laws.proofs.NamesLive.{read_of}

@@ -10,12 +10,12 @@ use Rattle.records.specs.declared.rows.Instance.{Instance}
 use Rattle.records.specs.declared.rows.Row.{Row}
 use Rattle.records.specs.declared.rows.Row.TheVariants as row
 use Rattle.row_codec.specs.Spelling.{two_names}
-use Rattle.row_machine.specs.State.{State, Standing}
-use Rattle.row_machine.specs.Rows.{project_names, profile_names, network_names, pool_names, volume_names, instance_names, snapshot_names, standing_names}
-use Rattle.row_machine.specs.Changes.{has_key, without_row}
-use Rattle.row_machine.specs.Claims.{of_live, claimed_volume, claimed_snapshot}
-use Rattle.row_machine.specs.Records.{rows_of}
-use Rattle.row_machine.specs.Whole.{AreNamed, claims_of, new_instance}
+use Rattle.row_machine.specs.machine.State.{State, Standing}
+use Rattle.row_machine.specs.machine.Rows.{project_names, profile_names, network_names, pool_names, volume_names, instance_names, snapshot_names, standing_names}
+use Rattle.row_machine.specs.machine.Changes.{has_key, without_row}
+use Rattle.row_machine.specs.machine.Claims.{of_live, claimed_volume, claimed_snapshot}
+use Rattle.row_machine.specs.opening.Records.{rows_of}
+use Rattle.row_machine.specs.facts.Whole.{AreNamed, claims_of, new_instance}
 use Rattle.machine_laws.proofs.NamesRise.{Rise-dropped}
 use Rattle.machine_laws.proofs.NamesLists.{Distinct-less, map-dropped}
 use Rattle.machine_laws.proofs.NamesRows.{rows-without}

@@ -14,12 +14,13 @@ use Rattle.operations.specs.Kept as kept
 use Rattle.reservations.specs.declared.books.Books.{Books}
 use Rattle.records.specs.declared.notices.Notice.{Notice}
 use Rattle.records.specs.declared.notices.Untold.{Untold}
-use Rattle.row_machine.specs.Task.{Task}
-use Rattle.row_machine.specs.State.{State, Held, Standing}
-use Rattle.row_machine.specs.Rows.{is_standing, standing_names}
-use Rattle.row_machine.specs.Work.{with_power, with_power_after, breaks_instance, ended, returned, converted, cancelled, failed}
-use Rattle.row_machine.specs.Notices.{kept_notices, push_notice, telling}
-use Rattle.row_machine.specs.Whole.{AreNamed}
+use Rattle.row_machine.specs.machine.Task.{Task}
+use Rattle.row_machine.specs.machine.State.{State, Held, Standing}
+use Rattle.row_machine.specs.machine.Rows.{is_standing, standing_names}
+use Rattle.row_machine.specs.machine.Work.{with_power, with_power_after, ended, returned, converted, cancelled, failed}
+use Rattle.row_machine.specs.machine.Deeds.{breaks_instance}
+use Rattle.row_machine.specs.shown.Notices.{kept_notices, push_notice, telling}
+use Rattle.row_machine.specs.facts.Whole.{AreNamed}
 use Rattle.machine_laws.proofs.NamesLive.{AreNamed-fewer}
 
 -- ---- what names do not speak of

@@ -15,9 +15,9 @@ use Rattle.records.specs.declared.rows.Row.TheVariants as row
 use Rattle.row_codec.specs.Rows.{IsGood, HasGoodKey}
 use Rattle.row_codec.specs.Spelling.{key_of, two_names, three_names}
 use Rattle.row_codec.proofs.Names.{two_again, three_again}
-use Rattle.row_machine.specs.State.{State}
-use Rattle.row_machine.specs.Rows.{project_names, profile_names, network_names, pool_names, volume_names, instance_names, snapshot_names}
-use Rattle.row_machine.specs.Whole.{AreNamed, claims_of}
+use Rattle.row_machine.specs.machine.State.{State}
+use Rattle.row_machine.specs.machine.Rows.{project_names, profile_names, network_names, pool_names, volume_names, instance_names, snapshot_names}
+use Rattle.row_machine.specs.facts.Whole.{AreNamed, claims_of}
 use Rattle.machine_laws.proofs.NamesRise.{rise_distinct}
 use Rattle.machine_laws.proofs.NamesRows.{EachRow, each-row}
 use Rattle.machine_laws.proofs.NamesSuccess.{Mem-filter}

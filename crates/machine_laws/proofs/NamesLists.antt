@@ -47,9 +47,9 @@ Mem-undropped {X} p y (x ∷ xs) m fails = at (p x) refl m (λ n. Mem-undropped 
   at false is (inl e) more = inl e
   at false is (inr n) more = inr (more n)
 
--- ---- keys with more behind the list
+-- ---- keys with more after the list
 
--- one whose key none behind the list has is put
+-- one whose key none after the list has is put
 pub Distinct-put : {X K : Type 0} (key : X → K) (p before : X → Bool) (x : X) (xs ys : List X)
     → ((y : X) → p y ≡ true → key y ≡ key x) → ((y : X) → p y ≡ false → key y ≢ key x)
     → Each (λ y. key y ≢ key x) ys → Distinct key (xs ++ ys) → Distinct key (replaced p before x xs ++ ys)

@@ -13,14 +13,14 @@ use Rattle.operations.specs.declared.status.Status.{Status}
 use Rattle.operations.specs.Kept.{Kept, has_number, live_at}
 use Rattle.records.specs.declared.rows.Row.{Row}
 use Rattle.row_codec.specs.Rows.{HasGoodKey, HasMoments}
-use Rattle.row_machine.specs.Task.{Task}
-use Rattle.row_machine.specs.State.{State}
-use Rattle.row_machine.specs.Rows.{volume_names, instance_names, snapshot_names}
-use Rattle.row_machine.specs.Claims.{of_live, claimed_volume, claimed_snapshot}
-use Rattle.row_machine.specs.Records.{rows_of}
-use Rattle.row_machine.specs.Work.{with_task, moved}
-use Rattle.row_machine.specs.Step.{first_pending}
-use Rattle.row_machine.specs.Whole.{IsWhole, AreNamed, claims_of, new_instance}
+use Rattle.row_machine.specs.machine.Task.{Task}
+use Rattle.row_machine.specs.machine.State.{State}
+use Rattle.row_machine.specs.machine.Rows.{volume_names, instance_names, snapshot_names}
+use Rattle.row_machine.specs.machine.Claims.{of_live, claimed_volume, claimed_snapshot}
+use Rattle.row_machine.specs.opening.Records.{rows_of}
+use Rattle.row_machine.specs.machine.Work.{with_task, moved}
+use Rattle.row_machine.specs.machine.Step.{first_pending}
+use Rattle.row_machine.specs.facts.Whole.{IsWhole, AreNamed, claims_of, new_instance}
 use Rattle.machine_laws.proofs.Base.{read-found, first-live}
 
 -- what is read of the operations of a list

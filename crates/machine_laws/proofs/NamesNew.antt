@@ -14,13 +14,14 @@ use Rattle.records.specs.declared.rows.Instance.{Instance}
 use Rattle.records.specs.declared.rows.Snapshot.{Snapshot}
 use Rattle.records.specs.declared.rows.Row.{Row}
 use Rattle.records.specs.declared.rows.Row.TheVariants as row
-use Rattle.row_machine.specs.Task.{Task}
-use Rattle.row_machine.specs.State.{State}
-use Rattle.row_machine.specs.Rows.{volume_named, instance_named, snapshot_named, is_volume, is_instance, is_snapshot, volume_names, instance_names, snapshot_names}
-use Rattle.row_machine.specs.Claims.{of_live, claimed_volume, claimed_instance, claimed_snapshot}
-use Rattle.row_machine.specs.NameRules.{claims_object}
-use Rattle.row_machine.specs.Plans.{instance_target, snapshot_target}
-use Rattle.row_machine.specs.Whole.{new_instance, keeps_name}
+use Rattle.row_machine.specs.machine.Task.{Task}
+use Rattle.row_machine.specs.machine.State.{State}
+use Rattle.row_machine.specs.machine.Rows.{volume_named, instance_named, snapshot_named, is_volume, is_instance, is_snapshot, volume_names, instance_names, snapshot_names}
+use Rattle.row_machine.specs.machine.Claims.{of_live, claimed_volume, claimed_instance, claimed_snapshot}
+use Rattle.row_machine.specs.machine.NameRules.{claims_object}
+use Rattle.row_machine.specs.machine.Plans.{instance_target, snapshot_target}
+use Rattle.row_machine.specs.facts.Whole.{new_instance}
+use Rattle.row_machine.specs.machine.Deeds.{keeps_name}
 use Rattle.machine_laws.proofs.Cases.{IsNew, volume_target}
 use Rattle.machine_laws.proofs.NamesTests.{equal_is, volume_differs, instance_differs, snapshot_differs}
 

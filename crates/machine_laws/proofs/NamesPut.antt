@@ -11,13 +11,13 @@ use Rattle.records.specs.declared.rows.Instance.{Instance}
 use Rattle.records.specs.declared.rows.Row.{Row}
 use Rattle.records.specs.declared.rows.Row.TheVariants as row
 use Rattle.row_codec.specs.Rows.{HasGoodKey, HasMoments}
-use Rattle.row_machine.specs.Task.{Task}
-use Rattle.row_machine.specs.State.{State, Standing}
-use Rattle.row_machine.specs.Rows.{texts_before, project_names, profile_names, network_names, pool_names, volume_names, instance_names, snapshot_names, standing_names, is_project, is_profile, is_network, is_pool, is_volume, is_instance, is_snapshot, is_standing, with_instance, with_standing}
-use Rattle.row_machine.specs.Changes.{with_row, standing_with}
-use Rattle.row_machine.specs.Claims.{of_live, claimed_volume, claimed_snapshot}
-use Rattle.row_machine.specs.Records.{rows_of}
-use Rattle.row_machine.specs.Whole.{AreNamed, claims_of, new_instance}
+use Rattle.row_machine.specs.machine.Task.{Task}
+use Rattle.row_machine.specs.machine.State.{State, Standing}
+use Rattle.row_machine.specs.machine.Rows.{texts_before, project_names, profile_names, network_names, pool_names, volume_names, instance_names, snapshot_names, standing_names, is_project, is_profile, is_network, is_pool, is_volume, is_instance, is_snapshot, is_standing, with_instance, with_standing}
+use Rattle.row_machine.specs.machine.Changes.{with_row, standing_with}
+use Rattle.row_machine.specs.machine.Claims.{of_live, claimed_volume, claimed_snapshot}
+use Rattle.row_machine.specs.opening.Records.{rows_of}
+use Rattle.row_machine.specs.facts.Whole.{AreNamed, claims_of, new_instance}
 use Rattle.machine_laws.proofs.NamesRise.{Rise-replaced}
 use Rattle.machine_laws.proofs.NamesTests.{project_is, profile_is, network_is, pool_is, volume_is, instance_is, snapshot_is, project_differs, profile_differs, network_differs, pool_differs, volume_differs, instance_differs, snapshot_differs}
 use Rattle.machine_laws.proofs.NamesLists.{Distinct-put, map-put, any-map, map-inserted}

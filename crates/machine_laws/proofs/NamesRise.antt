@@ -15,8 +15,8 @@ use Rattle.plain_lists.proofs.Elements.{Each-none, Each-cons, Each-head, Each-ta
 use Rattle.plain_lists.proofs.PutsLemmas.{Each-puts}
 use Rattle.plain_lists.proofs.Searches.{any-none}
 use Rattle.plain_lists.proofs.EditLemmas.{Each-changed, Each-dropped, inserted-Puts}
-use Rattle.row_machine.specs.Rows.{texts_before}
-use Rattle.row_machine.specs.Whole.{Rise}
+use Rattle.row_machine.specs.machine.Rows.{texts_before}
+use Rattle.row_machine.specs.facts.Whole.{Rise}
 
 -- ---- the order of lists of texts is total
 

@@ -10,9 +10,9 @@ use Rattle.records.specs.declared.rows.Row.{Row}
 use Rattle.records.specs.declared.rows.Row.TheVariants as row
 use Rattle.row_machine.specs.declared.changes.RowChange.{RowChange}
 use Rattle.row_machine.specs.declared.changes.RowChange.TheVariants as change
-use Rattle.row_machine.specs.State.{State}
-use Rattle.row_machine.specs.Records.{rows_of}
-use Rattle.row_machine.specs.Changes.{with_row, without_row, applied, rows_put}
+use Rattle.row_machine.specs.machine.State.{State}
+use Rattle.row_machine.specs.opening.Records.{rows_of}
+use Rattle.row_machine.specs.machine.Changes.{with_row, without_row, applied, rows_put}
 use Rattle.machine_laws.proofs.NamesLists.{Each-to_map}
 
 -- a fact on each row, kind by kind

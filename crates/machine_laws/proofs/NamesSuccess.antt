@@ -21,14 +21,15 @@ use Rattle.records.specs.declared.rows.Row.TheVariants as row
 use Rattle.records.specs.declared.commands.Target.{Target}
 use Rattle.row_codec.specs.Rows.{HasGoodKey, HasMoments}
 use Rattle.row_machine.specs.declared.changes.RowChange.TheVariants as change
-use Rattle.row_machine.specs.Task.{Task}
-use Rattle.row_machine.specs.State.{State}
-use Rattle.row_machine.specs.Rows.{instance_named, is_instance, volume_names, instance_names, snapshot_names}
-use Rattle.row_machine.specs.Changes.{rows_put}
-use Rattle.row_machine.specs.Claims.{of_live, claimed_volume, claimed_instance, claimed_snapshot}
-use Rattle.row_machine.specs.Links.{target_of}
-use Rattle.row_machine.specs.Records.{rows_of}
-use Rattle.row_machine.specs.Whole.{IsWhole, IsByDeed, IsPlaced, claims_of, new_instance, instance_there, keeps_name}
+use Rattle.row_machine.specs.machine.Task.{Task}
+use Rattle.row_machine.specs.machine.State.{State}
+use Rattle.row_machine.specs.machine.Rows.{instance_named, is_instance, volume_names, instance_names, snapshot_names}
+use Rattle.row_machine.specs.machine.Changes.{rows_put}
+use Rattle.row_machine.specs.machine.Claims.{of_live, claimed_volume, claimed_instance, claimed_snapshot}
+use Rattle.row_machine.specs.shown.Links.{target_of}
+use Rattle.row_machine.specs.opening.Records.{rows_of}
+use Rattle.row_machine.specs.facts.Whole.{IsWhole, IsByDeed, IsPlaced, claims_of, new_instance, instance_there}
+use Rattle.row_machine.specs.machine.Deeds.{keeps_name}
 use Rattle.machine_laws.proofs.NamesTests.{instance_is}
 use Rattle.machine_laws.proofs.NamesPut.{IsUnclaimed}
 use Rattle.machine_laws.proofs.NamesLive.{read_of, unclaimed-fewer}

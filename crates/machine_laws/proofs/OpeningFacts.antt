@@ -20,18 +20,18 @@ use Rattle.records.specs.declared.rows.Volume.{Volume}
 use Rattle.records.specs.declared.rows.Instance.{Instance}
 use Rattle.records.specs.declared.rows.Row.{Row}
 use Rattle.records.specs.declared.rows.Row.TheVariants as row
-use Rattle.row_machine.specs.State.{State}
-use Rattle.row_machine.specs.Rows.{default_name, project_named, profile_named, is_project, project_names}
-use Rattle.row_machine.specs.Homes.{is_on}
-use Rattle.row_machine.specs.Expansions.{expanded_of}
-use Rattle.row_machine.specs.Claims.{judged_instances}
-use Rattle.row_machine.specs.Records.{rows_of}
-use Rattle.row_machine.specs.SettingRules.{profile_missing, devices_miss}
-use Rattle.row_machine.specs.PolicyRules.{forbids_profile, forbids_instance, project_forbids, policy_broken}
-use Rattle.row_machine.specs.LimitRules.{instance_uncounted, volume_uncounts, project_uncounted, counts_broken}
-use Rattle.row_machine.specs.TableRules.{count_of}
-use Rattle.row_machine.specs.Opening.{overnamed, undefaulted, unlinked, has_all_features}
-use Rattle.row_machine.specs.Whole.{IsWhole, AreNamed, IsLinked, AreLinked, HasDefaults, AreSettled, AreOperations, AreBalanced, AreFew}
+use Rattle.row_machine.specs.machine.State.{State}
+use Rattle.row_machine.specs.machine.Rows.{default_name, project_named, profile_named, is_project, project_names}
+use Rattle.row_machine.specs.machine.Homes.{is_on}
+use Rattle.row_machine.specs.machine.Expansions.{expanded_of}
+use Rattle.row_machine.specs.machine.Claims.{judged_instances}
+use Rattle.row_machine.specs.opening.Records.{rows_of}
+use Rattle.row_machine.specs.machine.SettingRules.{profile_missing, devices_miss}
+use Rattle.row_machine.specs.machine.PolicyRules.{forbids_profile, forbids_instance, project_forbids, policy_broken}
+use Rattle.row_machine.specs.machine.LimitRules.{instance_uncounted, volume_uncounts, project_uncounted, counts_broken}
+use Rattle.row_machine.specs.machine.TableRules.{count_of}
+use Rattle.row_machine.specs.opening.Opening.{overnamed, undefaulted, unlinked, has_all_features}
+use Rattle.row_machine.specs.facts.Whole.{IsWhole, AreNamed, IsLinked, AreLinked, HasDefaults, AreSettled, AreOperations, AreBalanced, AreFew}
 use Rattle.machine_laws.proofs.NamesRise.{Rise-Distinct}
 use Rattle.machine_laws.proofs.NamesRows.{EachRow, each-row}
 use Rattle.machine_laws.proofs.NamesSuccess.{some_there}

@@ -17,12 +17,12 @@ use Rattle.row_codec.specs.Reading.{row_of}
 use Rattle.row_codec.specs.declared.damage.Damaged.{Damaged}
 use Rattle.row_codec.proofs.Fields.{IsBytes}
 use Rattle.row_codec.proofs.Entries.{row_found}
-use Rattle.row_machine.specs.State.{State, empty_state}
-use Rattle.row_machine.specs.Records.{records_of}
-use Rattle.row_machine.specs.Plans.{put_all}
-use Rattle.row_machine.specs.Opening.{Opening, opened, damaged, broken, with_rows, first_rows, rows_in, rows_break, opening_by, opening_of}
-use Rattle.row_machine.specs.TableRules.{count_of}
-use Rattle.row_machine.specs.Whole.{IsWhole}
+use Rattle.row_machine.specs.machine.State.{State, empty_state}
+use Rattle.row_machine.specs.opening.Records.{records_of}
+use Rattle.row_machine.specs.machine.Plans.{put_all}
+use Rattle.row_machine.specs.opening.Opening.{Opening, opened, damaged, broken, with_rows, first_rows, rows_in, rows_break, opening_by, opening_of}
+use Rattle.row_machine.specs.machine.TableRules.{count_of}
+use Rattle.row_machine.specs.facts.Whole.{IsWhole}
 use Rattle.row_machine.proofs.Beginning.{new-whole}
 use Rattle.machine_laws.specs.Entries.{entry_changes}
 use Rattle.machine_laws.specs.Openings.{HasBytes, OpeningIsWhole, OpeningKeepsEntries}
@@ -119,7 +119,7 @@ opening-whole entries s bytes h = by (is-opening entries s h) where
 
 -- ---- the records are the entries
 
--- an entry behind all others is put at the end
+-- an entry after all others is put at the end
 put-last : (e : Entry) (es : List Entry) → Each (λ x. entry_order x e ≡ Less) es → put_entry e es ≡ es ++ e ∷ []
 unfolding put_entry
 put-last e es low =

@@ -10,14 +10,14 @@ use Rattle.records.specs.declared.rows.Row.{Row}
 use Rattle.records.specs.declared.rows.Row.TheVariants as row
 use Rattle.row_codec.specs.Rows.{HasGoodKey, HasMoments}
 use Rattle.row_codec.specs.Spelling.{kind_of}
-use Rattle.row_machine.specs.State.{State, empty_state}
-use Rattle.row_machine.specs.Rows.{texts_before, is_project, is_profile, is_network, is_pool, is_volume, is_instance, is_snapshot, project_names, profile_names, network_names, pool_names, volume_names, instance_names, snapshot_names}
-use Rattle.row_machine.specs.Changes.{with_row, applied, rows_put}
-use Rattle.row_machine.specs.Plans.{put_all}
-use Rattle.row_machine.specs.Records.{rows_of}
-use Rattle.row_machine.specs.Opening.{with_rows}
-use Rattle.row_machine.specs.TableRules.{count_of}
-use Rattle.row_machine.specs.Whole.{AreNamed}
+use Rattle.row_machine.specs.machine.State.{State, empty_state}
+use Rattle.row_machine.specs.machine.Rows.{texts_before, is_project, is_profile, is_network, is_pool, is_volume, is_instance, is_snapshot, project_names, profile_names, network_names, pool_names, volume_names, instance_names, snapshot_names}
+use Rattle.row_machine.specs.machine.Changes.{with_row, applied, rows_put}
+use Rattle.row_machine.specs.machine.Plans.{put_all}
+use Rattle.row_machine.specs.opening.Records.{rows_of}
+use Rattle.row_machine.specs.opening.Opening.{with_rows}
+use Rattle.row_machine.specs.machine.TableRules.{count_of}
+use Rattle.row_machine.specs.facts.Whole.{AreNamed}
 use Rattle.machine_laws.specs.Entries.{number_of}
 use Rattle.machine_laws.specs.Records.{StaysNamed}
 use Rattle.machine_laws.proofs.NamesLists.{length-put}

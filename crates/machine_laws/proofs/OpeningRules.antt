@@ -16,11 +16,12 @@ use Rattle.records.specs.declared.refusals.Rule.TheVariants as rule
 use Rattle.records.specs.declared.refusals.Refusal.{Refusal}
 use Rattle.records.specs.declared.rows.Project.{Project}
 use Rattle.records.specs.declared.rows.Row.{Row}
-use Rattle.row_machine.specs.State.{State}
-use Rattle.row_machine.specs.Rows.{default_name, project_named}
-use Rattle.row_machine.specs.LimitRules.{part_exceeds, networks_exceed, limits_broken}
-use Rattle.row_machine.specs.TableRules.{cap_of, row_kinds, too_large, size_of, largest_row}
-use Rattle.row_machine.specs.Opening.{Opening, opened, broken, broken_at, homeless, orphaned, overnamed, undefaulted, missettled, misdeviced, rootless, unlinked, forbidden, uncountable, row_rules, row_breaks, default_missing, limit_breaks, past_cap, size_breaks, rows_break}
+use Rattle.row_machine.specs.machine.State.{State}
+use Rattle.row_machine.specs.machine.Rows.{default_name, project_named}
+use Rattle.row_machine.specs.machine.LimitRules.{part_exceeds, networks_exceed, limits_broken}
+use Rattle.row_machine.specs.machine.TableRules.{row_kinds, too_large, size_of, largest_row}
+use Rattle.row_machine.specs.machine.Kinds.{cap_of}
+use Rattle.row_machine.specs.opening.Opening.{Opening, opened, broken, broken_at, homeless, orphaned, overnamed, undefaulted, missettled, misdeviced, rootless, unlinked, forbidden, uncountable, row_rules, row_breaks, default_missing, limit_breaks, past_cap, size_breaks, rows_break}
 use Rattle.machine_laws.proofs.SizesTables.{IsSmall}
 use Rattle.machine_laws.proofs.OpeningRows.{of_kind}
 

@@ -5,11 +5,11 @@ use Rattle.size_values.specs.declared.kinds.Action.{Action}
 use Rattle.size_values.specs.declared.kinds.Action.TheVariants as action
 use Rattle.instance_states.specs.Plans.{calls_of, calls_of_action, undo_of, name_of}
 use Rattle.host_model.specs.declared.place.Place.{Place}
-use Rattle.row_machine.specs.Task.{Task}
-use Rattle.row_machine.specs.State.{State}
-use Rattle.row_machine.specs.HostCalls.{act_calls}
-use Rattle.row_machine.specs.Plans.{instance_target}
-use Rattle.row_machine.specs.Whole.{IsByDeed}
+use Rattle.row_machine.specs.machine.Task.{Task}
+use Rattle.row_machine.specs.machine.State.{State}
+use Rattle.row_machine.specs.machine.HostCalls.{act_calls}
+use Rattle.row_machine.specs.machine.Plans.{instance_target}
+use Rattle.row_machine.specs.facts.Whole.{IsByDeed}
 use Rattle.machine_laws.proofs.Cases.{Begins}
 use Rattle.machine_laws.proofs.Cases.Begins.{creates, copies_instance, copies_snapshot, copies_volume, updates, restores, renames, deletes, acts, snaps, unsnaps}
 

@@ -17,15 +17,16 @@ use Rattle.records.specs.declared.rows.Instance.{Instance}
 use Rattle.records.specs.declared.rows.Snapshot.{Snapshot}
 use Rattle.records.specs.declared.commands.Target.{Target}
 use Rattle.row_codec.proofs.Fields.{both_true}
-use Rattle.row_machine.specs.Task.{Task}
-use Rattle.row_machine.specs.State.{State}
-use Rattle.row_machine.specs.Rows.{instance_named, snapshot_named}
-use Rattle.row_machine.specs.Claims.{project_of_row}
-use Rattle.row_machine.specs.Links.{target_of}
-use Rattle.row_machine.specs.Holders.{busy_with, keeps_busy, is_about}
-use Rattle.row_machine.specs.NameRules.{claims_object, same_target, is_there}
-use Rattle.row_machine.specs.Plans.{instance_target}
-use Rattle.row_machine.specs.Whole.{IsWhole, IsPlaced, IsByDeed, has_target, claim_kind, target_kind, instance_there}
+use Rattle.row_machine.specs.machine.Task.{Task}
+use Rattle.row_machine.specs.machine.State.{State}
+use Rattle.row_machine.specs.machine.Rows.{instance_named, snapshot_named}
+use Rattle.row_machine.specs.machine.Claims.{project_of_row}
+use Rattle.row_machine.specs.shown.Links.{target_of}
+use Rattle.row_machine.specs.machine.Holders.{busy_with, keeps_busy, is_about}
+use Rattle.row_machine.specs.machine.NameRules.{claims_object, same_target, is_there}
+use Rattle.row_machine.specs.machine.Plans.{instance_target}
+use Rattle.row_machine.specs.facts.Whole.{IsWhole, IsPlaced, IsByDeed, instance_there}
+use Rattle.row_machine.specs.machine.Deeds.{has_target, claim_kind, target_kind}
 use Rattle.machine_laws.proofs.Cases.{Begins, IsNew, IsIdle}
 use Rattle.machine_laws.proofs.Cases.Begins.{creates, copies_instance, copies_snapshot, copies_volume, updates, restores, renames, deletes, acts, snaps, unsnaps}
 use Rattle.machine_laws.proofs.Found.{there-is, snapshot-found}

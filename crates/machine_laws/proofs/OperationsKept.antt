@@ -29,16 +29,16 @@ use Rattle.operations.proofs.KeptLemmas.{AreKept-entered, AreKept-moved, AreKept
 use Rattle.records.specs.declared.commands.Command.{Command}
 use Rattle.records.specs.declared.notices.Untold.{Untold}
 use Rattle.row_machine.specs.declared.changes.RowChange.{RowChange}
-use Rattle.row_machine.specs.Task.{Task}
-use Rattle.row_machine.specs.State.{State}
-use Rattle.row_machine.specs.Changes.{applied}
-use Rattle.row_machine.specs.Holders.{busy_with, keeps_busy}
-use Rattle.row_machine.specs.TableRules.{entry_broken, enter_refusal}
-use Rattle.row_machine.specs.Plans.{changes, starts}
-use Rattle.row_machine.specs.Notices.{telling}
-use Rattle.row_machine.specs.Step.{first_pending}
-use Rattle.row_machine.specs.Work.{entered, with_task, moved, handing_out, one_more_done, undone, cancelled, failed, succeeded, success_changes, power_after, with_power_after, after_failure}
-use Rattle.row_machine.specs.Whole.{IsWhole, AreOperations, IsByDeed}
+use Rattle.row_machine.specs.machine.Task.{Task}
+use Rattle.row_machine.specs.machine.State.{State}
+use Rattle.row_machine.specs.machine.Changes.{applied}
+use Rattle.row_machine.specs.machine.Holders.{busy_with, keeps_busy}
+use Rattle.row_machine.specs.machine.TableRules.{entry_broken, enter_refusal}
+use Rattle.row_machine.specs.machine.Plans.{changes, starts}
+use Rattle.row_machine.specs.shown.Notices.{telling}
+use Rattle.row_machine.specs.machine.Step.{first_pending}
+use Rattle.row_machine.specs.machine.Work.{entered, with_task, moved, handing_out, one_more_done, undone, cancelled, failed, succeeded, success_changes, power_after, with_power_after, after_failure}
+use Rattle.row_machine.specs.facts.Whole.{IsWhole, AreOperations, IsByDeed}
 use Rattle.machine_laws.proofs.Cases.{IsAccepted, IsLiveAs}
 use Rattle.machine_laws.proofs.Judged.{entry_judged}
 use Rattle.machine_laws.proofs.BeginsCases.{begins}
@@ -87,7 +87,7 @@ count-dropped {X} q p (y ∷ ys) = at (p y) (count-dropped q p ys) where
   at true more = counts-more (q y) y (filter q ys)
   at false more = counts-over (q y) y (filter q (dropped p ys)) (filter q ys) more
 
--- one behind that does not pass, or the only one that does
+-- one after that does not pass, or the only one that does
 count-push : {X : Type 0} (q : X → Bool) (x : X) (xs : List X) → q x ≡ false → length (filter q xs) ≤ 1 → length (filter q (xs ++ x ∷ [])) ≤ 1
 count-push q x xs e h =
     subst (λ zs. length zs ≤ 1) (sym (filter-append q xs (x ∷ [])))

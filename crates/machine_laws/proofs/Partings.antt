@@ -14,12 +14,12 @@ use Rattle.records.specs.declared.rows.Instance.{Instance}
 use Rattle.records.specs.declared.rows.Snapshot.{Snapshot}
 use Rattle.records.specs.declared.rows.Row.TheVariants as row
 use Rattle.row_machine.specs.declared.changes.RowChange.{RowChange}
-use Rattle.row_machine.specs.State.{State}
-use Rattle.row_machine.specs.Rows.{default_name, project_named, profile_named, network_named, pool_named, volume_named, instance_named, snapshot_named}
-use Rattle.row_machine.specs.Homes.{home_of}
-use Rattle.row_machine.specs.Holders.{holder_of, first_user_of}
-use Rattle.row_machine.specs.StandingRules.{is_occupied}
-use Rattle.row_machine.specs.Plans.{changes, plan_of, plan_move, plan_delete, if_there}
+use Rattle.row_machine.specs.machine.State.{State}
+use Rattle.row_machine.specs.machine.Rows.{default_name, project_named, profile_named, network_named, pool_named, volume_named, instance_named, snapshot_named}
+use Rattle.row_machine.specs.machine.Homes.{home_of}
+use Rattle.row_machine.specs.machine.Holders.{holder_of, first_user_of}
+use Rattle.row_machine.specs.machine.StandingRules.{is_occupied}
+use Rattle.row_machine.specs.machine.Plans.{changes, plan_of, plan_move, plan_delete, if_there}
 use Rattle.machine_laws.proofs.Cases.{IsAccepted, AtOnce, IsHome, IsNew, IsNotDefault}
 use Rattle.machine_laws.proofs.Cases.AtOnce.{renames_project, deletes_project, renames_profile, deletes_profile, renames_network, deletes_network, deletes_pool, renames_volume, deletes_volume}
 use Rattle.machine_laws.proofs.Found.{not-there, project-found, project-itself, profile-found, profile-itself, network-found, network-itself, pool-found, pool-itself, volume-found, volume-itself}

@@ -11,10 +11,10 @@ use Rattle.records.specs.declared.rows.Row.TheVariants as row
 use Rattle.row_codec.specs.Spelling.{entry_of}
 use Rattle.row_machine.specs.declared.changes.RowChange.{RowChange}
 use Rattle.row_machine.specs.declared.changes.RowChange.TheVariants as change
-use Rattle.row_machine.specs.State.{State}
-use Rattle.row_machine.specs.Records.{records_of}
-use Rattle.row_machine.specs.Changes.{with_row, without_row, changed}
-use Rattle.row_machine.specs.Whole.{AreNamed}
+use Rattle.row_machine.specs.machine.State.{State}
+use Rattle.row_machine.specs.opening.Records.{records_of}
+use Rattle.row_machine.specs.machine.Changes.{with_row, without_row, changed}
+use Rattle.row_machine.specs.facts.Whole.{AreNamed}
 use Rattle.machine_laws.specs.Entries.{number_of, entry_change, entry_changes}
 use Rattle.machine_laws.specs.Records.{RecordsFollow}
 use Rattle.machine_laws.proofs.RecordsPlaces.{put-front, put-back, remove-front, remove-back, remove-none}

@@ -9,13 +9,13 @@ use Rattle.operations.specs.Kept.{Kept, live_at}
 use Rattle.record_keeper.specs.Entries.{after_changes}
 use Rattle.records.specs.declared.commands.Command.{Command}
 use Rattle.row_machine.specs.declared.changes.RowChange.{RowChange}
-use Rattle.row_machine.specs.Task.{Task}
-use Rattle.row_machine.specs.State.{State}
-use Rattle.row_machine.specs.Records.{records_of}
-use Rattle.row_machine.specs.Changes.{applied, rows_put}
-use Rattle.row_machine.specs.Plans.{changes}
-use Rattle.row_machine.specs.Work.{with_power_after, power_after, ended, converted, succeeded, success_changes}
-use Rattle.row_machine.specs.Whole.{IsWhole, AreNamed}
+use Rattle.row_machine.specs.machine.Task.{Task}
+use Rattle.row_machine.specs.machine.State.{State}
+use Rattle.row_machine.specs.opening.Records.{records_of}
+use Rattle.row_machine.specs.machine.Changes.{applied, rows_put}
+use Rattle.row_machine.specs.machine.Plans.{changes}
+use Rattle.row_machine.specs.machine.Work.{with_power_after, power_after, ended, converted, succeeded, success_changes}
+use Rattle.row_machine.specs.facts.Whole.{IsWhole, AreNamed}
 use Rattle.machine_laws.specs.Entries.{entry_changes}
 use Rattle.machine_laws.specs.Records.{StaysNamed, CommandsFollow, SuccessesFollow}
 use Rattle.machine_laws.proofs.Cases.{IsAccepted}

@@ -20,8 +20,8 @@ use Rattle.records.specs.declared.rows.Instance.{Instance}
 use Rattle.records.specs.declared.rows.Snapshot.{Snapshot}
 use Rattle.records.specs.declared.rows.Row.TheVariants as row
 use Rattle.row_codec.specs.Spelling.{entry_of}
-use Rattle.row_machine.specs.State.{State}
-use Rattle.row_machine.specs.Records.{by_key, records_of}
+use Rattle.row_machine.specs.machine.State.{State}
+use Rattle.row_machine.specs.opening.Records.{by_key, records_of}
 use Rattle.machine_laws.specs.Records.{RecordsOrdered}
 use Rattle.machine_laws.proofs.NamesKeys.{HasDistinctKeys, distinct-keys}
 use Rattle.machine_laws.proofs.RecordsSections.{section_kinds, section_ordered}
@@ -90,7 +90,7 @@ up_to_volumes t = up_to_pools t ++ t.volumes
 abbrev pub up_to_instances : Sections → List Entry
 up_to_instances t = up_to_volumes t ++ t.instances
 
--- all of them, one behind the other
+-- all of them, one after the other
 abbrev pub all_of : Sections → List Entry
 all_of t = up_to_instances t ++ t.snapshots
 

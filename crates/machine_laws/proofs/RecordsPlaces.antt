@@ -1,4 +1,4 @@
--- An entry put or removed among entries of other kinds: those of lower kinds stay before it, and those of higher kinds behind.
+-- An entry put or removed among entries of other kinds: those of lower kinds stay before it, and those of higher kinds after.
 use Rattle.std.proofs.Common.{◌≡◌, ℕ, ◌<◌, Bool, true, false, cond, List, [], ◌∷◌, ◌++◌, filter, refl, sym, ap, ◌∙◌, append-nil}
 use Rattle.std.specs.Cmp.{nat_cmp_is}
 use Rattle.std.specs.Cmp.Lexicographic.{slice_cmp}

@@ -12,10 +12,10 @@ use Rattle.records.specs.declared.rows.Instance.{Instance}
 use Rattle.records.specs.declared.rows.Snapshot.{Snapshot}
 use Rattle.records.specs.declared.rows.Row.TheVariants as row
 use Rattle.row_codec.specs.Spelling.{key_of}
-use Rattle.row_machine.specs.State.{State}
-use Rattle.row_machine.specs.Rows.{texts_before, project_names, profile_names, network_names, pool_names, volume_names, instance_names, snapshot_names, is_project, is_profile, is_network, is_pool, is_volume, is_instance, is_snapshot}
-use Rattle.row_machine.specs.Changes.{with_row, without_row, has_key}
-use Rattle.row_machine.specs.Whole.{AreNamed}
+use Rattle.row_machine.specs.machine.State.{State}
+use Rattle.row_machine.specs.machine.Rows.{texts_before, project_names, profile_names, network_names, pool_names, volume_names, instance_names, snapshot_names, is_project, is_profile, is_network, is_pool, is_volume, is_instance, is_snapshot}
+use Rattle.row_machine.specs.machine.Changes.{with_row, without_row, has_key}
+use Rattle.row_machine.specs.facts.Whole.{AreNamed}
 use Rattle.machine_laws.proofs.NamesLists.{Mem-put}
 use Rattle.machine_laws.proofs.NamesBegin.{good_rows}
 use Rattle.machine_laws.proofs.NamesKeys.{distinct-keys}

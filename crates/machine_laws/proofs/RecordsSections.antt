@@ -22,8 +22,8 @@ use Rattle.record_keeper.specs.Entries.{seen_from, entry_order, IsOrderedEntries
 use Rattle.record_keeper.proofs.Lookups.{entry_at-put_entry, entry_at-remove_entry, entries-same}
 use Rattle.record_keeper.proofs.Listed.{each-map}
 use Rattle.record_keeper.proofs.Ordered.{entry_total, turned, here, ordered-put, ordered-remove}
-use Rattle.row_machine.specs.Rows.{text_before}
-use Rattle.row_machine.specs.Records.{by_key}
+use Rattle.row_machine.specs.machine.Rows.{text_before}
+use Rattle.row_machine.specs.opening.Records.{by_key}
 
 -- ---- places
 

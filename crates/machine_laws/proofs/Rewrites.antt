@@ -18,14 +18,14 @@ use Rattle.records.specs.declared.rows.Snapshot.{Snapshot}
 use Rattle.records.specs.declared.rows.Row.TheVariants as row
 use Rattle.row_codec.proofs.Fields.{both_true}
 use Rattle.row_machine.specs.declared.changes.RowChange.{RowChange}
-use Rattle.row_machine.specs.State.{State}
-use Rattle.row_machine.specs.Rows.{default_name, project_named, profile_named, network_named, pool_named, volume_named, instance_named, snapshot_named}
-use Rattle.row_machine.specs.Homes.{home_of}
-use Rattle.row_machine.specs.Asked.{is_parting}
-use Rattle.row_machine.specs.Holders.{holder_of}
-use Rattle.row_machine.specs.StandingRules.{asks_for_features, changes_features, is_occupied}
-use Rattle.row_machine.specs.NewRows.{put_project, patched_project, put_profile, patched_profile, put_network, patched_network, put_pool, patched_pool, put_volume, patched_volume, patched_instance}
-use Rattle.row_machine.specs.Plans.{changes, plan_of, plan_put, plan_patch, put_all, project_change, if_there}
+use Rattle.row_machine.specs.machine.State.{State}
+use Rattle.row_machine.specs.machine.Rows.{default_name, project_named, profile_named, network_named, pool_named, volume_named, instance_named, snapshot_named}
+use Rattle.row_machine.specs.machine.Homes.{home_of}
+use Rattle.row_machine.specs.machine.Asked.{is_parting}
+use Rattle.row_machine.specs.machine.Holders.{holder_of}
+use Rattle.row_machine.specs.machine.StandingRules.{asks_for_features, changes_features, is_occupied}
+use Rattle.row_machine.specs.machine.NewRows.{put_project, patched_project, put_profile, patched_profile, put_network, patched_network, put_pool, patched_pool, put_volume, patched_volume, patched_instance}
+use Rattle.row_machine.specs.machine.Plans.{changes, plan_of, plan_put, plan_patch, put_all, project_change, if_there}
 use Rattle.machine_laws.proofs.Cases.{IsAccepted, AtOnce, IsHome, IsNotDefault}
 use Rattle.machine_laws.proofs.Cases.AtOnce.{changes_project, changes_profile, changes_network, changes_pool, changes_volume, changes_instance}
 use Rattle.machine_laws.proofs.Found.{project-found, project-itself, profile-found, profile-itself, network-found, network-itself, pool-itself, volume-found, volume-itself}

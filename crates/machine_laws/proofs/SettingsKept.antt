@@ -21,17 +21,17 @@ use Rattle.records.specs.declared.rows.Instance.{Instance}
 use Rattle.records.specs.declared.rows.Row.{Row}
 use Rattle.records.specs.declared.rows.Row.TheVariants as row
 use Rattle.row_machine.specs.declared.changes.RowChange.{RowChange}
-use Rattle.row_machine.specs.Task.{Task}
-use Rattle.row_machine.specs.State.{State}
-use Rattle.row_machine.specs.Changes.{applied, rows_put}
-use Rattle.row_machine.specs.Records.{rows_of}
-use Rattle.row_machine.specs.Claims.{of_live, claimed_instance, judged_instances}
-use Rattle.row_machine.specs.SettingRules.{root_missing, settings_broken}
-use Rattle.row_machine.specs.Plans.{changes, starts}
-use Rattle.row_machine.specs.Notices.{telling}
-use Rattle.row_machine.specs.Step.{first_pending}
-use Rattle.row_machine.specs.Work.{converted, returned, entered, with_task, moved, handing_out, one_more_done, undone, cancelled, failed, succeeded, ended, success_changes, with_power_after, power_after, after_failure}
-use Rattle.row_machine.specs.Whole.{IsWhole, AreSettled}
+use Rattle.row_machine.specs.machine.Task.{Task}
+use Rattle.row_machine.specs.machine.State.{State}
+use Rattle.row_machine.specs.machine.Changes.{applied, rows_put}
+use Rattle.row_machine.specs.opening.Records.{rows_of}
+use Rattle.row_machine.specs.machine.Claims.{of_live, claimed_instance, judged_instances}
+use Rattle.row_machine.specs.machine.SettingRules.{root_missing, settings_broken}
+use Rattle.row_machine.specs.machine.Plans.{changes, starts}
+use Rattle.row_machine.specs.shown.Notices.{telling}
+use Rattle.row_machine.specs.machine.Step.{first_pending}
+use Rattle.row_machine.specs.machine.Work.{converted, returned, entered, with_task, moved, handing_out, one_more_done, undone, cancelled, failed, succeeded, ended, success_changes, with_power_after, power_after, after_failure}
+use Rattle.row_machine.specs.facts.Whole.{IsWhole, AreSettled}
 use Rattle.machine_laws.proofs.Cases.{IsAccepted, IsLiveAs, AtOnce}
 use Rattle.machine_laws.proofs.Judged.{judged, entry_judged}
 use Rattle.machine_laws.proofs.AtOnceCases.{at_once}

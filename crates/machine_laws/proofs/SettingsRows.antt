@@ -20,18 +20,18 @@ use Rattle.records.specs.declared.rows.Row.{Row}
 use Rattle.records.specs.declared.rows.Row.TheVariants as row
 use Rattle.row_machine.specs.declared.changes.RowChange.{RowChange}
 use Rattle.row_machine.specs.declared.changes.RowChange.TheVariants as change
-use Rattle.row_machine.specs.Task.{Task}
-use Rattle.row_machine.specs.State.{State}
-use Rattle.row_machine.specs.Changes.{removal, rows_put}
-use Rattle.row_machine.specs.Claims.{claimed_instance, judged_instances}
-use Rattle.row_machine.specs.Holders.{names_profile}
+use Rattle.row_machine.specs.machine.Task.{Task}
+use Rattle.row_machine.specs.machine.State.{State}
+use Rattle.row_machine.specs.machine.Changes.{removal, rows_put}
+use Rattle.row_machine.specs.machine.Claims.{claimed_instance, judged_instances}
+use Rattle.row_machine.specs.machine.Holders.{names_profile}
 use Rattle.machine_laws.proofs.LimitsBroken.{Mem-filter}
 use Rattle.records.specs.declared.rows.Profile.{Profile}
-use Rattle.row_machine.specs.SettingRules.{naming, tables_break, setting_refusal, scope_of, root_missing, instance_settings, profile_settings, row_settings, settings_broken}
-use Rattle.row_machine.specs.Opening.{missettled, misdeviced, rule_of}
-use Rattle.row_machine.specs.Work.{success_changes, renames_instance}
-use Rattle.row_machine.specs.Asked.{snapshots_of}
-use Rattle.row_machine.specs.Rows.{instance_named, snapshot_named}
+use Rattle.row_machine.specs.machine.SettingRules.{naming, tables_break, setting_refusal, scope_of, root_missing, instance_settings, profile_settings, row_settings, settings_broken}
+use Rattle.row_machine.specs.opening.Opening.{missettled, misdeviced, rule_of}
+use Rattle.row_machine.specs.machine.Work.{success_changes, renames_instance}
+use Rattle.row_machine.specs.machine.Asked.{snapshots_of}
+use Rattle.row_machine.specs.machine.Rows.{instance_named, snapshot_named}
 use Rattle.machine_laws.proofs.ExpansionsNamed.{claim-is}
 
 -- what the tables say of a row, in any state

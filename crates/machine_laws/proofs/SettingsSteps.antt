@@ -16,13 +16,13 @@ use Rattle.records.specs.declared.notices.Notice.{Notice}
 use Rattle.records.specs.declared.rows.Instance.{Instance}
 use Rattle.records.specs.declared.rows.Row.{Row}
 use Rattle.records.specs.declared.rows.Row.TheVariants as row
-use Rattle.row_machine.specs.Task.{Task}
-use Rattle.row_machine.specs.State.{State, Standing}
-use Rattle.row_machine.specs.Records.{rows_of}
-use Rattle.row_machine.specs.Claims.{of_live, claimed_instance, judged_instances}
-use Rattle.row_machine.specs.SettingRules.{root_missing, settings_broken}
-use Rattle.row_machine.specs.Work.{claiming, entered}
-use Rattle.row_machine.specs.Whole.{AreSettled, claims_of}
+use Rattle.row_machine.specs.machine.Task.{Task}
+use Rattle.row_machine.specs.machine.State.{State, Standing}
+use Rattle.row_machine.specs.opening.Records.{rows_of}
+use Rattle.row_machine.specs.machine.Claims.{of_live, claimed_instance, judged_instances}
+use Rattle.row_machine.specs.machine.SettingRules.{root_missing, settings_broken}
+use Rattle.row_machine.specs.machine.Work.{claiming, entered}
+use Rattle.row_machine.specs.facts.Whole.{AreSettled, claims_of}
 use Rattle.machine_laws.proofs.Expansions.{root-alike}
 use Rattle.machine_laws.proofs.ExpansionsNamed.{claim-is}
 use Rattle.machine_laws.proofs.ExpansionsRows.{alike-rows}

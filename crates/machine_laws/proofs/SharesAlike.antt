@@ -6,9 +6,9 @@ use Rattle.size_values.specs.Amounts.{nothing, excess_of}
 use Rattle.records.specs.declared.rows.Instance.{Instance}
 use Rattle.records.specs.declared.rows.Row.{Row}
 use Rattle.records.specs.declared.rows.Row.TheVariants as row
-use Rattle.row_machine.specs.Task.{Task}
-use Rattle.row_machine.specs.State.{State}
-use Rattle.row_machine.specs.Claims.{claimed_instance, amounts_of, amounts_of_instance, project_of_row, replaced_instance, share_of, share_over}
+use Rattle.row_machine.specs.machine.Task.{Task}
+use Rattle.row_machine.specs.machine.State.{State}
+use Rattle.row_machine.specs.machine.Claims.{claimed_instance, amounts_of, amounts_of_instance, project_of_row, replaced_instance, share_of, share_over}
 
 -- the claimed instance, the replaced one, and what each has are the same in both states
 pub record IsShareAlike (s t : State) (task : Task) : Type 0 where

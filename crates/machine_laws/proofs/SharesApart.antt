@@ -26,14 +26,15 @@ use Rattle.row_codec.specs.Rows.{HasGoodKey}
 use Rattle.row_codec.specs.Spelling.{two_names}
 use Rattle.row_codec.proofs.Fields.{both_true}
 use Rattle.row_codec.proofs.Names.{two_again}
-use Rattle.row_machine.specs.Task.{Task}
-use Rattle.row_machine.specs.State.{State}
-use Rattle.row_machine.specs.Rows.{is_instance, instance_named, instance_names}
-use Rattle.row_machine.specs.Changes.{has_key}
-use Rattle.row_machine.specs.Records.{rows_of}
-use Rattle.row_machine.specs.Claims.{of_live}
-use Rattle.row_machine.specs.Holders.{keeps_busy, is_about}
-use Rattle.row_machine.specs.Whole.{IsWhole, IsByDeed, IsPlaced, replaces_target, target_kind, has_target, instance_there, new_instance, claims_of}
+use Rattle.row_machine.specs.machine.Task.{Task}
+use Rattle.row_machine.specs.machine.State.{State}
+use Rattle.row_machine.specs.machine.Rows.{is_instance, instance_named, instance_names}
+use Rattle.row_machine.specs.machine.Changes.{has_key}
+use Rattle.row_machine.specs.opening.Records.{rows_of}
+use Rattle.row_machine.specs.machine.Claims.{of_live}
+use Rattle.row_machine.specs.machine.Holders.{keeps_busy, is_about}
+use Rattle.row_machine.specs.facts.Whole.{IsWhole, IsByDeed, IsPlaced, instance_there, new_instance, claims_of}
+use Rattle.row_machine.specs.machine.Deeds.{replaces_target, target_kind, has_target}
 
 -- ---- lists
 

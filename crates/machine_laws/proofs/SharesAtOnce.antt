@@ -12,15 +12,15 @@ use Rattle.records.specs.declared.rows.Project.{Project}
 use Rattle.records.specs.declared.rows.Profile.{Profile}
 use Rattle.records.specs.declared.rows.Instance.{Instance}
 use Rattle.row_machine.specs.declared.changes.RowChange.{RowChange}
-use Rattle.row_machine.specs.Task.{Task}
-use Rattle.row_machine.specs.State.{State}
-use Rattle.row_machine.specs.Rows.{is_instance, instance_named, with_instance}
-use Rattle.row_machine.specs.Homes.{is_on}
-use Rattle.row_machine.specs.Changes.{applied}
-use Rattle.row_machine.specs.Claims.{of_live, claimed_instance, replaced_instance, judged_instances}
-use Rattle.row_machine.specs.Holders.{busy_with, keeps_busy}
-use Rattle.row_machine.specs.Plans.{project_creation, project_change, project_rename, project_deletion, own_profile}
-use Rattle.row_machine.specs.Whole.{IsWhole}
+use Rattle.row_machine.specs.machine.Task.{Task}
+use Rattle.row_machine.specs.machine.State.{State}
+use Rattle.row_machine.specs.machine.Rows.{is_instance, instance_named, with_instance}
+use Rattle.row_machine.specs.machine.Homes.{is_on}
+use Rattle.row_machine.specs.machine.Changes.{applied}
+use Rattle.row_machine.specs.machine.Claims.{of_live, claimed_instance, replaced_instance, judged_instances}
+use Rattle.row_machine.specs.machine.Holders.{busy_with, keeps_busy}
+use Rattle.row_machine.specs.machine.Plans.{project_creation, project_change, project_rename, project_deletion, own_profile}
+use Rattle.row_machine.specs.facts.Whole.{IsWhole}
 use Rattle.machine_laws.proofs.Cases.{AtOnce, makes_project, changes_project, renames_project, deletes_project, makes_profile, changes_profile, renames_profile, deletes_profile, makes_network, changes_network, renames_network, deletes_network, makes_pool, changes_pool, deletes_pool, makes_volume, changes_volume, renames_volume, deletes_volume, changes_instance}
 use Rattle.machine_laws.proofs.SharesSuccess.{put-apart}
 

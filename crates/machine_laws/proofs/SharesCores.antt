@@ -11,11 +11,11 @@ use Rattle.plain_lists.proofs.Searches.{find-some, find-mem}
 use Rattle.operations.specs.declared.operation.Operation.{Operation}
 use Rattle.operations.specs.declared.status.Status.{Status}
 use Rattle.operations.specs.Kept.{Kept, has_number, live_at, with_work, moved}
-use Rattle.row_machine.specs.Task.{Task}
-use Rattle.row_machine.specs.State.{State}
-use Rattle.row_machine.specs.Claims.{of_live}
-use Rattle.row_machine.specs.Step.{first_pending}
-use Rattle.row_machine.specs.Whole.{IsWhole}
+use Rattle.row_machine.specs.machine.Task.{Task}
+use Rattle.row_machine.specs.machine.State.{State}
+use Rattle.row_machine.specs.machine.Claims.{of_live}
+use Rattle.row_machine.specs.machine.Step.{first_pending}
+use Rattle.row_machine.specs.facts.Whole.{IsWhole}
 use Rattle.row_machine.proofs.Moving.{kept-live}
 
 -- a task as it was entered, but for its calls

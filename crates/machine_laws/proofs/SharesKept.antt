@@ -14,15 +14,15 @@ use Rattle.operations.specs.Kept.{has_number, live_at}
 use Rattle.records.specs.declared.commands.Command.{Command}
 use Rattle.records.specs.declared.notices.Untold.{Untold}
 use Rattle.row_machine.specs.declared.changes.RowChange.{RowChange}
-use Rattle.row_machine.specs.Task.{Task}
-use Rattle.row_machine.specs.State.{State}
-use Rattle.row_machine.specs.Changes.{applied, rows_put}
-use Rattle.row_machine.specs.Claims.{share_of, amounts_of_instance, claimed_instance, replaced_instance}
-use Rattle.row_machine.specs.Plans.{changes, starts}
-use Rattle.row_machine.specs.Notices.{telling}
-use Rattle.row_machine.specs.Step.{first_pending}
-use Rattle.row_machine.specs.Work.{project_of_task, is_held_by, converted, returned, entered, with_task, moved, handing_out, one_more_done, undone, cancelled, failed, succeeded, ended, success_changes, with_power_after, power_after, after_failure}
-use Rattle.row_machine.specs.Whole.{IsWhole, held_by}
+use Rattle.row_machine.specs.machine.Task.{Task}
+use Rattle.row_machine.specs.machine.State.{State}
+use Rattle.row_machine.specs.machine.Changes.{applied, rows_put}
+use Rattle.row_machine.specs.machine.Claims.{share_of, amounts_of_instance, claimed_instance, replaced_instance}
+use Rattle.row_machine.specs.machine.Plans.{changes, starts}
+use Rattle.row_machine.specs.shown.Notices.{telling}
+use Rattle.row_machine.specs.machine.Step.{first_pending}
+use Rattle.row_machine.specs.machine.Work.{project_of_task, is_held_by, converted, returned, entered, with_task, moved, handing_out, one_more_done, undone, cancelled, failed, succeeded, ended, success_changes, with_power_after, power_after, after_failure}
+use Rattle.row_machine.specs.facts.Whole.{IsWhole, held_by}
 use Rattle.machine_laws.proofs.Cases.{IsAccepted, IsLiveAs, AtOnce}
 use Rattle.machine_laws.proofs.BooksSteps.{HasSameWork, applied-same, power-keeps, failure-keeps, telling-keeps}
 use Rattle.machine_laws.proofs.LimitsRows.{tables, IsDone}
@@ -41,8 +41,8 @@ use Rattle.machine_laws.proofs.AtOnceCases.{at_once}
 use Rattle.plain_lists.proofs.Elements.{Mem-right}
 use Rattle.std.specs.Option.{option_and_then, option_to_list}
 use Rattle.records.specs.declared.rows.Instance.{Instance}
-use Rattle.row_machine.specs.Rows.{instance_named}
-use Rattle.row_machine.specs.SettingRules.{settings_broken}
+use Rattle.row_machine.specs.machine.Rows.{instance_named}
+use Rattle.row_machine.specs.machine.SettingRules.{settings_broken}
 use Rattle.plain_lists.proofs.Searches.{find-some}
 
 -- a share is given back where one ended

@@ -6,11 +6,11 @@ use Rattle.plain_lists.specs.Members.{Each}
 use Rattle.plain_lists.specs.Edits.{dropped}
 use Rattle.operations.specs.declared.operation.Operation.{Operation}
 use Rattle.operations.specs.Kept.{Kept, has_number}
-use Rattle.row_machine.specs.Task.{Task}
-use Rattle.row_machine.specs.State.{State, Held}
-use Rattle.row_machine.specs.Claims.{share_of, amounts_of_instance}
-use Rattle.row_machine.specs.Work.{project_of_task, is_held_by, entered}
-use Rattle.row_machine.specs.Whole.{held_by}
+use Rattle.row_machine.specs.machine.Task.{Task}
+use Rattle.row_machine.specs.machine.State.{State, Held}
+use Rattle.row_machine.specs.machine.Claims.{share_of, amounts_of_instance}
+use Rattle.row_machine.specs.machine.Work.{project_of_task, is_held_by, entered}
+use Rattle.row_machine.specs.facts.Whole.{held_by}
 use Rattle.machine_laws.proofs.SharesCores.{core_of, core, cores, map-map, map-each, dropped-map}
 
 -- each live operation holds its share by the rows as they stand

@@ -14,13 +14,14 @@ use Rattle.records.specs.declared.commands.Target.{Target}
 use Rattle.records.specs.declared.rows.Instance.{Instance}
 use Rattle.records.specs.declared.rows.Row.TheVariants as row
 use Rattle.row_codec.specs.Spelling.{two_names}
-use Rattle.row_machine.specs.Task.{Task}
-use Rattle.row_machine.specs.State.{State}
-use Rattle.row_machine.specs.Rows.{is_instance, instance_named, instance_names, with_instance, texts_before}
-use Rattle.row_machine.specs.Changes.{has_key}
-use Rattle.row_machine.specs.Claims.{claimed_instance, replaced_instance, amounts_of_instance, share_of}
-use Rattle.row_machine.specs.Links.{target_of}
-use Rattle.row_machine.specs.Whole.{IsWhole, IsByDeed, IsPlaced, target_kind, keeps_name, new_instance}
+use Rattle.row_machine.specs.machine.Task.{Task}
+use Rattle.row_machine.specs.machine.State.{State}
+use Rattle.row_machine.specs.machine.Rows.{is_instance, instance_named, instance_names, with_instance, texts_before}
+use Rattle.row_machine.specs.machine.Changes.{has_key}
+use Rattle.row_machine.specs.machine.Claims.{claimed_instance, replaced_instance, amounts_of_instance, share_of}
+use Rattle.row_machine.specs.shown.Links.{target_of}
+use Rattle.row_machine.specs.facts.Whole.{IsWhole, IsByDeed, IsPlaced, new_instance}
+use Rattle.row_machine.specs.machine.Deeds.{target_kind, keeps_name}
 use Rattle.machine_laws.proofs.ExpansionsApart.{fails-by, find-dropped_each}
 use Rattle.machine_laws.proofs.Found.{there-is, instance-found}
 use Rattle.machine_laws.proofs.LimitsRows.{Tables, tables, IsDone, stays, puts_volume, puts_instance, drops_instance, renames_instance_to, renames_none}

@@ -18,16 +18,16 @@ use Rattle.records.specs.declared.rows.Row.{Row}
 use Rattle.records.specs.declared.rows.Row.TheVariants as row
 use Rattle.row_codec.specs.Spelling.{key_of}
 use Rattle.row_machine.specs.declared.changes.RowChange.TheVariants as change
-use Rattle.row_machine.specs.Task.{Task}
-use Rattle.row_machine.specs.State.{State, Standing}
-use Rattle.row_machine.specs.Rows.{instance_named, snapshot_named}
-use Rattle.row_machine.specs.Asked.{snapshots_of}
-use Rattle.row_machine.specs.Changes.{applied, rows_put, removal}
-use Rattle.row_machine.specs.Claims.{claimed_instance}
-use Rattle.row_machine.specs.Links.{target_of}
-use Rattle.row_machine.specs.TableRules.{count_of}
-use Rattle.row_machine.specs.Work.{success_changes, removes_instance, renames_instance}
-use Rattle.row_machine.specs.Whole.{claim_kind}
+use Rattle.row_machine.specs.machine.Task.{Task}
+use Rattle.row_machine.specs.machine.State.{State, Standing}
+use Rattle.row_machine.specs.machine.Rows.{instance_named, snapshot_named}
+use Rattle.row_machine.specs.machine.Asked.{snapshots_of}
+use Rattle.row_machine.specs.machine.Changes.{applied, rows_put, removal}
+use Rattle.row_machine.specs.machine.Claims.{claimed_instance}
+use Rattle.row_machine.specs.shown.Links.{target_of}
+use Rattle.row_machine.specs.machine.TableRules.{count_of}
+use Rattle.row_machine.specs.machine.Work.{success_changes, removes_instance, renames_instance}
+use Rattle.row_machine.specs.machine.Deeds.{claim_kind}
 use Rattle.machine_laws.proofs.NamesRows.{EachRow}
 use Rattle.machine_laws.proofs.NamesApplied.{puts-each, removals-each, removals-none}
 use Rattle.machine_laws.proofs.NamesSuccess.{Mem-filter, option-each}

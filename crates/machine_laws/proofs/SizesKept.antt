@@ -8,14 +8,14 @@ use Rattle.operations.specs.Kept.{live_at}
 use Rattle.records.specs.declared.commands.Command.{Command}
 use Rattle.records.specs.declared.notices.Untold.{Untold}
 use Rattle.row_machine.specs.declared.changes.RowChange.{RowChange}
-use Rattle.row_machine.specs.Task.{Task}
-use Rattle.row_machine.specs.State.{State}
-use Rattle.row_machine.specs.Changes.{applied, rows_put}
-use Rattle.row_machine.specs.Plans.{changes, starts}
-use Rattle.row_machine.specs.Work.{with_task, moved, handing_out, one_more_done, undone, claiming, entered, succeeded, failed, cancelled}
-use Rattle.row_machine.specs.Notices.{telling}
-use Rattle.row_machine.specs.Step.{first_pending}
-use Rattle.row_machine.specs.Whole.{IsWhole, AreFew}
+use Rattle.row_machine.specs.machine.Task.{Task}
+use Rattle.row_machine.specs.machine.State.{State}
+use Rattle.row_machine.specs.machine.Changes.{applied, rows_put}
+use Rattle.row_machine.specs.machine.Plans.{changes, starts}
+use Rattle.row_machine.specs.machine.Work.{with_task, moved, handing_out, one_more_done, undone, claiming, entered, succeeded, failed, cancelled}
+use Rattle.row_machine.specs.shown.Notices.{telling}
+use Rattle.row_machine.specs.machine.Step.{first_pending}
+use Rattle.row_machine.specs.facts.Whole.{IsWhole, AreFew}
 use Rattle.std.specs.Option.{option_to_list}
 use Rattle.machine_laws.proofs.Cases.{IsAccepted, IsLiveAs}
 use Rattle.machine_laws.proofs.Judged.{judged, entry_judged}

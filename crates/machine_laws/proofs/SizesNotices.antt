@@ -6,9 +6,9 @@ use Rattle.plain_lists.specs.Rings.{ring_push}
 use Rattle.plain_lists.proofs.RingLemmas.{ring-few}
 use Rattle.records.specs.declared.notices.Notice.{Notice}
 use Rattle.records.specs.declared.notices.Untold.{Untold}
-use Rattle.row_machine.specs.State.{State}
-use Rattle.row_machine.specs.Notices.{kept_notices, push_notice, telling}
-use Rattle.row_machine.specs.Whole.{AreFew, AreCounted}
+use Rattle.row_machine.specs.machine.State.{State}
+use Rattle.row_machine.specs.shown.Notices.{kept_notices, push_notice, telling}
+use Rattle.row_machine.specs.facts.Whole.{AreFew, AreCounted}
 
 -- ---- numbers of notices
 

@@ -27,14 +27,15 @@ use Rattle.records.specs.declared.rows.Row.{Row}
 use Rattle.records.specs.declared.rows.Row.TheVariants as row
 use Rattle.row_machine.specs.declared.changes.RowChange.{RowChange}
 use Rattle.row_machine.specs.declared.changes.RowChange.TheVariants as change
-use Rattle.row_machine.specs.Task.{Task}
-use Rattle.row_machine.specs.State.{State, Held, Standing}
-use Rattle.row_machine.specs.Changes.{applied, with_row, without_row, rows_put}
-use Rattle.row_machine.specs.Claims.{of_live, claimed_instance, claimed_volume, claimed_snapshot}
-use Rattle.row_machine.specs.Records.{rows_of}
-use Rattle.row_machine.specs.Work.{with_task, moved, claiming, entered, with_power, with_power_after, power_after, breaks_instance, ended, returned, converted, cancelled, failed, succeeded, success_changes}
-use Rattle.row_machine.specs.Notices.{kept_notices}
-use Rattle.row_machine.specs.Whole.{IsWhole, AreFew, AreCounted, claims_of}
+use Rattle.row_machine.specs.machine.Task.{Task}
+use Rattle.row_machine.specs.machine.State.{State, Held, Standing}
+use Rattle.row_machine.specs.machine.Changes.{applied, with_row, without_row, rows_put}
+use Rattle.row_machine.specs.machine.Claims.{of_live, claimed_instance, claimed_volume, claimed_snapshot}
+use Rattle.row_machine.specs.opening.Records.{rows_of}
+use Rattle.row_machine.specs.machine.Work.{with_task, moved, claiming, entered, with_power, with_power_after, power_after, ended, returned, converted, cancelled, failed, succeeded, success_changes}
+use Rattle.row_machine.specs.machine.Deeds.{breaks_instance}
+use Rattle.row_machine.specs.shown.Notices.{kept_notices}
+use Rattle.row_machine.specs.facts.Whole.{IsWhole, AreFew, AreCounted, claims_of}
 use Rattle.machine_laws.proofs.NamesRows.{each-row, rows-applied}
 use Rattle.machine_laws.proofs.NamesLive.{read_of, Each-fewer}
 use Rattle.machine_laws.proofs.Base.{read-found}

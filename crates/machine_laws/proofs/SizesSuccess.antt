@@ -13,10 +13,10 @@ use Rattle.records.specs.declared.rows.Row.TheVariants as row
 use Rattle.row_codec.specs.Spelling.{key_of}
 use Rattle.row_machine.specs.declared.changes.RowChange.{RowChange}
 use Rattle.row_machine.specs.declared.changes.RowChange.TheVariants as change
-use Rattle.row_machine.specs.State.{State}
-use Rattle.row_machine.specs.Rows.{texts_before, instance_names, snapshot_names, is_instance, is_snapshot}
-use Rattle.row_machine.specs.Changes.{applied, changed, with_row, without_row, removal, has_key}
-use Rattle.row_machine.specs.TableRules.{count_of}
+use Rattle.row_machine.specs.machine.State.{State}
+use Rattle.row_machine.specs.machine.Rows.{texts_before, instance_names, snapshot_names, is_instance, is_snapshot}
+use Rattle.row_machine.specs.machine.Changes.{applied, changed, with_row, without_row, removal, has_key}
+use Rattle.row_machine.specs.machine.TableRules.{count_of}
 use Rattle.machine_laws.proofs.NamesLists.{Mem-undropped, length-put, length-gone}
 use Rattle.machine_laws.proofs.NamesDeeds.{gone_along}
 use Rattle.machine_laws.proofs.SizesTables.{HasNoMore, without-no-more}

@@ -14,12 +14,13 @@ use Rattle.operations.specs.declared.operation.Operation.{Operation}
 use Rattle.operations.specs.Kept.{Kept}
 use Rattle.records.specs.declared.rows.Row.{Row}
 use Rattle.records.specs.declared.rows.Row.TheVariants as row
-use Rattle.row_machine.specs.Task.{Task}
-use Rattle.row_machine.specs.State.{State}
-use Rattle.row_machine.specs.Rows.{is_volume, is_instance, is_snapshot, texts_before, volume_names, instance_names, snapshot_names}
-use Rattle.row_machine.specs.Changes.{with_row, without_row, has_key}
-use Rattle.row_machine.specs.Claims.{claimed_instance, claimed_volume, claimed_snapshot}
-use Rattle.row_machine.specs.TableRules.{cap_of, count_of, row_kinds, too_many, too_large, tables_broken, size_of, largest_row}
+use Rattle.row_machine.specs.machine.Task.{Task}
+use Rattle.row_machine.specs.machine.State.{State}
+use Rattle.row_machine.specs.machine.Rows.{is_volume, is_instance, is_snapshot, texts_before, volume_names, instance_names, snapshot_names}
+use Rattle.row_machine.specs.machine.Changes.{with_row, without_row, has_key}
+use Rattle.row_machine.specs.machine.Claims.{claimed_instance, claimed_volume, claimed_snapshot}
+use Rattle.row_machine.specs.machine.TableRules.{count_of, row_kinds, too_many, too_large, tables_broken, size_of, largest_row}
+use Rattle.row_machine.specs.machine.Kinds.{cap_of}
 use Rattle.machine_laws.proofs.NamesRise.{length-dropped}
 use Rattle.machine_laws.proofs.NamesLists.{length-put}
 use Rattle.machine_laws.proofs.NamesLive.{read_of}

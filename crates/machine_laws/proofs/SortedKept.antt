@@ -25,17 +25,17 @@ use Rattle.row_machine.specs.declared.changes.RowChange.{RowChange}
 use Rattle.row_machine.specs.declared.changes.RowChange.TheVariants as change
 use Rattle.row_machine.specs.declared.events.Event.{Event}
 use Rattle.row_machine.specs.declared.events.Event.TheVariants as event
-use Rattle.row_machine.specs.Task.{Task}
-use Rattle.row_machine.specs.State.{State}
-use Rattle.row_machine.specs.Rows.{instance_named, snapshot_named}
-use Rattle.row_machine.specs.Asked.{snapshots_of}
-use Rattle.row_machine.specs.Records.{rows_of}
-use Rattle.row_machine.specs.Changes.{applied, rows_put}
-use Rattle.row_machine.specs.Claims.{claimed_instance}
-use Rattle.row_machine.specs.Notices.{telling}
-use Rattle.row_machine.specs.Plans.{changes, starts}
-use Rattle.row_machine.specs.Work.{entered, with_task, moved, one_more_done, undone, cancelled, failed, succeeded, success_changes, renames_instance, power_after, with_power_after}
-use Rattle.row_machine.specs.Whole.{IsWhole, claims_of}
+use Rattle.row_machine.specs.machine.Task.{Task}
+use Rattle.row_machine.specs.machine.State.{State}
+use Rattle.row_machine.specs.machine.Rows.{instance_named, snapshot_named}
+use Rattle.row_machine.specs.machine.Asked.{snapshots_of}
+use Rattle.row_machine.specs.opening.Records.{rows_of}
+use Rattle.row_machine.specs.machine.Changes.{applied, rows_put}
+use Rattle.row_machine.specs.machine.Claims.{claimed_instance}
+use Rattle.row_machine.specs.shown.Notices.{telling}
+use Rattle.row_machine.specs.machine.Plans.{changes, starts}
+use Rattle.row_machine.specs.machine.Work.{entered, with_task, moved, one_more_done, undone, cancelled, failed, succeeded, success_changes, renames_instance, power_after, with_power_after}
+use Rattle.row_machine.specs.facts.Whole.{IsWhole, claims_of}
 use Rattle.machine_laws.specs.Sorted.{IsSortedRow, IsSortedRequest, IsSortedEvent, AreSortedRows, StepsKeepOrder}
 use Rattle.machine_laws.proofs.Base.{live-mem, first-live, task-reads, moved-reads, taken-reads, taken_state, entered-reads}
 use Rattle.machine_laws.proofs.BooksSteps.{applied-same, power-keeps, failure-keeps}

@@ -20,15 +20,15 @@ use Rattle.row_codec.specs.Rows.{HasTypedParts}
 use Rattle.row_codec.specs.Reading.{row_of}
 use Rattle.row_codec.specs.declared.damage.Damaged.{Damaged}
 use Rattle.row_codec.proofs.Entries.{row_found}
-use Rattle.row_machine.specs.Task.{Task}
-use Rattle.row_machine.specs.State.{State}
-use Rattle.row_machine.specs.Rows.{default_name, is_profile, profile_named}
-use Rattle.row_machine.specs.Homes.{home_of}
-use Rattle.row_machine.specs.Expansions.{layer_of, own_layer}
-use Rattle.row_machine.specs.Claims.{judged_instances, of_live, claimed_instance}
-use Rattle.row_machine.specs.Records.{rows_of}
-use Rattle.row_machine.specs.Opening.{opened, with_rows, first_rows, rows_in, opening_of}
-use Rattle.row_machine.specs.Whole.{claims_of}
+use Rattle.row_machine.specs.machine.Task.{Task}
+use Rattle.row_machine.specs.machine.State.{State}
+use Rattle.row_machine.specs.machine.Rows.{default_name, is_profile, profile_named}
+use Rattle.row_machine.specs.machine.Homes.{home_of}
+use Rattle.row_machine.specs.machine.Expansions.{layer_of, own_layer}
+use Rattle.row_machine.specs.machine.Claims.{judged_instances, of_live, claimed_instance}
+use Rattle.row_machine.specs.opening.Records.{rows_of}
+use Rattle.row_machine.specs.opening.Opening.{opened, with_rows, first_rows, rows_in, opening_of}
+use Rattle.row_machine.specs.facts.Whole.{claims_of}
 use Rattle.machine_laws.specs.Openings.{HasBytes}
 use Rattle.machine_laws.specs.Sorted.{IsSortedRow, AreSortedRows}
 use Rattle.machine_laws.specs.Headline.{layers_of}

@@ -20,13 +20,13 @@ use Rattle.records.specs.declared.rows.Instance.{Instance}
 use Rattle.records.specs.declared.rows.Snapshot.{Snapshot}
 use Rattle.records.specs.declared.rows.Row.{Row}
 use Rattle.records.specs.declared.rows.Row.TheVariants as row
-use Rattle.row_machine.specs.State.{State}
-use Rattle.row_machine.specs.Rows.{default_name, is_profile, is_instance, is_snapshot, project_named, profile_named, network_named, pool_named, volume_named, instance_named, snapshot_named}
-use Rattle.row_machine.specs.Homes.{home_of, is_on}
-use Rattle.row_machine.specs.Asked.{with_name}
-use Rattle.row_machine.specs.Changes.{rows_put}
-use Rattle.row_machine.specs.NewRows as new
-use Rattle.row_machine.specs.Plans.{Plan, nothing, changes, starts, plan_of, if_there, put_all, moved_row, project_creation, project_change, project_rename, project_deletion, own_profile, volume_creation, instance_creation, plan_create, plan_put, plan_patch, plan_move, plan_delete, row_of}
+use Rattle.row_machine.specs.machine.State.{State}
+use Rattle.row_machine.specs.machine.Rows.{default_name, is_profile, is_instance, is_snapshot, project_named, profile_named, network_named, pool_named, volume_named, instance_named, snapshot_named}
+use Rattle.row_machine.specs.machine.Homes.{home_of, is_on}
+use Rattle.row_machine.specs.machine.Asked.{with_name}
+use Rattle.row_machine.specs.machine.Changes.{rows_put}
+use Rattle.row_machine.specs.machine.NewRows as new
+use Rattle.row_machine.specs.machine.Plans.{Plan, nothing, changes, starts, plan_of, if_there, put_all, moved_row, project_creation, project_change, project_rename, project_deletion, own_profile, volume_creation, instance_creation, plan_create, plan_put, plan_patch, plan_move, plan_delete, row_of}
 use Rattle.machine_laws.specs.Sorted.{IsSortedBody, IsSortedRequest, IsSortedRow}
 use Rattle.machine_laws.proofs.NamesRows.{EachRow}
 use Rattle.machine_laws.proofs.NamesApplied.{removals-none}

@@ -14,7 +14,7 @@ use Rattle.records.specs.declared.rows.Profile.{Profile}
 use Rattle.records.specs.declared.rows.Instance.{Instance}
 use Rattle.records.specs.declared.rows.Snapshot.{Snapshot}
 use Rattle.records.specs.declared.rows.Row.TheVariants as row
-use Rattle.row_machine.specs.NewRows.{Source, new_config, new_devices, patched_config, patched_devices, made_profile, default_profile, put_profile, patched_profile, made_instance, copied_instance, put_instance, patched_instance, restored_instance, made_snapshot}
+use Rattle.row_machine.specs.machine.NewRows.{Source, new_config, new_devices, patched_config, patched_devices, made_profile, default_profile, put_profile, patched_profile, made_instance, copied_instance, put_instance, patched_instance, restored_instance, made_snapshot}
 use Rattle.machine_laws.specs.Sorted.{IsSortedBody, IsSortedRow}
 
 -- ---- parts of a body

@@ -9,13 +9,14 @@ use Rattle.records.specs.declared.commands.Body.{Body}
 use Rattle.records.specs.declared.commands.Target.{Target}
 use Rattle.records.specs.declared.commands.What.{What}
 use Rattle.records.specs.declared.commands.What.TheVariants as what
-use Rattle.row_machine.specs.State.{State}
-use Rattle.row_machine.specs.Rows.{project_named}
-use Rattle.row_machine.specs.Homes.{home_of}
-use Rattle.row_machine.specs.Asked.{object_of, instance_in, instance_changed}
-use Rattle.row_machine.specs.Holders.{busy_with, holder_of, first_user_of}
-use Rattle.row_machine.specs.NameRules.{what_is_missing, object_missing, parent_missing, is_there, is_in_project}
-use Rattle.row_machine.specs.StandingRules.{object_changed, instance_busy, object_protected, is_protected, object_used, project_occupied, must_be_empty, is_occupied, profile_held, held_profile, busy}
+use Rattle.row_machine.specs.machine.State.{State}
+use Rattle.row_machine.specs.machine.Rows.{project_named}
+use Rattle.row_machine.specs.machine.Homes.{home_of}
+use Rattle.row_machine.specs.machine.Asked.{object_of, instance_in, instance_changed}
+use Rattle.row_machine.specs.machine.Holders.{busy_with, holder_of, first_user_of}
+use Rattle.row_machine.specs.machine.NameRules.{what_is_missing, object_missing, parent_missing, is_there}
+use Rattle.row_machine.specs.machine.Kinds.{is_in_project}
+use Rattle.row_machine.specs.machine.StandingRules.{object_changed, instance_busy, object_protected, is_protected, object_used, project_occupied, must_be_empty, is_occupied, profile_held, held_profile, busy}
 use Rattle.machine_laws.proofs.Commands.{command_of, target}
 use Rattle.machine_laws.proofs.Told.{AreNamesRight, IsWayFree, project-there, object-there}
 

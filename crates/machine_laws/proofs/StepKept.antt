@@ -1,11 +1,11 @@
 -- Each step keeps all ten facts, and each run.
 use Rattle.std.proofs.Common.{◌≡◌, Some, [], ◌∷◌, sym, subst}
 use Rattle.plain_lists.proofs.Elements.{Each-head, Each-tail}
-use Rattle.row_machine.specs.State.{State}
-use Rattle.row_machine.specs.Accept.{After}
-use Rattle.row_machine.specs.Runs.{Ran, run}
-use Rattle.row_machine.specs.Opening.{with_rows, first_rows}
-use Rattle.row_machine.specs.Whole.{IsWhole}
+use Rattle.row_machine.specs.machine.State.{State}
+use Rattle.row_machine.specs.machine.Accept.{After}
+use Rattle.row_machine.specs.machine.Runs.{Ran, run}
+use Rattle.row_machine.specs.opening.Opening.{with_rows, first_rows}
+use Rattle.row_machine.specs.facts.Whole.{IsWhole}
 use Rattle.row_machine.proofs.Running.{Begins, run-begins}
 use Rattle.row_machine.proofs.Running.Begins.{begins}
 use Rattle.row_machine.proofs.Beginning.{new-whole}

@@ -24,16 +24,16 @@ use Rattle.records.specs.declared.refusals.Refusal.{Refusal}
 use Rattle.row_machine.specs.declared.changes.RowChange.{RowChange}
 use Rattle.row_machine.specs.declared.events.Event.{Event}
 use Rattle.row_machine.specs.declared.events.Event.TheVariants as event
-use Rattle.row_machine.specs.Task.{Task}
-use Rattle.row_machine.specs.State.{State}
-use Rattle.row_machine.specs.Changes.{applied}
-use Rattle.row_machine.specs.Plans.{Plan, nothing, changes, starts, plan_of}
-use Rattle.row_machine.specs.Work.{entered, moved, with_task, handing_out, one_more_done, undone, succeeded, failed, cancelled, success_changes}
-use Rattle.row_machine.specs.Notices.{telling, operation_notice, change_notices, success_notices}
-use Rattle.row_machine.specs.Rules.{broken}
-use Rattle.row_machine.specs.Accept.{After, accepted, carried_out, told, after_cancel, cancel_or_read}
-use Rattle.row_machine.specs.Step.{Outcome, well, keeper_failed, no_memory, step, asked, unavailable, taken, handed_out, first_pending, done, reported, while_running, while_cancelling, call_done, call_failed, committed, stray, always, fetched}
-use Rattle.row_machine.specs.Whole.{IsWhole}
+use Rattle.row_machine.specs.machine.Task.{Task}
+use Rattle.row_machine.specs.machine.State.{State}
+use Rattle.row_machine.specs.machine.Changes.{applied}
+use Rattle.row_machine.specs.machine.Plans.{Plan, nothing, changes, starts, plan_of}
+use Rattle.row_machine.specs.machine.Work.{entered, moved, with_task, handing_out, one_more_done, undone, succeeded, failed, cancelled, success_changes}
+use Rattle.row_machine.specs.shown.Notices.{telling, operation_notice, change_notices, success_notices}
+use Rattle.row_machine.specs.machine.Rules.{broken}
+use Rattle.row_machine.specs.machine.Accept.{After, accepted, carried_out, told, after_cancel, cancel_or_read}
+use Rattle.row_machine.specs.machine.Step.{Outcome, well, keeper_failed, no_memory, step, asked, unavailable, taken, handed_out, first_pending, done, reported, while_running, while_cancelling, call_done, call_failed, committed, stray, always, fetched}
+use Rattle.row_machine.specs.facts.Whole.{IsWhole}
 use Rattle.machine_laws.specs.Possible.{IsPossible}
 use Rattle.machine_laws.proofs.Cases.{IsAccepted, IsLiveAs}
 use Rattle.machine_laws.proofs.Base.{live-number}

@@ -13,14 +13,17 @@ use Rattle.records.specs.Forms.{is_empty}
 use Rattle.records.specs.declared.rows.Project.{Project}
 use Rattle.records.specs.declared.commands.Target.{Target}
 use Rattle.records.specs.declared.commands.Command.{Command}
-use Rattle.row_machine.specs.State.{State}
-use Rattle.row_machine.specs.Rows.{default_name, project_named}
-use Rattle.row_machine.specs.Homes.{home_of, home_by, has_feature}
-use Rattle.row_machine.specs.NameRules.{project_missing, what_is_missing, name_broken, names_broken, is_in_project, is_there, malformed, taken, held, object_missing, parent_missing, missing_unless, claims_object}
-use Rattle.row_machine.specs.StandingRules.{standing_broken, instance_busy, wrong_state, object_protected, object_used, project_occupied, profile_held}
-use Rattle.row_machine.specs.Asked.{object_of, named_anew}
-use Rattle.row_machine.specs.Opening.{has_all_features}
-use Rattle.row_machine.specs.Whole.{HasDefaults}
+use Rattle.row_machine.specs.machine.State.{State}
+use Rattle.row_machine.specs.machine.Rows.{default_name, project_named}
+use Rattle.row_machine.specs.machine.Homes.{home_of, home_by, has_feature}
+use Rattle.row_machine.specs.machine.NameRules.{project_missing, what_is_missing, name_broken, is_there, malformed, taken, held, object_missing, parent_missing, missing_unless, claims_object}
+use Rattle.row_machine.specs.machine.Rules.{names_broken}
+use Rattle.row_machine.specs.machine.Kinds.{is_in_project}
+use Rattle.row_machine.specs.machine.StandingRules.{instance_busy, wrong_state, object_protected, object_used, project_occupied, profile_held}
+use Rattle.row_machine.specs.machine.Rules.{standing_broken}
+use Rattle.row_machine.specs.machine.Asked.{object_of, named_anew}
+use Rattle.row_machine.specs.opening.Opening.{has_all_features}
+use Rattle.row_machine.specs.facts.Whole.{HasDefaults}
 use Rattle.machine_laws.proofs.Cases.{IsHome, IsNew, is_row}
 use Rattle.machine_laws.proofs.Found.{not-none}
 

@@ -17,14 +17,14 @@ use Rattle.operations.specs.Kept.{Kept, has_number, live_at}
 use Rattle.records.specs.declared.commands.Command.{Command}
 use Rattle.records.specs.declared.notices.Untold.{Untold}
 use Rattle.row_machine.specs.declared.changes.RowChange.{RowChange}
-use Rattle.row_machine.specs.Task.{Task}
-use Rattle.row_machine.specs.State.{State}
-use Rattle.row_machine.specs.Changes.{applied}
-use Rattle.row_machine.specs.Plans.{changes, starts}
-use Rattle.row_machine.specs.Notices.{telling}
-use Rattle.row_machine.specs.Step.{first_pending}
-use Rattle.row_machine.specs.Work.{entered, with_task, moved, handing_out, one_more_done, undone, cancelled, failed, succeeded, success_changes, power_after, with_power_after}
-use Rattle.row_machine.specs.Whole.{IsWhole, IsUnderWay, calls_out}
+use Rattle.row_machine.specs.machine.Task.{Task}
+use Rattle.row_machine.specs.machine.State.{State}
+use Rattle.row_machine.specs.machine.Changes.{applied}
+use Rattle.row_machine.specs.machine.Plans.{changes, starts}
+use Rattle.row_machine.specs.shown.Notices.{telling}
+use Rattle.row_machine.specs.machine.Step.{first_pending}
+use Rattle.row_machine.specs.machine.Work.{entered, with_task, moved, handing_out, one_more_done, undone, cancelled, failed, succeeded, success_changes, power_after, with_power_after}
+use Rattle.row_machine.specs.facts.Whole.{IsWhole, IsUnderWay, calls_out}
 use Rattle.machine_laws.proofs.Cases.{IsAccepted, IsLiveAs}
 use Rattle.machine_laws.proofs.BeginsCases.{begins}
 use Rattle.machine_laws.proofs.Base.{Each-found, first-live, taken-each, handed}
@@ -63,7 +63,7 @@ under_way-entered {s} {c} {moment} {task} h =
 
 -- ---- a call more handed out
 
--- what is left of a list behind its first element
+-- what is left of a list after its first element
 one-less : {X : Type 0} (n : ℕ) (xs : List X) (y : X) (ys : List X) → y ∷ ys ≡ drop n xs → ys ≡ drop (n + 1) xs
 one-less zero [] y ys e = cc
 one-less (suc n) [] y ys e = cc

@@ -24,12 +24,12 @@ use Rattle.operations.specs.declared.status.Status.TheVariants as status
 use Rattle.operations.specs.declared.status.Status.TheVariants.{Pending, Running, Cancelling}
 use Rattle.operations.specs.Statuses.{is_pending}
 use Rattle.operations.specs.Kept.{Kept, has_number, live_at}
-use Rattle.row_machine.specs.Task.{Task}
-use Rattle.row_machine.specs.State.{State}
-use Rattle.row_machine.specs.Work.{handing_out, one_more_done, undone}
-use Rattle.row_machine.specs.Accept.{After}
-use Rattle.row_machine.specs.Step.{step}
-use Rattle.row_machine.specs.Whole.{IsWhole, IsUnderWay, calls_out}
+use Rattle.row_machine.specs.machine.Task.{Task}
+use Rattle.row_machine.specs.machine.State.{State}
+use Rattle.row_machine.specs.machine.Work.{handing_out, one_more_done, undone}
+use Rattle.row_machine.specs.machine.Accept.{After}
+use Rattle.row_machine.specs.machine.Step.{step}
+use Rattle.row_machine.specs.facts.Whole.{IsWhole, IsUnderWay, calls_out}
 use Rattle.machine_laws.specs.Possible.{IsPossible}
 use Rattle.machine_laws.specs.Waits.{Round, Served, served, serves, event_of, hand_of, IsAlone, WaitsEnd, FewSteps}
 use Rattle.machine_laws.proofs.Base.{first-live, live-mem, taken-live, Each-found}
@@ -256,7 +256,7 @@ possible : (hand : Option ℕ) (round : Round) → round.moment < moment_limit �
 possible None round early = early
 possible (Some n) round early = early
 
--- the state behind a step is that of the machine's step
+-- the state after a step is that of the machine's step
 stepped : (s : State) (hand : Option ℕ) (round : Round) (x : Served) → IsWhole s → round.moment < moment_limit → served s hand round ≡ Some x → IsWhole x.state
 stepped s hand round x h early is = at (step s (event_of hand round) round.outcome) refl is where
   some-is : {x y : Served} → Some x ≡ Some y → x ≡ y

@@ -16,13 +16,13 @@ use Rattle.operations.specs.Statuses.{is_live}
 use Rattle.operations.specs.Kept.{has_number, live_at}
 use Rattle.row_machine.specs.declared.changes.RowChange.{RowChange}
 use Rattle.row_machine.specs.declared.events.Answer.TheVariants as answer
-use Rattle.row_machine.specs.Task.{Task}
-use Rattle.row_machine.specs.State.{State}
-use Rattle.row_machine.specs.Work.{with_task, moved, handing_out, one_more_done, undone, succeeded, failed, cancelled, success_changes}
-use Rattle.row_machine.specs.Notices.{telling, operation_notice, success_notices}
-use Rattle.row_machine.specs.Accept.{After, and_then, told}
-use Rattle.row_machine.specs.Step.{Outcome, well, keeper_failed, no_memory, step, success, failure, over, taken, handed_out, first_pending, done, reported, while_running, while_cancelling, call_done, call_failed, committed, always}
-use Rattle.row_machine.specs.Whole.{IsWhole}
+use Rattle.row_machine.specs.machine.Task.{Task}
+use Rattle.row_machine.specs.machine.State.{State}
+use Rattle.row_machine.specs.machine.Work.{with_task, moved, handing_out, one_more_done, undone, succeeded, failed, cancelled, success_changes}
+use Rattle.row_machine.specs.shown.Notices.{telling, operation_notice, success_notices}
+use Rattle.row_machine.specs.machine.Accept.{After, and_then, told}
+use Rattle.row_machine.specs.machine.Step.{Outcome, well, keeper_failed, no_memory, step, success, failure, over, taken, handed_out, first_pending, done, reported, while_running, while_cancelling, call_done, call_failed, committed, always}
+use Rattle.row_machine.specs.facts.Whole.{IsWhole}
 use Rattle.machine_laws.specs.Waits.{Round, Served, served, hand_of, IsAlone}
 use Rattle.machine_laws.proofs.Base.{live-number}
 use Rattle.machine_laws.proofs.EndsShares.{told-same, cancelled-left, failed-left, succeeded-left}

@@ -6,11 +6,11 @@ use Rattle.operations.specs.declared.status.Status.{Status}
 use Rattle.operations.specs.Kept.{live_at}
 use Rattle.records.specs.Forms.{is_formed}
 use Rattle.records.specs.declared.commands.Command.{Command}
-use Rattle.row_machine.specs.Task.{Task}
-use Rattle.row_machine.specs.State.{State}
-use Rattle.row_machine.specs.Plans.{Plan, plan_of}
-use Rattle.row_machine.specs.Rules.{broken}
-use Rattle.row_machine.specs.Whole.{IsWhole}
+use Rattle.row_machine.specs.machine.Task.{Task}
+use Rattle.row_machine.specs.machine.State.{State}
+use Rattle.row_machine.specs.machine.Plans.{Plan, plan_of}
+use Rattle.row_machine.specs.machine.Rules.{broken}
+use Rattle.row_machine.specs.facts.Whole.{IsWhole}
 
 -- a command that a client can give, at a moment before the year 10000, which breaks no rule, and what is planned for it
 pub record IsAccepted (s : State) (c : Command) (moment : ℕ) (p : Plan) : Type 0 where

@@ -11,10 +11,10 @@ use Rattle.records.specs.declared.refusals.Rule.TheVariants as rule
 use Rattle.records.specs.declared.replies.Reply.TheVariants as reply
 use Rattle.row_machine.specs.declared.events.Event.TheVariants as event
 use Rattle.row_machine.specs.declared.events.Answer.TheVariants as answer
-use Rattle.row_machine.specs.State.{State}
-use Rattle.row_machine.specs.NameRules.{project_missing, what_is_missing, is_there, held}
-use Rattle.row_machine.specs.Accept.{and_then}
-use Rattle.row_machine.specs.Step.{step, well}
+use Rattle.row_machine.specs.machine.State.{State}
+use Rattle.row_machine.specs.machine.NameRules.{project_missing, what_is_missing, is_there, held}
+use Rattle.row_machine.specs.machine.Accept.{and_then}
+use Rattle.row_machine.specs.machine.Step.{step, well}
 
 -- the row under the name of the object, or a live claim of it, stands
 abbrev pub StandsAlready : State → List ℕ → Target → Type 0

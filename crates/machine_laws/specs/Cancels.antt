@@ -14,13 +14,13 @@ use Rattle.records.specs.declared.replies.Reply.TheVariants as reply
 use Rattle.row_machine.specs.declared.events.Event.{Event}
 use Rattle.row_machine.specs.declared.events.Event.TheVariants as event
 use Rattle.row_machine.specs.declared.events.Answer.TheVariants as answer
-use Rattle.row_machine.specs.Task.{Task}
-use Rattle.row_machine.specs.State.{State}
-use Rattle.row_machine.specs.Records.{rows_of}
-use Rattle.row_machine.specs.Work.{undone}
-use Rattle.row_machine.specs.Accept.{After}
-use Rattle.row_machine.specs.Step.{Outcome, step, well}
-use Rattle.row_machine.specs.Whole.{IsWhole}
+use Rattle.row_machine.specs.machine.Task.{Task}
+use Rattle.row_machine.specs.machine.State.{State}
+use Rattle.row_machine.specs.opening.Records.{rows_of}
+use Rattle.row_machine.specs.machine.Work.{undone}
+use Rattle.row_machine.specs.machine.Accept.{After}
+use Rattle.row_machine.specs.machine.Step.{Outcome, step, well}
+use Rattle.row_machine.specs.facts.Whole.{IsWhole}
 use Rattle.machine_laws.specs.Possible.{IsPossible}
 use Rattle.machine_laws.specs.Headline.{IsKeptAs}
 

@@ -30,18 +30,18 @@ use Rattle.records.specs.declared.rows.Profile.{Profile}
 use Rattle.records.specs.declared.rows.Volume.{Volume}
 use Rattle.records.specs.declared.rows.Instance.{Instance}
 use Rattle.row_machine.specs.declared.events.Event.{Event}
-use Rattle.row_machine.specs.Task.{Task}
-use Rattle.row_machine.specs.State.{State}
-use Rattle.row_machine.specs.Rows.{profile_named}
-use Rattle.row_machine.specs.Homes.{home_of}
-use Rattle.row_machine.specs.Expansions.{layers_by, expanded_of}
-use Rattle.row_machine.specs.Claims.{judged_instances, judged_volumes, share_of}
-use Rattle.row_machine.specs.Usage.{usage_of, networks_of}
-use Rattle.row_machine.specs.PolicyRules.{subject_of}
-use Rattle.row_machine.specs.Accept.{After}
-use Rattle.row_machine.specs.Step.{Outcome, step}
-use Rattle.row_machine.specs.Runs.{Ran, run}
-use Rattle.row_machine.specs.Opening.{opening_of, opened}
+use Rattle.row_machine.specs.machine.Task.{Task}
+use Rattle.row_machine.specs.machine.State.{State}
+use Rattle.row_machine.specs.machine.Rows.{profile_named}
+use Rattle.row_machine.specs.machine.Homes.{home_of}
+use Rattle.row_machine.specs.machine.Expansions.{layers_by, expanded_of}
+use Rattle.row_machine.specs.machine.Claims.{judged_instances, judged_volumes, share_of}
+use Rattle.row_machine.specs.machine.Usage.{usage_of, networks_of}
+use Rattle.row_machine.specs.machine.PolicyRules.{subject_of}
+use Rattle.row_machine.specs.machine.Accept.{After}
+use Rattle.row_machine.specs.machine.Step.{Outcome, step}
+use Rattle.row_machine.specs.machine.Runs.{Ran, run}
+use Rattle.row_machine.specs.opening.Opening.{opening_of, opened}
 use Rattle.machine_laws.specs.Possible.{ArePossible}
 use Rattle.machine_laws.specs.Openings.{HasBytes}
 use Rattle.machine_laws.specs.Sorted.{AreSortedEvents}

@@ -1,12 +1,12 @@
 -- Laws of steps and of runs, as their public functions claim them.
 use Rattle.std.specs.Prelude.{◌≡◌, List, Some}
 use Rattle.row_machine.specs.declared.events.Event.{Event}
-use Rattle.row_machine.specs.State.{State}
-use Rattle.row_machine.specs.Accept.{After}
-use Rattle.row_machine.specs.Step.{Outcome, step}
-use Rattle.row_machine.specs.Runs.{Ran, run}
-use Rattle.row_machine.specs.Opening.{with_rows, first_rows}
-use Rattle.row_machine.specs.Whole.{IsWhole}
+use Rattle.row_machine.specs.machine.State.{State}
+use Rattle.row_machine.specs.machine.Accept.{After}
+use Rattle.row_machine.specs.machine.Step.{Outcome, step}
+use Rattle.row_machine.specs.machine.Runs.{Ran, run}
+use Rattle.row_machine.specs.opening.Opening.{with_rows, first_rows}
+use Rattle.row_machine.specs.facts.Whole.{IsWhole}
 use Rattle.machine_laws.specs.Possible.{IsPossible, ArePossible}
 
 -- a possible event, with any outcome that it can have, leaves a whole state whole

@@ -8,14 +8,15 @@ use Rattle.operations.specs.declared.status.Status.TheVariants as status
 use Rattle.operations.specs.Kept.{live_at}
 use Rattle.records.specs.declared.rows.Instance.{Instance}
 use Rattle.row_machine.specs.declared.events.Event.TheVariants as event
-use Rattle.row_machine.specs.Task.{Task}
-use Rattle.row_machine.specs.State.{State}
-use Rattle.row_machine.specs.Rows.{instance_named}
-use Rattle.row_machine.specs.Claims.{claimed_instance, amounts_of_instance}
-use Rattle.row_machine.specs.Usage.{usage_of}
-use Rattle.row_machine.specs.Accept.{After}
-use Rattle.row_machine.specs.Step.{well, step}
-use Rattle.row_machine.specs.Whole.{IsWhole, keeps_name}
+use Rattle.row_machine.specs.machine.Task.{Task}
+use Rattle.row_machine.specs.machine.State.{State}
+use Rattle.row_machine.specs.machine.Rows.{instance_named}
+use Rattle.row_machine.specs.machine.Claims.{claimed_instance, amounts_of_instance}
+use Rattle.row_machine.specs.machine.Usage.{usage_of}
+use Rattle.row_machine.specs.machine.Accept.{After}
+use Rattle.row_machine.specs.machine.Step.{well, step}
+use Rattle.row_machine.specs.facts.Whole.{IsWhole}
+use Rattle.row_machine.specs.machine.Deeds.{keeps_name}
 
 -- a running operation whose last call is reported as done
 pub record IsLastDone (s : State) (o : Operation Task) : Type 0 where

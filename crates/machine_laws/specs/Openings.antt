@@ -3,10 +3,10 @@ use Rattle.std.specs.Prelude.{◌≡◌, ◌≢◌, ◌<◌, List, []}
 use Rattle.plain_lists.specs.Members.{Each}
 use Rattle.size_values.specs.declared.entry.Entry.{Entry}
 use Rattle.record_keeper.specs.Entries.{IsOrderedEntries}
-use Rattle.row_machine.specs.State.{State}
-use Rattle.row_machine.specs.Records.{records_of}
-use Rattle.row_machine.specs.Opening.{opening_of, opened}
-use Rattle.row_machine.specs.Whole.{IsWhole}
+use Rattle.row_machine.specs.machine.State.{State}
+use Rattle.row_machine.specs.opening.Records.{records_of}
+use Rattle.row_machine.specs.opening.Opening.{opening_of, opened}
+use Rattle.row_machine.specs.facts.Whole.{IsWhole}
 
 -- each number of an entry's body is a byte
 abbrev pub HasBytes : Entry → Type 0

@@ -5,7 +5,7 @@ use Rattle.size_values.specs.Moments.{moment_limit}
 use Rattle.records.specs.Forms.{is_formed}
 use Rattle.row_machine.specs.declared.events.Event.{Event}
 use Rattle.row_machine.specs.declared.events.Event.TheVariants as event
-use Rattle.row_machine.specs.Step.{Outcome}
+use Rattle.row_machine.specs.machine.Step.{Outcome}
 
 -- A request is one that a client can give, and each moment lies before the year 10000.
 abbrev pub IsPossible : Event → Type 0

@@ -7,14 +7,14 @@ use Rattle.operations.specs.Kept.{live_at}
 use Rattle.records.specs.Forms.{is_formed}
 use Rattle.records.specs.declared.commands.Command.{Command}
 use Rattle.row_machine.specs.declared.changes.RowChange.{RowChange}
-use Rattle.row_machine.specs.Task.{Task}
-use Rattle.row_machine.specs.State.{State}
-use Rattle.row_machine.specs.Changes.{changed, applied}
-use Rattle.row_machine.specs.Records.{records_of}
-use Rattle.row_machine.specs.Plans.{changes, plan_of}
-use Rattle.row_machine.specs.Rules.{broken}
-use Rattle.row_machine.specs.Work.{success_changes, succeeded}
-use Rattle.row_machine.specs.Whole.{IsWhole, AreNamed}
+use Rattle.row_machine.specs.machine.Task.{Task}
+use Rattle.row_machine.specs.machine.State.{State}
+use Rattle.row_machine.specs.machine.Changes.{changed, applied}
+use Rattle.row_machine.specs.opening.Records.{records_of}
+use Rattle.row_machine.specs.machine.Plans.{changes, plan_of}
+use Rattle.row_machine.specs.machine.Rules.{broken}
+use Rattle.row_machine.specs.machine.Work.{success_changes, succeeded}
+use Rattle.row_machine.specs.facts.Whole.{IsWhole, AreNamed}
 use Rattle.machine_laws.specs.Entries.{entry_changes}
 
 -- names are good and rise after each single change

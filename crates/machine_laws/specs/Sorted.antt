@@ -12,12 +12,12 @@ use Rattle.records.specs.declared.rows.Row.{Row}
 use Rattle.records.specs.declared.rows.Row.TheVariants as row
 use Rattle.row_machine.specs.declared.events.Event.{Event}
 use Rattle.row_machine.specs.declared.events.Event.TheVariants as event
-use Rattle.row_machine.specs.State.{State}
-use Rattle.row_machine.specs.Records.{rows_of}
-use Rattle.row_machine.specs.Expansions.{own_layer, layer_of}
-use Rattle.row_machine.specs.Step.{Outcome, step}
-use Rattle.row_machine.specs.Accept.{After}
-use Rattle.row_machine.specs.Whole.{IsWhole, claims_of}
+use Rattle.row_machine.specs.machine.State.{State}
+use Rattle.row_machine.specs.opening.Records.{rows_of}
+use Rattle.row_machine.specs.machine.Expansions.{own_layer, layer_of}
+use Rattle.row_machine.specs.machine.Step.{Outcome, step}
+use Rattle.row_machine.specs.machine.Accept.{After}
+use Rattle.row_machine.specs.facts.Whole.{IsWhole, claims_of}
 use Rattle.machine_laws.specs.Possible.{IsPossible}
 
 -- ---- requests

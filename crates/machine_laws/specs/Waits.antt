@@ -12,11 +12,11 @@ use Rattle.row_machine.specs.declared.events.Event.{Event}
 use Rattle.row_machine.specs.declared.events.Event.TheVariants as event
 use Rattle.row_machine.specs.declared.events.Answer.{Answer}
 use Rattle.row_machine.specs.declared.events.Answer.TheVariants as answer
-use Rattle.row_machine.specs.Task.{Task}
-use Rattle.row_machine.specs.State.{State}
-use Rattle.row_machine.specs.Accept.{After}
-use Rattle.row_machine.specs.Step.{Outcome, step}
-use Rattle.row_machine.specs.Whole.{IsWhole}
+use Rattle.row_machine.specs.machine.Task.{Task}
+use Rattle.row_machine.specs.machine.State.{State}
+use Rattle.row_machine.specs.machine.Accept.{After}
+use Rattle.row_machine.specs.machine.Step.{Outcome, step}
+use Rattle.row_machine.specs.facts.Whole.{IsWhole}
 
 -- ---- one step
 

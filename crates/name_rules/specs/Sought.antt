@@ -6,10 +6,10 @@ use Rattle.records.specs.declared.refusals.Refusal.{Refusal}
 use Rattle.records.specs.declared.commands.Target.{Target}
 use Rattle.records.specs.declared.commands.Body.{Body}
 use Rattle.records.specs.declared.commands.What.TheVariants as what
-use Rattle.row_machine.specs.State.{State}
-use Rattle.row_machine.specs.Rows.{instance_named}
-use Rattle.row_machine.specs.Asked.{named_anew}
-use Rattle.row_machine.specs.NameRules.{missing_unless, snapshot_missing, name_broken}
+use Rattle.row_machine.specs.machine.State.{State}
+use Rattle.row_machine.specs.machine.Rows.{instance_named}
+use Rattle.row_machine.specs.machine.Asked.{named_anew}
+use Rattle.row_machine.specs.machine.NameRules.{missing_unless, snapshot_missing, name_broken}
 
 -- the instance that a copy is made from is missing, or the snapshot of it where one is named
 abbrev pub instance_source_missing : State → List ℕ → List ℕ → List ℕ → Option Refusal

@@ -2,8 +2,8 @@
 ghost use Rattle.std.specs.Prelude.{◌≡◌, find};
 ghost use Rattle.std.specs.Option.{option_copied};
 ghost use Rattle.size_values.specs.Causes.{Says};
-ghost use Rattle.row_machine.specs.Links.{target_of};
-ghost use Rattle.row_machine.specs.NameRules.{malformed, taken, same_target, claims_object, held, name_broken};
+ghost use Rattle.row_machine.specs.shown.Links.{target_of};
+ghost use Rattle.row_machine.specs.machine.NameRules.{malformed, taken, same_target, claims_object, held, name_broken};
 ghost use Rattle.name_rules.specs.Pointed.{target_at, has_names};
 
 use crate::places::{Place, is_there};
@@ -93,7 +93,7 @@ fn held(alloc: Global, view: &View<'_>, project: &str, of: Place<'_>) -> Result<
 }
 
 /// The new name is malformed, a row's, or a live claim's.
-#[tactic(auto, unfolding(row_machine::specs::NameRules::name_broken))]
+#[tactic(auto, unfolding(row_machine::specs::machine::NameRules::name_broken))]
 pub(crate) fn name_broken(
     alloc: Global,
     view: &View<'_>,

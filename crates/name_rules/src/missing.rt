@@ -2,9 +2,10 @@
 ghost use Rattle.std.specs.Prelude.{◌≡◌, false};
 ghost use Rattle.std.specs.Option.{option_copied, option_map_or};
 ghost use Rattle.size_values.specs.Causes.{Says};
-ghost use Rattle.row_machine.specs.Asked.{object_of};
+ghost use Rattle.row_machine.specs.machine.Asked.{object_of};
 ghost use Rattle.name_rules.specs.Pointed.{target_at};
-ghost use Rattle.row_machine.specs.NameRules.{is_in_project, missing_unless, object_missing, operation_missing, parent_missing, project_missing, snapshot_missing, what_is_missing};
+ghost use Rattle.row_machine.specs.machine.NameRules.{missing_unless, object_missing, operation_missing, parent_missing, project_missing, snapshot_missing, what_is_missing};
+ghost use Rattle.row_machine.specs.machine.Kinds.{is_in_project};
 
 use crate::places::{Place, is_there, place_of};
 use crate::sources::source_missing;
@@ -59,7 +60,7 @@ fn needs_project(what: &What) -> bool
 }
 
 /// N1: the project is missing, of a command on what belongs to a project.
-#[tactic(auto, unfolding(row_machine::specs::NameRules::project_missing))]
+#[tactic(auto, unfolding(row_machine::specs::machine::NameRules::project_missing))]
 pub(crate) fn project_missing(
     alloc: Global,
     view: &View<'_>,
@@ -155,7 +156,7 @@ fn operation_missing(alloc: Global, view: &View<'_>, number: u64) -> Result<(), 
 }
 
 /// N2: the first object that a command needs and that is missing.
-#[tactic(auto, unfolding(row_machine::specs::NameRules::what_is_missing))]
+#[tactic(auto, unfolding(row_machine::specs::machine::NameRules::what_is_missing))]
 pub(crate) fn what_is_missing(
     alloc: Global,
     view: &View<'_>,

@@ -2,10 +2,11 @@
 ghost use Rattle.std.specs.Prelude.{option_and_then};
 ghost use Rattle.size_values.specs.Causes.{Says};
 ghost use Rattle.records.specs.declared.commands.Body.{Body};
-ghost use Rattle.row_machine.specs.Asked.{named_anew, with_name};
+ghost use Rattle.row_machine.specs.machine.Asked.{named_anew, with_name};
 ghost use Rattle.name_rules.specs.Pointed.{target_at};
 ghost use Rattle.name_rules.specs.Sought.{new_name_broken};
-ghost use Rattle.row_machine.specs.NameRules.{name_broken, names_broken};
+ghost use Rattle.row_machine.specs.machine.NameRules.{name_broken};
+ghost use Rattle.row_machine.specs.machine.Rules.{names_broken};
 
 use crate::free::name_broken;
 use crate::missing::{project_missing, what_is_missing};
@@ -88,7 +89,7 @@ fn given_name_broken(
 }
 
 /// The first rule on names that a command breaks.
-#[tactic(auto, unfolding(row_machine::specs::NameRules::names_broken))]
+#[tactic(auto, unfolding(row_machine::specs::machine::Rules::names_broken))]
 pub fn names_broken(alloc: Global, view: &View<'_>, command: &Command) -> Result<(), Or<Refusal>>
     ensures { Says result (names_broken view.now command.now) }
 {

@@ -1,7 +1,7 @@
 //! Objects by their kind and names, all of it lent, and whether they are there.
 ghost use Rattle.std.specs.Prelude.{◌≡◌};
 ghost use Rattle.name_rules.specs.Pointed.{target_at};
-ghost use Rattle.row_machine.specs.NameRules.{is_there};
+ghost use Rattle.row_machine.specs.machine.NameRules.{is_there};
 
 use records::Target;
 use row_readings::{

@@ -3,7 +3,7 @@ ghost use Rattle.size_values.specs.Causes.{Says};
 ghost use Rattle.records.specs.declared.commands.Origin.TheVariants as origin_of;
 ghost use Rattle.name_rules.specs.Pointed.{target_at};
 ghost use Rattle.name_rules.specs.Sought.{instance_source_missing};
-ghost use Rattle.row_machine.specs.NameRules.{source_missing};
+ghost use Rattle.row_machine.specs.machine.NameRules.{source_missing};
 
 use crate::missing::{missing_unless, object_missing, snapshot_missing};
 use crate::places::{Place, moved};

@@ -1,6 +1,7 @@
 //! How many rows of a kind there may be, and how large one may be.
 ghost use Rattle.std.specs.Prelude.{◌≡◌};
-ghost use Rattle.row_machine.specs.TableRules.{cap_of, largest_row};
+ghost use Rattle.row_machine.specs.machine.TableRules.{largest_row};
+ghost use Rattle.row_machine.specs.machine.Kinds.{cap_of};
 
 use size_values::ObjectKind;
 

@@ -1,6 +1,6 @@
 //! Links of objects: the path of an object, and its project where it belongs to one other than `default`.
 ghost use Rattle.std.specs.Prelude.{◌≡◌, ◌++◌, IfOk, string_bytes};
-ghost use Rattle.row_machine.specs.Links.{project_query, path_of, link_of};
+ghost use Rattle.row_machine.specs.shown.Links.{project_query, path_of, link_of};
 
 use records::Target;
 use size_values::{NoMemory, ObjectKind, Text};

@@ -7,7 +7,7 @@ use Rattle.records.specs.declared.notices.Life.{Life}
 use Rattle.records.specs.declared.notices.Untold.{Untold}
 use Rattle.records.specs.declared.rows.Row.{Row}
 use Rattle.row_machine.specs.declared.changes.RowChange.{RowChange}
-use Rattle.row_machine.specs.Plans.{Plan, if_there}
+use Rattle.row_machine.specs.machine.Plans.{Plan, if_there}
 use Rattle.object_plans.specs.declared.planned.Planned.{Planned}
 use Rattle.object_plans.specs.Planning.{changes_in, IsPlanned}
 

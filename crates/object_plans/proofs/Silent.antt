@@ -12,10 +12,10 @@ use Rattle.records.specs.declared.commands.Body.{Body}
 use Rattle.records.specs.declared.commands.Command.{Command}
 use Rattle.records.specs.declared.commands.What.{What}
 use Rattle.records.specs.declared.commands.What.TheVariants as what
-use Rattle.row_machine.specs.State.{State}
-use Rattle.row_machine.specs.Rows.{instance_named, snapshot_named, pool_named}
-use Rattle.row_machine.specs.Plans.{Plan, if_there, plan_of, copy_from, instance_creation, plan_create, row_of, plan_put, plan_patch, plan_move, plan_delete}
-use Rattle.row_machine.specs.Notices.{made_life, changed_life, moved_life, deleted_life}
+use Rattle.row_machine.specs.machine.State.{State}
+use Rattle.row_machine.specs.machine.Rows.{instance_named, snapshot_named, pool_named}
+use Rattle.row_machine.specs.machine.Plans.{Plan, if_there, plan_of, copy_from, instance_creation, plan_create, row_of, plan_put, plan_patch, plan_move, plan_delete}
+use Rattle.row_machine.specs.shown.Notices.{made_life, changed_life, moved_life, deleted_life}
 use Rattle.object_plans.specs.Planning.{changes_in}
 
 -- ---- parts of plans

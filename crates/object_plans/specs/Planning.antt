@@ -3,9 +3,9 @@ use Rattle.std.specs.Prelude.{◌≡◌, ℕ, List, [], ◌∷◌, Option, Some,
 use Rattle.records.specs.declared.commands.Command.{Command}
 use Rattle.records.specs.declared.notices.Untold.{Untold}
 use Rattle.row_machine.specs.declared.changes.RowChange.{RowChange}
-use Rattle.row_machine.specs.State.{State}
-use Rattle.row_machine.specs.Plans.{Plan, nothing, changes, starts, plan_of}
-use Rattle.row_machine.specs.Notices.{change_notices}
+use Rattle.row_machine.specs.machine.State.{State}
+use Rattle.row_machine.specs.machine.Plans.{Plan, nothing, changes, starts, plan_of}
+use Rattle.row_machine.specs.shown.Notices.{change_notices}
 use Rattle.object_plans.specs.declared.planned.Planned.{Planned}
 
 -- the changes that a plan makes at once

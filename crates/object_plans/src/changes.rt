@@ -3,8 +3,8 @@ ghost use Rattle.std.specs.Prelude.{◌≡◌, [], ◌∷◌, ◌++◌, IfOk};
 ghost use Rattle.row_codec.specs.Spelling.{two_names, key_of};
 ghost use Rattle.records.specs.declared.rows.Row.TheVariants as row_of;
 ghost use Rattle.row_machine.specs.declared.changes.RowChange.TheVariants as change;
-ghost use Rattle.row_machine.specs.NewRows.{default_profile};
-ghost use Rattle.row_machine.specs.Changes.{removal};
+ghost use Rattle.row_machine.specs.machine.NewRows.{default_profile};
+ghost use Rattle.row_machine.specs.machine.Changes.{removal};
 ghost use Rattle.object_plans.specs.Rows.{row_at};
 
 use crate::found::Found;

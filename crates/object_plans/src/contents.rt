@@ -1,6 +1,6 @@
 //! What rows of most kinds have beside their names: a description and settings.
 ghost use Rattle.std.specs.Prelude.{◌≡◌, IfOk};
-ghost use Rattle.row_machine.specs.NewRows.{new_description, new_config, patched_description, patched_config};
+ghost use Rattle.row_machine.specs.machine.NewRows.{new_description, new_config, patched_description, patched_config};
 
 use config_lists::Config;
 use new_rows::{new_config, new_description, patched_config, patched_description};

@@ -1,7 +1,7 @@
 //! Rows of all kinds as they are found, lent.
 ghost use Rattle.std.specs.Prelude.{◌≡◌};
 ghost use Rattle.std.specs.Option.{option_map};
-ghost use Rattle.row_machine.specs.Plans.{row_of};
+ghost use Rattle.row_machine.specs.machine.Plans.{row_of};
 ghost use Rattle.object_plans.specs.Rows.{row_at};
 
 use records::{Instance, Network, Pool, Profile, Project, Snapshot, Target, Volume};

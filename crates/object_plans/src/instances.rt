@@ -1,6 +1,6 @@
 //! The row of an instance after a PATCH, which changes it at once.
 ghost use Rattle.std.specs.Prelude.{◌≡◌, unwrap_or, IfOk};
-ghost use Rattle.row_machine.specs.NewRows.{patched_devices, patched_instance};
+ghost use Rattle.row_machine.specs.machine.NewRows.{patched_devices, patched_instance};
 
 use crate::contents::patched_content;
 use config_lists::Devices;

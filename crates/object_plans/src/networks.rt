@@ -1,6 +1,6 @@
 //! The rows of networks that commands make.
 ghost use Rattle.std.specs.Prelude.{◌≡◌, IfOk};
-ghost use Rattle.row_machine.specs.NewRows.{made_network, put_network, patched_network};
+ghost use Rattle.row_machine.specs.machine.NewRows.{made_network, put_network, patched_network};
 
 use crate::contents::{Content, copied_content, new_content, patched_content};
 use records::{Body, Network};

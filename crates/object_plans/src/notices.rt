@@ -1,8 +1,8 @@
 //! What changes of rows at once tell.
 ghost use Rattle.std.specs.Prelude.{◌≡◌, [], ◌∷◌, IfOk};
-ghost use Rattle.row_machine.specs.Homes.{home_of};
-ghost use Rattle.row_machine.specs.Plans.{Plan};
-ghost use Rattle.row_machine.specs.Notices.{life_notice, project_told, made_life, changed_life, moved_life, deleted_life};
+ghost use Rattle.row_machine.specs.machine.Homes.{home_of};
+ghost use Rattle.row_machine.specs.machine.Plans.{Plan};
+ghost use Rattle.row_machine.specs.shown.Notices.{life_notice, project_told, made_life, changed_life, moved_life, deleted_life};
 ghost use Rattle.object_plans.specs.Planning.{changes_in, IsPlanned};
 
 use crate::planned::Planned;

@@ -1,6 +1,6 @@
 //! The rows of storage pools that commands make.
 ghost use Rattle.std.specs.Prelude.{◌≡◌, IfOk};
-ghost use Rattle.row_machine.specs.NewRows.{made_pool, put_pool, patched_pool};
+ghost use Rattle.row_machine.specs.machine.NewRows.{made_pool, put_pool, patched_pool};
 
 use crate::contents::{Content, new_content, patched_content};
 use records::{Body, Driver, Pool};

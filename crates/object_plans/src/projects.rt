@@ -3,9 +3,9 @@
 ghost use Rattle.std.specs.Prelude.{◌≡◌, ◌≢◌, [], ◌∷◌, ◌++◌, IfOk, OnOk};
 ghost use Rattle.records.specs.declared.rows.Row.TheVariants as row_of;
 ghost use Rattle.row_machine.specs.declared.changes.RowChange.TheVariants as change;
-ghost use Rattle.row_machine.specs.NewRows.{new_description, new_config, patched_description, patched_config};
-ghost use Rattle.row_machine.specs.NewRows.{default_profile, feature_on, with_features, made_project, put_project, patched_project};
-ghost use Rattle.row_machine.specs.Plans.{moved_row, project_creation, project_change, project_rename, project_deletion};
+ghost use Rattle.row_machine.specs.machine.NewRows.{new_description, new_config, patched_description, patched_config};
+ghost use Rattle.row_machine.specs.machine.NewRows.{default_profile, feature_on, with_features, made_project, put_project, patched_project};
+ghost use Rattle.row_machine.specs.machine.Plans.{moved_row, project_creation, project_change, project_rename, project_deletion};
 
 use crate::changes::{and_default_removal, and_put, and_removal, one_put, one_removal};
 use crate::contents::{Content, copied_content, new_content, patched_content};

@@ -1,6 +1,6 @@
 //! The rows of storage volumes that commands make.
 ghost use Rattle.std.specs.Prelude.{◌≡◌, IfOk};
-ghost use Rattle.row_machine.specs.NewRows.{made_volume, put_volume, patched_volume};
+ghost use Rattle.row_machine.specs.machine.NewRows.{made_volume, put_volume, patched_volume};
 
 use crate::contents::{Content, copied_content, new_content, patched_content};
 use records::{Body, Target, Volume};

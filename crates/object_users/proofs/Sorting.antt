@@ -16,8 +16,8 @@ use Rattle.plain_lists.specs.Edits.{inserted}
 use Rattle.plain_lists.proofs.Elements.{Each-none, Each-cons, Each-head, Each-tail, Each-map}
 use Rattle.plain_lists.proofs.PutsLemmas.{Each-puts, sum_by-Puts}
 use Rattle.plain_lists.proofs.EditLemmas.{inserted-Puts}
-use Rattle.row_machine.specs.Rows.{text_before}
-use Rattle.row_machine.specs.Links.{sorted}
+use Rattle.row_machine.specs.machine.Rows.{text_before}
+use Rattle.row_machine.specs.shown.Links.{sorted}
 
 -- the order of texts
 pub texts-ranked : IsStrictWeakOrder text_before

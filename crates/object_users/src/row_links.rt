@@ -1,9 +1,9 @@
 //! The links of rows, as they stand and in byte order.
 ghost use Rattle.std.specs.Prelude.{◌≡◌, [], IfOk, OnOk};
 ghost use Rattle.records.specs.declared.rows.Row.TheVariants as row;
-ghost use Rattle.row_machine.specs.Claims.{project_of_row};
-ghost use Rattle.row_machine.specs.Links.{sorted, target_of};
-ghost use Rattle.row_machine.specs.Views.{row_link, links};
+ghost use Rattle.row_machine.specs.machine.Claims.{project_of_row};
+ghost use Rattle.row_machine.specs.shown.Links.{sorted, target_of};
+ghost use Rattle.row_machine.specs.shown.Views.{row_link, links};
 
 use crate::row_ref::{AnyRow, RowRef};
 use object_links::link_of;

@@ -1,9 +1,9 @@
 //! The users of an object: the rows that name it, or that belong to it.
 ghost use Rattle.std.specs.Prelude.{◌≡◌, ◌++◌, [], IfOk, OnOk, map, filter};
 ghost use Rattle.records.specs.declared.rows.Row.TheVariants as row;
-ghost use Rattle.row_machine.specs.Holders.{instance_uses, names_profile, profile_uses, volume_uses};
-ghost use Rattle.row_machine.specs.Links.{sorted, target_of};
-ghost use Rattle.row_machine.specs.Views.{links, rows_in, rows_using, used_by};
+ghost use Rattle.row_machine.specs.machine.Holders.{instance_uses, names_profile, profile_uses, volume_uses};
+ghost use Rattle.row_machine.specs.shown.Links.{sorted, target_of};
+ghost use Rattle.row_machine.specs.shown.Views.{links, rows_in, rows_using, used_by};
 
 use crate::gathered::{add_instances, add_networks, add_profiles, add_volumes};
 use crate::row_links::{sorted_links, target_of};
@@ -153,7 +153,7 @@ fn links_naming(
 }
 
 /// The links of the users of a row, in byte order. Rows count, claims do not.
-#[tactic(auto, unfolding(row_machine::specs::Views::used_by))]
+#[tactic(auto, unfolding(row_machine::specs::shown::Views::used_by))]
 pub fn used_by(alloc: Global, view: &View<'_>, row: &RowRef<'_>) -> Result<Seq<Text>, NoMemory>
     ensures { IfOk result (λ ts. ts ≡ used_by view.now row.now) }
 {

@@ -9,9 +9,9 @@ use Rattle.row_readings.proofs.Totals.{read-next}
 use Rattle.plain_lists.specs.Edits.{inserted}
 use Rattle.operations.specs.declared.operation.Operation.{Operation}
 use Rattle.operations.specs.Kept.{by_number}
-use Rattle.row_machine.specs.Task.{Task}
+use Rattle.row_machine.specs.machine.Task.{Task}
 
--- put behind all, where it goes before none
+-- put after all, where it goes before none
 inserted-behind : {X : Type 0} (before : X → Bool) (x : X) (xs : List X) → list_any before xs ≡ false → insert xs (length xs) x ≡ inserted before x xs
 inserted-behind before x [] e = refl
 inserted-behind before x (y ∷ ys) e = at (before y) e (inserted-behind before x ys) where
@@ -37,7 +37,7 @@ inserted-gap before x xs = at (position before xs) refl where
   at (Some i) e = let found = position-Some before xs i x e in inserted-before before x xs i x found.0 found.1 found.2
   at None e = inserted-behind before x xs (any-position before xs (sym e))
 
--- an operation is put at its place among those behind
+-- an operation is put at its place among those after
 pub numbered-more : (os : List (Operation Task)) (i j : ℕ) (o p : Operation Task) (all all' : List (Operation Task))
     → i < length os → j ≡ i + 1 → o ≡ get_or os i o → p ≡ o
     → all' ≡ inserted (λ other. nat_lt p.number other.number) p all → all ≡ by_number (drop j os) → all' ≡ by_number (drop i os)
@@ -48,7 +48,7 @@ numbered-more os i j o p all all' within next is same more h =
     ∙ ap (λ others. inserted (λ other. nat_lt o.number other.number) o others) (h ∙ ap (λ k. by_number (drop k os)) after)
     ∙ ap by_number (sym (drop-cons os i o within ∙ ap (λ (x : Operation Task). x ∷ drop (suc i) os) (sym is)))
 
--- what stands within a list does not depend on what is taken behind it
+-- what stands within a list does not depend on what is taken after it
 same-at : {X : Type 0} (xs : List X) (i : ℕ) (d e : X) → i < length xs → get_or xs i d ≡ get_or xs i e
 same-at [] i d e within = absurd (omega (arith, within))
 same-at (x ∷ xs) zero d e within = refl

@@ -1,7 +1,7 @@
 //! The rows of lists, and rows by what names them.
 ghost use Rattle.std.specs.Prelude.{◌≡◌, ◌++◌, IfOk, OnOk};
-ghost use Rattle.row_machine.specs.Plans.{row_of};
-ghost use Rattle.row_machine.specs.Views.{listed};
+ghost use Rattle.row_machine.specs.machine.Plans.{row_of};
+ghost use Rattle.row_machine.specs.shown.Views.{listed};
 
 use object_users::{
     AnyRow, RowRef, add_instances, add_networks, add_pools, add_profiles, add_projects,

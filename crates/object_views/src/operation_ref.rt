@@ -10,7 +10,7 @@ pub(crate) struct OperationRef<'a> {
 
 impl<'a> Model for OperationRef<'a> {
     ghost use Rattle.operations.specs.declared.operation.Operation.{Operation};
-    ghost use Rattle.row_machine.specs.Task.{Task};
+    ghost use Rattle.row_machine.specs.machine.Task.{Task};
 
     ghost Value = { Operation Task };
 

@@ -5,8 +5,8 @@ ghost use Rattle.std.specs.Option.{option_to_list};
 ghost use Rattle.object_views.specs.Statuses.{has_status};
 ghost use Rattle.operations.specs.Kept.{by_number};
 ghost use Rattle.plain_lists.specs.Edits.{inserted};
-ghost use Rattle.row_machine.specs.Notices.{view_of};
-ghost use Rattle.row_machine.specs.Views.{if_any, one, operation_view, operations_reply, status_number};
+ghost use Rattle.row_machine.specs.shown.Notices.{view_of};
+ghost use Rattle.row_machine.specs.shown.Views.{if_any, one, operation_view, operations_reply, status_number};
 
 use crate::operation_ref::OperationRef;
 use operations::{Operation, Status};
@@ -83,7 +83,7 @@ fn first_higher(operations: &[OperationRef<'_>], number: u64) -> Option<usize>
         .position(|other| number < other.operation.number)
 }
 
-/// The place that an operation takes: in front of the first of a higher number, or behind all.
+/// The place that an operation takes: in front of the first of a higher number, or after all.
 fn gap(operations: &[OperationRef<'_>], number: u64) -> usize
     ensures { result ≡ unwrap_or (position (λ o. nat_lt number o.number) operations.now) (length operations.now) }
 {

@@ -3,9 +3,9 @@ ghost use Rattle.std.specs.Prelude.{◌≡◌, ◌∷◌, [], codes, IfOk};
 ghost use Rattle.std.specs.Option.{option_map, option_and_then};
 ghost use Rattle.records.specs.declared.replies.View.TheVariants as view_of_kind;
 ghost use Rattle.records.specs.declared.replies.Reply.TheVariants as reply;
-ghost use Rattle.row_machine.specs.Plans.{row_of};
-ghost use Rattle.row_machine.specs.Views.{list_reply, listed, one, read, row_view, rows_reply, state_view};
-ghost use Rattle.row_machine.specs.StandingRules.{power_of};
+ghost use Rattle.row_machine.specs.machine.Plans.{row_of};
+ghost use Rattle.row_machine.specs.shown.Views.{list_reply, listed, one, read, row_view, rows_reply, state_view};
+ghost use Rattle.row_machine.specs.machine.StandingRules.{power_of};
 
 use crate::listed::{listed, row_of};
 use crate::operations_shown::{operation_reply, operations_reply};
@@ -142,7 +142,7 @@ fn root(alloc: Global) -> Result<Reply, NoMemory>
 }
 
 /// The answer of a read. Other commands answer nothing here.
-#[tactic(auto, unfolding(row_machine::specs::Views::read))]
+#[tactic(auto, unfolding(row_machine::specs::shown::Views::read))]
 pub fn read(alloc: Global, view: &View<'_>, project: &Text, what: &What) -> Result<Reply, NoMemory>
     ensures { IfOk result (λ r. r ≡ read view.now project.now what.now) }
 {

@@ -2,8 +2,8 @@
 ghost use Rattle.std.specs.Prelude.{◌≡◌, IfOk, map, unwrap_or};
 ghost use Rattle.size_values.specs.declared.kinds.Power.TheVariants as power_of_kind;
 ghost use Rattle.records.specs.declared.rows.Row.TheVariants as row_of_kind;
-ghost use Rattle.row_machine.specs.StandingRules.{power_of};
-ghost use Rattle.row_machine.specs.Views.{instance_view, row_view};
+ghost use Rattle.row_machine.specs.machine.StandingRules.{power_of};
+ghost use Rattle.row_machine.specs.shown.Views.{instance_view, row_view};
 
 use object_users::{AnyRow, RowRef, used_by};
 use records::{Instance, View as Shown};

@@ -4,7 +4,7 @@ ghost use Rattle.std.specs.Str.{bytes_eq};
 ghost use Rattle.size_values.specs.Amounts.{part};
 ghost use Rattle.project_limits.specs.Admission.{limit_on, parts};
 ghost use Rattle.records.specs.declared.replies.LimitKeyName.TheVariants as line;
-ghost use Rattle.row_machine.specs.Views.{line_key, usage_view};
+ghost use Rattle.row_machine.specs.shown.Views.{line_key, usage_view};
 
 use project_limits::{Limits, limits_of};
 use records::{LimitKeyName, Network, Project, UsageLine, View as Shown};
@@ -80,7 +80,7 @@ fn add(
 }
 
 /// The state of a project.
-#[tactic(auto, unfolding(row_machine::specs::Views::usage_view, row_machine::specs::Usage::usage_of, row_machine::specs::Usage::networks_of))]
+#[tactic(auto, unfolding(row_machine::specs::shown::Views::usage_view, row_machine::specs::machine::Usage::usage_of, row_machine::specs::machine::Usage::networks_of))]
 pub(crate) fn usage_view(
     alloc: Global,
     view: &View<'_>,

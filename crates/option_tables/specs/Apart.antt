@@ -9,7 +9,7 @@ use Rattle.option_tables.specs.Tables.{front_of, has_star, takes, project_lines,
 abbrev pub meet : List ℕ → List ℕ → Bool
 meet a b = if has_star a && has_star b then starts_with nat_eq (front_of a) (front_of b) || starts_with nat_eq (front_of b) (front_of a) else takes a b || takes b a
 
--- no line meets one behind it
+-- no line meets one after it
 abbrev pub are_apart : List (List ℕ) → Bool
 are_apart [] = true
 are_apart (line ∷ lines) = list_all (λ other. not (meet line other)) lines && are_apart lines

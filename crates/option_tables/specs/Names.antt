@@ -28,7 +28,7 @@ are_network_names text = list_all is_network_name (slice_split (λ b. b == byte 
 abbrev pub may_begin : ℕ → Bool
 may_begin b = is_ascii_alphanumeric b || b == byte "%"
 
--- `%d`, and behind it bytes of names
+-- `%d`, and after it bytes of names
 abbrev pub is_numbered : List ℕ → Bool
 is_numbered [] = false
 is_numbered (a ∷ []) = false

@@ -48,7 +48,7 @@ fn may_begin(first: u8) -> bool
     first.is_ascii_alphanumeric() || first == b'%'
 }
 
-/// Whether `%d` comes first, and bytes of names behind it.
+/// Whether `%d` comes first, and bytes of names after it.
 fn is_numbered(bytes: &[u8]) -> bool
     ensures { result ≡ is_numbered bytes.now }
 {

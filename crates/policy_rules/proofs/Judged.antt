@@ -4,9 +4,9 @@ use Rattle.std.specs.Option.{option_or}
 use Rattle.std.specs.Str.{bytes_eq}
 use Rattle.plain_lists.specs.Firsts.{first_of}
 use Rattle.records.specs.declared.rows.Project.{Project}
-use Rattle.row_machine.specs.State.{State}
-use Rattle.row_machine.specs.Claims.{claimed_instance, judged_instances}
-use Rattle.row_machine.specs.PolicyRules.{forbids_profile, forbids_instance, project_forbids}
+use Rattle.row_machine.specs.machine.State.{State}
+use Rattle.row_machine.specs.machine.Claims.{claimed_instance, judged_instances}
+use Rattle.row_machine.specs.machine.PolicyRules.{forbids_profile, forbids_instance, project_forbids}
 use Rattle.policy_rules.specs.Within.{own_profile, own_instance, own_claim, own_objects}
 use Rattle.rule_refusals.proofs.Loops.{first_of-filter}
 use Rattle.rule_refusals.proofs.Saying.{first_of-judged, or-flat}

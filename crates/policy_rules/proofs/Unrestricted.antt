@@ -10,10 +10,10 @@ use Rattle.restrictions.specs.Forbids.{first_forbidden, lowest, broken_settings,
 use Rattle.records.specs.declared.rows.Project.{Project}
 use Rattle.records.specs.declared.rows.Profile.{Profile}
 use Rattle.records.specs.declared.rows.Instance.{Instance}
-use Rattle.row_machine.specs.State.{State}
-use Rattle.row_machine.specs.Expansions.{expanded_of}
-use Rattle.row_machine.specs.Refusals.{on_key_of}
-use Rattle.row_machine.specs.PolicyRules.{project_forbids, forbids, forbids_profile, forbids_instance, subject_of, policy_rule, forbidden_key}
+use Rattle.row_machine.specs.machine.State.{State}
+use Rattle.row_machine.specs.machine.Expansions.{expanded_of}
+use Rattle.row_machine.specs.machine.Refusals.{on_key_of}
+use Rattle.row_machine.specs.machine.PolicyRules.{project_forbids, forbids, forbids_profile, forbids_instance, subject_of, policy_rule, forbidden_key}
 use Rattle.rule_refusals.proofs.Saying.{none-or}
 
 nothing-forbidden : (policy : Restrictions) (judged : Subject) (config : Settings) (devices : NamedDevices)

@@ -6,10 +6,10 @@ use Rattle.records.specs.declared.refusals.Refusal.{Refusal}
 use Rattle.records.specs.declared.rows.Project.{Project}
 use Rattle.records.specs.declared.rows.Profile.{Profile}
 use Rattle.records.specs.declared.rows.Instance.{Instance}
-use Rattle.row_machine.specs.Task.{Task}
-use Rattle.row_machine.specs.State.{State}
-use Rattle.row_machine.specs.Claims.{claimed_instance}
-use Rattle.row_machine.specs.PolicyRules.{forbids_profile, forbids_instance}
+use Rattle.row_machine.specs.machine.Task.{Task}
+use Rattle.row_machine.specs.machine.State.{State}
+use Rattle.row_machine.specs.machine.Claims.{claimed_instance}
+use Rattle.row_machine.specs.machine.PolicyRules.{forbids_profile, forbids_instance}
 
 -- a profile of the project
 abbrev pub own_profile : Project → ℕ → Profile → Option Refusal

@@ -3,7 +3,7 @@ ghost use Rattle.std.specs.Prelude.{◌≡◌};
 ghost use Rattle.plain_lists.specs.Firsts.{first_of};
 ghost use Rattle.size_values.specs.Causes.{Says};
 ghost use Rattle.restrictions.specs.Policies.{policy_of};
-ghost use Rattle.row_machine.specs.PolicyRules.{policy_rule, subject_of, forbidden_key, forbids, project_forbids, policy_broken};
+ghost use Rattle.row_machine.specs.machine.PolicyRules.{policy_rule, subject_of, forbidden_key, forbids, project_forbids, policy_broken};
 ghost use Rattle.policy_rules.specs.Within.{own_profile, own_instance, own_claim, own_objects};
 
 use config_lists::{Config, Devices};
@@ -82,7 +82,7 @@ fn forbids(
     Err(Or::Why(on_key_of(alloc, rule, key, name, project.name.view())?))
 }
 
-#[tactic(auto, unfolding(row_machine::specs::PolicyRules::forbids_profile))]
+#[tactic(auto, unfolding(row_machine::specs::machine::PolicyRules::forbids_profile))]
 fn profile_forbids(
     alloc: Global,
     project: &Project,
@@ -123,7 +123,7 @@ fn profiles_forbid(
 }
 
 /// An instance of the project is judged by what it has.
-#[tactic(auto, unfolding(row_machine::specs::PolicyRules::forbids_instance))]
+#[tactic(auto, unfolding(row_machine::specs::machine::PolicyRules::forbids_instance))]
 fn instance_forbids(
     alloc: Global,
     view: &View<'_>,
@@ -255,7 +255,7 @@ fn projects_forbid(
 }
 
 /// The first rule on policy that is broken, and the first project, profile or instance at which it is.
-#[tactic(auto, unfolding(row_machine::specs::PolicyRules::policy_broken))]
+#[tactic(auto, unfolding(row_machine::specs::machine::PolicyRules::policy_broken))]
 pub fn policy_broken(alloc: Global, after: &View<'_>) -> Result<(), Or<Refusal>>
     ensures { Says result (policy_broken after.now) }
 {

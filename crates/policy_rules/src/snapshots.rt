@@ -4,9 +4,9 @@ ghost use Rattle.size_values.specs.Causes.{Says};
 ghost use Rattle.records.specs.declared.refusals.Rule.TheVariants as rule;
 ghost use Rattle.restrictions.specs.Forbids.{snapshots_forbidden};
 ghost use Rattle.restrictions.specs.Policies.{policy_of};
-ghost use Rattle.row_machine.specs.Refusals.{on_project};
-ghost use Rattle.row_machine.specs.Rows.{project_named};
-ghost use Rattle.row_machine.specs.PolicyRules.{snapshot_blocked};
+ghost use Rattle.row_machine.specs.machine.Refusals.{on_project};
+ghost use Rattle.row_machine.specs.machine.Rows.{project_named};
+ghost use Rattle.row_machine.specs.machine.PolicyRules.{snapshot_blocked};
 
 use records::{Command, Refusal, Rule, What};
 use restrictions::{policy_of, snapshots_forbidden};
@@ -29,7 +29,7 @@ fn project_blocks(alloc: Global, view: &View<'_>, name: &str) -> Result<(), Or<R
 }
 
 /// F8: a snapshot is made where the policy of the project blocks it.
-#[tactic(auto, unfolding(row_machine::specs::PolicyRules::snapshot_blocked))]
+#[tactic(auto, unfolding(row_machine::specs::machine::PolicyRules::snapshot_blocked))]
 pub fn snapshot_blocked(
     alloc: Global,
     view: &View<'_>,

@@ -10,7 +10,7 @@ IsBelow n root.None = Unit {0}
 IsBelow n (root.One place) = place < n
 IsBelow n root.Several = Unit {0}
 
--- the places of the root disks behind `place`
+-- the places of the root disks after `place`
 places-below : (place : ℕ) (ds : NamedDevices) → IsBelow (place + length ds) (one_of (root_places place ds))
 places-below place [] = tt
 places-below place (d ∷ ds) =

@@ -60,7 +60,7 @@ module _ {X : Type 0} where
       of true e rest = (e, rest)
       of false e rest = rest
 
-  -- a fact of the element at a place and of all behind it, or of all before it
+  -- a fact of the element at a place and of all after it, or of all before it
   pub within-from : (P : X → Type 0) (xs : List X) (i n : ℕ) → HoldsAt P xs i → AllWithin P xs (i + 1) n → AllWithin P xs i n
   within-from P xs i n at above k d low high = ⊎_elim
       (λ before. above k d (omega arith) high)
@@ -80,7 +80,7 @@ module _ {X : Type 0} where
   set-split (x ∷ xs) (suc i) y h = let e : suc (i + 1) ≡ suc i + 1 = omega arith in
       ap (λ ys. x ∷ ys) (set-split xs i y (omega arith)) ∙ ap (λ j. x ∷ take i xs ++ y ∷ drop j (x ∷ xs)) e
 
-  -- a sorted list, and behind it another all of whose elements are above it
+  -- a sorted list, and after it another all of whose elements are above it
   pub sorted-append : (c : X → X → Ordering) (xs ys : List X)
       → IsStrictlySortedBy c xs → IsStrictlySortedBy c ys → AllByRecursion (λ x. AllByRecursion (λ y. c x y ≡ Less) ys) xs
       → IsStrictlySortedBy c (xs ++ ys)

@@ -110,7 +110,7 @@ module _ (x y : Entry) (xs ys : List Entry) (same : (kind : ℕ) (key : List ℕ
       let found : Some x ≡ no_entry = sym other-Some ∙ above-None x.kind x.key x (y ∷ ys) (tied_itself entry_total x) above in
       cc
 
-  -- what stands behind the first entries is the same at each place
+  -- what stands after the first entries is the same at each place
   tails : entry_order y x ≡ Equal → AllByRecursion (λ z. entry_order x z ≡ Less) xs → AllByRecursion (λ z. entry_order y z ≡ Less) ys
       → (kind : ℕ) (key : List ℕ) → entry_at kind key xs ≡ entry_at kind key ys
   tails at low low' kind key = by (seen_from kind key x) refl

@@ -107,14 +107,14 @@ gt-Greater Equal e = cc
 gt-Greater Greater e = refl
 
 module _ (e : Entry) (es : List Entry) where
-  -- the entries before a place are below it, and those behind it above
+  -- the entries before a place are below it, and those after it above
   all-before : AllByRecursion (λ x. entry_order x e ≡ Less) (entries_before e.kind e.key es)
   all-before = each-map _ _ (λ x t. lt-Less _ t) _ (each-filter (λ x. is_lt (seen_from e.kind e.key x)) es)
 
   all-behind : AllByRecursion (λ x. entry_order e x ≡ Less) (entries_behind e.kind e.key es)
   all-behind = each-map _ _ (λ x t. turned e x Greater (gt-Greater _ t)) _ (each-filter (λ x. is_gt (seen_from e.kind e.key x)) es)
 
-  -- each before is below the entry and each behind
+  -- each before is below the entry and each after
   across : (x : Entry) → entry_order x e ≡ Less → AllByRecursion (λ y. entry_order x y ≡ Less) (entries_behind e.kind e.key es)
   across x low = each-map _ _ (λ y high. entry_total.trans x e y low high) _ all-behind
 

@@ -23,7 +23,7 @@ IsOrderedEntries es = IsStrictlySortedBy entry_order es
 abbrev pub entries_before : ℕ → List ℕ → List Entry → List Entry
 entries_before kind key es = filter (λ e. is_lt (seen_from kind key e)) es
 
--- the entries behind that place
+-- the entries after that place
 abbrev pub entries_behind : ℕ → List ℕ → List Entry → List Entry
 entries_behind kind key es = filter (λ e. is_gt (seen_from kind key e)) es
 

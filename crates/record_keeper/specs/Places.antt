@@ -2,7 +2,7 @@ use Rattle.std.specs.Prelude.{ℕ, List, ◌≡◌, ◌+◌, ◌≤◌, length, 
 use Rattle.size_values.specs.declared.entry.Entry.{Entry}
 use Rattle.record_keeper.specs.Entries.{entries_before, entries_behind}
 
--- the list has the entries before a place up to the index low, and those behind it from the index high on
+-- the list has the entries before a place up to the index low, and those after it from the index high on
 pub record SplitsAt (kind : ℕ) (key : List ℕ) (es : List Entry) (low high : ℕ) : Type 0 where
   pub within : high ≤ length es
   pub front : entries_before kind key es ≡ take low es

@@ -7,13 +7,13 @@ use Rattle.config_lists.proofs.Walks.{drop-read}
 use Rattle.serde_json.specs.Data.{Members, string, put}
 use Rattle.reply_parts.specs.Settings.{put_settings, put_devices, settings_data}
 
--- the setting at a place is put before those behind it
+-- the setting at a place is put before those after it
 pub settings-next : (s : Settings) (i : ℕ) (key value : List ℕ) (ms after : Members) → slice_get (keys_of s) i ≡ Some key → slice_get (values_of s) i ≡ Some value → after ≡ put key (string value) ms
     → put_settings (drop (i + 1) s) after ≡ put_settings (drop i s) ms
 settings-next s i key value ms after k v e =
     ap (put_settings (drop (i + 1) s)) e ∙ ap (λ (es : Settings). put_settings es ms) (sym (drop-read s i key value k v))
 
--- the device at a place is put before those behind it
+-- the device at a place is put before those after it
 pub devices-next : (d : NamedDevices) (i : ℕ) (name : List ℕ) (config : Settings) (ms after : Members) → slice_get (keys_of d) i ≡ Some name → slice_get (values_of d) i ≡ Some config → after ≡ put name (settings_data config) ms
     → put_devices (drop (i + 1) d) after ≡ put_devices (drop i d) ms
 devices-next d i name config ms after k v e =

@@ -37,6 +37,6 @@ last_moment = 253_402_300_799
 unfoldable pub stamp_text : ℕ → List ℕ
 stamp_text moment = date_text (moment / 86400) ++ codes "T" ++ time_text (moment % 86400) ++ codes "Z"
 
--- a moment as a text; one behind the last that has a text is told as that one
+-- a moment as a text; one after the last that has a text is told as that one
 unfoldable pub moment_text : ℕ → List ℕ
 moment_text moment = stamp_text (min moment last_moment)

@@ -49,7 +49,7 @@ fn time_of(second: u64) -> Time
     time
 }
 
-/// The text of a moment that is not behind the last one.
+/// The text of a moment that is not after the last one.
 fn stamp_text(alloc: Global, moment: u64) -> Result<Text, NoMemory>
     requires { moment ≤ last_moment }
     ensures { IfOk result (λ t. t ≡ stamp_text moment) }
@@ -60,7 +60,7 @@ fn stamp_text(alloc: Global, moment: u64) -> Result<Text, NoMemory>
     Ok(Text::from_string(format!(in alloc; "{civil}Z")?))
 }
 
-/// A moment, in seconds since 1970, as `YYYY-MM-DDThh:mm:ssZ`. One behind the year 9999 is told as its last second.
+/// A moment, in seconds since 1970, as `YYYY-MM-DDThh:mm:ssZ`. One after the year 9999 is told as its last second.
 #[tactic(auto, unfolding(crate::specs::Moments::moment_text))]
 pub fn moment_text(alloc: Global, moment: u64) -> Result<Text, NoMemory>
     ensures { IfOk result (λ t. t ≡ moment_text moment) }

@@ -8,8 +8,8 @@ use Rattle.operations.specs.declared.operation.OpFault.{OpFault}
 use Rattle.operations.specs.declared.operation.OpFault.TheVariants as fault
 use Rattle.records.specs.declared.replies.OpView.{OpView}
 use Rattle.serde_json.specs.Data.{Data, null, boolean, string}
-use Rattle.row_machine.specs.Links.{link_of}
-use Rattle.row_machine.specs.TableRules.{status_text}
+use Rattle.row_machine.specs.shown.Links.{link_of}
+use Rattle.row_machine.specs.machine.TableRules.{status_text}
 use Rattle.reply_views.specs.Words.{status_code, error_text}
 use Rattle.reply_parts.specs.Ids.{id_text}
 use Rattle.reply_parts.specs.Moments.{moment_text}

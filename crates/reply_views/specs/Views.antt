@@ -14,7 +14,7 @@ use Rattle.records.specs.declared.replies.UsageLine.{UsageLine}
 use Rattle.records.specs.declared.replies.View.{View}
 use Rattle.records.specs.declared.replies.View.TheVariants as shown
 use Rattle.serde_json.specs.Data.{Data, boolean, string, number, negative, object, Members, no_members, put}
-use Rattle.row_machine.specs.StandingRules.{power_text}
+use Rattle.row_machine.specs.machine.StandingRules.{power_text}
 use Rattle.reply_views.specs.Words.{power_code, instance_kind, driver_text, limit_name}
 use Rattle.reply_parts.specs.Moments.{moment_text}
 use Rattle.reply_parts.specs.Objects.{object_of, list_of, whole}

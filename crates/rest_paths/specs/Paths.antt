@@ -14,7 +14,7 @@ is_question_mark byte = byte == 63
 unfoldable pub before_slash : List ℕ → List ℕ
 before_slash text = before_first is_slash text
 
--- what stands behind the first slash, or nothing where there is none
+-- what stands after the first slash, or nothing where there is none
 unfoldable pub after_slash : List ℕ → List ℕ
 after_slash text = after_first is_slash text
 
@@ -22,7 +22,7 @@ after_slash text = after_first is_slash text
 unfoldable pub path_of : List ℕ → List ℕ
 path_of target = before_first is_question_mark target
 
--- the query of a target: all behind the first question mark
+-- the query of a target: all after the first question mark
 unfoldable pub query_of : List ℕ → List ℕ
 query_of target = after_first is_question_mark target
 

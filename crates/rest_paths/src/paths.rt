@@ -12,7 +12,7 @@ fn before_slash(text: &str) -> &str
     }
 }
 
-/// What stands behind the first slash, or nothing where there is none.
+/// What stands after the first slash, or nothing where there is none.
 #[tactic(auto, unfolding(crate::specs::Paths::after_slash))]
 fn after_slash(text: &str) -> &str
     ensures { result.now ≡ after_slash text.now }
@@ -34,7 +34,7 @@ pub fn path_of(target: &str) -> &str
     }
 }
 
-/// The query of a target: all behind the first question mark (RFC 3986, section 3.4).
+/// The query of a target: all after the first question mark (RFC 3986, section 3.4).
 #[tactic(auto, unfolding(crate::specs::Paths::query_of))]
 pub fn query_of(target: &str) -> &str
     ensures { result.now ≡ query_of target.now }

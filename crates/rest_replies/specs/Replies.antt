@@ -10,7 +10,7 @@ use Rattle.records.specs.declared.replies.Reply.{Reply}
 use Rattle.records.specs.declared.replies.Reply.TheVariants as reply
 use Rattle.serde_json.specs.Data.{Data, string, object, Members, no_members, put}
 use Rattle.serde_json.specs.Written.{compact_text}
-use Rattle.row_machine.specs.Refusals.{untold}
+use Rattle.row_machine.specs.machine.Refusals.{untold}
 use Rattle.reply_views.specs.Words.{status_key}
 use Rattle.reply_parts.specs.Ids.{operation_link}
 use Rattle.reply_parts.specs.Objects.{object_of, list_of, whole}
@@ -92,7 +92,7 @@ abbrev pub reply_location : ℕ → Reply → List ℕ
 reply_location boot (reply.Started operation) = operation_link boot operation.number
 reply_location boot other = []
 
--- a reply as it is printed; the connection may end behind it
+-- a reply as it is printed; the connection may end after it
 unfoldable pub printed_of : Reply → ℕ → Bool → Printed
 printed_of r boot last = record {
   code = reply_code r;

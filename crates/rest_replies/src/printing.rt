@@ -194,7 +194,7 @@ fn reply_body(alloc: Global, boot: u64, reply: &Reply) -> Result<Seq<u8>, NoMemo
 }
 
 /// A reply as it is printed: its code, its body as JSON, and its Location. The boot word is that of the ids of
-/// operations, and with `last` the connection ends behind the reply.
+/// operations, and with `last` the connection ends after the reply.
 #[tactic(auto, unfolding(crate::specs::Replies::printed_of))]
 pub fn print(alloc: Global, reply: &Reply, boot: u64, last: bool) -> Result<Printed, NoMemory>
     ensures text { IfOk result (λ p. p ≡ printed_of reply.now boot last) }

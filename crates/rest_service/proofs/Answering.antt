@@ -11,10 +11,10 @@ use Rattle.records.specs.declared.replies.Reply.{Reply}
 use Rattle.records.specs.declared.replies.Reply.TheVariants as reply
 use Rattle.row_machine.specs.declared.changes.RowChange.{RowChange}
 use Rattle.row_machine.specs.declared.events.Answer.TheVariants as answer
-use Rattle.row_machine.specs.State.{State}
-use Rattle.row_machine.specs.Accept.{After, and_then}
-use Rattle.row_machine.specs.Notices.{telling}
-use Rattle.row_machine.specs.Step.{well, no_memory, step}
+use Rattle.row_machine.specs.machine.State.{State}
+use Rattle.row_machine.specs.machine.Accept.{After, and_then}
+use Rattle.row_machine.specs.shown.Notices.{telling}
+use Rattle.row_machine.specs.machine.Step.{well, no_memory, step}
 use Rattle.core_rows.specs.Kept.{IsSilent}
 use Rattle.core_rows.specs.Stores.{KeepsRecords, Stores}
 use Rattle.core_rows.specs.Asked.{answered}

@@ -1,8 +1,8 @@
 -- Notices that nobody takes change nothing of the rows.
 use Rattle.std.proofs.Common.{◌≡◌, ◌==◌, ◌^◌, ◌-◌, Bool, true, false, List, [], ◌∷◌, refl, ap, sym, ◌∙◌}
 use Rattle.records.specs.declared.notices.Untold.{Untold}
-use Rattle.row_machine.specs.State.{State}
-use Rattle.row_machine.specs.Notices.{push_notice, telling}
+use Rattle.row_machine.specs.machine.State.{State}
+use Rattle.row_machine.specs.shown.Notices.{push_notice, telling}
 use Rattle.core_rows.specs.Kept.{IsSilent}
 use Rattle.rest_service.specs.Exchanges.{unheard}
 

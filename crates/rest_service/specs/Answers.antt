@@ -6,10 +6,10 @@ use Rattle.http_front.specs.Replies.{reply_text, no_memory_body}
 use Rattle.records.specs.declared.notices.Untold.{Untold}
 use Rattle.records.specs.declared.replies.Reply.{Reply}
 use Rattle.records.specs.declared.replies.Reply.TheVariants as reply
-use Rattle.row_machine.specs.State.{State}
-use Rattle.row_machine.specs.Notices.{telling}
-use Rattle.row_machine.specs.Accept.{and_then}
-use Rattle.row_machine.specs.Step.{Outcome}
+use Rattle.row_machine.specs.machine.State.{State}
+use Rattle.row_machine.specs.shown.Notices.{telling}
+use Rattle.row_machine.specs.machine.Accept.{and_then}
+use Rattle.row_machine.specs.machine.Step.{Outcome}
 use Rattle.core_rows.specs.Opening.{Refuses, first_state, opened_store}
 use Rattle.core_rows.specs.declared.opening.OpenFault.{OpenFault}
 use Rattle.core_rows.specs.Stores.{IsCaused, KeepsRecords, Stores}

@@ -15,10 +15,10 @@ use Rattle.records.specs.declared.replies.Reply.TheVariants as reply
 use Rattle.row_machine.specs.declared.changes.RowChange.{RowChange}
 use Rattle.row_machine.specs.declared.events.Answer.TheVariants as answer
 use Rattle.row_machine.specs.declared.events.Event.TheVariants as event
-use Rattle.row_machine.specs.State.{State}
-use Rattle.row_machine.specs.Refusals.{plainly}
-use Rattle.row_machine.specs.Accept.{After, and_then}
-use Rattle.row_machine.specs.Step.{Outcome, well, keeper_failed, no_memory, step}
+use Rattle.row_machine.specs.machine.State.{State}
+use Rattle.row_machine.specs.machine.Refusals.{plainly}
+use Rattle.row_machine.specs.machine.Accept.{After, and_then}
+use Rattle.row_machine.specs.machine.Step.{Outcome, well, keeper_failed, no_memory, step}
 use Rattle.core_rows.specs.Stores.{Stores}
 use Rattle.core_rows.specs.Asked.{answered, changes_of}
 use Rattle.rest_replies.specs.Replies.{printed_of}
@@ -88,7 +88,7 @@ failures_in exchanges = sum_by (λ e. failure_of e.outcome) exchanges
 
 -- ---- their bytes
 
--- the bytes of a reply, which says where the connection ends behind it; no operation is begun yet, so the boot word is 0
+-- the bytes of a reply, which says where the connection ends after it; no operation is begun yet, so the boot word is 0
 unfoldable pub printed : Reply → Bool → List ℕ
 printed r last = reply_text (printed_of r 0 last)
 
@@ -103,6 +103,6 @@ rule_of fault.H2 = rule.H2
 rule_of fault.H3 = rule.H3
 rule_of fault.H4 = rule.H4
 
--- the bytes that answer a malformed place, behind which the connection ends
+-- the bytes that answer a malformed place, after which the connection ends
 abbrev pub malformed_text : HeadFault → List ℕ
 malformed_text fault = printed (reply.Refused (plainly (rule_of fault))) true

@@ -1,6 +1,6 @@
 -- What contracts see of a service.
 use Rattle.std.specs.Prelude.{◌≡◌, []}
-use Rattle.row_machine.specs.State.{State}
+use Rattle.row_machine.specs.machine.State.{State}
 use Rattle.rest_service.specs.declared.service.Service.TheInside.{Inside}
 
 -- the state of the machine that the rows are

@@ -1,7 +1,7 @@
 //! What is written for a reply.
 ghost use Rattle.std.specs.Prelude.{◌≡◌, true, IfOk, IsTrue};
 ghost use Rattle.http_front.specs.Replies.{is_reply_code, reply_text};
-ghost use Rattle.row_machine.specs.Refusals.{plainly};
+ghost use Rattle.row_machine.specs.machine.Refusals.{plainly};
 ghost use Rattle.rest_replies.specs.Replies.{printed_of};
 ghost use Rattle.rest_service.specs.Answers.{HasText};
 ghost use Rattle.rest_service.specs.Exchanges.{printed, rule_of, malformed_text};

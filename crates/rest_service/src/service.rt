@@ -1,5 +1,5 @@
 ghost use Rattle.std.specs.Prelude.{◌≡◌, []};
-ghost use Rattle.row_machine.specs.State.{State};
+ghost use Rattle.row_machine.specs.machine.State.{State};
 ghost use Rattle.core_rows.specs.Kept.{IsSilent};
 ghost use Rattle.rest_service.specs.Answers.{Answers, Opens, Replies};
 
@@ -24,7 +24,7 @@ pub struct Service {
 }
 
 impl Model for Service {
-    ghost use Rattle.row_machine.specs.State.{State};
+    ghost use Rattle.row_machine.specs.machine.State.{State};
 
     ghost Value = { State };
 

@@ -112,7 +112,7 @@ lowest (f ∷ fs) = earlier f (lowest fs)
 unfoldable pub broken_settings : Restrictions → Subject → Settings → List (Option Forbidden)
 broken_settings policy subject config = map (λ (s : ℕ × (List ℕ × List ℕ)). at s.0 (setting_rule policy subject s.1.0 s.1.1)) (enumerate_from 0 config)
 
--- a demanded key that is not set, behind all settings
+-- a demanded key that is not set, after all settings
 unfoldable pub missing_setting : Restrictions → Subject → Settings → Option Forbidden
 missing_setting policy subject config = at (length config) (missing_rule_in setting_lines policy subject config)
 

@@ -1,4 +1,4 @@
--- No spelling of a body goes on behind another one of the same kind.
+-- No spelling of a body goes on after another one of the same kind.
 use Rattle.std.proofs.Common.{◌≡◌, ℕ, List, [], ◌∷◌, ◌++◌, sym, refl, ap, ◌∙◌, arith}
 use Rattle.std.proofs.lemmas.List.{append-nil}
 use Rattle.records.specs.declared.rows.Project.{Project}

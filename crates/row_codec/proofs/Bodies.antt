@@ -1,4 +1,4 @@
--- A body that is read as a row is the spelling of the row, and a spelling with nothing behind it is read as its row.
+-- A body that is read as a row is the spelling of the row, and a spelling with nothing after it is read as its row.
 use Rattle.std.proofs.Common.{◌≡◌, ℕ, Bool, true, false, cond, eqb, List, [], ◌∷◌, ◌++◌, Some, Ok, refl, ap, subst, ◌∙◌, append_assoc, arith}
 use Rattle.std.proofs.lemmas.Bool.Decides.{nat_tests}
 use Rattle.std.proofs.lemmas.List.{append-nil}

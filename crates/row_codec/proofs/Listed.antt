@@ -8,7 +8,7 @@ use Rattle.row_codec.specs.Rows.{IsShort}
 use Rattle.row_codec.specs.Reading.{◌>>=◌, Read, count_at, items_at, list_at}
 use Rattle.row_codec.proofs.Fields.{IsBytes, went, Takes, Takes-then, IsPart, count_part, ok_is}
 
--- A reader of one item behind another: as of a part, and the item may follow that other.
+-- A reader of one item after another: as of a part, and the item may follow that other.
 pub record IsItem {X : Type 0} (read : Option X → List ℕ → Read X) (spelled : X → List ℕ) (Fits : X → Type 0) (Follows : Option X → X → Type 0) : Type 0 where
   pub takes : (before : Option X) (bytes : List ℕ) (x : X × List ℕ) → IsBytes bytes → read before bytes ≡ Ok x → Takes bytes (spelled x.0) x.1
   pub fits : (before : Option X) (bytes : List ℕ) (x : X × List ℕ) → IsBytes bytes → read before bytes ≡ Ok x → Fits x.0

@@ -56,7 +56,7 @@ good_not_empty kind.Instance = refl
 good_not_empty kind.Snapshot = refl
 good_not_empty kind.Operation = refl
 
--- ---- what stands before and behind the first slash
+-- ---- what stands before and after the first slash
 
 first_slash : (front back : List ℕ) → HasNoSlash front → position_or_len is_slash (front ++ 47 ∷ back) ≡ length front
 first_slash [] back none = refl
@@ -70,7 +70,7 @@ before_joined front back none = ap (λ n. take n (two_names front back)) (first_
 after_joined : (front back : List ℕ) → HasNoSlash front → after_first is_slash (two_names front back) ≡ back
 after_joined front back none = ap (λ n. drop (n + 1) (two_names front back)) (first_slash front back none) ∙ drop-append-add front (47 ∷ back) 1
 
--- a key with something behind its first slash is joined of what stands before and behind it
+-- a key with something after its first slash is joined of what stands before and after it
 joined : (key : List ℕ) → after_first is_slash key ≢ [] → key ≡ two_names (before_first is_slash key) (after_first is_slash key)
 joined key behind =
     elim (cases_lt (position_or_len is_slash key) (length key)) [

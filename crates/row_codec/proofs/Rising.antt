@@ -14,7 +14,7 @@ less_from_test Equal h = cc
 less_from_test Greater h = cc
 
 module _ {V : Type 0} where
-  -- the key of an entry may come behind the one before it
+  -- the key of an entry may come after the one before it
   abbrev pub IsNext : Option (List ℕ × V) → List ℕ × V → Type 0
   IsNext before e = is_next before e.0 ≡ true
 

@@ -24,7 +24,7 @@ pub use Rattle.row_parts.specs.Reading.{◌>>=◌, Fails, Gives, IsRead, Read, s
 
 -- ---- bodies: the names are those of the key
 
--- the bytes behind the version, which is 1
+-- the bytes after the version, which is 1
 abbrev pub version_at : List ℕ → Result (List ℕ) Unreadable
 version_at [] = stops_at []
 version_at (version ∷ rest) = if version == 1 then Ok rest else stops_at (version ∷ rest)

@@ -7,7 +7,7 @@ use crate::damage::Damaged;
 use estate_rules::good_name;
 use size_values::ObjectKind;
 
-/// What stands before the first slash, and what stands behind it.
+/// What stands before the first slash, and what stands after it.
 fn parts_of(key: &str) -> (&str, &str)
     ensures front { result.0.now ≡ before_first is_slash key.now }
     ensures back { result.1.now ≡ after_first is_slash key.now }

@@ -13,7 +13,7 @@ use Rattle.plain_lists.specs.Edits.{inserted}
 use Rattle.plain_lists.proofs.Places.{any-position, find-at}
 use Rattle.plain_lists.proofs.Searches.{find-any}
 
--- put behind all, where it goes before none
+-- put after all, where it goes before none
 inserted-behind : {X : Type 0} (before : X → Bool) (x : X) (xs : List X) → list_any before xs ≡ false → insert xs (length xs) x ≡ inserted before x xs
 inserted-behind before x [] e = refl
 inserted-behind before x (y ∷ ys) e = at (before y) e (inserted-behind before x ys) where
@@ -39,7 +39,7 @@ inserted-gap before x xs = at (position before xs) refl where
   at (Some i) e = let found = position-Some before xs i x e in inserted-before before x xs i x found.0 found.1 found.2
   at None e = inserted-behind before x xs (any-position before xs (sym e))
 
--- behind a common beginning the rests are compared
+-- after a common beginning the rests are compared
 pub rest_eq : (p xs ys : List ℕ) → bytes_eq (p ++ xs) (p ++ ys) ≡ bytes_eq xs ys
 rest_eq [] xs ys = refl
 rest_eq (x ∷ p) xs ys =
@@ -62,13 +62,13 @@ same_start p n key rest h is =
     let whole : p ++ rest ≡ key = ap (λ t. t ++ rest) (sym (same (take (length p) key) p h)) ∙ ap (λ r. take (length p) key ++ r) is ∙ take-append-drop (length p) key in
     sym (rest_eq p (47 ∷ n) rest) ∙ ap (bytes_eq (two_names p n)) whole
 
--- what stands behind the name and a slash, by what stands behind a slash in the rest
+-- what stands after the name and a slash, by what stands after a slash in the rest
 pub rest-behind : (first key rest : List ℕ) (o : Option (List ℕ)) → bytes_eq (take (length first) key) first ≡ true → rest ≡ drop (length first) key
     → IsRest [] rest o → IsRest first key o
 rest-behind first key rest None begins is none = λ n. sym (same_start first n key rest begins is) ∙ none n
 rest-behind first key rest (Some last) begins is some = λ n. sym (same_start first n key rest begins is) ∙ some n
 
--- the gap is a place in the list or behind it
+-- the gap is a place in the list or after it
 pub gap-within : {X : Type 0} (before : X → Bool) (x : X) (xs : List X) → unwrap_or (position before xs) (length xs) ≤ length xs
 gap-within before x xs = at (position before xs) refl where
   at : (o : Option ℕ) → position before xs ≡ o → unwrap_or o (length xs) ≤ length xs

@@ -5,7 +5,7 @@ use Rattle.records.specs.declared.rows.Instance.{Instance}
 use Rattle.records.specs.declared.rows.Row.TheVariants as row
 use Rattle.row_machine.specs.declared.changes.RowChange.{RowChange}
 use Rattle.row_machine.specs.declared.changes.RowChange.TheVariants as change
-use Rattle.row_machine.specs.State.{State, Standing}
+use Rattle.row_machine.specs.machine.State.{State, Standing}
 use Rattle.row_drafts.specs.declared.lists.Undone.{Undone}
 use Rattle.row_drafts.specs.Steps.{before_changes}
 

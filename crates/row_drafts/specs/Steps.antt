@@ -1,7 +1,7 @@
 -- What changes did to the lists, and how it is taken back.
 use Rattle.std.specs.Prelude.{◌<◌, ◌≤◌, List, [], ◌∷◌, length, set}
 use Rattle.std.specs.List.{insert, remove}
-use Rattle.row_machine.specs.State.{State}
+use Rattle.row_machine.specs.machine.State.{State}
 use Rattle.row_drafts.specs.declared.edits.Step.{Step}
 use Rattle.row_drafts.specs.declared.edits.Step.TheVariants as step
 use Rattle.row_drafts.specs.declared.lists.Undone.{Undone}

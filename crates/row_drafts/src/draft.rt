@@ -1,7 +1,7 @@
 ghost use Rattle.std.specs.Prelude.{◌≡◌, ◌+◌, ◌*◌, ◌-◌, ◌≤◌, ◌∷◌, ◌++◌, [], length, take, drop, IfOk, OnOk};
 ghost use Rattle.row_machine.specs.declared.changes.RowChange.TheVariants as change_of;
-ghost use Rattle.row_machine.specs.Changes.{changed, applied};
-ghost use Rattle.row_machine.specs.State.{empty_state};
+ghost use Rattle.row_machine.specs.machine.Changes.{changed, applied};
+ghost use Rattle.row_machine.specs.machine.State.{empty_state};
 ghost use Rattle.row_drafts.specs.Drafted.{former, stopped, spares_for, spares_of, IsReady};
 
 use crate::lists::{Lists, Undone};

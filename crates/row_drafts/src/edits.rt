@@ -38,7 +38,7 @@ fn place_behind<T: Placed>(rows: &[T], row: &T) -> Option<usize>
     rows.iter().position(|other| row.is_before(other))
 }
 
-/// The place that a new row takes: in front of the first that it goes before, or behind all.
+/// The place that a new row takes: in front of the first that it goes before, or after all.
 fn gap_for<T: Placed>(rows: &[T], row: &T) -> usize
     ensures { result ≡ unwrap_or (position (T.before row.now) rows.now) (length rows.now) }
 {

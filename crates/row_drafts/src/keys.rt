@@ -3,7 +3,7 @@ ghost use Rattle.std.specs.Prelude.{◌≡◌, ◌∷◌, []};
 ghost use Rattle.std.specs.Option.{option_copied};
 ghost use Rattle.std.specs.Str.{bytes_eq};
 ghost use Rattle.row_codec.specs.Spelling.{two_names, three_names};
-ghost use Rattle.row_machine.specs.Rows.{texts_before};
+ghost use Rattle.row_machine.specs.machine.Rows.{texts_before};
 ghost use Rattle.row_drafts.specs.Keys.{IsRest};
 
 use size_values::Text;
@@ -49,7 +49,7 @@ pub(crate) fn three_before(
     }
 }
 
-/// What stands behind a slash.
+/// What stands after a slash.
 fn rest_behind_slash(key: &[u8]) -> Option<&[u8]>
     ensures { IsRest [] key.now (option_copied result) }
 {
@@ -59,7 +59,7 @@ fn rest_behind_slash(key: &[u8]) -> Option<&[u8]>
     }
 }
 
-/// What stands in a key behind this name and a slash.
+/// What stands in a key after this name and a slash.
 fn rest_behind<'x>(key: &'x [u8], first: &[u8]) -> Option<&'x [u8]>
     ensures { IsRest first.now key.now (option_copied result) }
 {

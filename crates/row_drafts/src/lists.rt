@@ -2,9 +2,9 @@ ghost use Rattle.std.specs.Prelude.{◌≡◌, ◌+◌, ◌≤◌, ◌∷◌, []
 ghost use Rattle.std.specs.List.{list_any};
 ghost use Rattle.records.specs.declared.rows.Row.TheVariants as row_of;
 ghost use Rattle.row_machine.specs.declared.changes.RowChange.TheVariants as change_of;
-ghost use Rattle.row_machine.specs.Rows.{is_standing, with_standing};
-ghost use Rattle.row_machine.specs.Changes.{with_row, without_row, changed};
-ghost use Rattle.row_machine.specs.State.{empty_state};
+ghost use Rattle.row_machine.specs.machine.Rows.{is_standing, with_standing};
+ghost use Rattle.row_machine.specs.machine.Changes.{with_row, without_row, changed};
+ghost use Rattle.row_machine.specs.machine.State.{empty_state};
 ghost use Rattle.row_drafts.specs.Drafted.{spares_for, stopped};
 ghost use Rattle.row_drafts.specs.Steps.{before_change, before_step, FitsChange, FitsStep};
 

@@ -14,27 +14,27 @@ use Rattle.operations.specs.Facts.{AreKept}
 use Rattle.project_limits.specs.Admission.{limit_on}
 use Rattle.records.specs.declared.commands.Target.{Target}
 use Rattle.records.specs.declared.rows.Row.{Row}
-use Rattle.row_machine.specs.Task.{Task}
-use Rattle.row_machine.specs.State.{State}
-use Rattle.row_machine.specs.Rows.{default_name, texts_before}
-use Rattle.row_machine.specs.NameRules.{is_there}
-use Rattle.row_machine.specs.Opening.{default_project, homeless}
-use Rattle.row_machine.specs.Usage.{used}
-use Rattle.row_machine.specs.Claims.{project_of_row}
-use Rattle.row_machine.specs.Links.{target_of}
-use Rattle.row_machine.specs.Holders.{keeps_busy}
-use Rattle.row_machine.specs.Whole.{IsWhole, AreNamed, AreLinked, HasDefaults, AreSettled, IsByDeed, IsBusyOnce, IsUnderWay, AreWithin, AreBalanced, AreFew}
-use Rattle.row_machine.specs.Scenes.{begin, state_after}
-use Rattle.row_machine.specs.Worked.{a, b, c, d, busy_server, BusyIsWhole}
+use Rattle.row_machine.specs.machine.Task.{Task}
+use Rattle.row_machine.specs.machine.State.{State}
+use Rattle.row_machine.specs.machine.Rows.{default_name, texts_before}
+use Rattle.row_machine.specs.machine.NameRules.{is_there}
+use Rattle.row_machine.specs.opening.Opening.{default_project, homeless}
+use Rattle.row_machine.specs.machine.Usage.{used}
+use Rattle.row_machine.specs.machine.Claims.{project_of_row}
+use Rattle.row_machine.specs.shown.Links.{target_of}
+use Rattle.row_machine.specs.machine.Holders.{keeps_busy}
+use Rattle.row_machine.specs.facts.Whole.{IsWhole, AreNamed, AreLinked, HasDefaults, AreSettled, IsByDeed, IsBusyOnce, IsUnderWay, AreWithin, AreBalanced, AreFew}
+use Rattle.row_machine.specs.examples.Scenes.{begin, state_after}
+use Rattle.row_machine.specs.examples.Worked.{a, b, c, d, busy_server, BusyIsWhole}
 use Rattle.std.specs.List.{sum_by}
 use Rattle.std.specs.Prelude.{◌<◌, ◌+◌, is_some}
 use Rattle.size_values.specs.Amounts.{nothing, part}
 use Rattle.size_values.specs.declared.amounts.Amounts.{Amounts}
 use Rattle.size_values.specs.declared.moment.TheConstants.{MOMENT_LIMIT}
-use Rattle.row_machine.specs.State.{Held}
-use Rattle.row_machine.specs.Rows.{pool_named}
+use Rattle.row_machine.specs.machine.State.{Held}
+use Rattle.row_machine.specs.machine.Rows.{pool_named}
 use Rattle.std.specs.Prelude.{map}
-use Rattle.row_machine.specs.Whole.{instance_there, held_by}
+use Rattle.row_machine.specs.facts.Whole.{instance_there, held_by}
 use Rattle.size_values.specs.Address.{address_of, cidr_of}
 use Rattle.size_values.specs.Amounts.{plus_of, minus_of, excess_of, fits_in}
 use Rattle.size_values.specs.Count.{count_of}
@@ -61,26 +61,28 @@ use Rattle.project_limits.specs.Instance.{cpu_in, memory_in, disk_in, instance_a
 use Rattle.project_limits.specs.Limits.{count_in, size_in, limits_of}
 use Rattle.row_codec.specs.Reading.{count_at, number_at, moment_at, code_at, text_at, items_at, list_at, filled_at, next_at, next_filled_at, setting_at, device_at, shape_at, project_in, profile_in, network_in, pool_in, volume_in, instance_in, snapshot_in, two_names_in, three_names_in, project_of, profile_of, network_of, pool_of, volume_of, instance_of, snapshot_of, row_at}
 use Rattle.row_codec.specs.Spelling.{text_bytes, number_bytes, list_bytes}
-use Rattle.row_machine.specs.Accept.{accepted}
-use Rattle.row_machine.specs.Claims.{judged_instances, judged_volumes, amounts_of_instance, share_of}
-use Rattle.row_machine.specs.Expansions.{expanded_of}
-use Rattle.row_machine.specs.Holders.{busy_with, holder_of, first_user_of}
-use Rattle.row_machine.specs.Homes.{home_of}
-use Rattle.row_machine.specs.LimitRules.{instance_uncounted, volume_uncounts, counts_broken, part_exceeds, networks_exceed, limits_broken}
-use Rattle.row_machine.specs.NameRules.{project_missing, what_is_missing, name_broken, names_broken}
-use Rattle.row_machine.specs.Notices.{since}
-use Rattle.row_machine.specs.Opening.{rows_break, opening_of}
-use Rattle.row_machine.specs.Plans.{plan_of}
-use Rattle.row_machine.specs.PolicyRules.{forbids_profile, forbids_instance, policy_broken, snapshot_blocked}
-use Rattle.row_machine.specs.Records.{records_of}
-use Rattle.row_machine.specs.Rules.{broken}
-use Rattle.row_machine.specs.SettingRules.{root_missing, profile_missing, devices_miss, instance_settings, profile_settings, row_settings, settings_broken}
-use Rattle.row_machine.specs.StandingRules.{instance_busy, wrong_state, object_protected, object_used, project_occupied, profile_held, standing_broken}
-use Rattle.row_machine.specs.Step.{step}
-use Rattle.row_machine.specs.TableRules.{cancel_broken, entry_broken, tables_broken}
-use Rattle.row_machine.specs.Usage.{loads, usage_of, networks_of}
-use Rattle.row_machine.specs.Views.{used_by, usage_view, read}
-use Rattle.row_machine.specs.Work.{entered, succeeded, failed, cancelled}
+use Rattle.row_machine.specs.machine.Accept.{accepted}
+use Rattle.row_machine.specs.machine.Claims.{judged_instances, judged_volumes, amounts_of_instance, share_of}
+use Rattle.row_machine.specs.machine.Expansions.{expanded_of}
+use Rattle.row_machine.specs.machine.Holders.{busy_with, holder_of, first_user_of}
+use Rattle.row_machine.specs.machine.Homes.{home_of}
+use Rattle.row_machine.specs.machine.LimitRules.{instance_uncounted, volume_uncounts, counts_broken, part_exceeds, networks_exceed, limits_broken}
+use Rattle.row_machine.specs.machine.NameRules.{project_missing, what_is_missing, name_broken}
+use Rattle.row_machine.specs.machine.Rules.{names_broken}
+use Rattle.row_machine.specs.shown.Notices.{since}
+use Rattle.row_machine.specs.opening.Opening.{rows_break, opening_of}
+use Rattle.row_machine.specs.machine.Plans.{plan_of}
+use Rattle.row_machine.specs.machine.PolicyRules.{forbids_profile, forbids_instance, policy_broken, snapshot_blocked}
+use Rattle.row_machine.specs.opening.Records.{records_of}
+use Rattle.row_machine.specs.machine.Rules.{broken}
+use Rattle.row_machine.specs.machine.SettingRules.{root_missing, profile_missing, devices_miss, instance_settings, profile_settings, row_settings, settings_broken}
+use Rattle.row_machine.specs.machine.StandingRules.{instance_busy, wrong_state, object_protected, object_used, project_occupied, profile_held}
+use Rattle.row_machine.specs.machine.Rules.{standing_broken}
+use Rattle.row_machine.specs.machine.Step.{step}
+use Rattle.row_machine.specs.machine.TableRules.{cancel_broken, entry_broken, tables_broken}
+use Rattle.row_machine.specs.machine.Usage.{loads, usage_of, networks_of}
+use Rattle.row_machine.specs.shown.Views.{used_by, usage_view, read}
+use Rattle.row_machine.specs.machine.Work.{entered, succeeded, failed, cancelled}
 use Rattle.std.specs.Fmt.{digits}
 
 -- ---- words

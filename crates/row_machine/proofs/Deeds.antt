@@ -2,9 +2,9 @@
 use Rattle.std.proofs.Common.{◌≡◌, List, [], ◌∷◌, map, refl, ap, inl}
 use Rattle.plain_lists.proofs.Elements.{Mem-right}
 use Rattle.records.specs.declared.notices.Life.{Life}
-use Rattle.row_machine.specs.Work.{entered}
-use Rattle.row_machine.specs.Notices.{life_notice, deed_lives, object_told}
-use Rattle.row_machine.specs.Laws.{DeletesInstances, at_moment, SuccessIsFixed}
+use Rattle.row_machine.specs.machine.Work.{entered}
+use Rattle.row_machine.specs.shown.Notices.{life_notice, deed_lives, object_told}
+use Rattle.row_machine.specs.facts.Laws.{DeletesInstances, at_moment, SuccessIsFixed}
 
 pub deletes-instances : DeletesInstances
 unfolding entered

@@ -26,28 +26,30 @@ use Rattle.project_limits.specs.Instance.{cpu_in, memory_in, disk_in, instance_a
 use Rattle.project_limits.specs.Limits.{count_in, size_in, limits_of}
 use Rattle.row_codec.specs.Reading.{count_at, number_at, moment_at, code_at, text_at, items_at, list_at, filled_at, next_at, next_filled_at, setting_at, device_at, shape_at, project_in, profile_in, network_in, pool_in, volume_in, instance_in, snapshot_in, two_names_in, three_names_in, project_of, profile_of, network_of, pool_of, volume_of, instance_of, snapshot_of, row_at}
 use Rattle.row_codec.specs.Spelling.{text_bytes, number_bytes, list_bytes}
-use Rattle.row_machine.specs.Accept.{accepted}
-use Rattle.row_machine.specs.Claims.{judged_instances, judged_volumes, amounts_of_instance, share_of}
-use Rattle.row_machine.specs.Expansions.{expanded_of}
-use Rattle.row_machine.specs.Holders.{busy_with, holder_of, first_user_of}
-use Rattle.row_machine.specs.Homes.{home_of}
-use Rattle.row_machine.specs.LimitRules.{instance_uncounted, volume_uncounts, counts_broken, part_exceeds, networks_exceed, limits_broken}
-use Rattle.row_machine.specs.NameRules.{project_missing, what_is_missing, name_broken, names_broken}
-use Rattle.row_machine.specs.Notices.{since}
-use Rattle.row_machine.specs.Opening.{rows_break, opening_of}
-use Rattle.row_machine.specs.Plans.{plan_of}
-use Rattle.row_machine.specs.PolicyRules.{forbids_profile, forbids_instance, policy_broken, snapshot_blocked}
-use Rattle.row_machine.specs.Records.{records_of}
-use Rattle.row_machine.specs.Rules.{broken}
-use Rattle.row_machine.specs.SettingRules.{root_missing, profile_missing, devices_miss, instance_settings, profile_settings, row_settings, settings_broken}
-use Rattle.row_machine.specs.StandingRules.{instance_busy, wrong_state, object_protected, object_used, project_occupied, profile_held, standing_broken}
-use Rattle.row_machine.specs.Step.{step}
-use Rattle.row_machine.specs.TableRules.{cancel_broken, entry_broken, tables_broken}
-use Rattle.row_machine.specs.Usage.{loads, usage_of, networks_of}
-use Rattle.row_machine.specs.Views.{used_by, usage_view, read}
-use Rattle.row_machine.specs.Work.{entered, succeeded, failed, cancelled}
+use Rattle.row_machine.specs.machine.Accept.{accepted}
+use Rattle.row_machine.specs.machine.Claims.{judged_instances, judged_volumes, amounts_of_instance, share_of}
+use Rattle.row_machine.specs.machine.Expansions.{expanded_of}
+use Rattle.row_machine.specs.machine.Holders.{busy_with, holder_of, first_user_of}
+use Rattle.row_machine.specs.machine.Homes.{home_of}
+use Rattle.row_machine.specs.machine.LimitRules.{instance_uncounted, volume_uncounts, counts_broken, part_exceeds, networks_exceed, limits_broken}
+use Rattle.row_machine.specs.machine.NameRules.{project_missing, what_is_missing, name_broken}
+use Rattle.row_machine.specs.machine.Rules.{names_broken}
+use Rattle.row_machine.specs.shown.Notices.{since}
+use Rattle.row_machine.specs.opening.Opening.{rows_break, opening_of}
+use Rattle.row_machine.specs.machine.Plans.{plan_of}
+use Rattle.row_machine.specs.machine.PolicyRules.{forbids_profile, forbids_instance, policy_broken, snapshot_blocked}
+use Rattle.row_machine.specs.opening.Records.{records_of}
+use Rattle.row_machine.specs.machine.Rules.{broken}
+use Rattle.row_machine.specs.machine.SettingRules.{root_missing, profile_missing, devices_miss, instance_settings, profile_settings, row_settings, settings_broken}
+use Rattle.row_machine.specs.machine.StandingRules.{instance_busy, wrong_state, object_protected, object_used, project_occupied, profile_held}
+use Rattle.row_machine.specs.machine.Rules.{standing_broken}
+use Rattle.row_machine.specs.machine.Step.{step}
+use Rattle.row_machine.specs.machine.TableRules.{cancel_broken, entry_broken, tables_broken}
+use Rattle.row_machine.specs.machine.Usage.{loads, usage_of, networks_of}
+use Rattle.row_machine.specs.shown.Views.{used_by, usage_view, read}
+use Rattle.row_machine.specs.machine.Work.{entered, succeeded, failed, cancelled}
 use Rattle.std.specs.Fmt.{digits}
-use Rattle.row_machine.specs.Faults.{AreTold}
+use Rattle.row_machine.specs.examples.Faults.{AreTold}
 
 pub are_told : AreTold
 unfolding

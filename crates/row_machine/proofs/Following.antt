@@ -30,16 +30,16 @@ use Rattle.row_machine.specs.declared.events.Event.{Event}
 use Rattle.row_machine.specs.declared.events.Event.TheVariants as event
 use Rattle.row_machine.specs.declared.events.Answer.{Answer}
 use Rattle.row_machine.specs.declared.events.Answer.TheVariants as answer
-use Rattle.row_machine.specs.Task.{Task}
-use Rattle.row_machine.specs.State.{State}
-use Rattle.row_machine.specs.Changes.{with_row, without_row, applied}
-use Rattle.row_machine.specs.Plans.{Plan, nothing, changes, starts, plan_of}
-use Rattle.row_machine.specs.Work.{entered, moved, with_task, succeeded, failed, cancelled, after_failure, with_power_after, power_after, success_changes}
-use Rattle.row_machine.specs.Notices.{telling, push_notice, operation_notice, change_notices, success_notices, view_of}
-use Rattle.row_machine.specs.Rules.{broken}
-use Rattle.row_machine.specs.Accept.{After, accepted, carried_out, begun, told, cancel, after_cancel, cancel_or_read, started}
-use Rattle.row_machine.specs.Step.{Outcome, well, keeper_failed, no_memory, step, asked, unavailable, taken, handed_out, first_pending, done, reported, while_running, while_cancelling, call_done, call_failed, committed, stray, always, fetched}
-use Rattle.row_machine.specs.Laws.{RefusedStays}
+use Rattle.row_machine.specs.machine.Task.{Task}
+use Rattle.row_machine.specs.machine.State.{State}
+use Rattle.row_machine.specs.machine.Changes.{with_row, without_row, applied}
+use Rattle.row_machine.specs.machine.Plans.{Plan, nothing, changes, starts, plan_of}
+use Rattle.row_machine.specs.machine.Work.{entered, moved, with_task, succeeded, failed, cancelled, after_failure, with_power_after, power_after, success_changes}
+use Rattle.row_machine.specs.shown.Notices.{telling, push_notice, operation_notice, change_notices, success_notices, view_of}
+use Rattle.row_machine.specs.machine.Rules.{broken}
+use Rattle.row_machine.specs.machine.Accept.{After, accepted, carried_out, begun, told, cancel, after_cancel, cancel_or_read, started}
+use Rattle.row_machine.specs.machine.Step.{Outcome, well, keeper_failed, no_memory, step, asked, unavailable, taken, handed_out, first_pending, done, reported, while_running, while_cancelling, call_done, call_failed, committed, stray, always, fetched}
+use Rattle.row_machine.specs.facts.Laws.{RefusedStays}
 use Rattle.row_machine.proofs.Moving.{Moves, stays, enters, changes as alters, over, both}
 
 -- ---- changes of rows and notices leave the operations

@@ -13,12 +13,12 @@ use Rattle.operations.specs.declared.operation.Operation.{Operation}
 use Rattle.operations.specs.declared.status.Status.{Status}
 use Rattle.operations.specs.Kept.{has_number, live_at}
 use Rattle.row_machine.specs.declared.events.Event.{Event}
-use Rattle.row_machine.specs.Task.{Task}
-use Rattle.row_machine.specs.State.{State}
-use Rattle.row_machine.specs.Accept.{After}
-use Rattle.row_machine.specs.Step.{Outcome, step}
-use Rattle.row_machine.specs.Runs.{Ran, behind, run, end_of, ends_between}
-use Rattle.row_machine.specs.Laws.{EmptyRunStays, joined, RunsJoin, EndedStays, EndsOnce}
+use Rattle.row_machine.specs.machine.Task.{Task}
+use Rattle.row_machine.specs.machine.State.{State}
+use Rattle.row_machine.specs.machine.Accept.{After}
+use Rattle.row_machine.specs.machine.Step.{Outcome, step}
+use Rattle.row_machine.specs.machine.Runs.{Ran, behind, run, end_of, ends_between}
+use Rattle.row_machine.specs.facts.Laws.{EmptyRunStays, joined, RunsJoin, EndedStays, EndsOnce}
 use Rattle.row_machine.proofs.Moving.{Moves, stays, both, AreLive, kept-live, moves-next, moves-live, IsOver, moves-over, kept-settled, moves-settled, settled-is}
 use Rattle.row_machine.proofs.Following.{step-moves}
 

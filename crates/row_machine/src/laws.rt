@@ -1,15 +1,15 @@
 //! Laws of the machine: functions that do nothing, whose contracts are the laws.
-ghost use Rattle.row_machine.specs.Laws.{EmptyRunStays, RunsJoin, RefusedStays, EndedStays, EndsOnce, NewIsWhole, DeletesInstances, SuccessIsFixed};
-ghost use Rattle.row_machine.specs.Worked.{AreWorked, BusyIsWhole};
-ghost use Rattle.row_machine.specs.Openings.{AreOpened};
-ghost use Rattle.row_machine.specs.Faults.{AreTold};
+ghost use Rattle.row_machine.specs.facts.Laws.{EmptyRunStays, RunsJoin, RefusedStays, EndedStays, EndsOnce, NewIsWhole, DeletesInstances, SuccessIsFixed};
+ghost use Rattle.row_machine.specs.examples.Worked.{AreWorked, BusyIsWhole};
+ghost use Rattle.row_machine.specs.examples.Openings.{AreOpened};
+ghost use Rattle.row_machine.specs.examples.Faults.{AreTold};
 
 /// No events: nothing is answered, nothing ends, and the state stays.
 pub fn an_empty_run_stays()
     ensures { EmptyRunStays }
 {}
 
-/// The run of two lists of events, one behind the other, is the run of the first and then of the second.
+/// The run of two lists of events, one after the other, is the run of the first and then of the second.
 pub fn runs_join()
     ensures { RunsJoin }
 {}

@@ -1,5 +1,5 @@
 ghost use Rattle.std.specs.Prelude.{◌≡◌};
-ghost use Rattle.row_machine.specs.Whole.{target_kind};
+ghost use Rattle.row_machine.specs.machine.Deeds.{target_kind};
 
 use host_model::HostCall;
 use records::{Row, Target};
@@ -25,7 +25,7 @@ pub struct Work {
 }
 
 impl Model for Work {
-    ghost use Rattle.row_machine.specs.Task.{Task};
+    ghost use Rattle.row_machine.specs.machine.Task.{Task};
 
     ghost Value = { Task };
 

@@ -1,4 +1,4 @@
--- Items that are read one behind the other, as a loop does.
+-- Items that are read one after the other, as a loop does.
 use Rattle.std.proofs.Common.{◌≡◌, ℕ, suc, ◌-◌, ◌+◌, ◌≤◌, ◌<◌, List, [], ◌∷◌, ◌++◌, Option, Some, Ok, Err, refl, sym, ap, ◌∙◌, append_assoc, arith}
 use Rattle.std.proofs.lemmas.List.{append-nil}
 use Rattle.size_values.specs.declared.memory.Or.{Or}
@@ -25,7 +25,7 @@ module _ {X : Type 0} where
   with_nothing (Err u) = refl
 
   module _ (item : Option X → List ℕ → Read X) where
-    -- one item, and those behind it
+    -- one item, and those after it
     step : (n : ℕ) (front : List X) (bytes : List ℕ) (read : Read X) → item (last_of front) bytes ≡ read → (next : List X) (after : List ℕ) → added front read ≡ Ok (next, after)
         → with_front front (items_at item (suc n) (last_of front) bytes) ≡ with_front next (items_at item n (last_of next) after)
     unfolding items_at

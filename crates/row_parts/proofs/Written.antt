@@ -10,7 +10,7 @@ use Rattle.std.proofs.lemmas.Option.{same_Some}
 use Rattle.row_parts.specs.Spelling.{list_bytes}
 
 module _ {X : Type 0} (spelled : X → List ℕ) (Typed : X → Type 0) where
-  -- the count, and the first of the items, stand behind what was there before; what the types give of these items
+  -- the count, and the first of the items, stand after what was there before; what the types give of these items
   pub record Written (old new : List ℕ) (items : List X) (i : ℕ) : Type 0 where
     pub bytes : new ≡ old ++ (to_be_bytes w32 (length items) ++ flat_map spelled (take i items))
     pub typed : AllByRecursion Typed (take i items)

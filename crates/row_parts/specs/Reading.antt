@@ -1,4 +1,4 @@
--- Parts of a row read from the front of bytes: the part and the bytes behind it, or the place that cannot be read.
+-- Parts of a row read from the front of bytes: the part and the bytes after it, or the place that cannot be read.
 use Rattle.std.specs.Prelude.{◌≡◌, ℕ, zero, suc, ◌==◌, ◌&&◌, nat_lt, nat_le, Bool, true, false, List, [], ◌∷◌, ◌++◌, length, take, drop, Option, Some, None, Result, Ok, Err, if◌then◌else◌}
 use Rattle.std.specs.Cmp.Lexicographic.{slice_cmp}
 use Rattle.std.specs.Int.{w32, w64, from_be_bytes}
@@ -38,7 +38,7 @@ abbrev pub IsRead : {X Y E : Type 0} → (X → Y) → Result X E → Result Y E
 IsRead view (Ok x) read = read ≡ Ok (view x)
 IsRead view (Err e) read = read ≡ Err e
 
--- A part that is read, and the bytes behind it. A part that cannot be read is named by the bytes that are left where it begins.
+-- A part that is read, and the bytes after it. A part that cannot be read is named by the bytes that are left where it begins.
 abbrev pub Read : Type 0 → Type 0
 Read A = Result (A × List ℕ) Unreadable
 
@@ -79,7 +79,7 @@ driver_of byte =
     else (if byte == 3 then Some driver.Zfs
     else None)))
 
--- what a byte stands for, and the bytes behind it
+-- what a byte stands for, and the bytes after it
 abbrev pub meant_at : {A : Type 0} → Option A → List ℕ → List ℕ → Read A
 meant_at None rest bytes = stops_at bytes
 meant_at (Some x) rest bytes = Ok (x, rest)
@@ -97,7 +97,7 @@ text_at bytes = do
 
 -- ---- lists
 
--- items one behind the other, each read with the one before it
+-- items one after the other, each read with the one before it
 unfoldable pub items_at : {X : Type 0} → (Option X → List ℕ → Read X) → ℕ → Option X → List ℕ → Read (List X)
 items_at item zero before bytes = Ok ([], bytes)
 items_at item (suc n) before bytes = do
@@ -126,7 +126,7 @@ abbrev pub is_next : {V : Type 0} → Option (List ℕ × V) → List ℕ → Bo
 is_next None key = true
 is_next (Some before) key = is_lt (slice_cmp nat_cmp before.0 key)
 
--- a key that stands behind all keys of entries whose keys rise
+-- a key that stands after all keys of entries whose keys rise
 pub record IsLast {V : Type 0} (entries : List (List ℕ × V)) (key : List ℕ) : Type 0 where
   pub rising : KeysRise entries
   pub above : is_next (last_of entries) key ≡ true

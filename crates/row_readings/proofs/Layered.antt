@@ -6,8 +6,8 @@ use Rattle.config_lists.specs.Entries.{replaced}
 use Rattle.expansion.specs.declared.expanded.Expanded.{Expanded}
 use Rattle.expansion.specs.Layers.{nothing, laid, expanded}
 use Rattle.records.specs.declared.rows.Profile.{Profile}
-use Rattle.row_machine.specs.Rows.{profile_named}
-use Rattle.row_machine.specs.Expansions.{layer_of}
+use Rattle.row_machine.specs.machine.Rows.{profile_named}
+use Rattle.row_machine.specs.machine.Expansions.{layer_of}
 
 -- a layer without settings changes nothing
 pub laid-nothing : (below : Expanded) → laid below nothing ≡ below

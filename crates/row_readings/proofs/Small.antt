@@ -32,11 +32,11 @@ use Rattle.project_limits.specs.Limits.{count_in, size_in}
 use Rattle.records.specs.declared.rows.Instance.{Instance}
 use Rattle.records.specs.declared.rows.Row.{Row}
 use Rattle.records.specs.declared.rows.Row.TheVariants as row
-use Rattle.row_machine.specs.Task.{Task}
-use Rattle.row_machine.specs.State.{State}
-use Rattle.row_machine.specs.Claims.{amounts_of_instance, amounts_of, project_of_row, replaced_instance, share_over, share_of}
-use Rattle.row_machine.specs.Expansions.{expanded_of}
-use Rattle.row_machine.specs.Usage.{Load, loads, instance_load, volume_load, claim_load}
+use Rattle.row_machine.specs.machine.Task.{Task}
+use Rattle.row_machine.specs.machine.State.{State}
+use Rattle.row_machine.specs.machine.Claims.{amounts_of_instance, amounts_of, project_of_row, replaced_instance, share_over, share_of}
+use Rattle.row_machine.specs.machine.Expansions.{expanded_of}
+use Rattle.row_machine.specs.machine.Usage.{Load, loads, instance_load, volume_load, claim_load}
 use Rattle.row_readings.specs.Loads.{IsSmall, AreSmall}
 
 -- a number that is absent or below 2^63

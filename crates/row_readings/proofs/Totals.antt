@@ -8,7 +8,7 @@ use Rattle.std.proofs.lemmas.List.Elements.{All-weaker, filter_map-append}
 use Rattle.std.proofs.lemmas.List.Sums.{sum_by-le}
 use Rattle.size_values.specs.Amounts.{part}
 use Rattle.size_values.specs.declared.amounts.Part.{Part}
-use Rattle.row_machine.specs.Usage.{Load, counted}
+use Rattle.row_machine.specs.machine.Usage.{Load, counted}
 use Rattle.row_readings.specs.Loads.{IsSmall, AreSmall}
 
 counted-small : (project : List ℕ) (k : Part) (load : Load) → IsSmall load → counted project k load ≤ 2 ^ 63

@@ -1,5 +1,5 @@
 -- What contracts see of the lent rows.
-use Rattle.row_machine.specs.State.{State, empty_state}
+use Rattle.row_machine.specs.machine.State.{State, empty_state}
 use Rattle.row_readings.specs.declared.view.View.TheInside.{Inside}
 
 -- the state with these rows, statuses and operations

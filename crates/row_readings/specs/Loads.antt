@@ -2,7 +2,7 @@
 use Rattle.std.specs.Prelude.{◌<◌, ◌^◌, List, All}
 use Rattle.size_values.specs.Amounts.{part}
 use Rattle.size_values.specs.declared.amounts.Part.{Part}
-use Rattle.row_machine.specs.Usage.{Load}
+use Rattle.row_machine.specs.machine.Usage.{Load}
 
 -- no part of it reaches 2^63, as no value of a setting does
 pub record IsSmall (load : Load) : Type 0 where

@@ -4,8 +4,8 @@ ghost use Rattle.std.specs.List.{filter_map, sum_by};
 ghost use Rattle.std.specs.Option.{option_copied, option_to_list};
 ghost use Rattle.size_values.specs.Amounts.{part};
 ghost use Rattle.size_values.specs.declared.amounts.Part.{Part};
-ghost use Rattle.row_machine.specs.Claims.{amounts_of_instance, amounts_of, project_of_row, share_over, share_of, of_live};
-ghost use Rattle.row_machine.specs.Usage.{loads, instance_load, volume_load, claim_load, counted};
+ghost use Rattle.row_machine.specs.machine.Claims.{amounts_of_instance, amounts_of, project_of_row, share_over, share_of, of_live};
+ghost use Rattle.row_machine.specs.machine.Usage.{loads, instance_load, volume_load, claim_load, counted};
 ghost use Rattle.row_readings.specs.Loads.{AreSmall};
 
 use crate::claims::replaced_instance;
@@ -25,7 +25,7 @@ pub struct Load {
 }
 
 impl Model for Load {
-    ghost use Rattle.row_machine.specs.Usage.{Load as LoadValue};
+    ghost use Rattle.row_machine.specs.machine.Usage.{Load as LoadValue};
 
     ghost Value = { LoadValue };
 
@@ -46,7 +46,7 @@ impl Load {
 }
 
 /// What an instance counts for.
-#[tactic(auto, unfolding(row_machine::specs::Claims::amounts_of_instance))]
+#[tactic(auto, unfolding(row_machine::specs::machine::Claims::amounts_of_instance))]
 pub fn amounts_of_instance(
     alloc: Global,
     view: &View<'_>,
@@ -109,7 +109,7 @@ fn share_over(
 }
 
 /// What the claimed row of an operation adds to the usage of that row's project, by the rows as they stand.
-#[tactic(auto, unfolding(row_machine::specs::Claims::share_of))]
+#[tactic(auto, unfolding(row_machine::specs::machine::Claims::share_of))]
 pub fn share_of(alloc: Global, view: &View<'_>, work: &Work) -> Result<Amounts, NoMemory>
     ensures { IfOk result (λ a. a ≡ share_of view.now work.now) }
 {

@@ -2,7 +2,7 @@
 ghost use Rattle.std.specs.Prelude.{◌≡◌};
 ghost use Rattle.size_values.specs.declared.kinds.ObjectKind.TheVariants as kind;
 ghost use Rattle.restrictions.specs.Words.{is_true};
-ghost use Rattle.row_machine.specs.Homes.{is_on, has_feature, home_by, home_of};
+ghost use Rattle.row_machine.specs.machine.Homes.{is_on, has_feature, home_by, home_of};
 
 use crate::lookups::project_named;
 use config_lists::Config;
@@ -50,7 +50,7 @@ fn home_by<'x>(projects: &[Project], name: &'x str, key: &str) -> &'x str
 }
 
 /// The project that the profiles of a project belong to.
-#[tactic(auto, unfolding(row_machine::specs::Homes::home_of))]
+#[tactic(auto, unfolding(row_machine::specs::machine::Homes::home_of))]
 pub fn profile_home<'x>(projects: &[Project], name: &'x str) -> &'x str
     ensures { result.now ≡ home_of projects.now name.now kind.Profile }
 {
@@ -58,7 +58,7 @@ pub fn profile_home<'x>(projects: &[Project], name: &'x str) -> &'x str
 }
 
 /// The project that the networks of a project belong to.
-#[tactic(auto, unfolding(row_machine::specs::Homes::home_of))]
+#[tactic(auto, unfolding(row_machine::specs::machine::Homes::home_of))]
 pub fn network_home<'x>(projects: &[Project], name: &'x str) -> &'x str
     ensures { result.now ≡ home_of projects.now name.now kind.Network }
 {
@@ -66,7 +66,7 @@ pub fn network_home<'x>(projects: &[Project], name: &'x str) -> &'x str
 }
 
 /// The project that the storage volumes of a project belong to.
-#[tactic(auto, unfolding(row_machine::specs::Homes::home_of))]
+#[tactic(auto, unfolding(row_machine::specs::machine::Homes::home_of))]
 pub fn volume_home<'x>(projects: &[Project], name: &'x str) -> &'x str
     ensures { result.now ≡ home_of projects.now name.now kind.Volume }
 {
@@ -74,7 +74,7 @@ pub fn volume_home<'x>(projects: &[Project], name: &'x str) -> &'x str
 }
 
 /// The project that the objects of a kind belong to, which are asked for in a project.
-#[tactic(auto, unfolding(row_machine::specs::Homes::home_of))]
+#[tactic(auto, unfolding(row_machine::specs::machine::Homes::home_of))]
 pub fn home_of<'x>(projects: &[Project], name: &'x str, kind: ObjectKind) -> &'x str
     ensures { result.now ≡ home_of projects.now name.now kind }
 {

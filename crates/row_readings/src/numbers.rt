@@ -10,7 +10,7 @@ use std::alloc::Global;
 use std::marker::Model;
 
 /// Finds the next number in the names of an instance's snapshots. A name is of the pattern where one to nine
-/// digits without a leading zero stand in place of its first `%d`, or behind all of it where it has none.
+/// digits without a leading zero stand in place of its first `%d`, or after all of it where it has none.
 #[derive(Drop)]
 pub(crate) struct SnapshotNumbers<'a> {
     before: &'a str,
@@ -98,7 +98,7 @@ fn number_in(before: &[u8], behind: &[u8], name: &[u8]) -> Option<u32>
     }
 }
 
-/// The part of a name between the text before and the text behind.
+/// The part of a name between the text before and the text after.
 fn between<'x>(before: &[u8], behind: &[u8], name: &'x [u8]) -> Option<&'x [u8]>
     requires { length before.now + length behind.now < 2 ^ 64 }
     ensures { option_copied result ≡ between before.now behind.now name.now }

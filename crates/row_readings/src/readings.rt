@@ -1,9 +1,9 @@
 ghost use Rattle.std.specs.Prelude.{◌≡◌, IfOk, OnOk, map};
 ghost use Rattle.std.specs.Option.{option_copied};
 ghost use Rattle.expansion.specs.Layers.{laid, expanded};
-ghost use Rattle.row_machine.specs.Rows.{profile_named};
-ghost use Rattle.row_machine.specs.Expansions.{layer_of, expanded_of};
-ghost use Rattle.row_machine.specs.Usage.{usage_of};
+ghost use Rattle.row_machine.specs.machine.Rows.{profile_named};
+ghost use Rattle.row_machine.specs.machine.Expansions.{layer_of, expanded_of};
+ghost use Rattle.row_machine.specs.machine.Usage.{usage_of};
 
 use crate::amounts::{loads, usage_in};
 use crate::homes::profile_home;

@@ -3,7 +3,7 @@ ghost use Rattle.std.specs.Prelude.{◌≡◌, IfOk, codes, filter, fold, unwrap
 ghost use Rattle.std.specs.Str.{bytes_eq};
 ghost use Rattle.config_lists.specs.Settings.{setting};
 ghost use Rattle.instance_states.specs.Numbers.{next_name, seen, unseen};
-ghost use Rattle.row_machine.specs.Asked.{next_snapshot};
+ghost use Rattle.row_machine.specs.machine.Asked.{next_snapshot};
 
 use crate::numbers::SnapshotNumbers;
 use crate::view::View;
@@ -28,7 +28,7 @@ fn is_of(snapshot: &Snapshot, row: &Instance) -> bool
     snapshot.project.is(&row.project) && snapshot.instance.is(&row.name)
 }
 
-/// The next name of a pattern behind those of the instance's snapshots.
+/// The next name of a pattern after those of the instance's snapshots.
 fn next_of(
     alloc: Global,
     snapshots: &[Snapshot],

@@ -13,7 +13,7 @@ pub struct InstancePower {
 }
 
 impl Model for InstancePower {
-    ghost use Rattle.row_machine.specs.State.{Standing};
+    ghost use Rattle.row_machine.specs.machine.State.{Standing};
 
     ghost Value = { Standing };
 
@@ -40,7 +40,7 @@ pub struct View<'a> {
 }
 
 impl<'a> Model for View<'a> {
-    ghost use Rattle.row_machine.specs.State.{State};
+    ghost use Rattle.row_machine.specs.machine.State.{State};
     ghost use Rattle.row_readings.specs.Lent.{state_in};
 
     ghost Value = { State };

@@ -1,4 +1,4 @@
--- A body holds each text and list behind its length, so none of them is longer than the body.
+-- A body holds each text and list after its length, so none of them is longer than the body.
 use Rattle.std.proofs.Common.{◌≡◌, ℕ, ◌+◌, ◌≤◌, List, [], ◌∷◌, length, ap, ◌∙◌, arith, length-append}
 use Rattle.std.specs.List.{flat_map, AllByRecursion}
 use Rattle.std.proofs.lemmas.List.Concat.{flat_map-cons}

@@ -10,7 +10,7 @@ now-told told a rest r e s = ap (λ o. option_or o rest) (sym s ∙ e)
 pub later-told : {R : Type 0} (told a rest x : Option R) → told ≡ a → told ≡ None → x ≡ rest → x ≡ option_or a rest
 later-told told a rest x e n more = more ∙ ap (λ o. option_or o rest) (sym n ∙ e)
 
--- the same of an answer that may be want of memory
+-- the same of an answer that may be out of memory
 pub ok-is : {R E : Type 0} (answer : Result R E) (x y : R) → IfOk answer (λ r. r ≡ x) → x ≡ y → IfOk answer (λ r. r ≡ y)
 ok-is answer x y h e = subst (λ z. IfOk answer (λ r. r ≡ z)) e h
 

@@ -5,7 +5,7 @@ use Rattle.plain_lists.specs.Firsts.{first_of}
 use Rattle.records.specs.declared.rows.Row.{Row}
 use Rattle.row_machine.specs.declared.changes.RowChange.{RowChange}
 use Rattle.row_machine.specs.declared.changes.RowChange.TheVariants as change
-use Rattle.row_machine.specs.Changes.{rows_put}
+use Rattle.row_machine.specs.machine.Changes.{rows_put}
 use Rattle.rule_refusals.proofs.Chains.{or-none}
 
 pub rows-put : {R : Type 0} (rule : Row → Option R) (cs : List RowChange)

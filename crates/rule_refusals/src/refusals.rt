@@ -1,7 +1,7 @@
 //! Refusals: a rule with what it tells.
 ghost use Rattle.std.specs.Prelude.{◌≡◌, IfOk};
-ghost use Rattle.row_machine.specs.Links.{kind_text};
-ghost use Rattle.row_machine.specs.Refusals.{untold, on_name, on_number, on_object, on_held, on_project, on_key_of};
+ghost use Rattle.row_machine.specs.machine.Kinds.{kind_text};
+ghost use Rattle.row_machine.specs.machine.Refusals.{untold, on_name, on_number, on_object, on_held, on_project, on_key_of};
 
 use records::{Kept, Refusal, Rule};
 use size_values::{NoMemory, ObjectKind, Text};

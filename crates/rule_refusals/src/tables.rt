@@ -2,8 +2,8 @@
 ghost use Rattle.std.specs.Prelude.{◌≡◌, IfOk};
 ghost use Rattle.std.specs.Map.{keys_of};
 ghost use Rattle.std.specs.Result.{result_err};
-ghost use Rattle.row_machine.specs.Refusals.{untold};
-ghost use Rattle.row_machine.specs.SettingRules.{text_at, device_at, device_fault_number, faulty_key, setting_refusal, tables_break};
+ghost use Rattle.row_machine.specs.machine.Refusals.{untold};
+ghost use Rattle.row_machine.specs.machine.SettingRules.{text_at, device_at, device_fault_number, faulty_key, setting_refusal, tables_break};
 
 use config_lists::{Config, Devices};
 use option_tables::{DeviceFault, SettingFault, check_devices};

@@ -25,7 +25,7 @@ GET /1.0/projects
 200 {"metadata":["/1.0/projects/default","/1.0/projects/lab"],"status":"Success","status_code":200,"type":"sync"}
 "#;
 
-/// What stands behind each script. The keeper's call 6 fails, so no refusal of the script has asked it.
+/// What stands after each script. The keeper's call 6 fails, so no refusal of the script has asked it.
 const ENDS: &str = r#"
 DELETE /1.0/profiles/db?project=lab
 503 {"error":"unavailable","error_code":503,"metadata":{"rule":"K1"},"type":"error"}

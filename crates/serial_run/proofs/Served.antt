@@ -9,7 +9,7 @@ use Rattle.http_heads.specs.Messages.{Begins}
 use Rattle.http_front.specs.Held.{most_held}
 use Rattle.http_front.specs.Reading.{ReadsNext}
 use Rattle.http_front.specs.declared.read.Got.TheVariants as got
-use Rattle.row_machine.specs.Step.{Outcome, well, keeper_failed, no_memory}
+use Rattle.row_machine.specs.machine.Step.{Outcome, well, keeper_failed, no_memory}
 use Rattle.core_rows.specs.Stores.{IsCaused, KeepsRecords}
 use Rattle.rest_service.specs.Exchanges.{Exchange, LeadTo, printed, printed_replies, failure_of, failures_in}
 use Rattle.serial_run.specs.declared.session.SessionEnd.{SessionEnd}
@@ -144,7 +144,7 @@ go_on_append : (xs ys : List Exchange) → AllGoOn xs → AllGoOn ys → AllGoOn
 go_on_append [] ys first then = then
 go_on_append (x ∷ xs) ys first then = (first.0, go_on_append xs ys first.1 then)
 
--- a final request behind requests that go on is the only one that ends its connection
+-- a final request after requests that go on is the only one that ends its connection
 only_final_append : (xs : List Exchange) (y : Exchange) → AllGoOn xs → y.request.last ≡ true → OnlyFinalEnds (xs ++ y ∷ [])
 only_final_append [] y first last = last
 only_final_append (x ∷ []) y first last = (first.0, last)
@@ -172,7 +172,7 @@ one_more a b c count far next = record {
 
 -- ---- stops
 
--- a session stops behind requests that go on
+-- a session stops after requests that go on
 pub session_stops : (a b c : World) (count : ℕ) (ends : SessionEnd) → ServesSoFar a b count → count < most_requests → Stops ends b c × (ends ≢ end.Spent) → Session a c ends
 session_stops a b c count ends far few stops = record {
   exchanges = far.exchanges;
@@ -193,7 +193,7 @@ session_stops a b c count ends far few stops = record {
   by end.NoMemory isnt = enough
   by end.Spent isnt = absurd (isnt refl)
 
--- a session stops behind a final request
+-- a session stops after a final request
 pub session_final : (a b c : World) (count : ℕ) (ends : SessionEnd) → ServesSoFar a b count → count < most_requests → (e : Exchange) × Serves b c e × (e.request.last ≡ true) → ends ≡ end_behind count → Session a c ends
 session_final a b c count ends far few next is = subst (λ e. Session a c e) (sym is) (by (count + 1 == most_requests) refl) where
   all : List Exchange

@@ -7,7 +7,7 @@ use Rattle.size_values.specs.Causes.{Rose, RoseBy}
 use Rattle.size_values.specs.declared.entry.Entry.{Entry}
 use Rattle.http_heads.specs.Messages.{Splits, Ending, ended}
 use Rattle.http_heads.specs.declared.request.Request.{Request}
-use Rattle.row_machine.specs.Records.{records_of}
+use Rattle.row_machine.specs.opening.Records.{records_of}
 use Rattle.core_rows.specs.Opening.{Refuses, first_state, opened_store}
 use Rattle.core_rows.specs.declared.opening.OpenFault.TheVariants as fault
 use Rattle.record_keeper.specs.Store.{Store}
@@ -26,7 +26,7 @@ use Rattle.serial_run.proofs.Whole.{IsSettled, IsDue, session_due, text_at, not_
 
 -- ---- what a settled session did
 
--- what a settled stop wrote behind the replies; the rows and the store are as before
+-- what a settled stop wrote after the replies; the rows and the store are as before
 record StopsQuietly (ends : SessionEnd) (w w' : World) : Type 0 where
   written : Appends w.sink.held w'.sink.held (text_at ends)
   keeper : w'.keeper ≡ w.keeper
@@ -44,7 +44,7 @@ same_quietly ends w w' same none = subst (λ v. StopsQuietly ends w v) (sym same
   state = refl;
 })
 
--- where it stops behind requests that go on
+-- where it stops after requests that go on
 stops_quietly : (ends : SessionEnd) (w w' : World) → Stops ends w w' → IsSettled ends → StopsQuietly ends w w'
 stops_quietly end.Ended w w' stops settled = record { written = nothing_written w w' stops.2; keeper = stops.1.keeper; state = stops.1.state }
 stops_quietly end.Cut w w' stops settled = record { written = nothing_written w w' stops.3; keeper = stops.2.keeper; state = stops.2.state }
@@ -54,7 +54,7 @@ stops_quietly end.ReadFault w w' stops settled = absurd settled
 stops_quietly end.WriteFault w w' stops settled = absurd settled
 stops_quietly end.NoMemory w w' stops settled = absurd settled
 
--- where it stops behind a final request
+-- where it stops after a final request
 behind_final : (ends : SessionEnd) (w w' : World) → StopsBehindFinal ends → w' ≡ w → StopsQuietly ends w w'
 behind_final end.Ended w w' is same = same_quietly end.Ended w w' same refl
 behind_final end.Spent w w' is same = same_quietly end.Spent w w' same refl
@@ -71,7 +71,7 @@ session_quietly w w' ends s settled = by s.stops where
   by (inl (going, stops)) = stops_quietly ends s.behind w' stops settled
   by (inr (only, is, same)) = behind_final ends s.behind w' is same
 
--- the world of a session at its begin, behind an opening
+-- the world of a session at its begin, after an opening
 abbrev opened : Outside → World
 opened before = world [] (record before { keeper = opened_store before.keeper }) first_state
 
@@ -302,7 +302,7 @@ through_last_few (m ∷ ms) = at m.last refl (through_last_few ms) where
   at true is few = rw is (omega arith)
   at false is few = rw is (omega (arith, few))
 
--- the end that is due behind whole messages, of which there are fewer than a session may answer
+-- the end that is due after whole messages, of which there are fewer than a session may answer
 due_whole : (messages : List Request) → length messages < most_requests → (end_due messages ended).status ≡ 0
 due_whole messages few = by (has_last (answered messages)) refl where
   fewer : length (answered messages) < most_requests

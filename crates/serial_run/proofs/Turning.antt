@@ -33,7 +33,7 @@ takes_memory (written.Printed bytes) r last has refused = absurd refused
 takes_memory written.NoMemory r last has refused = absurd refused
 takes_memory written.Unprinted r last has refused = has
 
--- A turn that takes the next request and has it answered goes on behind its reply, or ends behind it, or stops at a failed write,
+-- A turn that takes the next request and has it answered goes on after its reply, or ends after it, or stops at a failed write,
 -- or where memory for the reply was refused.
 pub turn_answers : (w w' : World) (request : Request) (result : Answered) (comes : Turn)
     → Asks w w' (got.Request request) → Answers w.state w'.state w.keeper w'.keeper request result

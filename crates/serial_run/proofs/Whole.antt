@@ -24,7 +24,7 @@ pub record GoesOn (rest : List ℕ) (begun messages : List Request) (ending : En
   pub messages_are : messages ≡ begun ++ more
   pub rest_splits : Splits rest more ending
 
--- a text that begins with messages goes on behind them
+-- a text that begins with messages goes on after them
 pub splits_behind : (text rest : List ℕ) (begun messages : List Request) (ending : Ending) → Begins text begun rest → Splits text messages ending → GoesOn rest begun messages ending
 splits_behind text rest [] messages ending begins splits = record { more = messages; messages_are = refl; rest_splits = subst (λ bytes. Splits bytes messages ending) (sym begins) splits }
 splits_behind text rest (m ∷ begun) [] ending begins splits = absurd (ending_message text ending (subst (λ bytes. EndsAs bytes ending) splits.begins splits.ends) begins.1)
@@ -44,7 +44,7 @@ through_last_going : (exchanges : List Exchange) (more : List Request) → AllGo
 through_last_going [] more going = refl
 through_last_going (e ∷ exchanges) more going = ap (λ last. e.request ∷ (if last then [] else through_last (requests_of exchanges ++ more))) going.0 ∙ ap (λ ms. e.request ∷ ms) (through_last_going exchanges more going.1)
 
--- behind a final request nothing more is read
+-- after a final request nothing more is read
 through_last_final : (exchanges : List Exchange) (more : List Request) → OnlyFinalEnds exchanges → through_last (requests_of exchanges ++ more) ≡ requests_of exchanges
 through_last_final [] more only = absurd only
 through_last_final (e ∷ []) more only = ap (λ last. e.request ∷ (if last then [] else through_last more)) only
@@ -73,7 +73,7 @@ is_full n full = grind (arith, nat_tests)
 length_requests : (exchanges : List Exchange) → length (requests_of exchanges) ≡ length exchanges
 length_requests exchanges = length-map exchanges (λ e. e.request)
 
--- requests behind which the input ends are all answered
+-- requests after which the input ends are all answered
 answered_going : (exchanges : List Exchange) (messages more : List Request) → messages ≡ requests_of exchanges ++ more → more ≡ [] → AllGoOn exchanges → length exchanges < most_requests → answered messages ≡ requests_of exchanges
 answered_going exchanges messages more are none going few =
     ap answered (are ∙ ap (λ ms. requests_of exchanges ++ ms) none) ∙ ap (take most_requests) (through_last_going exchanges [] going ∙ append-nil (requests_of exchanges))
@@ -90,7 +90,7 @@ answered_final : (exchanges : List Exchange) (messages more : List Request) → 
 answered_final exchanges messages more are only few =
     ap answered are ∙ ap (take most_requests) (through_last_final exchanges more only) ∙ take_all most_requests (requests_of exchanges) (omega (arith, few, length_requests exchanges))
 
--- the end that is due behind answered requests
+-- the end that is due after answered requests
 due_going : (exchanges : List Exchange) (ending : Ending) → AllGoOn exchanges → length exchanges < most_requests → end_behind_all (requests_of exchanges) ending ≡ end_at ending
 due_going exchanges ending going few = rw (not_full (length (requests_of exchanges)) (omega (arith, few, length_requests exchanges)), has_last_going exchanges going) refl
 
@@ -102,7 +102,7 @@ due_full exchanges ending full = rw (is_full (length (requests_of exchanges)) (l
 due_final : (exchanges : List Exchange) (ending : Ending) → OnlyFinalEnds exchanges → length exchanges < most_requests → end_behind_all (requests_of exchanges) ending ≡ record { status = 0; text = [] }
 due_final exchanges ending only few = rw (not_full (length (requests_of exchanges)) (omega (arith, few, length_requests exchanges)), has_last_final exchanges only) refl
 
--- the text that is written behind the replies where a session stops so
+-- the text that is written after the replies where a session stops so
 abbrev pub text_at : SessionEnd → List ℕ
 text_at end.Ended = []
 text_at end.Cut = []
@@ -112,7 +112,7 @@ text_at end.WriteFault = []
 text_at end.Spent = []
 text_at end.NoMemory = []
 
--- a stop that is no fault and no want of memory
+-- a stop that is no fault and no out of memory
 abbrev pub IsSettled : SessionEnd → Type 0
 IsSettled end.Ended = Unit {0}
 IsSettled end.Cut = Unit {0}
@@ -131,7 +131,7 @@ pub record IsDue (messages : List Request) (ending : Ending) (ends : SessionEnd)
 due_by : (messages : List Request) (ending : Ending) (ends : SessionEnd) (exchanges : List Exchange) → answered messages ≡ requests_of exchanges → end_behind_all (requests_of exchanges) ending ≡ record { status = status_of ends; text = text_at ends } → IsDue messages ending ends exchanges
 due_by messages ending ends exchanges are due = record { requests_are = sym are; end_is = ap (λ ms. end_behind_all ms ending) are ∙ due }
 
--- where the rest behind the requests ends as the session stopped
+-- where the rest after the requests ends as the session stopped
 due_at_end : (rest : List ℕ) (exchanges : List Exchange) (messages : List Request) (ending other : Ending) (ends : SessionEnd) → GoesOn rest (requests_of exchanges) messages ending → EndsAs rest other → end_at other ≡ record { status = status_of ends; text = text_at ends }
     → AllGoOn exchanges → length exchanges < most_requests → IsDue messages ending ends exchanges
 due_at_end rest exchanges messages ending other ends far stands is going few =

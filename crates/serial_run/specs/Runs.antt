@@ -3,7 +3,7 @@ use Rattle.std.specs.Prelude.{◌≡◌, ◌≤◌, ◌⊎◌, ℕ, List, [], �
 use Rattle.std.specs.Str.{bytes_eq}
 use Rattle.http_front.specs.Held.{most_held}
 use Rattle.record_keeper.specs.Store.{Store}
-use Rattle.row_machine.specs.State.{State}
+use Rattle.row_machine.specs.machine.State.{State}
 use Rattle.core_rows.specs.Opening.{Refuses, first_state, opened_store}
 use Rattle.core_rows.specs.declared.opening.OpenFault.{OpenFault}
 use Rattle.core_rows.specs.declared.opening.OpenFault.TheVariants as fault

@@ -66,7 +66,7 @@ pub record Serves (w w' : World) (e : Exchange) : Type 0 where
 
 -- ---- stops
 
--- What stands next where a session stops before another request was answered whole, and what was done of it: nothing behind the
+-- What stands next where a session stops before another request was answered whole, and what was done of it: nothing after the
 -- end of the input and at a failed read; its reply at a malformed place; a part of a reply where a write failed; and where memory was
 -- refused, nothing is written, after a request was carried out or before.
 abbrev pub Stops : SessionEnd → World → World → Type 0
@@ -117,7 +117,7 @@ CountsAt end.ReadFault n = n < most_requests
 CountsAt end.WriteFault n = n < most_requests
 CountsAt end.NoMemory n = n < most_requests
 
--- Behind a final request a session stops as Ended, or as Spent where it is the one that fills the number, and does nothing more.
+-- After a final request a session stops as Ended, or as Spent where it is the one that fills the number, and does nothing more.
 abbrev pub StopsBehindFinal : SessionEnd → Type 0
 StopsBehindFinal end.Ended = Unit {0}
 StopsBehindFinal end.Spent = Unit {0}
@@ -127,7 +127,7 @@ StopsBehindFinal end.ReadFault = ⊥
 StopsBehindFinal end.WriteFault = ⊥
 StopsBehindFinal end.NoMemory = ⊥
 
--- A session from w to w': the requests that it answered whole, the world behind them, and how it stopped there. Either none
+-- A session from w to w': the requests that it answered whole, the world after them, and how it stopped there. Either none
 -- of them was the last on its connection, or the final one alone was.
 pub record Session (w w' : World) (ends : SessionEnd) : Type 0 where
   pub exchanges : List Exchange
@@ -179,6 +179,6 @@ RefusesPlace fault end.Cut sink sink' = ⊥
 RefusesPlace fault end.ReadFault sink sink' = ⊥
 RefusesPlace fault end.Spent sink sink' = ⊥
 
--- Where a session stops behind a final request, with this many requests answered before it: the number may be full with it.
+-- Where a session stops after a final request, with this many requests answered before it: the number may be full with it.
 abbrev pub end_behind : ℕ → SessionEnd
 end_behind done = if done + 1 == most_requests then end.Spent else end.Ended

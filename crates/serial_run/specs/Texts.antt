@@ -6,8 +6,8 @@ use Rattle.record_keeper.specs.Store.{Store}
 use Rattle.http_heads.specs.Messages.{Ending, ended, cut, malformed}
 use Rattle.http_heads.specs.declared.request.Request.{Request}
 use Rattle.size_values.specs.Causes.{RoseBy}
-use Rattle.row_machine.specs.State.{State}
-use Rattle.row_machine.specs.Records.{records_of}
+use Rattle.row_machine.specs.machine.State.{State}
+use Rattle.row_machine.specs.opening.Records.{records_of}
 use Rattle.core_rows.specs.Opening.{first_state, opened_store}
 use Rattle.rest_service.specs.Exchanges.{Exchange, LeadTo, printed_replies, failures_in, malformed_text}
 use Rattle.serial_run.specs.Most.{most_requests}
@@ -29,7 +29,7 @@ answered messages = take most_requests (through_last messages)
 abbrev pub has_last : List Request → Bool
 has_last messages = list_any (λ m. m.last) messages
 
--- how a run ends: its exit status, and the text that is written behind the replies
+-- how a run ends: its exit status, and the text that is written after the replies
 pub record End : Type 0 where
   pub status : ℕ
   pub text : List ℕ
@@ -53,7 +53,7 @@ abbrev pub end_due : List Request → Ending → End
 end_due messages ending = end_behind_all (answered messages) ending
 
 -- The run did what its input asks, and nothing else: the requests that are answered, each with its outcome and its reply, lead the
--- row machine from the first rows to some state, and the store from the one behind the opening to the one at the end; the exit
+-- row machine from the first rows to some state, and the store from the one after the opening to the one at the end; the exit
 -- status is the one that is due, the sink took the replies in their order, the keeper has the records of that state, and its count
 -- rose at least once for each request in which it failed.
 pub record RunsText (messages : List Request) (ending : Ending) (status : ℕ) (held held' : Option (List ℕ)) (keeper keeper' : Store) : Type 0 where

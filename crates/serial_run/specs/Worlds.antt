@@ -2,7 +2,7 @@
 use Rattle.std.specs.Prelude.{ℕ, List, [], Bool, Option}
 use Rattle.std.specs.Io.KnownBytes.{prepend_known}
 use Rattle.record_keeper.specs.Store.{Store}
-use Rattle.row_machine.specs.State.{State}
+use Rattle.row_machine.specs.machine.State.{State}
 
 -- What is seen of a source at one moment: the bytes that it has left, where it tells them; whether it has ended; and how many
 -- reads failed.

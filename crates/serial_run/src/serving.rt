@@ -10,7 +10,7 @@ use record_keeper::Keeper;
 use rest_service::Service;
 use std::alloc::Global;
 
-/// Where a session stops behind the final request, with this many requests answered before it.
+/// Where a session stops after the final request, with this many requests answered before it.
 fn end_behind(done: u32) -> SessionEnd
     requires { done < most_requests }
     ensures { result ≡ end_behind done }

@@ -9,7 +9,7 @@ use rest_service::{Answered, Service, print_malformed};
 use size_values::NoMemory;
 use std::alloc::Global;
 
-/// How a turn goes on behind a reply, from whether it was written and whether its request is the last on its connection.
+/// How a turn goes on after a reply, from whether it was written and whether its request is the last on its connection.
 fn turn_after(written: Result<(), SinkFailed>, last: bool) -> Turn
     ensures { result ≡ turn_after written last }
 {
@@ -30,7 +30,7 @@ fn write_answer<K: Sink>(sink: &mut K, answered: &Answered, last: bool) -> Turn
     }
 }
 
-/// Answers a malformed place by its rule. The connection closes behind it.
+/// Answers a malformed place by its rule. The connection closes after it.
 fn refuse<K: Sink>(alloc: Global, sink: &mut K, fault: HeadFault) -> SessionEnd
     ensures { RefusesPlace fault result (outlet K.held K.failures sink.old) (outlet K.held K.failures sink.new) }
 {

@@ -3,10 +3,10 @@ use Rattle.std.proofs.Common.{◌≡◌, sym, ap, ◌∙◌}
 use Rattle.std.specs.Option.{option_or}
 use Rattle.plain_lists.specs.Firsts.{first_of}
 use Rattle.records.specs.declared.rows.Profile.{Profile}
-use Rattle.row_machine.specs.State.{State}
-use Rattle.row_machine.specs.Claims.{claimed_instance, judged_instances}
-use Rattle.row_machine.specs.Holders.{names_profile}
-use Rattle.row_machine.specs.SettingRules.{instance_settings, naming}
+use Rattle.row_machine.specs.machine.State.{State}
+use Rattle.row_machine.specs.machine.Claims.{claimed_instance, judged_instances}
+use Rattle.row_machine.specs.machine.Holders.{names_profile}
+use Rattle.row_machine.specs.machine.SettingRules.{instance_settings, naming}
 use Rattle.setting_rules.specs.Named.{where_named, where_claimed, all_named}
 use Rattle.rule_refusals.proofs.Chains.{or-none}
 use Rattle.rule_refusals.proofs.Saying.{first_of-judged}

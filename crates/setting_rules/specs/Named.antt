@@ -6,12 +6,12 @@ use Rattle.records.specs.declared.refusals.Rule.TheVariants as rule
 use Rattle.records.specs.declared.refusals.Refusal.{Refusal}
 use Rattle.records.specs.declared.rows.Profile.{Profile}
 use Rattle.records.specs.declared.rows.Instance.{Instance}
-use Rattle.row_machine.specs.Task.{Task}
-use Rattle.row_machine.specs.State.{State}
-use Rattle.row_machine.specs.Claims.{claimed_instance}
-use Rattle.row_machine.specs.Holders.{names_profile}
-use Rattle.row_machine.specs.Refusals.{on_name}
-use Rattle.row_machine.specs.SettingRules.{is_one, profile_missing, devices_miss, instance_settings}
+use Rattle.row_machine.specs.machine.Task.{Task}
+use Rattle.row_machine.specs.machine.State.{State}
+use Rattle.row_machine.specs.machine.Claims.{claimed_instance}
+use Rattle.row_machine.specs.machine.Holders.{names_profile}
+use Rattle.row_machine.specs.machine.Refusals.{on_name}
+use Rattle.row_machine.specs.machine.SettingRules.{is_one, profile_missing, devices_miss, instance_settings}
 
 -- an instance with these devices, those of its profiles among them
 abbrev pub with_devices : State → Instance → NamedDevices → Option Refusal

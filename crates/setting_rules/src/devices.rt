@@ -2,7 +2,7 @@
 ghost use Rattle.std.specs.Prelude.{[]};
 ghost use Rattle.std.specs.Result.{result_err};
 ghost use Rattle.size_values.specs.Causes.{Says};
-ghost use Rattle.row_machine.specs.SettingRules.{tables_break, network_missing, pool_missing, volume_missing, disk_misses, device_misses, devices_miss};
+ghost use Rattle.row_machine.specs.machine.SettingRules.{tables_break, network_missing, pool_missing, volume_missing, disk_misses, device_misses, devices_miss};
 
 use config_lists::{Config, Device, Devices};
 use option_tables::SettingFault;
@@ -123,7 +123,7 @@ fn device_misses(
 }
 
 /// The first device that names what is not there.
-#[tactic(auto, unfolding(row_machine::specs::SettingRules::devices_miss))]
+#[tactic(auto, unfolding(row_machine::specs::machine::SettingRules::devices_miss))]
 pub(crate) fn devices_miss(
     alloc: Global,
     view: &View<'_>,

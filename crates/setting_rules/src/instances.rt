@@ -7,10 +7,10 @@ ghost use Rattle.plain_lists.specs.Firsts.{first_of};
 ghost use Rattle.size_values.specs.Causes.{Says};
 ghost use Rattle.config_lists.specs.Devices.{root_of};
 ghost use Rattle.records.specs.declared.refusals.Rule.TheVariants as rule;
-ghost use Rattle.row_machine.specs.Rows.{profile_named};
-ghost use Rattle.row_machine.specs.Holders.{names_profile};
-ghost use Rattle.row_machine.specs.Refusals.{on_name};
-ghost use Rattle.row_machine.specs.SettingRules.{scope_of, is_one, profile_missing, instance_settings, naming};
+ghost use Rattle.row_machine.specs.machine.Rows.{profile_named};
+ghost use Rattle.row_machine.specs.machine.Holders.{names_profile};
+ghost use Rattle.row_machine.specs.machine.Refusals.{on_name};
+ghost use Rattle.row_machine.specs.machine.SettingRules.{scope_of, is_one, profile_missing, instance_settings, naming};
 ghost use Rattle.setting_rules.specs.Named.{with_devices, where_named, where_claimed, all_named};
 
 use crate::devices::{devices_miss, tables_refuse};
@@ -61,7 +61,7 @@ fn missing_name<'x>(profiles: &[Profile], home: &str, names: &'x [Text]) -> Opti
 }
 
 /// A profile that an instance names is missing.
-#[tactic(auto, unfolding(row_machine::specs::SettingRules::profile_missing))]
+#[tactic(auto, unfolding(row_machine::specs::machine::SettingRules::profile_missing))]
 fn profile_missing(alloc: Global, view: &View<'_>, row: &Instance) -> Result<(), Or<Refusal>>
     ensures { Says result (profile_missing view.now row.now) }
 {
@@ -87,7 +87,7 @@ fn expansion_broken(
 }
 
 /// The first rule on settings that an instance breaks: its own settings and devices, and what its expansion names.
-#[tactic(auto, unfolding(row_machine::specs::SettingRules::instance_settings, row_machine::specs::SettingRules::root_missing))]
+#[tactic(auto, unfolding(row_machine::specs::machine::SettingRules::instance_settings, row_machine::specs::machine::SettingRules::root_missing))]
 pub(crate) fn instance_settings(
     alloc: Global,
     view: &View<'_>,

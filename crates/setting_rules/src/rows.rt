@@ -3,8 +3,8 @@ ghost use Rattle.std.specs.Prelude.{◌∷◌, []};
 ghost use Rattle.std.specs.Option.{option_copied, option_to_list};
 ghost use Rattle.plain_lists.specs.Firsts.{first_of};
 ghost use Rattle.size_values.specs.Causes.{Says};
-ghost use Rattle.row_machine.specs.Changes.{rows_put};
-ghost use Rattle.row_machine.specs.SettingRules.{own_default, profile_settings, row_settings, settings_broken};
+ghost use Rattle.row_machine.specs.machine.Changes.{rows_put};
+ghost use Rattle.row_machine.specs.machine.SettingRules.{own_default, profile_settings, row_settings, settings_broken};
 ghost use Rattle.records.specs.declared.rows.Row.TheVariants as row_of;
 
 use crate::devices::{devices_miss, settings_refuse, tables_refuse};
@@ -28,7 +28,7 @@ fn own_default(alloc: Global, view: &View<'_>, row: &Project) -> Result<(), Or<R
     }
 }
 
-#[tactic(auto, unfolding(row_machine::specs::SettingRules::row_settings))]
+#[tactic(auto, unfolding(row_machine::specs::machine::SettingRules::row_settings))]
 fn project_settings(alloc: Global, view: &View<'_>, row: &Project) -> Result<(), Or<Refusal>>
     ensures { Says result (row_settings view.now (row_of.Project row.now)) }
 {
@@ -37,7 +37,7 @@ fn project_settings(alloc: Global, view: &View<'_>, row: &Project) -> Result<(),
 }
 
 /// A profile by itself.
-#[tactic(auto, unfolding(row_machine::specs::SettingRules::profile_settings))]
+#[tactic(auto, unfolding(row_machine::specs::machine::SettingRules::profile_settings))]
 fn profile_settings(alloc: Global, view: &View<'_>, row: &Profile) -> Result<(), Or<Refusal>>
     ensures { Says result (profile_settings view.now row.now) }
 {
@@ -47,7 +47,7 @@ fn profile_settings(alloc: Global, view: &View<'_>, row: &Profile) -> Result<(),
 }
 
 /// A profile by itself and then each instance that names it.
-#[tactic(auto, unfolding(row_machine::specs::SettingRules::row_settings))]
+#[tactic(auto, unfolding(row_machine::specs::machine::SettingRules::row_settings))]
 fn profile_and_named(alloc: Global, view: &View<'_>, row: &Profile) -> Result<(), Or<Refusal>>
     ensures { Says result (row_settings view.now (row_of.Profile row.now)) }
 {
@@ -56,7 +56,7 @@ fn profile_and_named(alloc: Global, view: &View<'_>, row: &Profile) -> Result<()
 }
 
 /// The first rule on settings that a row of the view breaks.
-#[tactic(auto, unfolding(row_machine::specs::SettingRules::row_settings))]
+#[tactic(auto, unfolding(row_machine::specs::machine::SettingRules::row_settings))]
 fn row_settings(alloc: Global, view: &View<'_>, row: &Row) -> Result<(), Or<Refusal>>
     ensures { Says result (row_settings view.now row.now) }
 {
@@ -92,7 +92,7 @@ fn changes_break(alloc: Global, view: &View<'_>, changes: &[RowChange]) -> Resul
 }
 
 /// The first rule on settings that one of the rows breaks which the changes put, by the rows as they stand after them.
-#[tactic(auto, unfolding(row_machine::specs::SettingRules::settings_broken))]
+#[tactic(auto, unfolding(row_machine::specs::machine::SettingRules::settings_broken))]
 pub fn settings_broken(
     alloc: Global,
     after: &View<'_>,
@@ -104,7 +104,7 @@ pub fn settings_broken(
 }
 
 /// The first rule on settings that the claimed row of a new operation breaks, by the rows and claims as they stand with it.
-#[tactic(auto, unfolding(row_machine::specs::SettingRules::settings_broken))]
+#[tactic(auto, unfolding(row_machine::specs::machine::SettingRules::settings_broken))]
 pub fn claim_settings_broken(
     alloc: Global,
     after: &View<'_>,

@@ -28,7 +28,7 @@ pub cidr-empty : (text : List ℕ) → eqb (length text) 0 ≡ true → Err Empt
 unfolding cidr_of
 cidr-empty text h = reading-here _ _ _ _ h
 
--- behind a whole address stands no fourth dot
+-- after a whole address stands no fourth dot
 fourth_dot : (front : List ℕ) (c : ℕ) → is_ascii_digit c ≡ false → is_whole_address front ≡ true → may_follow_in_address front c ≡ false
 fourth_dot front c digit whole = by (count_by is_dot front) (is_ascii_digit (last_byte front)) digit whole
   where
@@ -114,7 +114,7 @@ both-fit true v a b = refl
 both-fit false true a b = refl
 both-fit false false a b = refl
 
--- the reading by the texts before and behind the slash
+-- the reading by the texts before and after the slash
 abbrev outcome : List ℕ → List ℕ → List ℕ → Result (ℕ × ℕ) ValueFault
 outcome text address bits =
     reading (address_value address, digits_value 10 bits) (

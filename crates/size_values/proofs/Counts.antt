@@ -57,7 +57,7 @@ pub count-empty : (text : List ℕ) (least most : ℕ) → eqb (length text) 0 �
 unfolding count_of
 count-empty text least most h = reading-here _ _ _ _ h
 
--- the exits behind the number at the front
+-- the exits after the number at the front
 module _ (text : List ℕ) (least most : ℕ) (number : Number) (front : number ≡ number_at text) (filled : eqb (length text) 0 ≡ false) where
   len : number.len ≡ prefix_len is_ascii_digit text
   len = ap (λ (n : Number). n.len) front

@@ -276,7 +276,7 @@ module _ (parts : List (List ℕ)) (p : List ℕ) (part : Part) (last : last_byt
       || (repeats_unit parts || nat_lt 0 (count_by (has_letter (letter_of part.unit)) parts)))
   unfit-push = λ i. list_any-append (λ q. is_outside 1 9999 (digits_of_part q)) parts (p ∷ []) i || repeats-push parts p part.unit last i
 
-  -- what taking it in gives behind fit parts
+  -- what taking it in gives after fit parts
   with_part-is : list_any (λ q. is_outside 1 9999 (digits_of_part q)) parts ≡ false → (o y : Bool) → is_outside 1 9999 (digits_of_part p) ≡ o
       → nat_lt 0 (count_by (has_letter (letter_of part.unit)) parts) ≡ y
       → with_part part (amounts_in parts) ≡ cond (o || y) None (Some (with_amount part.unit part.number.value (amounts_in parts)))
@@ -473,7 +473,7 @@ first-front text part expiry h e = record {
       ∙ part-unsplit text 0 (stands-start may_follow_in_expiry text) refl part h) ∙ takes-in text 0 (stands-start may_follow_in_expiry text) refl part h []);
 }
 
--- behind a front
+-- after a front
 module _ (text : List ℕ) (front : ExpiryFront) (h : IsExpiryFront text front) where
   module _ (space : is_space (get_or text front.end 0) ≡ true) where
     inside-space : front.end < length text
@@ -514,7 +514,7 @@ module _ (text : List ℕ) (front : ExpiryFront) (h : IsExpiryFront text front) 
         ∙ ap (λ (t : List ℕ). t ++ P text (front.end + 1) (space-stands g.space) (fresh g.space) part g.part_is) (take_more text front.end 0 (inside-space g.space))
         ∙ append_assoc (take front.end text) (get_or text front.end 0 ∷ []) (P text (front.end + 1) (space-stands g.space) (fresh g.space) part g.part_is)
 
-  -- the exits in the loop and behind it
+  -- the exits in the loop and after it
   module _ (filled : eqb (length text) 0 ≡ false) where
     pub expiry-misses : (place : ℕ) → front.end < length text → MissesSpace text front.end place → Err (BadByte place) ≡ expiry_of text
     unfolding expiry_of

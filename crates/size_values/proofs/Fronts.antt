@@ -1,4 +1,4 @@
--- The front of a text that has been read, and one more run of digits behind it.
+-- The front of a text that has been read, and one more run of digits after it.
 use Rattle.std.proofs.Common.{◌≡◌, ℕ, ◌+◌, ◌-◌, ◌<◌, ◌≤◌, Bool, true, false, cond, List, [], ◌∷◌, ◌++◌, length, take, drop, get_or, sym, refl, ap, ◌∙◌, subst, inl, inr, ◌⊎◌, arith, add-one, length-take, length-drop, length-append, get_or-take, get_or-drop}
 use Rattle.std.proofs.lemmas.Bool.{cases_lt, true≢false}
 use Rattle.std.proofs.lemmas.List.{take-append-drop, take-take, drop-take, drop_more, get_or_at, get_or_past}
@@ -38,7 +38,7 @@ onto_first-append : {X : Type 0} (x : X) (parts more : List (List X)) → 0 < le
 onto_first-append x [] more some = absurd (omega arith)
 onto_first-append x (part ∷ parts) more some = refl
 
--- behind a last separator stands one more part
+-- after a last separator stands one more part
 pub slice_split-snoc : {X : Type 0} (p : X → Bool) (xs : List X) (y : X) (ys : List X) → p y ≡ true → slice_split p ys ≡ ys ∷ []
     → slice_split p (xs ++ y ∷ ys) ≡ slice_split p xs ++ ys ∷ []
 slice_split-snoc p [] y ys cuts one = slice_split-cons_yes p y ys cuts ∙ ap (λ parts. [] ∷ parts) one

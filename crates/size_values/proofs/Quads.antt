@@ -40,7 +40,7 @@ neither-stands front c d e = grind arith
 no_digit-behind : (front : List ℕ) (c : ℕ) → is_ascii_digit c ≡ false → is_ascii_digit (last_byte front) ≡ false → may_follow_in_address front c ≡ false
 no_digit-behind front c d e = grind arith
 
--- the digits of a number stand behind a front that stands
+-- the digits of a number stand after a front that stands
 digits-stand : (text : List ℕ) (at : ℕ) → StandsTo may_follow_in_address text at → StandsTo may_follow_in_address text (at + prefix_len is_ascii_digit (drop at text))
 digits-stand text at h =
     stands-run may_follow_in_address text at (prefix_len is_ascii_digit (drop at text)) h (run-within text at h.within)
@@ -167,7 +167,7 @@ quad-is text n a b c d address front is = record {
   by : (k : ℕ) (b : Bool) → k ≡ 3 → b ≡ true → (b && eqb k 3) ≡ true
   by k b e h = grind (arith, nat_tests)
 
--- the four numbers that are read, each behind those before it
+-- the four numbers that are read, each after those before it
 module _ (text : List ℕ) (first : SmallNumber) (h₁ : IsFrom 0 255 text 0 first) where
   front₁ : IsFront text first.end (take_while is_ascii_digit text ∷ [])
   front₁ = front-first text first h₁

@@ -86,7 +86,7 @@ last-sign front c xs sign =
 digit-stands : (front : List ℕ) (c : ℕ) → is_ascii_digit c ≡ true → may_follow_in_set front c ≡ true
 digit-stands front c h = grind arith
 
--- the digits of a number stand behind a front that stands
+-- the digits of a number stand after a front that stands
 digits-stand : (text : List ℕ) (at : ℕ) → StandsTo may_follow_in_set text at → StandsTo may_follow_in_set text (at + prefix_len is_ascii_digit (drop at text))
 digits-stand text at h =
     stands-run may_follow_in_set text at (prefix_len is_ascii_digit (drop at text)) h (run-within text at h.within)
@@ -274,7 +274,7 @@ module _ (text : List ℕ) (old : SetFront) (h : IsSetFront text old) where
         by : (a b : Bool) → a ≡ false → (a || (b && not old.in_range)) ≡ true → old.in_range ≡ false
         by a b n s = grind arith
 
-    -- the parts behind a comma and behind a dash
+    -- the parts after a comma and after a dash
     parts-comma : is_dash (get_or text old.end 0) ≡ false → slice_split is_comma (take new.end text) ≡ slice_split is_comma (take old.end text) ++ D ∷ []
     parts-comma e =
         ap (slice_split is_comma) front

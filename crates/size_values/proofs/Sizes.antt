@@ -24,7 +24,7 @@ use Rattle.size_values.proofs.Forms.{reading-here, reading-past, reading-strays,
 digit-no_letter : (c : ℕ) → is_ascii_digit c ≡ true → is_ascii_alphabetic c ≡ false
 digit-no_letter c h = grind (arith, nat_tests)
 
--- a digit may stand where no letter stands before it; a letter behind a digit or behind a letter
+-- a digit may stand where no letter stands before it; a letter after a digit or after a letter
 digit-stands : (front : List ℕ) (c : ℕ) → list_any is_ascii_alphabetic front ≡ false → is_ascii_digit c ≡ true → may_follow_in_size front c ≡ true
 digit-stands front c h d = grind arith
 
@@ -90,7 +90,7 @@ outcome text n value factor =
     ∷ fault_if (nat_lt 20 n || nat_le (2 ^ 63) (value * unwrap_or factor 0)) TooLarge
     ∷ [])
 
--- and the same behind the form
+-- and the same after the form
 abbrev late : ℕ → ℕ → Option ℕ → Result ℕ ValueFault
 late n value factor =
     reading (value * unwrap_or factor 0) (
@@ -196,7 +196,7 @@ module _ (text : List ℕ) (number : Number) (front : number ≡ number_at text)
       formed : stray may_follow_in_size (λ _. true) text ≡ None
       formed = stray-none may_follow_in_size (λ _. true) text (subst (λ (n : ℕ). StandsTo may_follow_in_size text n) whole letters-stand) refl
 
-      -- the first letter stands behind the digits
+      -- the first letter stands after the digits
       first : position_or_len is_ascii_alphabetic text ≡ number.len
       first = position_or_len_is is_ascii_alphabetic text number.len 0 within
           (λ k less. digit-no_letter (get_or text k 0) (digits k less))

@@ -14,7 +14,7 @@ is_dot b = b == byte "."
 abbrev pub is_slash : ℕ → Bool
 is_slash b = b == byte "/"
 
--- a digit may stand anywhere; a dot behind a digit, three times at most
+-- a digit may stand anywhere; a dot after a digit, three times at most
 abbrev pub may_follow_in_address : List ℕ → ℕ → Bool
 may_follow_in_address front b = is_ascii_digit b || (is_dot b && is_ascii_digit (last_byte front) && nat_lt (count_by is_dot front) 3)
 
@@ -22,7 +22,7 @@ may_follow_in_address front b = is_ascii_digit b || (is_dot b && is_ascii_digit 
 abbrev pub is_whole_address : List ℕ → Bool
 is_whole_address text = is_ascii_digit (last_byte text) && count_by is_dot text == 3
 
--- before the slash an address; the slash behind a whole one; behind the slash digits
+-- before the slash an address; the slash after a whole one; after the slash digits
 abbrev pub may_follow_in_cidr : List ℕ → ℕ → Bool
 may_follow_in_cidr front b =
     if list_any is_slash front then is_ascii_digit b

@@ -18,7 +18,7 @@ pub record Calls : Type 0 where
 abbrev pub no_calls : List ℕ → Calls
 no_calls fails = record { fails = fails; made = 0; failed = 0 }
 
--- The next call is one of those that fail. Behind the call of the last number none fails.
+-- The next call is one of those that fail. After the call of the last number none fails.
 abbrev pub is_next_failing : Calls → Bool
 is_next_failing c = nat_lt c.made last_number && list_any (λ number. number == c.made + 1) c.fails
 
@@ -30,7 +30,7 @@ after_call c =
       failed = if is_next_failing c then min (c.failed + 1) last_number else c.failed;
     }
 
--- a call answered a failure, and neither its value nor want of memory
+-- a call answered a failure, and neither its value nor out of memory
 abbrev pub has_failed : {T E : Type 0} → Result T (Or E) → Bool
 has_failed (Ok x) = false
 has_failed (Err or.NoMemory) = false

@@ -10,7 +10,7 @@ Rose before now = min (before + 1) (2 ^ 64 - 1) ≤ now
 abbrev pub RoseBy : ℕ → ℕ → ℕ → Type 0
 RoseBy n before now = min (before + n) (2 ^ 64 - 1) ≤ now
 
--- the reason of an answer meets the fact; Ok and want of memory are free of it
+-- the reason of an answer meets the fact; Ok and out of memory are free of it
 abbrev pub OnWhy : {T E : Type 0} → Result T (Or E) → Type 0 → Type 0
 OnWhy (Ok x) P = Unit {0}
 OnWhy (Err or.NoMemory) P = Unit {0}
@@ -26,7 +26,7 @@ pub record HasCauseOrMemory {T E : Type 0} (before now : ℕ) (result : Result T
   pub later : before ≤ now
   pub failed : OnWhy result (Rose before now)
 
--- A refusal of this rule, or none. Want of memory says nothing of the rule.
+-- A refusal of this rule, or none. Out of memory says nothing of the rule.
 abbrev pub Refuses : {R : Type 0} → Or R → Option R → Type 0
 Refuses or.NoMemory rule = Unit {0}
 Refuses (or.Why r) rule = rule ≡ Some r

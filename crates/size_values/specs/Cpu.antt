@@ -18,7 +18,7 @@ is_comma b = b == byte ","
 abbrev pub is_dash : ℕ → Bool
 is_dash b = b == byte "-"
 
--- a digit may stand anywhere, a comma behind a digit, and a dash behind a digit where the last sign before it is no dash
+-- a digit may stand anywhere, a comma after a digit, and a dash after a digit where the last sign before it is no dash
 abbrev pub may_follow_in_set : List ℕ → ℕ → Bool
 may_follow_in_set front b =
     is_ascii_digit b

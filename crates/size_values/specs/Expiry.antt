@@ -19,7 +19,7 @@ is_unit b = list_any (λ letter. letter == b) unit_letters
 abbrev pub is_space : ℕ → Bool
 is_space b = b == byte " "
 
--- a digit may stand first, behind a digit or behind a space; a letter of a unit behind a digit; a space behind a letter
+-- a digit may stand first, after a digit or after a space; a letter of a unit after a digit; a space after a letter
 abbrev pub may_follow_in_expiry : List ℕ → ℕ → Bool
 may_follow_in_expiry front b =
     (is_ascii_digit b && not (is_unit (last_byte front)))

@@ -44,25 +44,25 @@ with_part part e =
     if not (nat_le 1 part.number.value && nat_le part.number.value 9999) || not (amount_in part.unit e == 0) then None
     else Some (with_amount part.unit part.number.value e)
 
--- the part is the digits at the place and the letter behind them
+-- the part is the digits at the place and the letter after them
 pub record IsPartAt (text : List ℕ) (at : ℕ) (part : Part) : Type 0 where
   pub number : part.number ≡ number_at (drop at text)
   pub some : 0 < part.number.len
   pub letter : letter_of part.unit ≡ slice_index text (at + part.number.len)
   pub end : part.end ≡ at + part.number.len + 1
 
--- no digit stands at the place, or no letter of a unit behind the digits
+-- no digit stands at the place, or no letter of a unit after the digits
 abbrev pub MissesPart : List ℕ → ℕ → ℕ → Type 0
 MissesPart text at place =
     let len = (number_at (drop at text)).len in
     ((place ≡ at) × (len ≡ 0)) ⊎ ((place ≡ at + len) × (0 < len) × (is_unit (slice_index text (at + len)) ≡ false))
 
--- the part is the one behind a space at the place
+-- the part is the one after a space at the place
 pub record FollowsSpace (text : List ℕ) (at : ℕ) (part : Part) : Type 0 where
   pub space : is_space (slice_index text at) ≡ true
   pub part_is : IsPartAt text (at + 1) part
 
--- no space stands at the place, or no part behind it
+-- no space stands at the place, or no part after it
 abbrev pub MissesSpace : List ℕ → ℕ → ℕ → Type 0
 MissesSpace text at place =
     ((place ≡ at) × (is_space (slice_index text at) ≡ false)) ⊎ ((is_space (slice_index text at) ≡ true) × MissesPart text (at + 1) place)

@@ -24,12 +24,12 @@ pub record IsFrom (least most : ℕ) (text : List ℕ) (at : ℕ) (number : Smal
   pub some : at < number.end
   pub value : number.value ≡ fit_of least most (take_while is_ascii_digit (drop at text))
 
--- the number is the one behind the separator at the place
+-- the number is the one after the separator at the place
 pub record Follows (separator least most : ℕ) (text : List ℕ) (at : ℕ) (number : SmallNumber) : Type 0 where
   pub separates : (slice_index text at == separator) ≡ true
   pub number_is : IsFrom least most text (at + 1) number
 
--- the separator does not stand at the place, or no digit behind it
+-- the separator does not stand at the place, or no digit after it
 pub record Misses (separator : ℕ) (text : List ℕ) (at place : ℕ) : Type 0 where
   pub within : place ≤ length text
   pub misses : ((place ≡ at) × ((slice_index text at == separator) ≡ false))

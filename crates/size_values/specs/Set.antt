@@ -31,7 +31,7 @@ pub record ContinuesSet (text : List ℕ) (old new : SetFront) : Type 0 where
   pub too_large : new.too_large ≡ (old.too_large || is_number_large (number_at (drop (old.end + 1) text)))
   pub unfit : new.unfit ≡ (old.unfit || nat_lt 1000000 new.last || (new.in_range && nat_lt new.last old.last))
 
--- no sign that may stand there follows the front, or no number behind it
+-- no sign that may stand there follows the front, or no number after it
 abbrev pub BreaksSet : List ℕ → SetFront → ℕ → Type 0
 BreaksSet text front place =
     ((place ≡ front.end) × (is_sign text front ≡ false))

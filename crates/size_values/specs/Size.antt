@@ -21,7 +21,7 @@ suffixes =
 abbrev pub factor_of : List ℕ → Option ℕ
 factor_of suffix = option_map (λ row. row.1) (find (λ row. bytes_eq row.0 suffix) suffixes)
 
--- a digit may stand before the first letter; a letter may stand behind a digit or a letter
+-- a digit may stand before the first letter; a letter may stand after a digit or a letter
 abbrev pub may_follow_in_size : List ℕ → ℕ → Bool
 may_follow_in_size front b =
     if list_any is_ascii_alphabetic front then is_ascii_alphabetic b

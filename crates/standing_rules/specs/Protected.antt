@@ -7,14 +7,14 @@ use Rattle.records.specs.declared.rows.Instance.{Instance}
 use Rattle.records.specs.declared.commands.Target.{Target}
 use Rattle.records.specs.declared.commands.Command.{Command}
 use Rattle.records.specs.declared.commands.What.{What}
-use Rattle.row_machine.specs.State.{State}
-use Rattle.row_machine.specs.Rows.{default_name}
-use Rattle.row_machine.specs.Homes.{is_on}
-use Rattle.row_machine.specs.Expansions.{expanded_of}
-use Rattle.row_machine.specs.Links.{kind_text}
-use Rattle.row_machine.specs.Refusals.{untold}
-use Rattle.row_machine.specs.Asked.{is_parting}
-use Rattle.row_machine.specs.StandingRules.{asks_for_features, is_deletion, protects_itself}
+use Rattle.row_machine.specs.machine.State.{State}
+use Rattle.row_machine.specs.machine.Rows.{default_name}
+use Rattle.row_machine.specs.machine.Homes.{is_on}
+use Rattle.row_machine.specs.machine.Expansions.{expanded_of}
+use Rattle.row_machine.specs.machine.Kinds.{kind_text}
+use Rattle.row_machine.specs.machine.Refusals.{untold}
+use Rattle.row_machine.specs.machine.Asked.{is_parting}
+use Rattle.row_machine.specs.machine.StandingRules.{asks_for_features, is_deletion, protects_itself}
 
 -- an instance is protected by its expanded settings
 abbrev pub is_kept : State → Instance → Bool

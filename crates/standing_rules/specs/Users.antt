@@ -9,10 +9,10 @@ use Rattle.records.specs.declared.rows.Volume.{Volume}
 use Rattle.records.specs.declared.rows.Instance.{Instance}
 use Rattle.records.specs.declared.rows.Row.TheVariants as row
 use Rattle.records.specs.declared.commands.Target.{Target}
-use Rattle.row_machine.specs.Task.{Task}
-use Rattle.row_machine.specs.State.{State}
-use Rattle.row_machine.specs.Claims.{project_of_row}
-use Rattle.row_machine.specs.Holders.{claim_uses, instance_uses, names_profile, profile_uses, user_link, volume_uses, work_link}
+use Rattle.row_machine.specs.machine.Task.{Task}
+use Rattle.row_machine.specs.machine.State.{State}
+use Rattle.row_machine.specs.machine.Claims.{project_of_row}
+use Rattle.row_machine.specs.machine.Holders.{claim_uses, instance_uses, names_profile, profile_uses, user_link, volume_uses, work_link}
 
 -- a profile that names the object
 abbrev pub profile_link : State → List ℕ → Target → Profile → Option (List ℕ)

@@ -2,8 +2,8 @@
 ghost use Rattle.std.specs.Prelude.{◌≡◌, false, find};
 ghost use Rattle.std.specs.Option.{option_copied, option_map_or};
 ghost use Rattle.size_values.specs.Causes.{Says};
-ghost use Rattle.row_machine.specs.Holders.{busy_with, is_about, keeps_busy};
-ghost use Rattle.row_machine.specs.StandingRules.{busy, instance_busy};
+ghost use Rattle.row_machine.specs.machine.Holders.{busy_with, is_about, keeps_busy};
+ghost use Rattle.row_machine.specs.machine.StandingRules.{busy, instance_busy};
 
 use crate::asked::instance_changed;
 use operations::Operation;
@@ -47,7 +47,7 @@ fn keeps_busy(project: &str, instance: &str, work: &Work) -> bool
 }
 
 /// The live operation that keeps an instance busy.
-#[tactic(auto, unfolding(row_machine::specs::Holders::busy_with))]
+#[tactic(auto, unfolding(row_machine::specs::machine::Holders::busy_with))]
 fn busy_with<'x>(
     live: &'x [Operation<Work>],
     project: &str,
@@ -59,7 +59,7 @@ fn busy_with<'x>(
 }
 
 /// An instance is busy.
-#[tactic(auto, unfolding(row_machine::specs::Holders::busy_with))]
+#[tactic(auto, unfolding(row_machine::specs::machine::Holders::busy_with))]
 fn busy(alloc: Global, view: &View<'_>, project: &str, name: &str) -> Result<(), Or<Refusal>>
     ensures { Says result (busy view.now project.now name.now) }
 {
@@ -72,7 +72,7 @@ fn busy(alloc: Global, view: &View<'_>, project: &str, name: &str) -> Result<(),
 }
 
 /// The instance that a command would change or copy from is busy.
-#[tactic(auto, unfolding(row_machine::specs::StandingRules::instance_busy))]
+#[tactic(auto, unfolding(row_machine::specs::machine::StandingRules::instance_busy))]
 pub(crate) fn instance_busy(
     alloc: Global,
     view: &View<'_>,

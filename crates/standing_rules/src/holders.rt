@@ -3,8 +3,8 @@ ghost use Rattle.std.specs.Prelude.{◌≡◌, find};
 ghost use Rattle.std.specs.List.{list_any};
 ghost use Rattle.std.specs.Option.{option_copied, option_to_list};
 ghost use Rattle.size_values.specs.Causes.{Says};
-ghost use Rattle.row_machine.specs.Holders.{claim_rows, holder_of, names_profile};
-ghost use Rattle.row_machine.specs.StandingRules.{held_profile, profile_held};
+ghost use Rattle.row_machine.specs.machine.Holders.{claim_rows, holder_of, names_profile};
+ghost use Rattle.row_machine.specs.machine.StandingRules.{held_profile, profile_held};
 
 use crate::asked::object_changed;
 use object_users::names_profile;
@@ -34,7 +34,7 @@ fn claim_names(view: &View<'_>, home: &str, profile: &str, work: &Work) -> bool
 }
 
 /// The lowest-numbered live operation whose claim names the profile.
-#[tactic(auto, unfolding(row_machine::specs::Holders::holder_of))]
+#[tactic(auto, unfolding(row_machine::specs::machine::Holders::holder_of))]
 fn holder_of<'x>(view: &View<'x>, home: &str, profile: &str) -> Option<&'x Operation<Work>>
     ensures { option_copied result ≡ holder_of view.now home.now profile.now }
 {
@@ -72,7 +72,7 @@ fn held_profile(
 }
 
 /// An operation holds the profile that a command changes.
-#[tactic(auto, unfolding(row_machine::specs::StandingRules::profile_held))]
+#[tactic(auto, unfolding(row_machine::specs::machine::StandingRules::profile_held))]
 pub(crate) fn profile_held(
     alloc: Global,
     view: &View<'_>,

@@ -3,8 +3,8 @@ ghost use Rattle.std.specs.Prelude.{◌≡◌, IfOk, not, ◌&&◌};
 ghost use Rattle.std.specs.List.{list_any};
 ghost use Rattle.std.specs.Str.{bytes_eq};
 ghost use Rattle.size_values.specs.Causes.{Says};
-ghost use Rattle.row_machine.specs.Rows.{default_name};
-ghost use Rattle.row_machine.specs.StandingRules.{is_occupied, must_be_empty, project_occupied};
+ghost use Rattle.row_machine.specs.machine.Rows.{default_name};
+ghost use Rattle.row_machine.specs.machine.StandingRules.{is_occupied, must_be_empty, project_occupied};
 
 use crate::asked::{is_parting, object_changed};
 use crate::features::asks_for_features;
@@ -80,7 +80,7 @@ fn must_be_empty(alloc: Global, view: &View<'_>, what: &What, of: &Target) -> Re
 }
 
 /// The project that a command needs empty is not.
-#[tactic(auto, unfolding(row_machine::specs::StandingRules::project_occupied))]
+#[tactic(auto, unfolding(row_machine::specs::machine::StandingRules::project_occupied))]
 pub(crate) fn project_occupied(
     alloc: Global,
     view: &View<'_>,

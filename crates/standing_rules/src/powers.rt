@@ -4,7 +4,7 @@ ghost use Rattle.std.specs.Option.{option_map};
 ghost use Rattle.size_values.specs.Causes.{Says};
 ghost use Rattle.records.specs.declared.commands.Body.{Body as BodyValue};
 ghost use Rattle.records.specs.declared.commands.What.TheVariants as what_of;
-ghost use Rattle.row_machine.specs.StandingRules.{deed_asked, in_wrong_state, power_of, power_text, wrong_state};
+ghost use Rattle.row_machine.specs.machine.StandingRules.{deed_asked, in_wrong_state, power_of, power_text, wrong_state};
 ghost use Rattle.standing_rules.specs.Deeds.{deed_of};
 
 use instance_states::is_allowed;
@@ -134,7 +134,7 @@ fn in_wrong_state(alloc: Global, asked: Asked<'_>, power: Power) -> Result<(), O
 }
 
 /// The status of the instance does not allow what a command asks for. An instance without a status allows all.
-#[tactic(auto, unfolding(row_machine::specs::StandingRules::wrong_state))]
+#[tactic(auto, unfolding(row_machine::specs::machine::StandingRules::wrong_state))]
 pub(crate) fn wrong_state(
     alloc: Global,
     view: &View<'_>,

@@ -1,7 +1,7 @@
 //! B3: the object of the path is protected against the command.
 ghost use Rattle.std.specs.Prelude.{◌≡◌, IfOk};
 ghost use Rattle.size_values.specs.Causes.{Says};
-ghost use Rattle.row_machine.specs.StandingRules.{is_protected, object_protected, protects_itself};
+ghost use Rattle.row_machine.specs.machine.StandingRules.{is_protected, object_protected, protects_itself};
 ghost use Rattle.standing_rules.specs.Protected.{is_kept, instance_protected, project_protected};
 
 use crate::asked::{is_deletion, is_parting, object_changed};
@@ -91,7 +91,7 @@ fn is_protected(
 }
 
 /// The object of a command is protected against it.
-#[tactic(auto, unfolding(row_machine::specs::StandingRules::object_protected))]
+#[tactic(auto, unfolding(row_machine::specs::machine::StandingRules::object_protected))]
 pub(crate) fn object_protected(
     alloc: Global,
     view: &View<'_>,

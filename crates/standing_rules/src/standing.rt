@@ -1,6 +1,6 @@
 //! Rules on what stands in the way: B1 to B6.
 ghost use Rattle.size_values.specs.Causes.{Says};
-ghost use Rattle.row_machine.specs.StandingRules.{standing_broken};
+ghost use Rattle.row_machine.specs.machine.Rules.{standing_broken};
 
 use crate::busy::instance_busy;
 use crate::holders::profile_held;
@@ -14,7 +14,7 @@ use size_values::Or;
 use std::alloc::Global;
 
 /// The first rule on what stands in the way that a command breaks.
-#[tactic(auto, unfolding(row_machine::specs::StandingRules::standing_broken))]
+#[tactic(auto, unfolding(row_machine::specs::machine::Rules::standing_broken))]
 pub fn standing_broken(alloc: Global, view: &View<'_>, command: &Command) -> Result<(), Or<Refusal>>
     ensures { Says result (standing_broken view.now command.now) }
 {

@@ -1,7 +1,7 @@
 //! B4: the object that a command renames or deletes has a user.
 ghost use Rattle.std.specs.Prelude.{◌≡◌, IfOk};
 ghost use Rattle.size_values.specs.Causes.{Says};
-ghost use Rattle.row_machine.specs.StandingRules.{object_used, used_by_first};
+ghost use Rattle.row_machine.specs.machine.StandingRules.{object_used, used_by_first};
 ghost use Rattle.standing_rules.specs.Protected.{on_user};
 
 use crate::asked::{is_parting, object_changed};
@@ -39,7 +39,7 @@ fn used_by_first(
 }
 
 /// The object that a command renames or deletes has a user.
-#[tactic(auto, unfolding(row_machine::specs::StandingRules::object_used))]
+#[tactic(auto, unfolding(row_machine::specs::machine::StandingRules::object_used))]
 pub(crate) fn object_used(
     alloc: Global,
     view: &View<'_>,

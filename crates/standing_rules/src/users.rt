@@ -5,9 +5,9 @@ ghost use Rattle.std.specs.Option.{option_map_or};
 ghost use Rattle.std.specs.Str.{bytes_eq};
 ghost use Rattle.plain_lists.specs.Firsts.{first_of};
 ghost use Rattle.size_values.specs.Causes.{Says};
-ghost use Rattle.row_machine.specs.Claims.{project_of_row};
-ghost use Rattle.row_machine.specs.Holders.{first_user_of, profile_user, user_in};
-ghost use Rattle.row_machine.specs.Links.{link_of};
+ghost use Rattle.row_machine.specs.machine.Claims.{project_of_row};
+ghost use Rattle.row_machine.specs.machine.Holders.{first_user_of, profile_user, user_in};
+ghost use Rattle.row_machine.specs.shown.Links.{link_of};
 ghost use Rattle.standing_rules.specs.Users.{claim_link, first_instance_link, first_profile_link, first_volume_link, instance_link_in, naming_link, profile_link_in, volume_link_in};
 
 use crate::uses::claim_uses;
@@ -286,7 +286,7 @@ fn unnamed_by_all(
 }
 
 /// The first user of an object of this home. Kinds but profiles, networks, pools and volumes have no users.
-#[tactic(auto, unfolding(row_machine::specs::Holders::first_user_of))]
+#[tactic(auto, unfolding(row_machine::specs::machine::Holders::first_user_of))]
 pub(crate) fn unused(
     alloc: Global,
     view: &View<'_>,

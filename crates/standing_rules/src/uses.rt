@@ -3,8 +3,8 @@ ghost use Rattle.std.specs.Prelude.{◌≡◌, IfOk, false};
 ghost use Rattle.std.specs.List.{list_any};
 ghost use Rattle.std.specs.Option.{option_copied, option_map_or, option_to_list};
 ghost use Rattle.size_values.specs.declared.kinds.ObjectKind.TheVariants as kind_of;
-ghost use Rattle.row_machine.specs.Claims.{claimed_volume};
-ghost use Rattle.row_machine.specs.Holders.{claim_rows, claim_uses, instance_uses, source_uses, volume_uses};
+ghost use Rattle.row_machine.specs.machine.Claims.{claimed_volume};
+ghost use Rattle.row_machine.specs.machine.Holders.{claim_rows, claim_uses, instance_uses, source_uses, volume_uses};
 
 use object_users::{instance_uses, volume_uses};
 use records::{Instance, Target};

@@ -5,8 +5,8 @@ ghost use Rattle.size_values.specs.Causes.{Says};
 ghost use Rattle.operations.specs.Kept.{kept_at, cancel_answer};
 ghost use Rattle.operations.specs.Statuses.{cancel_of};
 ghost use Rattle.records.specs.declared.refusals.Rule.TheVariants as rule;
-ghost use Rattle.row_machine.specs.Refusals.{untold};
-ghost use Rattle.row_machine.specs.TableRules.{status_text, cancel_refusal, entry_broken, cancel_broken};
+ghost use Rattle.row_machine.specs.machine.Refusals.{untold};
+ghost use Rattle.row_machine.specs.machine.TableRules.{status_text, cancel_refusal, entry_broken, cancel_broken};
 
 use operations::{CancelFault, LIVE_LIMIT, NUMBER_LIMIT, Status};
 use records::{Kept, Refusal, Rule, What};
@@ -16,7 +16,7 @@ use size_values::{NoMemory, Or, Text};
 use std::alloc::Global;
 
 /// O4, O5: no operation can be entered.
-#[tactic(auto, unfolding(row_machine::specs::TableRules::entry_broken))]
+#[tactic(auto, unfolding(row_machine::specs::machine::TableRules::entry_broken))]
 pub fn entry_broken(alloc: Global, view: &View<'_>) -> Result<(), Or<Refusal>>
     ensures { Says result (entry_broken view.now) }
 {
@@ -108,7 +108,7 @@ fn number_cannot_be_cancelled(
 }
 
 /// O1 to O3: the operation that a command would cancel is kept, and cannot be cancelled.
-#[tactic(auto, unfolding(row_machine::specs::TableRules::cancel_broken))]
+#[tactic(auto, unfolding(row_machine::specs::machine::TableRules::cancel_broken))]
 pub fn cancel_broken(alloc: Global, view: &View<'_>, what: &What) -> Result<(), Or<Refusal>>
     ensures { Says result (cancel_broken view.now what.now) }
 {

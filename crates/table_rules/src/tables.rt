@@ -4,10 +4,10 @@ ghost use Rattle.std.specs.List.{filter_map};
 ghost use Rattle.std.specs.Option.{option_copied, option_to_list};
 ghost use Rattle.plain_lists.specs.Firsts.{first, first_of};
 ghost use Rattle.size_values.specs.Causes.{Says};
-ghost use Rattle.row_machine.specs.Changes.{rows_put};
-ghost use Rattle.row_machine.specs.Claims.{claimed_instance, claimed_volume, claimed_snapshot};
-ghost use Rattle.row_machine.specs.Links.{target_of};
-ghost use Rattle.row_machine.specs.TableRules.{count_of, row_kinds, too_many, too_large, tables_broken};
+ghost use Rattle.row_machine.specs.machine.Changes.{rows_put};
+ghost use Rattle.row_machine.specs.machine.Claims.{claimed_instance, claimed_volume, claimed_snapshot};
+ghost use Rattle.row_machine.specs.shown.Links.{target_of};
+ghost use Rattle.row_machine.specs.machine.TableRules.{count_of, row_kinds, too_many, too_large, tables_broken};
 
 use new_rows::{LARGEST_ROW, cap_of};
 use operations::Operation;
@@ -196,7 +196,7 @@ fn claim_too_large(alloc: Global, claim: Option<&Row>) -> Result<(), Or<Refusal>
 }
 
 /// The first table that is full after the changes, and then the first of the rows that they put that is too large.
-#[tactic(auto, unfolding(row_machine::specs::TableRules::tables_broken))]
+#[tactic(auto, unfolding(row_machine::specs::machine::TableRules::tables_broken))]
 pub fn tables_broken(
     alloc: Global,
     after: &View<'_>,
@@ -209,7 +209,7 @@ pub fn tables_broken(
 }
 
 /// The first table that is full with the claim of a new operation, and then that the claimed row is too large.
-#[tactic(auto, unfolding(row_machine::specs::TableRules::tables_broken))]
+#[tactic(auto, unfolding(row_machine::specs::machine::TableRules::tables_broken))]
 pub fn claim_tables_broken(
     alloc: Global,
     after: &View<'_>,

@@ -6,7 +6,7 @@ use Rattle.std.specs.Prelude.{nat_eq, nat_le, option_map, option_and_then, IfSom
 use Rattle.std.proofs.lemmas.List.{take_rest}
 use Rattle.workload.specs.Summary.{parted, with_body, length_in, code_in, first_reply, codes_within, codes_of}
 
--- fewer than n bytes stand behind the part that was found
+-- fewer than n bytes stand after the part that was found
 abbrev IsShorter : {A : Type 0} → ℕ → Option (A × List ℕ) → Type 0
 IsShorter n found = IfSome found (λ p. length p.1 < n)
 
@@ -54,7 +54,7 @@ enough (suc n) (suc m) bytes low high = by (first_reply bytes) (reply-shorter by
     by None h same = refl
     by (Some r) h same = ap (λ cs. r.0 ∷ cs) (same r.1 h)
 
--- one whole reply, and those behind it
+-- one whole reply, and those after it
 codes_of-more : (bytes : List ℕ) (code : ℕ) (rest : List ℕ) → Some (code, rest) ≡ first_reply bytes → codes_of bytes ≡ code ∷ codes_of rest
 codes_of-more [] code rest is = cc
 codes_of-more (x ∷ xs) code rest is =

@@ -4,7 +4,7 @@ use Rattle.std.specs.Option.{option_map_or}
 use Rattle.std.specs.Char.{is_ascii_digit}
 use Rattle.std.specs.Str.Parse.{digits_value}
 
--- the parts of a text before and behind the first place at which a mark stands
+-- the parts of a text before and after the first place at which a mark stands
 abbrev pub parted : List ℕ → List ℕ → Option (List ℕ × List ℕ)
 parted mark [] = None
 parted mark (c ∷ cs) =
@@ -30,11 +30,11 @@ code_in head =
 abbrev pub length_in : List ℕ → Option ℕ
 length_in head = option_and_then (λ parts. number_in parts.1) (parted (codes "\r\nContent-Length: ") head)
 
--- a reply's code and the bytes behind it, where its body is whole
+-- a reply's code and the bytes after it, where its body is whole
 abbrev pub with_body : List ℕ → ℕ → ℕ → Option (ℕ × List ℕ)
 with_body rest code len = if nat_le len (length rest) then Some (code, drop len rest) else None
 
--- The first reply of a text, if it is whole: its code, and the bytes behind it. A head ends with the first empty line.
+-- The first reply of a text, if it is whole: its code, and the bytes after it. A head ends with the first empty line.
 abbrev pub first_reply : List ℕ → Option (ℕ × List ℕ)
 first_reply bytes =
     option_and_then (λ parts. option_and_then (λ code. option_and_then (with_body parts.1 code) (length_in parts.0)) (code_in parts.0))

@@ -10,7 +10,7 @@ use std::alloc::Global;
 #[derive(Clone, Copy)]
 struct Reply {
     code: u16,
-    /// The place behind its body.
+    /// The place after its body.
     end: usize,
 }
 

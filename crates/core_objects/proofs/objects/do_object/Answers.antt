@@ -2,11 +2,11 @@ use Rattle.std.proofs.Common.{◌≡◌, ◌∷◌, [], ◌∙◌, sym, subst, N
 use Rattle.plain_lists.specs.Firsts.{first}
 use Rattle.size_values.specs.Causes.{Refuses}
 use Rattle.size_values.specs.declared.memory.Or.TheVariants as or
-use Rattle.row_machine.specs.NameRules.{names_broken}
-use Rattle.row_machine.specs.StandingRules.{standing_broken}
-use Rattle.row_machine.specs.Notices.{change_notices}
-use Rattle.row_machine.specs.Plans.{plan_of}
-use Rattle.row_machine.specs.Views.{read}
+use Rattle.row_machine.specs.machine.Rules.{names_broken}
+use Rattle.row_machine.specs.machine.Rules.{standing_broken}
+use Rattle.row_machine.specs.shown.Notices.{change_notices}
+use Rattle.row_machine.specs.machine.Plans.{plan_of}
+use Rattle.row_machine.specs.shown.Views.{read}
 use Rattle.object_plans.specs.Planning.{IsPlanned, changes_in}
 use Rattle.core_rows.specs.Planned.{Follows}
 use Rattle.core_rows.proofs.Following.{follows-why}

@@ -1,7 +1,7 @@
 use Rattle.std.proofs.Common.{refl, ◌∙◌, ap, sym, subst}
-use Rattle.row_machine.specs.State.{empty_state}
-use Rattle.row_machine.specs.Changes.{applied}
-use Rattle.row_machine.specs.Whole.{IsWhole}
+use Rattle.row_machine.specs.machine.State.{empty_state}
+use Rattle.row_machine.specs.machine.Changes.{applied}
+use Rattle.row_machine.specs.facts.Whole.{IsWhole}
 use Rattle.row_machine.proofs.Beginning.{new-whole}
 use Rattle.core_rows.specs.Kept.{IsSilent}
 use Rattle.core_rows.specs.Opening.{first_state}

@@ -1,4 +1,4 @@
-use Rattle.row_machine.specs.LimitRules.{project_uncounted}
+use Rattle.row_machine.specs.machine.LimitRules.{project_uncounted}
 use Rattle.rule_refusals.proofs.Saying.{refuses-here, free-next}
 use Rattle.limit_rules.proofs.counts.projects_uncounted.Goals as goal
 

@@ -1,6 +1,6 @@
 use Rattle.std.proofs.Common.{sym, ap, ◌∙◌}
 use Rattle.rule_refusals.proofs.Saying.{says-as}
-use Rattle.row_machine.specs.State.{State}
+use Rattle.row_machine.specs.machine.State.{State}
 use Rattle.limit_rules.specs.Exceeding.{is_any_limited}
 use Rattle.limit_rules.proofs.Limited.{limits-split, serves-split}
 use Rattle.limit_rules.proofs.Unlimited.{unlimited-fits}

@@ -1,5 +1,5 @@
 use Rattle.std.proofs.Common.{sym, ap, ◌∙◌, inr}
-use Rattle.row_machine.specs.State.{State}
+use Rattle.row_machine.specs.machine.State.{State}
 use Rattle.limit_rules.specs.Exceeding.{is_any_limited}
 use Rattle.limit_rules.proofs.Unchanged.{stays-free}
 use Rattle.limit_rules.proofs.usage.usage_before_changes.Goals as goal

@@ -1,8 +1,8 @@
 use Rattle.std.proofs.Common.{option_and_then, sym, ap, ◌∙◌, subst}
 use Rattle.size_values.specs.Causes.{Says}
 use Rattle.records.specs.declared.commands.What.TheVariants as what_of
-use Rattle.row_machine.specs.Asked.{named_anew}
-use Rattle.row_machine.specs.NameRules.{name_broken}
+use Rattle.row_machine.specs.machine.Asked.{named_anew}
+use Rattle.row_machine.specs.machine.NameRules.{name_broken}
 use Rattle.name_rules.proofs.names.given_name_broken.Goals as goal
 
 pub returns-in-Create : goal.returns-in-Create

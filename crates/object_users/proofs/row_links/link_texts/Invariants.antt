@@ -1,5 +1,5 @@
 use Rattle.std.proofs.Common.{◌≡◌, take}
-use Rattle.row_machine.specs.Views.{links}
+use Rattle.row_machine.specs.shown.Views.{links}
 use Rattle.object_users.proofs.row_links.link_texts.Given as goal
 
 abbrev pub invariant-loop-row : goal.invariant-loop-row

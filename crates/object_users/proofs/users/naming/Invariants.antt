@@ -1,6 +1,6 @@
 use Rattle.std.proofs.Common.{◌≡◌, map, take, filter}
 use Rattle.records.specs.declared.rows.Row.TheVariants as row
-use Rattle.row_machine.specs.Holders.{names_profile}
+use Rattle.row_machine.specs.machine.Holders.{names_profile}
 use Rattle.object_users.proofs.users.naming.Given as goal
 
 abbrev pub invariant-loop-row : goal.invariant-loop-row

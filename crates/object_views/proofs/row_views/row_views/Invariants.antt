@@ -1,5 +1,5 @@
 use Rattle.std.proofs.Common.{◌≡◌, map, take}
-use Rattle.row_machine.specs.Views.{row_view}
+use Rattle.row_machine.specs.shown.Views.{row_view}
 use Rattle.object_views.proofs.row_views.row_views.Given as goal
 
 abbrev pub invariant-loop-row : goal.invariant-loop-row

@@ -1,4 +1,4 @@
-use Rattle.row_machine.specs.PolicyRules.{project_forbids}
+use Rattle.row_machine.specs.machine.PolicyRules.{project_forbids}
 use Rattle.rule_refusals.proofs.Saying.{refuses-here, free-next}
 use Rattle.policy_rules.proofs.policy.projects_forbid.Goals as goal
 

@@ -1,5 +1,5 @@
 use Rattle.std.proofs.Common.{◌≡◌, None, take}
-use Rattle.row_machine.specs.PolicyRules.{project_forbids}
+use Rattle.row_machine.specs.machine.PolicyRules.{project_forbids}
 use Rattle.plain_lists.specs.Firsts.{first_of}
 use Rattle.policy_rules.proofs.policy.projects_forbid.Given as goal
 

@@ -1,6 +1,6 @@
 use Rattle.std.proofs.Common.{◌++◌, ap, ◌∙◌}
 use Rattle.std.specs.Option.{option_to_list}
-use Rattle.row_machine.specs.Usage.{claim_load}
+use Rattle.row_machine.specs.machine.Usage.{claim_load}
 use Rattle.row_readings.proofs.Totals.{read-next}
 use Rattle.row_readings.proofs.amounts.add_claims.Goals as goal
 

@@ -1,6 +1,6 @@
 use Rattle.std.proofs.Common.{◌≡◌, ◌++◌, take}
 use Rattle.std.specs.List.{filter_map}
-use Rattle.row_machine.specs.Usage.{claim_load}
+use Rattle.row_machine.specs.machine.Usage.{claim_load}
 use Rattle.row_readings.proofs.amounts.add_claims.Given as goal
 
 abbrev pub invariant-loop-operation : goal.invariant-loop-operation

@@ -1,5 +1,5 @@
 use Rattle.std.proofs.Common.{◌≡◌, ◌++◌, map, take}
-use Rattle.row_machine.specs.Usage.{instance_load}
+use Rattle.row_machine.specs.machine.Usage.{instance_load}
 use Rattle.row_readings.proofs.amounts.add_instances.Given as goal
 
 abbrev pub invariant-loop-row : goal.invariant-loop-row

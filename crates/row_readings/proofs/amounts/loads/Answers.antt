@@ -1,7 +1,7 @@
 use Rattle.std.proofs.Common.{◌++◌, map, sym, ap, ap₂, ◌∙◌, subst}
 use Rattle.std.specs.List.{filter_map}
-use Rattle.row_machine.specs.State.{State}
-use Rattle.row_machine.specs.Usage.{loads, instance_load, volume_load, claim_load}
+use Rattle.row_machine.specs.machine.State.{State}
+use Rattle.row_machine.specs.machine.Usage.{loads, instance_load, volume_load, claim_load}
 use Rattle.row_readings.specs.Loads.{AreSmall}
 use Rattle.row_readings.proofs.Small.{small-loads}
 use Rattle.row_readings.proofs.amounts.loads.Goals as goal

@@ -2,7 +2,7 @@ use Rattle.std.proofs.Common.{◌≡◌, take}
 use Rattle.std.specs.List.{sum_by}
 use Rattle.size_values.specs.Amounts.{part}
 use Rattle.size_values.specs.declared.amounts.Part.{Part}
-use Rattle.row_machine.specs.Usage.{counted}
+use Rattle.row_machine.specs.machine.Usage.{counted}
 use Rattle.row_readings.proofs.amounts.usage_in.Given as goal
 
 abbrev pub invariant-loop-load : goal.invariant-loop-load

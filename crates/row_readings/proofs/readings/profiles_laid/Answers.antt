@@ -2,8 +2,8 @@ use Rattle.std.proofs.Common.{ℕ, List, map, take, ap, ◌∙◌}
 use Rattle.std.specs.Option.{option_copied}
 use Rattle.expansion.specs.declared.expanded.Expanded.{Expanded}
 use Rattle.expansion.specs.Layers.{laid, expanded}
-use Rattle.row_machine.specs.Rows.{profile_named}
-use Rattle.row_machine.specs.Expansions.{layer_of}
+use Rattle.row_machine.specs.machine.Rows.{profile_named}
+use Rattle.row_machine.specs.machine.Expansions.{layer_of}
 use Rattle.row_readings.proofs.Layered.{expanded-next}
 use Rattle.row_readings.proofs.readings.profiles_laid.Goals as goal
 

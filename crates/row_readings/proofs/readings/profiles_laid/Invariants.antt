@@ -1,7 +1,7 @@
 use Rattle.std.proofs.Common.{◌≡◌, map, take}
 use Rattle.expansion.specs.Layers.{expanded}
-use Rattle.row_machine.specs.Rows.{profile_named}
-use Rattle.row_machine.specs.Expansions.{layer_of}
+use Rattle.row_machine.specs.machine.Rows.{profile_named}
+use Rattle.row_machine.specs.machine.Expansions.{layer_of}
 use Rattle.row_readings.proofs.readings.profiles_laid.Given as goal
 
 abbrev pub invariant-loop-name : goal.invariant-loop-name

@@ -1,7 +1,7 @@
 use Rattle.std.proofs.Common.{arith}
 use Rattle.std.specs.Map.{values_of}
 use Rattle.std.proofs.lemmas.List.{length-map}
-use Rattle.row_machine.specs.SettingRules.{device_misses, devices_miss}
+use Rattle.row_machine.specs.machine.SettingRules.{device_misses, devices_miss}
 use Rattle.rule_refusals.proofs.Saying.{refuses-place, free-place, free-end}
 use Rattle.setting_rules.proofs.devices.devices_miss.Goals as goal
 

@@ -1,7 +1,7 @@
 use Rattle.std.proofs.Common.{◌≡◌, drop}
 use Rattle.std.specs.Map.{values_of}
 use Rattle.plain_lists.specs.Firsts.{first_of}
-use Rattle.row_machine.specs.SettingRules.{device_misses}
+use Rattle.row_machine.specs.machine.SettingRules.{device_misses}
 use Rattle.setting_rules.proofs.devices.devices_miss.Given as goal
 
 -- the first one is among the devices that are left

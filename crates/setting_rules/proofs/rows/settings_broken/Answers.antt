@@ -1,4 +1,4 @@
-use Rattle.row_machine.specs.SettingRules.{row_settings, settings_broken}
+use Rattle.row_machine.specs.machine.SettingRules.{row_settings, settings_broken}
 use Rattle.rule_refusals.proofs.RowsPut.{rows-put}
 use Rattle.rule_refusals.proofs.Saying.{says-as}
 use Rattle.setting_rules.proofs.rows.settings_broken.Goals as goal

@@ -1,5 +1,5 @@
 use Rattle.std.proofs.Common.{sym, ap, ◌∙◌}
-use Rattle.row_machine.specs.StandingRules.{deed_asked}
+use Rattle.row_machine.specs.machine.StandingRules.{deed_asked}
 use Rattle.standing_rules.proofs.powers.deed_asked.Goals as goal
 
 pub returns-in-Create : goal.returns-in-Create

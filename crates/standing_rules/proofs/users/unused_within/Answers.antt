@@ -1,5 +1,5 @@
 use Rattle.rule_refusals.proofs.Saying.{refuses-here, free-next}
-use Rattle.row_machine.specs.Holders.{user_in}
+use Rattle.row_machine.specs.machine.Holders.{user_in}
 use Rattle.standing_rules.proofs.users.unused_within.Goals as goal
 
 pub returns-in-Err : goal.returns-in-Err

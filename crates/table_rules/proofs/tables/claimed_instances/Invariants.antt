@@ -1,4 +1,4 @@
-use Rattle.row_machine.specs.Claims.{claimed_instance}
+use Rattle.row_machine.specs.machine.Claims.{claimed_instance}
 use Rattle.table_rules.proofs.Counts.{Counted}
 use Rattle.table_rules.proofs.tables.claimed_instances.Given as goal
 

@@ -1,4 +1,4 @@
-use Rattle.row_machine.specs.Claims.{claimed_snapshot}
+use Rattle.row_machine.specs.machine.Claims.{claimed_snapshot}
 use Rattle.table_rules.proofs.Counts.{counted-more}
 use Rattle.table_rules.proofs.tables.claimed_snapshots.Goals as goal
 

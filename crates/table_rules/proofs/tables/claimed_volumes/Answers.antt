@@ -1,4 +1,4 @@
-use Rattle.row_machine.specs.Claims.{claimed_volume}
+use Rattle.row_machine.specs.machine.Claims.{claimed_volume}
 use Rattle.table_rules.proofs.Counts.{counted-more}
 use Rattle.table_rules.proofs.tables.claimed_volumes.Goals as goal
 

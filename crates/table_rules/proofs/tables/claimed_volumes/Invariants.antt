@@ -1,4 +1,4 @@
-use Rattle.row_machine.specs.Claims.{claimed_volume}
+use Rattle.row_machine.specs.machine.Claims.{claimed_volume}
 use Rattle.table_rules.proofs.Counts.{Counted}
 use Rattle.table_rules.proofs.tables.claimed_volumes.Given as goal
 

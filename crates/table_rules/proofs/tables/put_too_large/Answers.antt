@@ -1,4 +1,4 @@
-use Rattle.row_machine.specs.TableRules.{too_large}
+use Rattle.row_machine.specs.machine.TableRules.{too_large}
 use Rattle.rule_refusals.proofs.RowsPut.{rows-put}
 use Rattle.rule_refusals.proofs.Saying.{says-as}
 use Rattle.table_rules.proofs.tables.put_too_large.Goals as goal

@@ -1,8 +1,9 @@
 use Rattle.std.proofs.Common.{length, ap, ◌∙◌}
 use Rattle.records.specs.declared.refusals.Rule.TheVariants.{C2}
 use Rattle.row_codec.specs.Spelling.{body_of}
-use Rattle.row_machine.specs.Links.{kind_text, target_of}
-use Rattle.row_machine.specs.Refusals.{untold}
+use Rattle.row_machine.specs.shown.Links.{target_of}
+use Rattle.row_machine.specs.machine.Kinds.{kind_text}
+use Rattle.row_machine.specs.machine.Refusals.{untold}
 use Rattle.row_sizes.specs.Sizes.{capped}
 use Rattle.table_rules.proofs.Bounds.{not-more, is-more, small-size, large-size}
 use Rattle.table_rules.proofs.tables.too_large.Goals as goal

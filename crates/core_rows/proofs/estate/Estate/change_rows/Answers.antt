@@ -2,8 +2,8 @@ use Rattle.std.proofs.Common.{◌∷◌, [], ◌++◌, ◌∙◌, ap, sym, subst
 use Rattle.std.specs.List.{AllByRecursion}
 use Rattle.record_keeper.specs.Store.{after_commit}
 use Rattle.limit_rules.specs.Exceeding.{Serves}
-use Rattle.row_machine.specs.Changes.{applied}
-use Rattle.row_machine.specs.Whole.{IsWhole}
+use Rattle.row_machine.specs.machine.Changes.{applied}
+use Rattle.row_machine.specs.facts.Whole.{IsWhole}
 use Rattle.machine_laws.specs.Entries.{entry_changes}
 use Rattle.row_drafts.specs.Steps.{before_changes}
 use Rattle.core_rows.specs.Kept.{Kept, HasEntry, IsSilent}

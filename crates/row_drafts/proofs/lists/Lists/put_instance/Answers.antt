@@ -1,9 +1,9 @@
 use Rattle.std.proofs.Common.{◌∙◌, ap, if◌then◌else◌}
 use Rattle.std.specs.List.{list_any}
 use Rattle.records.specs.declared.rows.Row.TheVariants as row
-use Rattle.row_machine.specs.State.{Standing}
-use Rattle.row_machine.specs.Rows.{is_standing, with_instance, with_standing}
-use Rattle.row_machine.specs.Changes.{with_row}
+use Rattle.row_machine.specs.machine.State.{Standing}
+use Rattle.row_machine.specs.machine.Rows.{is_standing, with_instance, with_standing}
+use Rattle.row_machine.specs.machine.Changes.{with_row}
 use Rattle.row_drafts.specs.Inside.{state_in}
 use Rattle.row_drafts.specs.Drafted.{Listed}
 use Rattle.row_drafts.proofs.Rooms.{least-step, more}

@@ -1,10 +1,10 @@
 use Rattle.std.proofs.Common.{map, sym, ap, ◌∙◌}
 use Rattle.size_values.specs.declared.kinds.ObjectKind.TheVariants as kind
 use Rattle.expansion.specs.Layers.{laid}
-use Rattle.row_machine.specs.State.{State}
-use Rattle.row_machine.specs.Rows.{profile_named}
-use Rattle.row_machine.specs.Homes.{home_of}
-use Rattle.row_machine.specs.Expansions.{layer_of, own_layer, expanded_of}
+use Rattle.row_machine.specs.machine.State.{State}
+use Rattle.row_machine.specs.machine.Rows.{profile_named}
+use Rattle.row_machine.specs.machine.Homes.{home_of}
+use Rattle.row_machine.specs.machine.Expansions.{layer_of, own_layer, expanded_of}
 use Rattle.row_readings.proofs.Layered.{expanded-push, profiles_of-same}
 use Rattle.row_readings.proofs.view.View.expansion.Goals as goal
 

@@ -3,7 +3,7 @@ use Rattle.std.specs.List.{sum_by}
 use Rattle.size_values.specs.Amounts.{part}
 use Rattle.size_values.specs.declared.amounts.Part.{Part}
 use Rattle.size_values.specs.declared.amounts.Part.TheVariants as part_of
-use Rattle.row_machine.specs.Usage.{counted, used, usage_of}
+use Rattle.row_machine.specs.machine.Usage.{counted, used, usage_of}
 use Rattle.row_readings.proofs.view.View.usage.Goals as goal
 
 pub returns : goal.returns

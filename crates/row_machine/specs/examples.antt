@@ -1,0 +1,4 @@
+pub mod Scenes
+pub mod Worked
+pub mod Openings
+pub mod Faults

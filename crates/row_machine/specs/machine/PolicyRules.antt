@@ -1,0 +1,90 @@
+-- Rules on policy: F1 to F8. What a restricted project forbids of its profiles, its instances, and those that live
+-- operations would put.
+use Rattle.std.specs.Prelude.{ℕ, ◌==◌, nat_lt, List, [], ◌∷◌, filter, find, length, Option, Some, None, if◌then◌else◌, option_and_then}
+use Rattle.std.specs.Map.{keys_of}
+use Rattle.std.specs.Option.{option_map_or}
+use Rattle.std.specs.Str.{bytes_eq}
+use Rattle.row_machine.specs.Words.{first, first_of, Kind, ObjectKind, Settings, NamedDevices, Expanded, Forbidden, Subject, policy_of, demands, setting_lines, first_forbidden, snapshots_forbidden, Rule, Refusal, Command, What}
+use Rattle.row_machine.specs.Words.kind
+use Rattle.row_machine.specs.Words.rule
+use Rattle.row_machine.specs.Words.what
+use Rattle.size_values.specs.declared.kinds.Kind.TheVariants as kind_of
+use Rattle.restrictions.specs.declared.rows.Subject.TheVariants as subject
+use Rattle.records.specs.declared.rows.Project.{Project}
+use Rattle.records.specs.declared.rows.Profile.{Profile}
+use Rattle.records.specs.declared.rows.Instance.{Instance}
+use Rattle.row_machine.specs.machine.State.{State}
+use Rattle.row_machine.specs.machine.Rows.{project_named}
+use Rattle.row_machine.specs.machine.Expansions.{expanded_of}
+use Rattle.row_machine.specs.machine.Claims.{judged_instances}
+use Rattle.row_machine.specs.machine.Refusals.{on_project, on_key_of}
+use Rattle.row_machine.specs.machine.SettingRules.{text_at}
+
+-- the rule of this number, from F1 on
+abbrev pub policy_rule : ℕ → Rule
+policy_rule n =
+    if n == 1 then rule.F1
+    else (if n == 2 then rule.F2
+    else (if n == 3 then rule.F3
+    else (if n == 4 then rule.F4
+    else (if n == 5 then rule.F5
+    else (if n == 6 then rule.F6
+    else rule.F7)))))
+
+-- whom the lines of a policy judge in an instance of this kind
+abbrev pub subject_of : Kind → Subject
+subject_of kind_of.Container = subject.Container
+subject_of kind_of.Machine = subject.Machine
+
+-- the key that the table demands: that of its line against an absent key
+abbrev pub demanded_key : List ℕ
+demanded_key = option_map_or (λ line. line.4) (find (λ line. demands line.5) setting_lines) []
+
+-- the setting or the device that is forbidden; a demanded key that is absent has the place after all settings
+abbrev pub forbidden_key : Settings → NamedDevices → Forbidden → List ℕ
+forbidden_key config devices f =
+    if nat_lt f.rule 6
+    then (if nat_lt f.place (length config) then text_at (keys_of config) f.place else demanded_key)
+    else text_at (keys_of devices) f.place
+
+-- the rule of this number, where it is the first one that the settings and devices of a subject break
+abbrev pub forbids : Project → ℕ → Subject → List ℕ → Settings → NamedDevices → Option Refusal
+forbids p number judged name config devices =
+    option_and_then
+    (λ f. if f.rule == number then Some (on_key_of (policy_rule number) (forbidden_key config devices f) name p.name) else None)
+    (first_forbidden (policy_of p.config) judged config devices)
+
+-- a profile is judged by its own settings
+unfoldable pub forbids_profile : Project → ℕ → Profile → Option Refusal
+forbids_profile p number r = forbids p number subject.Profile r.name r.config r.devices
+
+-- an instance is judged by what it has
+unfoldable pub forbids_instance : State → Project → ℕ → Instance → Option Refusal
+forbids_instance s p number i = forbids p number (subject_of i.kind) i.name expanded.config expanded.devices where
+  expanded : Expanded
+  expanded = expanded_of s.projects s.profiles i
+
+-- the first profile or instance of a project that breaks the rule, those that live operations would put last
+abbrev pub project_forbids : State → ℕ → Project → Option Refusal
+project_forbids s number p = first
+    (first_of (forbids_profile p number) (filter (λ r. bytes_eq r.project p.name) s.profiles)
+    ∷ first_of (forbids_instance s p number) (filter (λ i. bytes_eq i.project p.name) (judged_instances s))
+    ∷ [])
+
+-- the first rule that is broken, and the first project, profile or instance at which it is
+unfoldable pub policy_broken : State → Option Refusal
+policy_broken s = first_of (λ number. first_of (project_forbids s number) s.projects) (1 ∷ 2 ∷ 3 ∷ 4 ∷ 5 ∷ 6 ∷ 7 ∷ [])
+
+-- F8: a snapshot is made where the policy of the project blocks it
+unfoldable pub snapshot_blocked : State → Command → Option Refusal
+snapshot_blocked s c = blocked c.what where
+  in_project : Option Refusal
+  in_project = option_and_then (λ p. if snapshots_forbidden (policy_of p.config) then Some (on_project rule.F8 p.name) else None) (project_named s.projects c.project)
+
+  of_kind : ObjectKind → Option Refusal
+  of_kind kind.Snapshot = in_project
+  of_kind other = None
+
+  blocked : What → Option Refusal
+  blocked (what.Create of body) = of_kind of.kind
+  blocked other = None

@@ -1,0 +1,62 @@
+-- The state of the server: plain lists.
+use Rattle.std.specs.Prelude.{ℕ, List, [], Bool, false}
+use Rattle.row_machine.specs.Words.{Amounts, Power, no_operations, Books, no_books, Notice}
+use Rattle.operations.specs.Kept.{Kept}
+use Rattle.records.specs.declared.rows.Project.{Project}
+use Rattle.records.specs.declared.rows.Profile.{Profile}
+use Rattle.records.specs.declared.rows.Network.{Network}
+use Rattle.records.specs.declared.rows.Pool.{Pool}
+use Rattle.records.specs.declared.rows.Volume.{Volume}
+use Rattle.records.specs.declared.rows.Instance.{Instance}
+use Rattle.records.specs.declared.rows.Snapshot.{Snapshot}
+use Rattle.row_machine.specs.machine.Task.{Task}
+
+-- the status of the instance of this project and name
+pub record Standing : Type 0 where
+  pub project : List ℕ
+  pub name : List ℕ
+  pub power : Power
+
+-- the share that a live operation holds of the limits of a project, as it was when the operation began
+pub record Held : Type 0 where
+  pub op : ℕ
+  pub project : List ℕ
+  pub share : Amounts
+
+-- The rows of each kind, in the order of project, pool or instance, and name; the status of each instance; the kept
+-- operations and the next number; the shares that live operations hold, and the books over all shares; the last 1,024
+-- notices and the number of the next one; and whether the server was told to close.
+pub record State : Type 0 where
+  pub projects : List Project
+  pub profiles : List Profile
+  pub networks : List Network
+  pub pools : List Pool
+  pub volumes : List Volume
+  pub instances : List Instance
+  pub snapshots : List Snapshot
+  pub powers : List Standing
+  pub operations : Kept Task
+  pub held : List Held
+  pub books : Books
+  pub notices : List Notice
+  pub next_notice : ℕ
+  pub closed : Bool
+
+-- nothing at all, before any row is put
+abbrev pub empty_state : State
+empty_state = record {
+  projects = [];
+  profiles = [];
+  networks = [];
+  pools = [];
+  volumes = [];
+  instances = [];
+  snapshots = [];
+  powers = [];
+  operations = no_operations;
+  held = [];
+  books = no_books;
+  notices = [];
+  next_notice = 1;
+  closed = false;
+}

@@ -1,0 +1,226 @@
+-- Opening: the state that kept entries give, or why they give none.
+use Rattle.std.specs.Prelude.{ℕ, ◌==◌, Bool, false, not, ◌&&◌, ◌||◌, List, [], ◌∷◌, filter, slice_get, fold, Option, Some, None, is_none, Result, Ok, Err, if◌then◌else◌, codes, unwrap_or, option_map, option_and_then}
+use Rattle.std.specs.List.{list_all}
+use Rattle.std.specs.Str.{bytes_eq}
+use Rattle.row_machine.specs.Words.{first, first_of, Entry, ObjectKind, instance_fault, project_fault, network_fault, pool_fault, volume_fault, parts, are_profiles, Rule, Refusal, Row, Damaged}
+use Rattle.row_machine.specs.Words.kind
+use Rattle.row_machine.specs.Words.scope
+use Rattle.row_machine.specs.Words.rule
+use Rattle.row_machine.specs.Words.row
+use Rattle.records.specs.declared.rows.Project.{Project}
+use Rattle.row_codec.specs.Spelling.{key_of, kind_of}
+use Rattle.row_codec.specs.Reading.{row_of}
+use Rattle.row_machine.specs.machine.State.{State, empty_state}
+use Rattle.row_machine.specs.machine.Rows.{default_name, project_named, profile_named, pool_named, instance_named}
+use Rattle.row_machine.specs.machine.Homes.{home_of, is_on}
+use Rattle.row_machine.specs.machine.Changes.{with_row}
+use Rattle.row_machine.specs.machine.Claims.{project_of_row}
+use Rattle.row_machine.specs.shown.Links.{target_of}
+use Rattle.row_machine.specs.machine.NewRows.{default_profile}
+use Rattle.row_machine.specs.machine.StandingRules.{feature_keys}
+use Rattle.row_machine.specs.machine.SettingRules.{tables_break, scope_of, root_missing, profile_missing, devices_miss}
+use Rattle.row_machine.specs.machine.Expansions.{expanded_of}
+use Rattle.row_machine.specs.machine.PolicyRules.{forbids_profile, forbids_instance}
+use Rattle.row_machine.specs.machine.LimitRules.{instance_uncounted, volume_uncounts, part_exceeds, networks_exceed}
+use Rattle.row_machine.specs.machine.TableRules.{row_kinds, too_large}
+use Rattle.row_machine.specs.machine.Kinds.{kind_number, cap_of}
+
+-- what opening gives
+pub data Opening : Type 0 where
+  opened : State → Opening
+  damaged : ℕ → List ℕ → Opening
+  broken : Rule → ℕ → List ℕ → Opening
+
+-- ---- a server without entries
+
+-- the project `default`, which has all features
+abbrev pub default_project : Project
+default_project = record {
+  name = default_name;
+  description = [];
+  config =
+      (codes "features.images", codes "true")
+      ∷ (codes "features.networks", codes "true")
+      ∷ (codes "features.profiles", codes "true")
+      ∷ (codes "features.storage.buckets", codes "true")
+      ∷ (codes "features.storage.volumes", codes "true")
+      ∷ [];
+}
+
+-- the rows of a server without entries
+abbrev pub first_rows : List Row
+first_rows = row.Project default_project ∷ row.Profile (default_profile default_name) ∷ []
+
+-- ---- rows
+
+-- the rows of entries, or the first entry that is none
+abbrev pub rows_in : List Entry → Result (List Row) Entry
+rows_in [] = Ok []
+rows_in (e ∷ es) = one (row_of e) (rows_in es) where
+  one : Result Row Damaged → Result (List Row) Entry → Result (List Row) Entry
+  one (Err why) rest = Err e
+  one (Ok r) (Ok rows) = Ok (r ∷ rows)
+  one (Ok r) (Err other) = Err other
+
+-- a state with these rows alone: every instance is stopped, and there are no operations and no notices
+abbrev pub with_rows : List Row → State
+with_rows rows = fold (λ s r. with_row r s) empty_state rows
+
+-- ---- the rules on rows, each told of one row
+
+-- this rule, where it is broken
+abbrev pub if_so : Bool → Rule → Option Rule
+if_so breaks rule = if breaks then Some rule else None
+
+-- a row's project is missing, or is not its own home for rows of this kind
+abbrev pub homeless : State → Row → Option Rule
+homeless s r = if_so (is_homeless (target_of r).kind) rule.N1 where
+  is_homeless : ObjectKind → Bool
+  is_homeless kind.Project = false
+  is_homeless kind.Pool = false
+  is_homeless kind =
+      is_none (project_named s.projects (project_of_row r)) || not (bytes_eq (home_of s.projects (project_of_row r) kind) (project_of_row r))
+
+-- a volume's pool or a snapshot's instance is missing
+abbrev pub orphaned : State → Row → Option Rule
+orphaned s (row.Volume v) = if_so (is_none (pool_named s.pools v.pool)) rule.N2
+orphaned s (row.Snapshot r) = if_so (is_none (instance_named s.instances r.project r.instance)) rule.N2
+orphaned s other = None
+
+-- an instance or a snapshot names too many profiles, or one twice
+abbrev pub overnamed : State → Row → Option Rule
+overnamed s (row.Instance i) = if_so (not (are_profiles i.profiles)) rule.N3
+overnamed s (row.Snapshot r) = if_so (not (are_profiles r.profiles)) rule.N3
+overnamed s other = None
+
+-- whether a project has every feature
+abbrev pub has_all_features : Project → Bool
+has_all_features p = list_all (is_on p.config) feature_keys
+
+-- the project `default` lacks a feature, or a project with profiles of its own has no profile `default`
+abbrev pub undefaulted : State → Row → Option Rule
+undefaulted s (row.Project p) =
+    if_so
+    ((bytes_eq p.name default_name && not (has_all_features p))
+    || (is_on p.config (codes "features.profiles") && is_none (profile_named s.profiles p.name default_name)))
+    rule.B3
+undefaulted s other = None
+
+-- the rule of a refusal
+abbrev pub rule_of : Option Refusal → Option Rule
+rule_of refusal = option_map (λ r. r.rule) refusal
+
+-- a setting is refused by the tables
+abbrev pub missettled : State → Row → Option Rule
+missettled s (row.Project r) = rule_of (tables_break r.config (project_fault r.config) [])
+missettled s (row.Profile r) = rule_of (tables_break r.config (instance_fault r.config scope.Any) [])
+missettled s (row.Network r) = rule_of (tables_break r.config (network_fault r.config) [])
+missettled s (row.Pool r) = rule_of (tables_break r.config (pool_fault r.config) [])
+missettled s (row.Volume r) = rule_of (tables_break r.config (volume_fault r.config) [])
+missettled s (row.Instance i) = rule_of (tables_break i.config (instance_fault i.config (scope_of i.kind)) [])
+missettled s (row.Snapshot r) = None
+
+-- a device is refused by the tables
+abbrev pub misdeviced : State → Row → Option Rule
+misdeviced s (row.Profile r) = rule_of (tables_break [] None r.devices)
+misdeviced s (row.Instance i) = rule_of (tables_break [] None i.devices)
+misdeviced s other = None
+
+-- an instance has not exactly one root disk
+abbrev pub rootless : State → Row → Option Rule
+rootless s (row.Instance i) = rule_of (root_missing s i)
+rootless s other = None
+
+-- what a profile or an instance names is missing
+abbrev pub unlinked : State → Row → Option Rule
+unlinked s (row.Profile r) = rule_of (devices_miss s r.project r.devices)
+unlinked s (row.Instance i) = rule_of (first (profile_missing s i ∷ devices_miss s i.project (expanded_of s.projects s.profiles i).devices ∷ []))
+unlinked s other = None
+
+-- the policy of its project forbids a profile or an instance something
+abbrev pub forbidden : ℕ → State → Row → Option Rule
+forbidden number s (row.Profile r) = rule_of (option_and_then (λ p. forbids_profile p number r) (project_named s.projects r.project))
+forbidden number s (row.Instance i) = rule_of (option_and_then (λ p. forbids_instance s p number i) (project_named s.projects i.project))
+forbidden number s other = None
+
+-- an instance or a volume is not countable for the limits of its project
+abbrev pub uncountable : State → Row → Option Rule
+uncountable s (row.Volume v) = rule_of (option_and_then (λ p. volume_uncounts p v) (project_named s.projects v.project))
+uncountable s (row.Instance i) = rule_of (option_and_then (λ p. instance_uncounted s p i) (project_named s.projects i.project))
+uncountable s other = None
+
+-- the rules in their order
+abbrev pub row_rules : List (State → Row → Option Rule)
+row_rules =
+    homeless
+    ∷ orphaned
+    ∷ overnamed
+    ∷ undefaulted
+    ∷ missettled
+    ∷ misdeviced
+    ∷ rootless
+    ∷ unlinked
+    ∷ forbidden 1
+    ∷ forbidden 2
+    ∷ forbidden 3
+    ∷ forbidden 4
+    ∷ forbidden 5
+    ∷ forbidden 6
+    ∷ forbidden 7
+    ∷ uncountable
+    ∷ []
+
+-- ---- the first rule that the rows break, with the row
+
+-- a rule that is broken at a row, which its kind and key tell
+abbrev pub broken_at : Row → Rule → Opening
+broken_at r why = broken why (kind_of r) (key_of r)
+
+-- the project `default` is missing
+abbrev pub default_missing : State → Option Opening
+default_missing s = if is_none (project_named s.projects default_name) then Some (broken rule.N1 1 default_name) else None
+
+-- the first row that breaks this rule
+abbrev pub row_breaks : State → List Row → (State → Row → Option Rule) → Option Opening
+row_breaks s rows rule = first_of (λ r. option_map (broken_at r) (rule s r)) rows
+
+-- a project's usage is above a limit of its own
+abbrev pub limit_breaks : State → List Row → Option Opening
+limit_breaks s rows = first
+    (first_of (λ k. first_of (λ p. at p (part_exceeds s s k p)) s.projects) parts
+    ∷ first_of (λ p. at p (networks_exceed s s p)) s.projects
+    ∷ []) where
+      at : Project → Option Refusal → Option Opening
+      at p refusal = option_map (λ r. broken r.rule 1 p.name) refusal
+
+-- the first row of a kind after the last one that there may be
+abbrev pub past_cap : List Row → ObjectKind → Option Opening
+past_cap rows which = option_map (λ r. broken_at r rule.C1) (slice_get (filter (λ r. kind_of r == kind_number which) rows) (cap_of which))
+
+-- the first row that is too large
+abbrev pub size_breaks : List Row → Option Opening
+size_breaks rows = first_of (λ r. option_map (λ why. broken_at r rule.C2) (too_large r)) rows
+
+-- the first rule that the rows break, with the row
+unfoldable pub rows_break : State → List Row → Option Opening
+rows_break s rows = first
+    (default_missing s
+    ∷ first_of (row_breaks s rows) row_rules
+    ∷ limit_breaks s rows
+    ∷ first_of (past_cap rows) row_kinds
+    ∷ size_breaks rows
+    ∷ [])
+
+-- what rows open to
+abbrev pub opening_with : List Row → Opening
+opening_with rows = unwrap_or (rows_break (with_rows rows) rows) (opened (with_rows rows))
+
+-- what the rows of entries open to
+abbrev pub opening_by : Result (List Row) Entry → Opening
+opening_by (Ok rows) = opening_with rows
+opening_by (Err e) = damaged e.kind e.key
+
+-- What entries open to, in the order of kind and key: a server without any gets its first rows.
+unfoldable pub opening_of : List Entry → Opening
+opening_of [] = opened (with_rows first_rows)
+opening_of (e ∷ es) = opening_by (rows_in (e ∷ es))

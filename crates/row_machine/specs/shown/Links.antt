@@ -1,0 +1,48 @@
+-- Links of objects: the path of an object, and its project where it belongs to one other than `default`.
+use Rattle.std.specs.Prelude.{ℕ, List, [], ◌∷◌, ◌++◌, if◌then◌else◌, codes}
+use Rattle.std.specs.Str.{bytes_eq}
+use Rattle.row_machine.specs.Words.{inserted, ObjectKind, Row, Target}
+use Rattle.row_machine.specs.Words.row
+use Rattle.size_values.specs.declared.kinds.ObjectKind.TheVariants.{Project, Profile, Network, Pool, Volume, Instance, Snapshot, Operation}
+use Rattle.row_machine.specs.machine.Rows.{default_name, text_before}
+
+-- the query that names a project; `default` needs none
+abbrev pub project_query : List ℕ → List ℕ
+project_query project = if bytes_eq project default_name then [] else codes "?project=" ++ project
+
+-- the path of an object, by its kind, the pool or instance that it stands in, and its name
+abbrev pub path_of : Target → List ℕ
+path_of of = path of.kind where
+  path : ObjectKind → List ℕ
+  path Project = codes "/1.0/projects/" ++ of.name
+  path Profile = codes "/1.0/profiles/" ++ of.name
+  path Network = codes "/1.0/networks/" ++ of.name
+  path Pool = codes "/1.0/storage-pools/" ++ of.name
+  path Volume = codes "/1.0/storage-pools/" ++ of.pool ++ codes "/volumes/custom/" ++ of.name
+  path Instance = codes "/1.0/instances/" ++ of.name
+  path Snapshot = codes "/1.0/instances/" ++ of.instance ++ codes "/snapshots/" ++ of.name
+  path Operation = codes "/1.0/operations/" ++ of.name
+
+-- the link of an object, with its project where it belongs to one; those of projects, pools and operations name none
+abbrev pub link_of : List ℕ → Target → List ℕ
+link_of project of = path_of of ++ query of.kind where
+  query : ObjectKind → List ℕ
+  query Project = []
+  query Pool = []
+  query Operation = []
+  query other = project_query project
+
+-- what names a row
+abbrev pub target_of : Row → Target
+target_of (row.Project r) = record { kind = Project; pool = []; instance = []; name = r.name }
+target_of (row.Profile r) = record { kind = Profile; pool = []; instance = []; name = r.name }
+target_of (row.Network r) = record { kind = Network; pool = []; instance = []; name = r.name }
+target_of (row.Pool r) = record { kind = Pool; pool = []; instance = []; name = r.name }
+target_of (row.Volume r) = record { kind = Volume; pool = r.pool; instance = []; name = r.name }
+target_of (row.Instance r) = record { kind = Instance; pool = []; instance = []; name = r.name }
+target_of (row.Snapshot r) = record { kind = Snapshot; pool = []; instance = r.instance; name = r.name }
+
+-- texts in byte order
+abbrev pub sorted : List (List ℕ) → List (List ℕ)
+sorted [] = []
+sorted (text ∷ texts) = inserted (text_before text) text (sorted texts)
