@@ -65,12 +65,13 @@ use_profiles() { # ROWS COUNT LISTS: how many there are beside `default`, and ho
     add_reads "the same, recursion" "/1.0/profiles?project=$home&recursion=1" "$lists"
     add_reads "GET of their project" "/1.0/projects/$home" "$lists"
 }
-change_projects() { # COUNT: how many times one is patched, renamed there and back, and deleted; there are so many fewer then
-    add "$1" "$(rows "PATCH of a project")" patch-projects "$projects" "$1"
-    add $((2 * $1)) "$(rows "rename of a project")" move-projects 1 "$1"
-    add "$1" "$(rows "DELETE of a project")" delete-projects 1 "$1"
-    projects=$((projects - $1)) profiles=$((profiles - $1))
-    add_projects 1 "$1"
+change_projects() { # FIRST LAST: projects of these numbers are renamed there and back, deleted and made again; as many are patched
+    local count=$(($2 - $1 + 1))
+    add "$count" "$(rows "PATCH of a project")" patch-projects "$((projects - 1))" "$count"
+    add $((2 * count)) "$(rows "rename of a project")" move-projects "$1" "$2"
+    add "$count" "$(rows "DELETE of a project")" delete-projects "$1" "$2"
+    projects=$((projects - count)) profiles=$((profiles - count))
+    add_projects "$1" "$2"
 }
 measure() {
     python3 pace.py "$program" "$stream" "$runs" "$until"
@@ -81,11 +82,11 @@ begin projects
 add_reads "GET /" / "$(few 2000)"
 add_projects 1 99 "POST of a project, the first 99"
 use_projects 2000 500 100
-change_projects 90
+change_projects 10 89
 add_projects 100 899 "POST of a project, those between"
 add_projects 900 999 "POST of a project, the last 100"
 use_projects 2000 100 10
-change_projects 200
+change_projects 100 299
 measure
 
 echo "profiles of one project"
@@ -106,6 +107,6 @@ add_profiles 1 $((last - 500)) "POST of a profile, all but the last"
 add_profiles $((last - 499)) "$last" "POST of a profile, the last 500"
 use_profiles "$last" 1000 5
 use_projects 1000 100 3
-change_projects 200
+change_projects 100 299
 add_projects 1000 1019 "POST of a project, 20 more"
 measure
