@@ -1,2 +1,2 @@
-pub mod Holes
-pub mod Digits
+mod Cut
+mod Digits

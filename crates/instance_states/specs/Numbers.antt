@@ -9,12 +9,6 @@ use Rattle.std.specs.Fmt.{decimal}
 abbrev pub is_hole : ℕ → ℕ → Bool
 is_hole a b = a == 37 && b == 100
 
--- how often `%d` stands in a text
-abbrev pub holes : List ℕ → ℕ
-holes [] = 0
-holes (a ∷ []) = 0
-holes (a ∷ b ∷ rest) = (if is_hole a b then 1 else 0) + holes (b ∷ rest)
-
 -- the text before the first `%d`
 abbrev pub before_hole : List ℕ → List ℕ
 before_hole [] = []

@@ -3,14 +3,14 @@ ghost use Rattle.std.specs.List.{list_all};
 ghost use Rattle.std.specs.Option.{option_copied, option_and_then};
 ghost use Rattle.std.specs.Char.{is_ascii_digit};
 ghost use Rattle.std.specs.Str.Parse.{digits_value};
-ghost use Rattle.instance_states.specs.Numbers.{holes, unseen, is_number, number_of, between, greater, seen, next_name};
+ghost use Rattle.instance_states.specs.Numbers.{unseen, is_number, number_of, between, greater, seen, next_name};
 
 use size_values::{NoMemory, Text};
 use std::alloc::Global;
 use std::marker::Model;
 
 /// Finds the next number in the names of an instance's snapshots. A name is of the pattern where one to nine
-/// digits without a leading zero stand in place of its `%d`.
+/// digits without a leading zero stand in place of its first `%d`, or after all of it where it has none.
 #[derive(Drop)]
 pub struct SnapshotNumbers<'a> {
     before: &'a str,
@@ -30,9 +30,8 @@ impl<'a> Model for SnapshotNumbers<'a> {
 }
 
 impl<'a> SnapshotNumbers<'a> {
-    /// No name was seen yet. The pattern has `%d` exactly once.
+    /// No name was seen yet.
     pub fn new(pattern: &'a str) -> SnapshotNumbers<'a>
-        requires { holes pattern.now ≡ 1 }
         ensures { result ≡ unseen pattern.now }
     {
         match pattern.split_once("%d") {
@@ -41,7 +40,11 @@ impl<'a> SnapshotNumbers<'a> {
                 behind,
                 greatest: None,
             },
-            None => unreachable!(),
+            None => SnapshotNumbers {
+                before: pattern,
+                behind: "",
+                greatest: None,
+            },
         }
     }
 

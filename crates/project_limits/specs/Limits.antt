@@ -1,10 +1,15 @@
 -- The limits of a project, as its settings set them.
-use Rattle.std.specs.Prelude.{ℕ, ◌-◌, ◌^◌, List, Option, codes, option_and_then}
+use Rattle.std.specs.Prelude.{ℕ, ◌-◌, ◌^◌, Bool, List, Option, codes, nat_eq, option_and_then}
+use Rattle.std.specs.List.{starts_with}
 use Rattle.std.specs.Result.{result_ok}
 use Rattle.size_values.specs.Count.{count_of}
 use Rattle.size_values.specs.Size.{size_of}
 use Rattle.config_lists.specs.Settings.{Settings, setting}
 use Rattle.project_limits.specs.declared.limits.Limits.{Limits}
+
+-- a key that begins as those of limits do
+abbrev pub is_limit_key : List ℕ → Bool
+is_limit_key key = starts_with nat_eq key (codes "limits.")
 
 -- the number of a setting that is a count, if it is set and can be read
 unfoldable pub count_in : Settings → List ℕ → Option ℕ

@@ -1,5 +1,7 @@
 ghost use Rattle.std.specs.Prelude.{◌≡◌};
-ghost use Rattle.project_limits.specs.Limits.{count_in, limits_of, size_in};
+ghost use Rattle.std.specs.List.{list_any};
+ghost use Rattle.std.specs.Map.{keys_of};
+ghost use Rattle.project_limits.specs.Limits.{count_in, is_limit_key, limits_of, size_in};
 
 use config_lists::Config;
 use size_values::{read_count, read_size};
@@ -18,12 +20,28 @@ pub struct Limits {
     pub disk: Option<u64>,
 }
 
+/// The limits where no setting is one.
+const UNLIMITED: Limits = Limits {
+    instances: None,
+    containers: None,
+    machines: None,
+    networks: None,
+    cpu: None,
+    memory: None,
+    processes: None,
+    disk: None,
+};
+
 /// The limits that a project's settings set, by the keys `limits.*` of the page on project configuration. A
-/// value that can't be read counts as unset; accepted settings have none.
+/// value that can't be read counts as unset; accepted settings have none. Most projects have no such key, and then
+/// none of the eight is looked for.
 #[tactic(auto, unfolding(crate::specs::Limits::limits_of))]
 pub fn limits_of(project: &Config) -> Limits
     ensures { result ≡ limits_of project.now }
 {
+    if !has_limits(project) {
+        return UNLIMITED;
+    }
     Limits {
         instances: count_in(project, "limits.instances"),
         containers: count_in(project, "limits.containers"),
@@ -34,6 +52,24 @@ pub fn limits_of(project: &Config) -> Limits
         processes: count_in(project, "limits.processes"),
         disk: size_in(project, "limits.disk"),
     }
+}
+
+/// Whether a key begins as those of limits do.
+fn has_limits(project: &Config) -> bool
+    ensures { result ≡ list_any is_limit_key (keys_of project.now) }
+{
+    for place in 0..project.len() {
+        if is_limit_key(project.key_at(place)) {
+            return true;
+        }
+    }
+    false
+}
+
+fn is_limit_key(key: &str) -> bool
+    ensures { result ≡ is_limit_key key.now }
+{
+    key.as_bytes().starts_with(b"limits.")
 }
 
 /// The number of a setting that is a count.

@@ -7,5 +7,5 @@ mod policy;
 mod rows;
 
 pub use forbidden::{Forbidden, first_forbidden, snapshots_forbidden};
-pub use policy::{Policy, policy_of};
+pub use policy::{Policy, is_restricted, policy_of};
 pub use rows::{Subject, Word};

@@ -1,6 +1,4 @@
-ghost use Rattle.std.specs.Prelude.{◌≡◌, codes, false};
-ghost use Rattle.std.specs.Option.{option_map_or};
-ghost use Rattle.config_lists.specs.Settings.{setting};
+ghost use Rattle.std.specs.Prelude.{◌≡◌};
 ghost use Rattle.restrictions.specs.Words.{word_of, is_true};
 ghost use Rattle.restrictions.specs.Policies.{seen, policy_of, word_in};
 
@@ -80,8 +78,10 @@ impl Policy<'_> {
     }
 }
 
-fn is_restricted(project: &Config) -> bool
-    ensures { result ≡ option_map_or is_true (setting project.now (codes "restricted")) false }
+/// Whether a project is restricted. It reads one setting, and none of the other restrictions.
+#[tactic(auto, unfolding(crate::specs::Policies::policy_of))]
+pub fn is_restricted(project: &Config) -> bool
+    ensures { result ≡ (policy_of project.now).restricted }
 {
     match project.get("restricted") {
         Some(text) => is_true(text),

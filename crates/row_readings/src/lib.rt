@@ -6,7 +6,6 @@ mod amounts;
 mod claims;
 mod homes;
 mod lookups;
-mod numbers;
 mod readings;
 mod snapshots;
 mod view;

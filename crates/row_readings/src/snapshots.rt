@@ -5,9 +5,9 @@ ghost use Rattle.config_lists.specs.Settings.{setting};
 ghost use Rattle.instance_states.specs.Numbers.{next_name, seen, unseen};
 ghost use Rattle.row_machine.specs.machine.Asked.{next_snapshot};
 
-use crate::numbers::SnapshotNumbers;
 use crate::view::View;
 use config_lists::Config;
+use instance_states::SnapshotNumbers;
 use records::{Instance, Snapshot};
 use size_values::{NoMemory, Text};
 use std::alloc::Global;
