@@ -61,7 +61,7 @@ fn answer(alloc: Global, view: &View<'_>, command: &Command) -> Reply
     }
 }
 
-/// Carries one command out: of the server, of projects or of profiles. A command that breaks a rule changes nothing, and neither
+/// Carries one command out, of those that are built. A command that breaks a rule changes nothing, and neither
 /// does one whose changes the keeper did not commit. The notices of a change are left with the estate. The moment is in
 /// seconds since 1970 (<https://linuxcontainers.org/incus/docs/main/rest-api/>).
 pub fn do_object<R: Keeper>(

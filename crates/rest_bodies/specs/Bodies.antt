@@ -1,11 +1,14 @@
 -- What the fields of a body say of an object.
-use Rattle.std.specs.Prelude.{Bool, true, false, Option, None, option_map, codes}
+use Rattle.std.specs.Prelude.{ℕ, List, Bool, true, false, Option, None, option_map, codes}
 use Rattle.serde_json.specs.Data.{Data}
 use Rattle.config_lists.specs.Devices.{NamedDevices}
 use Rattle.config_lists.specs.Settings.{Settings}
 use Rattle.records.specs.declared.commands.Body.{Body}
+use Rattle.records.specs.declared.commands.Origin.{Origin}
 use Rattle.records.specs.declared.commands.Origin.TheVariants as origin
+use Rattle.rest_bodies.specs.Drivers.{driver_at}
 use Rattle.rest_bodies.specs.Members.{given, text_at}
+use Rattle.rest_bodies.specs.Origins.{volume_origin}
 use Rattle.rest_bodies.specs.Settings.{changes_of, devices_of}
 use Rattle.rest_bodies.specs.declared.fields.Shape.{Shape}
 use Rattle.rest_bodies.specs.declared.fields.Shape.TheVariants as shape
@@ -34,15 +37,25 @@ has_devices shape.NewProfile = true
 has_devices shape.ProfileChange = true
 has_devices other = false
 
--- what a body says of an object
-unfoldable pub body_of : Shape → Data → Body
-body_of shape body = record {
+-- bodies of new pools have a driver
+abbrev pub has_driver : Shape → Bool
+has_driver shape.NewPool = true
+has_driver other = false
+
+-- new volumes have an origin, in the pool of their path
+abbrev pub origin_of : Shape → Data → List ℕ → Origin
+origin_of shape.NewVolume body pool = volume_origin body pool
+origin_of other body pool = origin.None
+
+-- what a body says of an object, in the pool of its path
+unfoldable pub body_of : Shape → Data → List ℕ → Body
+body_of shape body pool = record {
   description = text_at (codes "description") body;
   config = part_of (has_config shape) (config_at body);
   devices = part_of (has_devices shape) (devices_at body);
   profiles = None;
   kind = None;
   ephemeral = None;
-  driver = None;
-  origin = origin.None;
+  driver = part_of (has_driver shape) (driver_at body);
+  origin = origin_of shape body pool;
 }

@@ -2,7 +2,9 @@
 use Rattle.std.specs.Prelude.{◌≡◌, ℕ, Bool, List, [], ◌∷◌, ◌++◌, Option, Some, None, is_some, if◌then◌else◌, codes}
 use Rattle.serde_json.specs.Data.{Data}
 use Rattle.serde_json.specs.Find.{as_str}
-use Rattle.rest_bodies.specs.Members.{given}
+use Rattle.rest_bodies.specs.Drivers.{driver_in}
+use Rattle.rest_bodies.specs.Members.{given, is_word}
+use Rattle.rest_bodies.specs.Origins.{fits_source}
 use Rattle.rest_bodies.specs.Settings.{fits_settings, fits_devices}
 use Rattle.rest_bodies.specs.declared.fields.Field.{Field}
 use Rattle.rest_bodies.specs.declared.fields.Field.TheVariants as field
@@ -13,31 +15,43 @@ use Rattle.rest_bodies.specs.declared.fields.Shape.TheVariants as shape
 abbrev pub fields_of : Shape → List Field
 fields_of shape.NewProject = field.Name ∷ field.Description ∷ field.Config ∷ []
 fields_of shape.NewProfile = field.Name ∷ field.Description ∷ field.Config ∷ field.Devices ∷ []
-fields_of shape.ProjectChange = field.Description ∷ field.Config ∷ []
+fields_of shape.NewNetwork = field.Name ∷ field.NetworkType ∷ field.Description ∷ field.Config ∷ []
+fields_of shape.NewPool = field.Name ∷ field.Driver ∷ field.Description ∷ field.Config ∷ []
+fields_of shape.NewVolume = field.Name ∷ field.VolumeType ∷ field.Description ∷ field.Config ∷ field.VolumeSource ∷ []
+fields_of shape.Change = field.Description ∷ field.Config ∷ []
 fields_of shape.ProfileChange = field.Description ∷ field.Config ∷ field.Devices ∷ []
 fields_of shape.Rename = field.Name ∷ []
 
 -- the key of a field
 abbrev pub key_of : Field → List ℕ
 key_of field.Name = codes "name"
+key_of field.Driver = codes "driver"
+key_of field.NetworkType = codes "type"
+key_of field.VolumeType = codes "type"
 key_of field.Description = codes "description"
 key_of field.Config = codes "config"
 key_of field.Devices = codes "devices"
+key_of field.VolumeSource = codes "source"
 
 -- the value has the form of the field
 abbrev pub fits : Field → Data → Bool
 fits field.Name value = is_some (as_str value)
+fits field.Driver value = is_some (driver_in value)
+fits field.NetworkType value = is_word (codes "bridge") value
+fits field.VolumeType value = is_word (codes "custom") value
 fits field.Description value = is_some (as_str value)
 fits field.Config value = fits_settings value
 fits field.Devices value = fits_devices value
+fits field.VolumeSource value = fits_source value
 
 -- the key of a field, if it is at fault
 abbrev pub unless : Bool → List ℕ → Option (List ℕ)
 unless fine key = if fine then None else Some key
 
--- a name has to be given, and other fields may be absent
+-- a name and a driver have to be given, and other fields may be absent
 abbrev pub absent_fault : Field → Option (List ℕ)
 absent_fault field.Name = Some (codes "name")
+absent_fault field.Driver = Some (codes "driver")
 absent_fault other = None
 
 -- the fault of a field, by its value if one is given

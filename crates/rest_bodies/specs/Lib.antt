@@ -1,4 +1,5 @@
 pub mod Bodies
+pub mod Drivers
 pub mod Fields
 pub mod Members
 pub mod Origins

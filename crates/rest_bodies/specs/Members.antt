@@ -1,6 +1,7 @@
 -- The bodies of requests as JSON objects, and their members.
-use Rattle.std.specs.Prelude.{ℕ, List, [], Option, Some, None, option_and_then, is_some, unwrap_or, if◌then◌else◌, codes}
-use Rattle.std.specs.Str.{is_utf8}
+use Rattle.std.specs.Prelude.{ℕ, Bool, false, List, [], Option, Some, None, option_and_then, is_some, unwrap_or, if◌then◌else◌, codes}
+use Rattle.std.specs.Option.{option_map_or}
+use Rattle.std.specs.Str.{bytes_eq, is_utf8}
 use Rattle.serde_json.specs.Data.{Data}
 use Rattle.serde_json.specs.Find.{get, as_null, as_object, as_str}
 use Rattle.serde_json.specs.Read.{read}
@@ -28,6 +29,10 @@ given key body = option_and_then if_given (get key body)
 -- the text of a field, if it is given
 unfoldable pub text_at : List ℕ → Data → Option (List ℕ)
 text_at key body = option_and_then as_str (given key body)
+
+-- the value is this text
+unfoldable pub is_word : List ℕ → Data → Bool
+is_word word value = option_map_or (λ text. bytes_eq text word) (as_str value) false
 
 -- the name in a body
 abbrev pub name_at : Data → List ℕ

@@ -1,9 +1,27 @@
 -- What a body says of where a new volume gets its content.
-use Rattle.std.specs.Prelude.{ℕ, List, [], Option, Some, None, unwrap_or, codes}
+use Rattle.std.specs.Prelude.{ℕ, Bool, true, false, ◌&&◌, List, [], Option, Some, None, is_some, unwrap_or, codes}
 use Rattle.serde_json.specs.Data.{Data}
+use Rattle.serde_json.specs.Find.{as_str}
 use Rattle.records.specs.declared.commands.Origin.{Origin}
 use Rattle.records.specs.declared.commands.Origin.TheVariants as origin
-use Rattle.rest_bodies.specs.Members.{given, text_at, name_at}
+use Rattle.rest_bodies.specs.Members.{given, text_at, is_word, name_at}
+
+-- a field that is absent or a text
+abbrev pub may_be_text : Option Data → Bool
+may_be_text None = true
+may_be_text (Some value) = is_some (as_str value)
+
+-- a field that is given as this word
+abbrev pub has_word : List ℕ → Option Data → Bool
+has_word word None = false
+has_word word (Some value) = is_word word value
+
+-- the form of a volume's source: an object with the type `copy`, the name of a volume, and maybe its pool
+unfoldable pub fits_source : Data → Bool
+fits_source source =
+    has_word (codes "copy") (given (codes "type") source)
+    && is_some (text_at (codes "name") source)
+    && may_be_text (given (codes "pool") source)
 
 -- The pool of the volume that is copied. Where the source names none, it is the pool of the path. An empty text is a
 -- text: it is kept, and names no pool that there is.

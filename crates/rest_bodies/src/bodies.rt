@@ -1,14 +1,17 @@
 ghost use Rattle.std.specs.Prelude.{◌≡◌, IfOk, option_map};
 ghost use Rattle.serde_json.specs.View.{view};
-ghost use Rattle.rest_bodies.specs.Bodies.{config_at, devices_at, part_of, has_config, has_devices, body_of};
+ghost use Rattle.rest_bodies.specs.Bodies.{config_at, devices_at, part_of, has_config, has_devices, has_driver, origin_of, body_of};
+ghost use Rattle.rest_bodies.specs.Drivers.{driver_at};
 ghost use Rattle.rest_bodies.specs.Fields.{fields_of, first_fault};
 ghost use Rattle.rest_bodies.specs.Members.{text_at};
 
+use crate::drivers::driver_at;
 use crate::fields::{Shape, fields_of, first_fault};
 use crate::members::{given, text_at};
+use crate::origins::volume_origin;
 use crate::settings::{changes_of, devices_of};
 use config_lists::{Changes, Devices};
-use records::{Body, Origin};
+use records::{Body, Driver, Origin};
 use serde_json::Value;
 use size_values::NoMemory;
 use std::alloc::Global;
@@ -79,10 +82,39 @@ fn devices_part(alloc: Global, shape: Shape, body: &Value) -> Result<Option<Devi
     Ok(None)
 }
 
-/// What a body of this shape says of an object.
+/// Whether a body of this shape has a driver.
+fn has_driver(shape: Shape) -> bool
+    ensures { result ≡ has_driver shape }
+{
+    match shape {
+        Shape::NewPool => true,
+        _ => false,
+    }
+}
+
+fn driver_part(shape: Shape, body: &Value) -> Option<Driver>
+    ensures { result ≡ part_of (has_driver shape) (driver_at (view body.now)) }
+{
+    if has_driver(shape) {
+        return driver_at(body);
+    }
+    None
+}
+
+/// What the object of a body is made from.
+fn origin_of(alloc: Global, shape: Shape, body: &Value, pool: &str) -> Result<Origin, NoMemory>
+    ensures { IfOk result (λ o. o ≡ origin_of shape (view body.now) pool.now) }
+{
+    match shape {
+        Shape::NewVolume => volume_origin(alloc, body, pool),
+        _ => Ok(Origin::None),
+    }
+}
+
+/// What a body of this shape says of an object, in the pool of its path.
 #[tactic(auto, unfolding(crate::specs::Bodies::body_of))]
-pub fn body_of(alloc: Global, shape: Shape, body: &Value) -> Result<Body, NoMemory>
-    ensures { IfOk result (λ b. b ≡ body_of shape (view body.now)) }
+pub fn body_of(alloc: Global, shape: Shape, body: &Value, pool: &str) -> Result<Body, NoMemory>
+    ensures { IfOk result (λ b. b ≡ body_of shape (view body.now) pool.now) }
 {
     Ok(Body {
         description: text_at(alloc, "description", body)?,
@@ -91,7 +123,7 @@ pub fn body_of(alloc: Global, shape: Shape, body: &Value) -> Result<Body, NoMemo
         profiles: None,
         kind: None,
         ephemeral: None,
-        driver: None,
-        origin: Origin::None,
+        driver: driver_part(shape, body),
+        origin: origin_of(alloc, shape, body, pool)?,
     })
 }

@@ -2,26 +2,37 @@ ghost use Rattle.std.specs.Prelude.{◌≡◌, option_map};
 ghost use Rattle.serde_json.specs.View.{view};
 ghost use Rattle.rest_bodies.specs.Fields.{fields_of, key_of, fits, absent_fault, fault_of, first_fault};
 
-use crate::members::given;
+use crate::drivers::driver_in;
+use crate::members::{given, is_word};
+use crate::origins::fits_source;
 use crate::settings::{fits_devices, fits_settings};
 use serde_json::Value;
 
-/// The fields of bodies, each in its form: a name is a text that has to be there, a description a text, `config` an
-/// object of texts, and `devices` an object of such objects.
+/// The fields of bodies, each in its form: a name is a text that has to be there, the driver of a pool one of four words
+/// that has to be there, the type of a network `bridge` and that of a volume `custom`, a description a text, `config` an
+/// object of texts, `devices` an object of such objects, and the source of a volume an object that names a volume.
 #[derive(Clone, Copy)]
 pub enum Field {
     Name,
+    Driver,
+    NetworkType,
+    VolumeType,
     Description,
     Config,
     Devices,
+    VolumeSource,
 }
 
-/// The shapes of bodies: which fields they have. Those of PUT and PATCH are alike, and those of all renames.
+/// The shapes of bodies: which fields they have. Those of PUT and PATCH are alike, for all objects but profiles, and
+/// those of all renames.
 #[derive(Clone, Copy)]
 pub enum Shape {
     NewProject,
     NewProfile,
-    ProjectChange,
+    NewNetwork,
+    NewPool,
+    NewVolume,
+    Change,
     ProfileChange,
     Rename,
 }
@@ -38,7 +49,26 @@ pub(crate) fn fields_of(shape: Shape) -> &'static [Field]
             Field::Config,
             Field::Devices,
         ],
-        Shape::ProjectChange => &[Field::Description, Field::Config],
+        Shape::NewNetwork => &[
+            Field::Name,
+            Field::NetworkType,
+            Field::Description,
+            Field::Config,
+        ],
+        Shape::NewPool => &[
+            Field::Name,
+            Field::Driver,
+            Field::Description,
+            Field::Config,
+        ],
+        Shape::NewVolume => &[
+            Field::Name,
+            Field::VolumeType,
+            Field::Description,
+            Field::Config,
+            Field::VolumeSource,
+        ],
+        Shape::Change => &[Field::Description, Field::Config],
         Shape::ProfileChange => &[Field::Description, Field::Config, Field::Devices],
         Shape::Rename => &[Field::Name],
     }
@@ -49,9 +79,13 @@ fn key_of(field: Field) -> &'static str
 {
     match field {
         Field::Name => "name",
+        Field::Driver => "driver",
+        Field::NetworkType => "type",
+        Field::VolumeType => "type",
         Field::Description => "description",
         Field::Config => "config",
         Field::Devices => "devices",
+        Field::VolumeSource => "source",
     }
 }
 
@@ -60,9 +94,13 @@ fn fits(field: Field, value: &Value) -> bool
 {
     match field {
         Field::Name => value.as_str().is_some(),
+        Field::Driver => driver_in(value).is_some(),
+        Field::NetworkType => is_word("bridge", value),
+        Field::VolumeType => is_word("custom", value),
         Field::Description => value.as_str().is_some(),
         Field::Config => fits_settings(value),
         Field::Devices => fits_devices(value),
+        Field::VolumeSource => fits_source(value),
     }
 }
 
@@ -71,6 +109,7 @@ fn absent_fault(field: Field) -> Option<&'static str>
 {
     match field {
         Field::Name => Some("name"),
+        Field::Driver => Some("driver"),
         _ => None,
     }
 }

@@ -3,6 +3,7 @@
 #![tactic(auto)]
 
 mod bodies;
+mod drivers;
 mod fields;
 mod laws;
 mod members;

@@ -1,6 +1,6 @@
 ghost use Rattle.std.specs.Prelude.{◌≡◌, IfOk, option_map, unwrap_or};
 ghost use Rattle.serde_json.specs.View.{view};
-ghost use Rattle.rest_bodies.specs.Members.{json_in, if_object, object_in, if_given, given, text_at, name_at};
+ghost use Rattle.rest_bodies.specs.Members.{json_in, if_object, object_in, if_given, given, text_at, is_word, name_at};
 
 use serde_json::Value;
 use size_values::{NoMemory, Text};
@@ -87,6 +87,17 @@ pub(crate) fn text_at(alloc: Global, key: &str, body: &Value) -> Result<Option<T
     ensures { IfOk result (λ o. o ≡ text_at key.now (view body.now)) }
 {
     copy_of(alloc, str_at(key, body))
+}
+
+/// Whether a value is this text.
+#[tactic(auto, unfolding(crate::specs::Members::is_word))]
+pub(crate) fn is_word(word: &str, value: &Value) -> bool
+    ensures { result ≡ is_word word.now (view value.now) }
+{
+    match value.as_str() {
+        Some(text) => text == word,
+        None => false,
+    }
 }
 
 /// The name in a body, which is there in a body that was judged.

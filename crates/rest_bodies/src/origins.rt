@@ -1,12 +1,40 @@
-ghost use Rattle.std.specs.Prelude.{◌≡◌, IfOk, Some};
+ghost use Rattle.std.specs.Prelude.{◌≡◌, IfOk, Some, option_map};
 ghost use Rattle.serde_json.specs.View.{view};
-ghost use Rattle.rest_bodies.specs.Origins.{source_pool, volume_copied, volume_origin};
+ghost use Rattle.rest_bodies.specs.Origins.{may_be_text, has_word, fits_source, source_pool, volume_copied, volume_origin};
 
-use crate::members::{given, name_at, str_at};
+use crate::members::{given, is_word, name_at, str_at};
 use records::Origin;
 use serde_json::Value;
 use size_values::{NoMemory, Text};
 use std::alloc::Global;
+
+fn may_be_text(field: Option<&Value>) -> bool
+    ensures { result ≡ may_be_text (option_map (λ m. view m.now) field.entry) }
+{
+    match field {
+        Some(value) => value.as_str().is_some(),
+        None => true,
+    }
+}
+
+fn has_word(word: &str, field: Option<&Value>) -> bool
+    ensures { result ≡ has_word word.now (option_map (λ m. view m.now) field.entry) }
+{
+    match field {
+        Some(value) => is_word(word, value),
+        None => false,
+    }
+}
+
+/// Whether a value is the source of a volume: an object with the type `copy`, the name of a volume, and maybe its pool.
+#[tactic(auto, unfolding(crate::specs::Origins::fits_source))]
+pub(crate) fn fits_source(source: &Value) -> bool
+    ensures { result ≡ fits_source (view source.now) }
+{
+    has_word("copy", given("type", source))
+        && str_at("name", source).is_some()
+        && may_be_text(given("pool", source))
+}
 
 /// The pool that a source names. Only where it names none, not where its text is empty, the path's pool is meant.
 fn source_pool<'a>(source: &'a Value, pool: &'a str) -> &'a str

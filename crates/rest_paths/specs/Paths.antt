@@ -1,6 +1,8 @@
 -- The parts of a request's target: its path, its query, and the names in its path.
-use Rattle.std.specs.Prelude.{ℕ, Bool, ◌==◌, List}
+use Rattle.std.specs.Prelude.{ℕ, Bool, ◌==◌, List, []}
 use Rattle.std.specs.List.{before_first, after_first}
+use Rattle.size_values.specs.declared.kinds.ObjectKind.{ObjectKind}
+use Rattle.size_values.specs.declared.kinds.ObjectKind.TheVariants as kind
 
 -- the byte that stands between the parts of a path
 abbrev pub is_slash : ℕ → Bool
@@ -26,6 +28,16 @@ path_of target = before_first is_question_mark target
 unfoldable pub query_of : List ℕ → List ℕ
 query_of target = after_first is_question_mark target
 
--- the name of the object in a path `/1.0/profiles/NAME`: its third part
-unfoldable pub name_of : List ℕ → List ℕ
-name_of path = before_slash (after_slash (after_slash (after_slash path)))
+-- what stands after the first three slashes, as `NAME` in `/1.0/profiles/NAME`
+unfoldable pub after_three : List ℕ → List ℕ
+after_three path = after_slash (after_slash (after_slash path))
+
+-- the name of the object in a path `/1.0/profiles/NAME`, or for volumes `/1.0/storage-pools/POOL/volumes/custom/NAME`
+abbrev pub name_of : ObjectKind → List ℕ → List ℕ
+name_of kind.Volume path = before_slash (after_three (after_three path))
+name_of other path = before_slash (after_three path)
+
+-- the pool in a path of volumes, `/1.0/storage-pools/POOL/volumes`
+abbrev pub pool_of : ObjectKind → List ℕ → List ℕ
+pool_of kind.Volume path = before_slash (after_three path)
+pool_of other path = []

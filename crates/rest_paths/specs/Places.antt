@@ -7,8 +7,7 @@ use Rattle.matchit.specs.Router.{RouteOf, route_from, nearest}
 use Rattle.matchit.specs.Rows.{RowsOf}
 use Rattle.matchit.specs.Seek.{first}
 use Rattle.matchit.specs.declared.error.InsertError.{InsertError}
-use Rattle.size_values.specs.declared.kinds.ObjectKind.{ObjectKind}
-use Rattle.records.specs.Built.{is_built_kind}
+use Rattle.records.specs.Built.{is_built_kind, is_built_state}
 use Rattle.rest_paths.specs.declared.places.TheConstants.{ROUTES}
 use Rattle.rest_paths.specs.declared.places.Line.{Line}
 use Rattle.rest_paths.specs.declared.places.Methods.{Methods}
@@ -103,6 +102,6 @@ is_built place.Root = true
 is_built place.Server = true
 is_built (place.List kind) = is_built_kind kind
 is_built (place.One kind) = is_built_kind kind
-is_built (place.State kind) = false
+is_built (place.State kind) = is_built_state kind
 is_built place.Wait = false
 is_built place.Events = true

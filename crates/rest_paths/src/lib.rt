@@ -10,7 +10,7 @@ mod refusals;
 mod table;
 
 pub use laws::paths_do_not_conflict;
-pub use paths::{name_of, path_of, query_of};
+pub use paths::{name_of, path_of, pool_of, query_of};
 pub use places::{Line, Methods, Place, Verb, has_body, is_built, verb_offered};
 pub use query::{Flags, Query, project_of, query_said, recursion_asked};
 pub use refusals::{plainly, refused};

@@ -1,5 +1,7 @@
 ghost use Rattle.std.specs.Prelude.{◌≡◌};
-ghost use Rattle.rest_paths.specs.Paths.{before_slash, after_slash, path_of, query_of, name_of};
+ghost use Rattle.rest_paths.specs.Paths.{before_slash, after_slash, after_three, path_of, query_of, name_of, pool_of};
+
+use size_values::ObjectKind;
 
 /// What stands before the first slash, or all where there is none.
 #[tactic(auto, unfolding(crate::specs::Paths::before_slash))]
@@ -45,10 +47,31 @@ pub fn query_of(target: &str) -> &str
     }
 }
 
-/// The name of the object in a path `/1.0/profiles/NAME`.
-#[tactic(auto, unfolding(crate::specs::Paths::name_of))]
-pub fn name_of(path: &str) -> &str
-    ensures { result.now ≡ name_of path.now }
+/// What stands after the first three slashes.
+#[tactic(auto, unfolding(crate::specs::Paths::after_three))]
+fn after_three(path: &str) -> &str
+    ensures { result.now ≡ after_three path.now }
 {
-    before_slash(after_slash(after_slash(after_slash(path))))
+    after_slash(after_slash(after_slash(path)))
+}
+
+/// The name of the object in a path `/1.0/profiles/NAME`, or for volumes
+/// `/1.0/storage-pools/POOL/volumes/custom/NAME`.
+pub fn name_of(kind: ObjectKind, path: &str) -> &str
+    ensures { result.now ≡ name_of kind path.now }
+{
+    match kind {
+        ObjectKind::Volume => before_slash(after_three(after_three(path))),
+        _ => before_slash(after_three(path)),
+    }
+}
+
+/// The pool in a path of volumes, `/1.0/storage-pools/POOL/volumes`. Other objects stand in none.
+pub fn pool_of(kind: ObjectKind, path: &str) -> &str
+    ensures { result.now ≡ pool_of kind path.now }
+{
+    match kind {
+        ObjectKind::Volume => before_slash(after_three(path)),
+        _ => "",
+    }
 }

@@ -1,7 +1,7 @@
 ghost use Rattle.std.specs.Prelude.{◌≡◌};
 ghost use Rattle.rest_paths.specs.Places.{verb_of, has_body, is_offered, verb_offered, is_built};
 
-use records::is_built_kind;
+use records::{is_built_kind, is_built_state};
 use size_values::ObjectKind;
 
 /// What stands at a path of the REST API: the root, the server at `/1.0`, the list of a kind of objects, one object,
@@ -243,7 +243,7 @@ pub fn is_built(place: Place) -> bool
         Place::Server => true,
         Place::List(kind) => is_built_kind(kind),
         Place::One(kind) => is_built_kind(kind),
-        Place::State(_) => false,
+        Place::State(kind) => is_built_state(kind),
         Place::Wait => false,
         Place::Events => true,
     }

@@ -1,5 +1,5 @@
 -- Which command a request asks for, or by which rule of its form it is refused.
-use Rattle.std.specs.Prelude.{ℕ, Bool, not, List, [], Option, Some, None, Result, Ok, Err, ok_or, if◌then◌else◌, codes}
+use Rattle.std.specs.Prelude.{ℕ, Bool, false, not, List, [], Option, Some, None, Result, Ok, Err, ok_or, is_some, if◌then◌else◌, codes}
 use Rattle.serde_json.specs.Data.{Data}
 use Rattle.size_values.specs.declared.kinds.ObjectKind.{ObjectKind}
 use Rattle.size_values.specs.declared.kinds.ObjectKind.TheVariants as kind
@@ -13,11 +13,11 @@ use Rattle.records.specs.declared.refusals.Rule.TheVariants as rule
 use Rattle.records.specs.declared.refusals.Refusal.{Refusal}
 use Rattle.rest_bodies.specs.Bodies.{body_of}
 use Rattle.rest_bodies.specs.Fields.{fields_of, first_fault}
-use Rattle.rest_bodies.specs.Members.{object_in, name_at}
+use Rattle.rest_bodies.specs.Members.{object_in, given, name_at}
 use Rattle.rest_bodies.specs.declared.fields.Shape.{Shape}
 use Rattle.rest_bodies.specs.declared.fields.Shape.TheVariants as shape
 use Rattle.rest_paths.specs.Answers.{mapped, followed}
-use Rattle.rest_paths.specs.Paths.{path_of, query_of, name_of}
+use Rattle.rest_paths.specs.Paths.{path_of, query_of, name_of, pool_of}
 use Rattle.rest_paths.specs.Places.{line_of, verb_offered, has_body, is_built}
 use Rattle.rest_paths.specs.Queries.{query_said, project_of, recursion_asked}
 use Rattle.rest_paths.specs.Refusals.{on_key, plainly}
@@ -33,9 +33,17 @@ needed rule o = ok_or o (plainly rule)
 
 -- ---- requests that send no body
 
--- the object of this kind and name
-abbrev pub named : ObjectKind → List ℕ → Target
-named kind name = record { kind = kind; pool = []; instance = []; name = name }
+-- the object of this kind, pool and name
+abbrev pub named : ObjectKind → List ℕ → List ℕ → Target
+named kind pool name = record { kind = kind; pool = pool; instance = []; name = name }
+
+-- the object that a path names
+abbrev pub object_of : ObjectKind → List ℕ → Target
+object_of kind path = named kind (pool_of kind path) (name_of kind path)
+
+-- all objects of a kind at a path: of volumes those of its pool
+abbrev pub objects_of : ObjectKind → List ℕ → Target
+objects_of kind path = named kind (pool_of kind path) []
 
 -- one object is deleted or shown
 abbrev pub one_read : Verb → Target → What
@@ -44,13 +52,13 @@ one_read other of = what.Get of
 
 -- What GET and DELETE ask for at a place. Events are not sent to a client that speaks HTTP alone.
 abbrev pub what_read : Place → Verb → List ℕ → Bool → Result What Refusal
-what_read place.Root verb name recursion = Ok what.Root
-what_read place.Server verb name recursion = Ok what.Server
-what_read (place.List kind) verb name recursion = Ok (what.List (named kind []) recursion)
-what_read (place.One kind) verb name recursion = Ok (one_read verb (named kind name))
-what_read (place.State kind) verb name recursion = Err (plainly rule.A0)
-what_read place.Wait verb name recursion = Err (plainly rule.A0)
-what_read place.Events verb name recursion = Err (plainly rule.A6)
+what_read place.Root verb path recursion = Ok what.Root
+what_read place.Server verb path recursion = Ok what.Server
+what_read (place.List kind) verb path recursion = Ok (what.List (objects_of kind path) recursion)
+what_read (place.One kind) verb path recursion = Ok (one_read verb (object_of kind path))
+what_read (place.State kind) verb path recursion = Ok (what.State (object_of kind path))
+what_read place.Wait verb path recursion = Err (plainly rule.A0)
+what_read place.Events verb path recursion = Err (plainly rule.A6)
 
 -- ---- requests that send a body
 
@@ -58,13 +66,20 @@ what_read place.Events verb name recursion = Err (plainly rule.A6)
 abbrev pub creation_shape : ObjectKind → Option Shape
 creation_shape kind.Project = Some shape.NewProject
 creation_shape kind.Profile = Some shape.NewProfile
+creation_shape kind.Network = Some shape.NewNetwork
+creation_shape kind.Pool = Some shape.NewPool
+creation_shape kind.Volume = Some shape.NewVolume
 creation_shape other = None
 
--- the shape of the body that changes an object of a kind: all renames are alike
+-- the shape of the body that changes an object of a kind: all renames are alike, and a pool is not renamed
 abbrev pub change_shape : ObjectKind → Verb → Option Shape
+change_shape kind.Pool verb.Post = None
 change_shape kind verb.Post = Some shape.Rename
-change_shape kind.Project verb = Some shape.ProjectChange
 change_shape kind.Profile verb = Some shape.ProfileChange
+change_shape kind.Project verb = Some shape.Change
+change_shape kind.Network verb = Some shape.Change
+change_shape kind.Pool verb = Some shape.Change
+change_shape kind.Volume verb = Some shape.Change
 change_shape other verb = None
 
 -- the shape of the body that a method sends to a place
@@ -78,24 +93,28 @@ abbrev pub unless_fault : Option (List ℕ) → Result (Unit {0}) Refusal
 unless_fault None = Ok tt
 unless_fault (Some key) = Err (on_key rule.A5 key)
 
+-- a new object of the name in the body, in the pool of the path
+abbrev pub creation_said : ObjectKind → List ℕ → Shape → Data → What
+creation_said kind pool shape body = what.Create (named kind pool (name_at body)) (body_of shape body pool)
+
 -- what a method with a body asks of the object in the path
 abbrev pub change_said : Verb → Target → Shape → Data → What
-change_said verb.Put of shape body = what.Put of (body_of shape body)
-change_said verb.Patch of shape body = what.Patch of (body_of shape body)
+change_said verb.Put of shape body = what.Put of (body_of shape body of.pool)
+change_said verb.Patch of shape body = what.Patch of (body_of shape body of.pool)
 change_said other of shape body = what.Move of (name_at body)
 
--- what a body of a shape asks for: a new object of the name in the body, or a change of the object in the path
+-- what a body of a shape asks for: a new object, or a change of the object in the path
 abbrev pub what_said : Place → Verb → List ℕ → Shape → Data → What
-what_said (place.List kind) verb name shape body = what.Create (named kind (name_at body)) (body_of shape body)
-what_said (place.One kind) verb name shape body = change_said verb (named kind name) shape body
-what_said other verb name shape body = what.Root
+what_said (place.List kind) verb path shape body = creation_said kind (pool_of kind path) shape body
+what_said (place.One kind) verb path shape body = change_said verb (object_of kind path) shape body
+what_said other verb path shape body = what.Root
 
 -- what POST, PUT and PATCH ask for: the body is an object (A4), and each of its fields has its form (A5)
 unfoldable pub what_sent : Place → Verb → List ℕ → Option Data → Result What Refusal
-what_sent place verb name sent =
+what_sent place verb path sent =
     followed (needed rule.A4 sent) (λ body.
     followed (needed rule.A0 (shape_of place verb)) (λ shape.
-    mapped (λ fine. what_said place verb name shape body) (unless_fault (first_fault (fields_of shape) body))))
+    mapped (λ fine. what_said place verb path shape body) (unless_fault (first_fault (fields_of shape) body))))
 
 -- ---- requests
 
@@ -105,15 +124,29 @@ sent_body verb body = if has_body verb then object_in body else None
 
 -- what a request asks for at its place
 abbrev pub what_of : Place → Verb → List ℕ → Bool → Option Data → Result What Refusal
-what_of place verb name recursion sent =
-    if has_body verb then what_sent place verb name sent else what_read place verb name recursion
+what_of place verb path recursion sent =
+    if has_body verb then what_sent place verb path sent else what_read place verb path recursion
 
 -- a request that is built, by its query (A3) and then by what it asks for
 unfoldable pub command_built : Place → Verb → List ℕ → Option Data → Result Command Refusal
 command_built place verb target sent =
     followed (query_said (query_of target)) (λ query.
     mapped (λ asked. record { project = project_of query; what = asked })
-    (what_of place verb (name_of (path_of target)) (recursion_asked query) sent))
+    (what_of place verb (path_of target) (recursion_asked query) sent))
+
+-- a body that names what its object is copied from
+abbrev pub has_source : Option Data → Bool
+has_source None = false
+has_source (Some body) = is_some (given (codes "source") body)
+
+-- the body makes a volume from a source, which is not built yet
+abbrev pub is_copy : Place → Option Data → Bool
+is_copy (place.List kind.Volume) sent = has_source sent
+is_copy other sent = false
+
+-- a request that is not a copy is read further
+abbrev pub unless_copy : Place → Verb → List ℕ → Option Data → Result Command Refusal
+unless_copy place verb target sent = if is_copy place sent then Err (plainly rule.A0) else command_built place verb target sent
 
 -- The command that a request asks for, or its refusal: its path is listed (A1), its method is offered there (A2), and it is
 -- built (A0). The daemon's boot word names operations, which no request that is built does.
@@ -122,4 +155,4 @@ command_of request boot =
     followed (needed rule.A1 (line_of (path_of request.target))) (λ line.
     followed (needed rule.A2 (verb_offered line request.method)) (λ verb.
     if not (is_built line.place) then Err (plainly rule.A0)
-    else command_built line.place verb request.target (sent_body verb request.body)))
+    else unless_copy line.place verb request.target (sent_body verb request.body)))

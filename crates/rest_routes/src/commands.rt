@@ -1,31 +1,46 @@
 ghost use Rattle.std.specs.Prelude.{◌≡◌, IfOk, option_map};
 ghost use Rattle.serde_json.specs.View.{view};
-ghost use Rattle.records.specs.declared.commands.What.TheVariants as what;
-ghost use Rattle.rest_bodies.specs.Bodies.{body_of};
 ghost use Rattle.rest_bodies.specs.Members.{name_at};
 ghost use Rattle.rest_paths.specs.Answers.{Gives};
-ghost use Rattle.rest_routes.specs.Commands.{named, one_read, what_read, creation_shape, change_shape, shape_of, change_said, what_said, what_sent, sent_body, what_of, command_built, command_of};
+ghost use Rattle.rest_routes.specs.Commands.{named, object_of, objects_of, one_read, what_read, creation_shape, change_shape, shape_of, creation_said, change_said, what_said, what_sent, sent_body, what_of, command_built, has_source, is_copy, unless_copy, command_of};
 
 use http_heads::Request;
 use records::{Command, Refusal, Rule, Target, What};
-use rest_bodies::{Shape, body_of, judge_fields, name_at, object_in};
+use rest_bodies::{Shape, body_of, given, judge_fields, name_at, object_in};
 use rest_paths::{
-    PathTable, Place, Verb, has_body, is_built, name_of, path_of, plainly, project_of, query_of,
-    query_said, recursion_asked, refused, verb_offered,
+    PathTable, Place, Verb, has_body, is_built, name_of, path_of, plainly, pool_of, project_of,
+    query_of, query_said, recursion_asked, refused, verb_offered,
 };
 use serde_json::Value;
 use size_values::{NoMemory, ObjectKind, Or, Text};
 use std::alloc::Global;
 
-fn named(alloc: Global, kind: ObjectKind, name: Text) -> Target
-    ensures { result ≡ named kind name }
+fn named(alloc: Global, kind: ObjectKind, pool: Text, name: Text) -> Target
+    ensures { result ≡ named kind pool name }
 {
     Target {
         kind,
-        pool: Text::new(alloc),
+        pool,
         instance: Text::new(alloc),
         name,
     }
+}
+
+/// The object of a kind that a path names.
+fn object_of(alloc: Global, kind: ObjectKind, path: &str) -> Result<Target, NoMemory>
+    ensures { IfOk result (λ of. of ≡ object_of kind path.now) }
+{
+    let pool = Text::from_text(alloc, pool_of(kind, path))?;
+    let name = Text::from_text(alloc, name_of(kind, path))?;
+    Ok(named(alloc, kind, pool, name))
+}
+
+/// All objects of a kind at a path: of volumes those of its pool.
+fn objects_of(alloc: Global, kind: ObjectKind, path: &str) -> Result<Target, NoMemory>
+    ensures { IfOk result (λ of. of ≡ objects_of kind path.now) }
+{
+    let pool = Text::from_text(alloc, pool_of(kind, path))?;
+    Ok(named(alloc, kind, pool, Text::new(alloc)))
 }
 
 fn one_read(verb: Verb, of: Target) -> What
@@ -42,23 +57,22 @@ fn what_read(
     alloc: Global,
     place: Place,
     verb: Verb,
-    name: &str,
+    path: &str,
     recursion: bool,
 ) -> Result<What, Or<Refusal>>
-    ensures { Gives result (what_read place verb name.now recursion) }
+    ensures { Gives result (what_read place verb path.now recursion) }
 {
     match place {
         Place::Root => Ok(What::Root),
         Place::Server => Ok(What::Server),
         Place::List(kind) => Ok(What::List {
-            of: named(alloc, kind, Text::new(alloc)),
+            of: objects_of(alloc, kind, path)?,
             recursion,
         }),
-        Place::One(kind) => {
-            let name = Text::from_text(alloc, name)?;
-            Ok(one_read(verb, named(alloc, kind, name)))
-        }
-        Place::State(_) => Err(plainly(alloc, Rule::A0)),
+        Place::One(kind) => Ok(one_read(verb, object_of(alloc, kind, path)?)),
+        Place::State(kind) => Ok(What::State {
+            of: object_of(alloc, kind, path)?,
+        }),
         Place::Wait => Err(plainly(alloc, Rule::A0)),
         Place::Events => Err(plainly(alloc, Rule::A6)),
     }
@@ -70,6 +84,9 @@ fn creation_shape(kind: ObjectKind) -> Option<Shape>
     match kind {
         ObjectKind::Project => Some(Shape::NewProject),
         ObjectKind::Profile => Some(Shape::NewProfile),
+        ObjectKind::Network => Some(Shape::NewNetwork),
+        ObjectKind::Pool => Some(Shape::NewPool),
+        ObjectKind::Volume => Some(Shape::NewVolume),
         _ => None,
     }
 }
@@ -78,11 +95,16 @@ fn change_shape(kind: ObjectKind, verb: Verb) -> Option<Shape>
     ensures { result ≡ change_shape kind verb }
 {
     if let Verb::Post = verb {
-        return Some(Shape::Rename);
+        return match kind {
+            ObjectKind::Pool => None,
+            _ => Some(Shape::Rename),
+        };
     }
     match kind {
-        ObjectKind::Project => Some(Shape::ProjectChange),
         ObjectKind::Profile => Some(Shape::ProfileChange),
+        ObjectKind::Project | ObjectKind::Network | ObjectKind::Pool | ObjectKind::Volume => {
+            Some(Shape::Change)
+        }
         _ => None,
     }
 }
@@ -98,22 +120,20 @@ fn shape_of(place: Place, verb: Verb) -> Option<Shape>
     }
 }
 
-fn created(alloc: Global, kind: ObjectKind, shape: Shape, body: &Value) -> Result<What, NoMemory>
-    ensures { IfOk result (λ w. w ≡ what.Create (named kind (name_at (view body.now))) (body_of shape (view body.now))) }
+/// A new object of the name in the body, in the pool of the path.
+fn creation_said(
+    alloc: Global,
+    kind: ObjectKind,
+    pool: &str,
+    shape: Shape,
+    body: &Value,
+) -> Result<What, NoMemory>
+    ensures { IfOk result (λ w. w ≡ creation_said kind pool.now shape (view body.now)) }
 {
     let name = name_at(alloc, body)?;
-    let body = body_of(alloc, shape, body)?;
-    Ok(What::Create {
-        of: named(alloc, kind, name),
-        body,
-    })
-}
-
-/// The object of a kind in a path.
-fn object_named(alloc: Global, kind: ObjectKind, name: &str) -> Result<Target, NoMemory>
-    ensures { IfOk result (λ of. of ≡ named kind name.now) }
-{
-    Ok(named(alloc, kind, Text::from_text(alloc, name)?))
+    let of = named(alloc, kind, Text::from_text(alloc, pool)?, name);
+    let body = body_of(alloc, shape, body, pool)?;
+    Ok(What::Create { of, body })
 }
 
 /// What a method with a body asks of the object in the path.
@@ -128,11 +148,11 @@ fn change_said(
 {
     match verb {
         Verb::Put => {
-            let body = body_of(alloc, shape, body)?;
+            let body = body_of(alloc, shape, body, of.pool.view())?;
             Ok(What::Put { of, body })
         }
         Verb::Patch => {
-            let body = body_of(alloc, shape, body)?;
+            let body = body_of(alloc, shape, body, of.pool.view())?;
             Ok(What::Patch { of, body })
         }
         _ => {
@@ -147,16 +167,16 @@ fn what_said(
     alloc: Global,
     place: Place,
     verb: Verb,
-    name: &str,
+    path: &str,
     shape: Shape,
     body: &Value,
 ) -> Result<What, NoMemory>
-    ensures { IfOk result (λ w. w ≡ what_said place verb name.now shape (view body.now)) }
+    ensures { IfOk result (λ w. w ≡ what_said place verb path.now shape (view body.now)) }
 {
     match place {
-        Place::List(kind) => created(alloc, kind, shape, body),
+        Place::List(kind) => creation_said(alloc, kind, pool_of(kind, path), shape, body),
         Place::One(kind) => {
-            let of = object_named(alloc, kind, name)?;
+            let of = object_of(alloc, kind, path)?;
             change_said(alloc, verb, of, shape, body)
         }
         _ => Ok(What::Root),
@@ -169,10 +189,10 @@ fn what_sent(
     alloc: Global,
     place: Place,
     verb: Verb,
-    name: &str,
+    path: &str,
     sent: &Option<Value>,
 ) -> Result<What, Or<Refusal>>
-    ensures { Gives result (what_sent place verb name.now (option_map view sent.now)) }
+    ensures { Gives result (what_sent place verb path.now (option_map view sent.now)) }
 {
     let Some(body) = sent else {
         return Err(plainly(alloc, Rule::A4));
@@ -182,7 +202,7 @@ fn what_sent(
     };
     match judge_fields(shape, body) {
         Some(key) => Err(refused(alloc, Rule::A5, key)),
-        None => Ok(what_said(alloc, place, verb, name, shape, body)?),
+        None => Ok(what_said(alloc, place, verb, path, shape, body)?),
     }
 }
 
@@ -200,16 +220,16 @@ fn what_of(
     alloc: Global,
     place: Place,
     verb: Verb,
-    name: &str,
+    path: &str,
     recursion: bool,
     sent: &Option<Value>,
 ) -> Result<What, Or<Refusal>>
-    ensures { Gives result (what_of place verb name.now recursion (option_map view sent.now)) }
+    ensures { Gives result (what_of place verb path.now recursion (option_map view sent.now)) }
 {
     if has_body(verb) {
-        return what_sent(alloc, place, verb, name, sent);
+        return what_sent(alloc, place, verb, path, sent);
     }
-    what_read(alloc, place, verb, name, recursion)
+    what_read(alloc, place, verb, path, recursion)
 }
 
 /// The command of a request that is built.
@@ -224,8 +244,8 @@ fn command_built(
     ensures { Gives result (command_built place verb target.now (option_map view sent.now)) }
 {
     let query = query_said(alloc, query_of(target))?;
-    let name = name_of(path_of(target));
-    let what = what_of(alloc, place, verb, name, recursion_asked(&query), sent)?;
+    let path = path_of(target);
+    let what = what_of(alloc, place, verb, path, recursion_asked(&query), sent)?;
     match project_of(alloc, query) {
         Ok(project) => Ok(Command { project, what }),
         Err(NoMemory) => {
@@ -233,6 +253,42 @@ fn command_built(
             Err(Or::NoMemory)
         }
     }
+}
+
+/// Whether a body names what its object is copied from.
+fn has_source(sent: &Option<Value>) -> bool
+    ensures { result ≡ has_source (option_map view sent.now) }
+{
+    match sent {
+        Some(body) => given("source", body).is_some(),
+        None => false,
+    }
+}
+
+/// Whether a body makes a volume from a source, which is not built yet.
+fn is_copy(place: Place, sent: &Option<Value>) -> bool
+    ensures { result ≡ is_copy place (option_map view sent.now) }
+{
+    match place {
+        Place::List(ObjectKind::Volume) => has_source(sent),
+        _ => false,
+    }
+}
+
+/// The command of a request that is built, unless it is a copy.
+fn unless_copy(
+    alloc: Global,
+    place: Place,
+    verb: Verb,
+    target: &str,
+    sent: &Option<Value>,
+) -> Result<Command, Or<Refusal>>
+    ensures { Gives result (unless_copy place verb target.now (option_map view sent.now)) }
+{
+    if is_copy(place, sent) {
+        return Err(plainly(alloc, Rule::A0));
+    }
+    command_built(alloc, place, verb, target, sent)
 }
 
 /// The command that a request asks for, by the table of paths.
@@ -257,5 +313,5 @@ pub(crate) fn command_of(
         return Err(plainly(alloc, Rule::A0));
     }
     let sent = sent_body(alloc, verb, request.body.view())?;
-    command_built(alloc, line.place, verb, target, &sent)
+    unless_copy(alloc, line.place, verb, target, &sent)
 }

@@ -333,25 +333,25 @@ GET /1.0/events?project=shop&type=operation,lifecycle
 400 {"error":"events need a WebSocket","error_code":400,"metadata":{"rule":"A6"},"type":"error"}
 
 # A0, before the query and the body
-GET /1.0/networks?recursion=9
+GET /1.0/instances?recursion=9
 501 {"error":"not built yet","error_code":501,"metadata":{"rule":"A0"},"type":"error"}
-POST /1.0/storage-pools {"driver":"dir","name":"p0"}
+POST /1.0/instances {"name":"c1","source":{"type":"none"}}
 501 {"error":"not built yet","error_code":501,"metadata":{"rule":"A0"},"type":"error"}
 POST /1.0/instances?project=shop {
 501 {"error":"not built yet","error_code":501,"metadata":{"rule":"A0"},"type":"error"}
 GET /1.0/operations
 501 {"error":"not built yet","error_code":501,"metadata":{"rule":"A0"},"type":"error"}
-POST /1.0/networks?filter {"name":"br0","config":{}}
+POST /1.0/instances?filter {"name":"c1","config":{}}
 501 {"error":"not built yet","error_code":501,"metadata":{"rule":"A0"},"type":"error"}
-PUT /1.0/networks/br0 {"description":"x"}
+PUT /1.0/instances/c1 {"description":"x"}
 501 {"error":"not built yet","error_code":501,"metadata":{"rule":"A0"},"type":"error"}
-PATCH /1.0/storage-pools/p0 {"description":"x"}
+PATCH /1.0/instances/c1 {"description":"x"}
 501 {"error":"not built yet","error_code":501,"metadata":{"rule":"A0"},"type":"error"}
-POST /1.0/networks/br0 {"name":"x"}
+POST /1.0/instances/c1 {"name":"x"}
 501 {"error":"not built yet","error_code":501,"metadata":{"rule":"A0"},"type":"error"}
-DELETE /1.0/storage-pools/p0
+DELETE /1.0/instances/c1/snapshots/s
 501 {"error":"not built yet","error_code":501,"metadata":{"rule":"A0"},"type":"error"}
-GET /1.0/projects/lab/state
+GET /1.0/instances/c1/state
 501 {"error":"not built yet","error_code":501,"metadata":{"rule":"A0"},"type":"error"}
 
 # the same of a project that is there, in the order of the rules

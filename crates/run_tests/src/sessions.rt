@@ -18,7 +18,7 @@ const SERVER: &str = "GET /1.0 HTTP/1.1\r\n\r\n";
 
 const PROJECTS: &str = "GET /1.0/projects HTTP/1.1\r\n\r\n";
 
-const NETWORKS: &str = "GET /1.0/networks HTTP/1.1\r\n\r\n";
+const INSTANCES: &str = "GET /1.0/instances HTTP/1.1\r\n\r\n";
 
 const CUT_BODY: &str = "POST /1.0/projects HTTP/1.1\r\nContent-Length: 10\r\n\r\n{\"na";
 
@@ -131,7 +131,7 @@ const RUNS: [(&str, &[&str], u8, &[&str], usize); 14] = [
         &[MADE, WITH_LAB, TAKEN, WITH_LAB],
         4,
     ),
-    ("not built", &[LAB, NETWORKS], 0, &[MADE, NOT_BUILT], 4),
+    ("not built", &[LAB, INSTANCES], 0, &[MADE, NOT_BUILT], 4),
     (
         "blank lines",
         &["\r\n\n", SHOP, "\r", ROOT, "\n\n"],
@@ -204,7 +204,7 @@ fn failing_reads(rt: HostRuntime) {
         assert!(rt;
             is_run(
                 rt.alloc(),
-                &[LAB, NETWORKS, SHOP],
+                &[LAB, INSTANCES, SHOP],
                 setting,
                 end,
                 replies,
@@ -227,7 +227,7 @@ fn failing_writes(rt: HostRuntime) {
         assert!(rt;
             is_run(
                 rt.alloc(),
-                &[LAB, NETWORKS, SHOP],
+                &[LAB, INSTANCES, SHOP],
                 setting,
                 end,
                 replies,

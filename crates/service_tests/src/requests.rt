@@ -39,6 +39,7 @@ fn word_of(what: &What) -> &'static str {
         What::Server => "server",
         What::List { of: _, recursion } => { if *recursion { "list objects" } else { "list" } }
         What::Get { of: _ } => "get",
+        What::State { of: _ } => "state",
         What::Create { of: _, body: _ } => "create",
         What::Put { of: _, body: _ } => "put",
         What::Patch { of: _, body: _ } => "patch",
@@ -48,66 +49,54 @@ fn word_of(what: &What) -> &'static str {
     }
 }
 
-fn is_named(of: &Target, name: &str) -> bool {
-    of.name.view() == name && of.pool.is_empty() && of.instance.is_empty()
-}
-
-/// Whether the command's object has this name, and none where it has no object.
-fn names(what: &What, name: &str) -> bool {
+/// The object of a command, or the objects of a list.
+fn object_of(what: &What) -> Option<&Target> {
     match what {
-        What::List { of, recursion: _ } => is_named(of, name),
-        What::Get { of } => is_named(of, name),
-        What::Create { of, body: _ } => is_named(of, name),
-        What::Put { of, body: _ } => is_named(of, name),
-        What::Patch { of, body: _ } => is_named(of, name),
-        What::Move { of, to: _ } => is_named(of, name),
-        What::Delete { of } => is_named(of, name),
-        _ => name.is_empty(),
+        What::List { of, recursion: _ } => Some(of),
+        What::Get { of } => Some(of),
+        What::State { of } => Some(of),
+        What::Create { of, body: _ } => Some(of),
+        What::Put { of, body: _ } => Some(of),
+        What::Patch { of, body: _ } => Some(of),
+        What::Move { of, to: _ } => Some(of),
+        What::Delete { of } => Some(of),
+        _ => None,
     }
 }
 
-/// Whether this is a command with this word, project and name.
+/// Whether the command's object has this pool and this name, and none where it has no object.
+fn names(what: &What, pool: &str, name: &str) -> bool {
+    match object_of(what) {
+        Some(of) => { of.pool.view() == pool && of.name.view() == name && of.instance.is_empty() }
+        None => name.is_empty(),
+    }
+}
+
+/// Whether this is a command with this word and project, whose object has this pool and this name.
 fn is_command(
     answer: &Result<Command, Or<Refusal>>,
     word: &str,
     project: &str,
+    pool: &str,
     name: &str,
 ) -> bool {
     match answer {
         Ok(command) => {
             word_of(&command.what) == word
                 && command.project.view() == project
-                && names(&command.what, name)
+                && names(&command.what, pool, name)
         }
         Err(_) => false,
     }
 }
 
-/// The kind of a command's object.
-fn kind_of(what: &What) -> Option<ObjectKind> {
-    match what {
-        What::List { of, recursion: _ } => Some(of.kind),
-        What::Get { of } => Some(of.kind),
-        What::Create { of, body: _ } => Some(of.kind),
-        What::Put { of, body: _ } => Some(of.kind),
-        What::Patch { of, body: _ } => Some(of.kind),
-        What::Move { of, to: _ } => Some(of.kind),
-        What::Delete { of } => Some(of.kind),
-        _ => None,
-    }
-}
-
-/// Whether this is a command in the project `default` with this word, kind of object and name.
-fn is_command_of(
-    answer: &Result<Command, Or<Refusal>>,
-    word: &str,
-    kind: ObjectKind,
-    name: &str,
-) -> bool {
+/// Whether the command's object is of this kind.
+fn is_of(answer: &Result<Command, Or<Refusal>>, kind: ObjectKind) -> bool {
     match answer {
-        Ok(command) => {
-            is_command(answer, word, "default", name) && kind_of(&command.what) == Some(kind)
-        }
+        Ok(command) => match object_of(&command.what) {
+            Some(of) => of.kind == kind,
+            None => false,
+        },
         Err(_) => false,
     }
 }
@@ -178,6 +167,8 @@ pub(crate) enum Want {
     Asked(&'static str, &'static str, &'static str),
     /// By a command in the project `default` with this word, kind of object and name.
     Of(&'static str, ObjectKind, &'static str),
+    /// By a command in the project `default` with this word, pool and name, on volumes.
+    In(&'static str, &'static str, &'static str),
     /// By some command.
     Good,
     /// By a PUT or PATCH with the parts of `BODY`.
@@ -187,8 +178,13 @@ pub(crate) enum Want {
 fn is_wanted(alloc: Global, answer: &Result<Command, Or<Refusal>>, want: Want) -> bool {
     match want {
         Want::Refused(rule, key) => is_refused(answer, rule, key),
-        Want::Asked(word, project, name) => is_command(answer, word, project, name),
-        Want::Of(word, kind, name) => is_command_of(answer, word, kind, name),
+        Want::Asked(word, project, name) => is_command(answer, word, project, "", name),
+        Want::Of(word, kind, name) => {
+            is_of(answer, kind) && is_command(answer, word, "default", "", name)
+        }
+        Want::In(word, pool, name) => {
+            is_of(answer, ObjectKind::Volume) && is_command(answer, word, "default", pool, name)
+        }
         Want::Good => answer.is_ok(),
         Want::Read => match answer {
             Ok(command) => has_body(alloc, &command.what),

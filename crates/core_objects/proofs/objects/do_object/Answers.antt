@@ -47,5 +47,5 @@ unreachable-requires g c =
     let command = c.args.command.now in
     let free = both-free s command (subst (λ t. first (names_broken t command ∷ standing_broken t command ∷ []) ≡ None) c.view.ensures.state c.in_default.ensures) in
     let planned = subst (λ p. IsPlanned p (plan_of c.view-2.result command c.args.moment) (change_notices c.view-2.result command c.args.moment)) c.in-None.is c.in-Ok.ensures in
-    built-changes s command c.args.moment c.requires.built (sym c.is_read.ensures ∙ c.if-is_read.false) free.0
+    built-changes s command c.args.moment c.requires.formed c.requires.built (sym c.is_read.ensures ∙ c.if-is_read.false) free.0
     (subst (λ t. changes_in (plan_of t command c.args.moment) ≡ None) c.view-2.ensures.state planned)
