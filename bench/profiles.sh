@@ -13,32 +13,19 @@
 #
 # The last three are for a program that is slower, as one that was not built with optimizations.
 set -eu
-program=$(realpath "${PROGRAM:-$(dirname "$0")/../bin/incus_run}")
-cd "$(dirname "$0")"
-runs=${RUNS:-3} most=${MOST:-16000} part=${PART:-1}
-"$program" nothing || true # builds the program where it must; it reads no word `nothing`
-until=$(($(date +%s) + ${LIMIT:-175}))
+. "$(dirname "$0")/sections.sh"
+most=${MOST:-16000}
 
 # The project that profiles are added to, and one with its profile `default` alone. Of 1,000 projects some 600 stand before
 # the first, and 240 before the second.
 home=$(python3 stream.py name p 1) other=$(python3 stream.py name p 2)
 
 begin() { # STREAM: the stream that sections are added to
-    stream=out/$1 projects=1 profiles=1
-    mkdir -p "$stream"
-    : > "$stream/requests"
-    : > "$stream/sections"
-    add 1 "" gets 1 # what comes before it is the start of the program
-}
-add() { # COUNT SHOWN KIND WORDS..: a section of so many requests
-    python3 stream.py "${@:3}" >> "$stream/requests"
-    printf '%d\t%s\n' "$1" "$2" >> "$stream/sections"
+    projects=1 profiles=1
+    begin_stream "$1"
 }
 rows() { # WHAT: how a section is shown, with the numbers of rows behind it
     printf '%-36s %5d projects %6d profiles' "$1" "$projects" "$profiles"
-}
-few() { # COUNT: one PARTth of it, and no less than 1
-    echo $((($1 + part - 1) / part))
 }
 add_projects() { # FIRST LAST [WHAT]
     projects=$((projects + $2 - $1 + 1)) profiles=$((profiles + $2 - $1 + 1))
@@ -47,9 +34,6 @@ add_projects() { # FIRST LAST [WHAT]
 add_profiles() { # FIRST LAST [WHAT]
     profiles=$((profiles + $2 - $1 + 1))
     add $(($2 - $1 + 1)) "${3:+$(rows "$3")}" profiles "$home" "$1" "$2"
-}
-add_reads() { # WHAT TARGET COUNT
-    add "$3" "$(rows "$1")" reads "$2" "$3"
 }
 use_projects() { # COUNT LINKS OBJECTS: how many times one is read, and the list without and with recursion
     add_reads "GET of a project" "/1.0/projects/$other" "$(few "$1")"
@@ -72,9 +56,6 @@ change_projects() { # FIRST LAST: projects of these numbers are renamed there an
     add "$count" "$(rows "DELETE of a project")" delete-projects "$1" "$2"
     projects=$((projects - count)) profiles=$((profiles - count))
     add_projects "$1" "$2"
-}
-measure() {
-    python3 pace.py "$program" "$stream" "$runs" "$until"
 }
 
 echo "projects"

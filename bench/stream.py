@@ -11,8 +11,17 @@ Usage: stream.py projects COUNT          creations of the projects p1 to pCOUNT
        stream.py patch-projects ROWS COUNT           COUNT times the PATCH of a project of a number from 1 to ROWS
        stream.py move-projects FIRST LAST            renames of the projects of these numbers, and back again
        stream.py delete-projects FIRST LAST          deletions of the projects of these numbers
+       stream.py networks FIRST LAST                 creations of the networks of these numbers
+       stream.py pools FIRST LAST                    creations of the storage pools of these numbers
+       stream.py volumes POOL FIRST LAST             creations of the volumes of these numbers in POOL
+       stream.py users NETWORK POOL FIRST LAST       creations of profiles with a nic on NETWORK and a root disk in POOL
+       stream.py get-rows LIST LETTER ROWS COUNT     COUNT times the GET of a row of LIST, of a number from 1 to ROWS
+       stream.py put-rows LIST LETTER ROWS COUNT     COUNT times the PUT of one
+       stream.py move-rows LIST LETTER FIRST LAST    renames of the rows of these numbers, and back again
+       stream.py delete-rows LIST LETTER FIRST LAST  deletions of the rows of these numbers
        stream.py reads TARGET COUNT                  COUNT times the GET of TARGET
-       stream.py name LETTER NUMBER                  the name of the project (p) or profile (a) of a number
+       stream.py name LETTER NUMBER                  the name of the row of a number: a project (p), a profile (a), a network
+                                                     (n), a pool (s), a volume (v)
 
 The names that `name` tells are in no order of their numbers, so a new row comes to stand anywhere among the others.
 It shares no code with the programs: the rule of the kind `instances` is written here a second time, on whole numbers.
@@ -100,6 +109,56 @@ def delete_projects(first, last):
         yield request("DELETE", f"/1.0/projects/{name('p', number)}", "")
 
 
+def networks(first, last):
+    for number in range(first, last + 1):
+        config = {"bridge.mtu": str(1400 + number % 100), "ipv4.address": f"10.{number % 256}.0.1/24"}
+        body = {"config": config, "description": "a network", "name": name("n", number)}
+        yield request("POST", "/1.0/networks", compact(body))
+
+
+def pools(first, last):
+    for number in range(first, last + 1):
+        yield request("POST", "/1.0/storage-pools", compact({"driver": "dir", "name": name("s", number)}))
+
+
+def volumes(pool, first, last):
+    for number in range(first, last + 1):
+        config = {"size": f"{1 + number % 8}GiB", "user.number": str(number)}
+        body = {"config": config, "description": "a volume", "name": name("v", number)}
+        yield request("POST", f"/1.0/storage-pools/{pool}/volumes/custom", compact(body))
+
+
+def users(network, pool, first, last):
+    nic = {"network": network, "type": "nic"}
+    root = {"path": "/", "pool": pool, "type": "disk"}
+    for number in range(first, last + 1):
+        body = {"devices": {"eth0": nic, "root": root}, "name": name("a", number)}
+        yield request("POST", "/1.0/profiles", compact(body))
+
+
+def get_rows(path, letter, rows, count):
+    for number in spread(rows, count):
+        yield from reads(f"{path}/{name(letter, number)}", 1)
+
+
+def put_rows(path, letter, rows, count):
+    for step, number in enumerate(spread(rows, count)):
+        body = compact({"config": {"user.step": str(step)}, "description": "changed"})
+        yield request("PUT", f"{path}/{name(letter, number)}", body)
+
+
+def move_rows(path, letter, first, last):
+    for number in range(first, last + 1):
+        old, new = name(letter, number), name("z", number)
+        for here, there in ((old, new), (new, old)):
+            yield request("POST", f"{path}/{here}", compact({"name": there}))
+
+
+def delete_rows(path, letter, first, last):
+    for number in range(first, last + 1):
+        yield request("DELETE", f"{path}/{name(letter, number)}", "")
+
+
 def numbers(seed):
     while True:
         seed = (6364136223846793005 * seed + 1442695040888963407) % 2**64
@@ -140,6 +199,14 @@ KINDS = {
     "patch-projects": (patch_projects, (int, int)),
     "move-projects": (move_projects, (int, int)),
     "delete-projects": (delete_projects, (int, int)),
+    "networks": (networks, (int, int)),
+    "pools": (pools, (int, int)),
+    "volumes": (volumes, (str, int, int)),
+    "users": (users, (str, str, int, int)),
+    "get-rows": (get_rows, (str, str, int, int)),
+    "put-rows": (put_rows, (str, str, int, int)),
+    "move-rows": (move_rows, (str, str, int, int)),
+    "delete-rows": (delete_rows, (str, str, int, int)),
     "reads": (reads, (str, int)),
     "name": (lambda letter, number: [name(letter, number).encode("ascii")], (str, int)),
 }

@@ -241,7 +241,7 @@ fn push_changes(
 }
 
 /// Whether a run in which these calls fail does all changes, each at its next try, and then keeps so many entries.
-fn is_done_again(
+pub(crate) fn is_done_again(
     alloc: Global,
     changes: &[(&str, &str)],
     fails: &[u64],

@@ -6,7 +6,17 @@ mod features;
 #[cfg(test)]
 mod keepers;
 #[cfg(test)]
+mod networks;
+#[cfg(test)]
+mod object_keepers;
+#[cfg(test)]
+mod object_refusals;
+#[cfg(test)]
+mod object_sizes;
+#[cfg(test)]
 mod policies;
+#[cfg(test)]
+mod pools;
 #[cfg(test)]
 mod profiles;
 #[cfg(test)]
@@ -21,3 +31,7 @@ mod scripts;
 mod sessions;
 #[cfg(test)]
 mod sizes;
+#[cfg(test)]
+mod usage;
+#[cfg(test)]
+mod volumes;

@@ -1,7 +1,6 @@
 //! What restricted projects forbid to their profiles, over HTTP: each request with its exact reply.
 
-use crate::runs::{End, WELL};
-use crate::scripts::wrong_in;
+use crate::scripts::{Script, wrong_among};
 
 /// The first rule, and the first profile.
 const FIRST: &str = r#"
@@ -475,7 +474,7 @@ PUT /1.0/profiles/default?project=r {"config":{"raw.qemu":"1"},"devices":{"a":{"
 "#;
 
 /// Scripts, and how many entries are kept after them.
-const SCRIPTS: [(&str, &str, usize); 3] = [
+const SCRIPTS: [Script; 3] = [
     ("first", FIRST, 9),
     ("words", WORDS, 4),
     ("devices", DEVICES, 4),
@@ -484,8 +483,6 @@ const SCRIPTS: [(&str, &str, usize); 3] = [
 /// Each script ends well, and its changes are kept.
 #[test]
 fn policies_forbid(rt: HostRuntime) {
-    for (name, script, kept) in SCRIPTS {
-        let wrong = wrong_in(rt.alloc(), script, "", WELL, End { status: 0, kept });
-        assert!(rt; wrong == Ok(""), "{name}: {wrong:?}");
-    }
+    let wrong = wrong_among(rt.alloc(), &SCRIPTS);
+    assert!(rt; wrong == Ok(("", "")), "{wrong:?}");
 }

@@ -1,7 +1,6 @@
 //! Projects and profiles over HTTP: each request with its exact reply.
 
-use crate::runs::{End, WELL};
-use crate::scripts::wrong_in;
+use crate::scripts::{Script, wrong_among};
 
 /// Projects are made, shown and listed.
 const PROJECTS: &str = r#"
@@ -159,7 +158,7 @@ GET /1.0/profiles?recursion=1
 "#;
 
 /// Scripts, and how many entries are kept after them.
-const SCRIPTS: [(&str, &str, usize); 3] = [
+const SCRIPTS: [Script; 3] = [
     ("projects", PROJECTS, 8),
     ("life", LIFE, 4),
     ("order", ORDER, 15),
@@ -168,8 +167,6 @@ const SCRIPTS: [(&str, &str, usize); 3] = [
 /// Each script ends well, and its changes are kept.
 #[test]
 fn scripts_are_answered(rt: HostRuntime) {
-    for (name, script, kept) in SCRIPTS {
-        let wrong = wrong_in(rt.alloc(), script, "", WELL, End { status: 0, kept });
-        assert!(rt; wrong == Ok(""), "{name}: {wrong:?}");
-    }
+    let wrong = wrong_among(rt.alloc(), &SCRIPTS);
+    assert!(rt; wrong == Ok(("", "")), "{wrong:?}");
 }

@@ -1,7 +1,6 @@
 //! The life of projects over HTTP, and their settings: each request with its exact reply.
 
-use crate::runs::{End, WELL};
-use crate::scripts::wrong_in;
+use crate::scripts::{Script, wrong_among};
 
 /// Projects are made, changed, renamed and deleted.
 const LIFE: &str = r#"
@@ -278,13 +277,11 @@ POST /1.0/projects/lab {"name":"lab"}
 "#;
 
 /// Scripts, and how many entries are kept after them.
-const SCRIPTS: [(&str, &str, usize); 2] = [("life", LIFE, 4), ("settings", SETTINGS, 5)];
+const SCRIPTS: [Script; 2] = [("life", LIFE, 4), ("settings", SETTINGS, 5)];
 
 /// Each script ends well, and its changes are kept.
 #[test]
 fn projects_live_by_their_rules(rt: HostRuntime) {
-    for (name, script, kept) in SCRIPTS {
-        let wrong = wrong_in(rt.alloc(), script, "", WELL, End { status: 0, kept });
-        assert!(rt; wrong == Ok(""), "{name}: {wrong:?}");
-    }
+    let wrong = wrong_among(rt.alloc(), &SCRIPTS);
+    assert!(rt; wrong == Ok(("", "")), "{wrong:?}");
 }

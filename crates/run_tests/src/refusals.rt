@@ -1,9 +1,6 @@
 //! Refusals over HTTP, by the rule that each breaks first: each request with its exact reply, and that nothing changed.
 
-use crate::runs::{End, Setting, WELL};
-use crate::scripts::is_well;
-use size_values::NoMemory;
-use std::alloc::Global;
+use crate::scripts::{Refusals, is_unchanged};
 
 /// What stands before each script. These are the keeper's calls 3 to 5.
 const SETUP: &str = r#"
@@ -378,23 +375,19 @@ PUT /1.0/projects/default {}
 403 {"error":"object is protected","error_code":403,"metadata":{"kind":"project","name":"default","rule":"B3"},"type":"error"}
 "#;
 
-/// Whether each of these refusals is answered so, and leaves all as it was and does not call the keeper: its next call, which
-/// would fail, is the one of the script's end.
-fn is_unchanged(alloc: Global, refusals: &str) -> Result<bool, NoMemory> {
-    let setting = Setting {
-        commits: &[6],
-        ..WELL
-    };
-    let script = format!(in alloc; "{SETUP}{refusals}{ENDS}")?;
-    let end = End { status: 0, kept: 5 };
-    let is = is_well(alloc, script.as_str(), UNCHANGED, setting, end);
-    drop(script);
-    is
-}
+const FAILS: [u64; 1] = [6];
 
 #[test]
 fn refusals_change_nothing(rt: HostRuntime) {
     for (name, refusals) in [("names", NAMES), ("settings", SETTINGS), ("forms", FORMS)] {
-        assert!(rt; is_unchanged(rt.alloc(), refusals) == Ok(true), "{name}");
+        let all = Refusals {
+            setup: SETUP,
+            refusals,
+            unchanged: UNCHANGED,
+            ends: ENDS,
+            fails: &FAILS,
+            kept: 5,
+        };
+        assert!(rt; is_unchanged(rt.alloc(), all) == Ok(true), "{name}");
     }
 }

@@ -3,7 +3,7 @@
 //! A line that begins with a method is a request: the method, the target and the body, with a space between them. The line below it
 //! is its reply: the code and the body. Other lines are for readers.
 
-use crate::runs::{End, Setting, run};
+use crate::runs::{End, Setting, WELL, run};
 use size_values::NoMemory;
 use std::alloc::Global;
 
@@ -146,10 +146,12 @@ fn wrong_end<'a>(
     end: End,
     want: End,
 ) -> Result<&'a str, NoMemory> {
-    if end != want {
-        return Ok("another end");
-    }
-    wrong_line(alloc, script, behind, written)
+    let wrong = wrong_line(alloc, script, behind, written)?;
+    Ok(if wrong.is_empty() && end != want {
+        "another end"
+    } else {
+        wrong
+    })
 }
 
 /// What is wrong in a run over these bytes, which are the requests of a script.
@@ -207,4 +209,55 @@ pub(crate) fn is_silent(
     let wrong = wrong_over(alloc, input.as_slice(), "", "", setting, want);
     drop(input);
     Ok(wrong?.is_empty())
+}
+
+/// The name of a script, the script, and how many entries are kept after it.
+pub(crate) type Script = (&'static str, &'static str, usize);
+
+/// The name of the first script that does not end well, or is not answered as it says, and what is wrong in it; empty texts where
+/// there is none.
+pub(crate) fn wrong_among(
+    alloc: Global,
+    scripts: &[Script],
+) -> Result<(&'static str, &'static str), NoMemory> {
+    for (name, script, kept) in scripts {
+        let end = End {
+            status: 0,
+            kept: *kept,
+        };
+        let wrong = wrong_in(alloc, script, "", WELL, end)?;
+        if !wrong.is_empty() {
+            return Ok((name, wrong));
+        }
+    }
+    Ok(("", ""))
+}
+
+/// A script of refusals with what stands before and after it and what is read after each of them, the calls of the keeper that fail,
+/// and how many entries are kept after all.
+#[derive(Clone, Copy)]
+pub(crate) struct Refusals<'a> {
+    pub(crate) setup: &'a str,
+    pub(crate) refusals: &'a str,
+    pub(crate) unchanged: &'a str,
+    pub(crate) ends: &'a str,
+    pub(crate) fails: &'a [u64],
+    pub(crate) kept: usize,
+}
+
+/// Whether each of these refusals is answered so, and leaves all as it was and does not call the keeper: its next call, which
+/// would fail, is the one of the script's end.
+pub(crate) fn is_unchanged(alloc: Global, all: Refusals<'_>) -> Result<bool, NoMemory> {
+    let setting = Setting {
+        commits: all.fails,
+        ..WELL
+    };
+    let script = format!(in alloc; "{}{}{}", all.setup, all.refusals, all.ends)?;
+    let end = End {
+        status: 0,
+        kept: all.kept,
+    };
+    let is = is_well(alloc, script.as_str(), all.unchanged, setting, end);
+    drop(script);
+    is
 }

@@ -96,16 +96,28 @@ fn spelled_out(alloc: Global, script: &str) -> Result<String, NoMemory> {
     Ok(text)
 }
 
-fn keeps_large_rows(alloc: Global) -> Result<bool, NoMemory> {
-    let script = spelled_out(alloc, SIZES)?;
-    let is = is_well(alloc, script.as_str(), "", WELL, End { status: 0, kept: 5 });
+/// Whether a script with letters in place of each `<N>` is answered as it says, and so many entries are kept after it.
+pub(crate) fn keeps_large_rows(alloc: Global, sizes: &str, kept: usize) -> Result<bool, NoMemory> {
+    let script = spelled_out(alloc, sizes)?;
+    let is = is_well(alloc, script.as_str(), "", WELL, End { status: 0, kept });
     drop(script);
     is
 }
 
 #[test]
 fn large_rows(rt: HostRuntime) {
-    assert!(rt; keeps_large_rows(rt.alloc()) == Ok(true));
+    assert!(rt; keeps_large_rows(rt.alloc(), SIZES, 5) == Ok(true));
+}
+
+/// How a table is filled: a script before, a creation that is made with each number from 1 to the last in place of its `<>`, a script
+/// after, and how many entries are kept then.
+#[derive(Clone, Copy)]
+pub(crate) struct Filling<'a> {
+    pub(crate) before: &'a str,
+    pub(crate) creation: &'a str,
+    pub(crate) last: u64,
+    pub(crate) after: &'a str,
+    pub(crate) kept: usize,
 }
 
 /// What a full table of projects answers.
@@ -122,24 +134,45 @@ POST /1.0/profiles?project=p1023 {"name":"a"}
 200 {"metadata":{},"status":"Success","status_code":200,"type":"sync"}
 "#;
 
-/// As many creations as the table of projects has room for beside `default`, then what it answers.
-fn filled(alloc: Global) -> Result<String, NoMemory> {
-    let mut script = String::new(alloc);
-    for number in 1..1_024 {
-        let creation = format!(in alloc;
-            "POST /1.0/projects {{\"name\":\"p{number}\"}}\n{DONE}\n"
-        )?;
-        script.push_str(creation.as_str())?;
+/// As many creations as the table of projects has room for beside `default`.
+const PROJECTS: Filling = Filling {
+    before: "",
+    creation: r#"POST /1.0/projects {"name":"p<>"}"#,
+    last: 1_023,
+    after: NO_PROJECT_MORE,
+    kept: 2_049,
+};
+
+/// Appends all creations with their replies.
+fn push_creations(
+    alloc: Global,
+    script: &mut String,
+    creation: &str,
+    last: u64,
+) -> Result<(), NoMemory> {
+    let (before, after) = creation.split_once("<>").unwrap_or((creation, ""));
+    for number in 0..last {
+        let number = number.saturating_add(1);
+        let lines = format!(in alloc; "{before}{number}{after}\n{DONE}\n")?;
+        script.push_str(lines.as_str())?;
     }
-    script.push_str(spelled_out(alloc, NO_PROJECT_MORE)?.as_str())?;
+    Ok(())
+}
+
+fn filled(alloc: Global, filling: Filling<'_>) -> Result<String, NoMemory> {
+    let mut script = String::from_str(alloc, filling.before)?;
+    script.push_str("\n")?;
+    push_creations(alloc, &mut script, filling.creation, filling.last)?;
+    script.push_str(spelled_out(alloc, filling.after)?.as_str())?;
     Ok(script)
 }
 
-fn fills_table(alloc: Global) -> Result<bool, NoMemory> {
-    let script = filled(alloc)?;
+/// Whether a table is filled so, and answers so.
+pub(crate) fn fills_table(alloc: Global, filling: Filling<'_>) -> Result<bool, NoMemory> {
+    let script = filled(alloc, filling)?;
     let end = End {
         status: 0,
-        kept: 2_049,
+        kept: filling.kept,
     };
     let is = is_well(alloc, script.as_str(), "", WELL, end);
     drop(script);
@@ -148,5 +181,5 @@ fn fills_table(alloc: Global) -> Result<bool, NoMemory> {
 
 #[test]
 fn a_full_table(rt: HostRuntime) {
-    assert!(rt; fills_table(rt.alloc()) == Ok(true));
+    assert!(rt; fills_table(rt.alloc(), PROJECTS) == Ok(true));
 }
