@@ -9,229 +9,100 @@ use Rattle.rest_replies.specs.declared.refusals.Part.TheVariants as part
 use Rattle.serde_json.specs.Data.{Data, string, object, Members, no_members, put}
 use Rattle.reply_parts.specs.Objects.{object_of, whole}
 
+-- ---- the table of rules
+
+-- the name of a rule, the HTTP status code, what went wrong, for a person, and what is told with it
+pub record RuleLine : Type 0 where
+  pub name : List ℕ
+  pub code : ℕ
+  pub text : List ℕ
+  pub parts : List Part
+
+-- a line of the table
+abbrev pub line : List ℕ → ℕ → List ℕ → List Part → RuleLine
+line name code text parts = record { name = name; code = code; text = text; parts = parts }
+
+-- what is told of a forbidden setting, or of one that is not countable
+abbrev pub of_setting : List Part
+of_setting = part.Key ∷ part.Name ∷ part.Project ∷ []
+
+-- what is told of a limit that is exceeded
+abbrev pub of_limit : List Part
+of_limit = part.Asked ∷ part.Key ∷ part.Limit ∷ part.Project ∷ part.Used ∷ []
+
+-- The table.
+abbrev pub rule_line : Rule → RuleLine
+rule_line H1 = line (codes "H1") 400 (codes "head is malformed") []
+rule_line H2 = line (codes "H2") 400 (codes "head is too long") []
+rule_line H3 = line (codes "H3") 400 (codes "length is malformed") []
+rule_line H4 = line (codes "H4") 400 (codes "body is too long") []
+rule_line A0 = line (codes "A0") 501 (codes "not built yet") []
+rule_line A1 = line (codes "A1") 404 (codes "path is unknown") []
+rule_line A2 = line (codes "A2") 405 (codes "method is not offered here") []
+rule_line A3 = line (codes "A3") 400 (codes "query is malformed") (part.Key ∷ [])
+rule_line A4 = line (codes "A4") 400 (codes "body is no JSON object") []
+rule_line A5 = line (codes "A5") 400 (codes "field is malformed") (part.Key ∷ [])
+rule_line A6 = line (codes "A6") 400 (codes "events need a WebSocket") []
+rule_line N1 = line (codes "N1") 404 (codes "project is missing") (part.Project ∷ [])
+rule_line N2 = line (codes "N2") 404 (codes "object is missing") (part.Kind ∷ part.Name ∷ [])
+rule_line N3 = line (codes "N3") 400 (codes "name is malformed") (part.Kind ∷ part.Name ∷ [])
+rule_line N4 = line (codes "N4") 409 (codes "name is taken") (part.Kind ∷ part.Name ∷ [])
+rule_line N5 = line (codes "N5") 409 (codes "name is held by an operation") (part.Kind ∷ part.Name ∷ part.Number ∷ [])
+rule_line B1 = line (codes "B1") 409 (codes "instance is busy") (part.Name ∷ part.Number ∷ [])
+rule_line B2 = line (codes "B2") 400 (codes "instance is in the wrong state") (part.Key ∷ part.Name ∷ [])
+rule_line B3 = line (codes "B3") 403 (codes "object is protected") (part.Kind ∷ part.Name ∷ [])
+rule_line B4 = line (codes "B4") 400 (codes "object is in use") (part.Key ∷ part.Kind ∷ part.Name ∷ [])
+rule_line B5 = line (codes "B5") 400 (codes "project is not empty") (part.Name ∷ [])
+rule_line B6 = line (codes "B6") 409 (codes "profile is held by an operation") (part.Name ∷ part.Number ∷ [])
+rule_line V1 = line (codes "V1") 400 (codes "key is unknown") (part.Key ∷ [])
+rule_line V2 = line (codes "V2") 400 (codes "value is malformed") (part.Key ∷ part.Number ∷ [])
+rule_line V3 = line (codes "V3") 400 (codes "device is malformed") (part.Key ∷ part.Name ∷ part.Number ∷ [])
+rule_line V4 = line (codes "V4") 400 (codes "instance needs exactly one root disk") (part.Name ∷ [])
+rule_line V5 = line (codes "V5") 400 (codes "named object is missing") (part.Kind ∷ part.Name ∷ [])
+rule_line F1 = line (codes "F1") 403 (codes "setting is forbidden") of_setting
+rule_line F2 = line (codes "F2") 403 (codes "setting is forbidden") of_setting
+rule_line F3 = line (codes "F3") 403 (codes "setting is forbidden") of_setting
+rule_line F4 = line (codes "F4") 403 (codes "setting is forbidden") of_setting
+rule_line F5 = line (codes "F5") 403 (codes "setting is forbidden") of_setting
+rule_line F6 = line (codes "F6") 403 (codes "setting is forbidden") of_setting
+rule_line F7 = line (codes "F7") 403 (codes "setting is forbidden") of_setting
+rule_line F8 = line (codes "F8") 403 (codes "snapshots are forbidden") (part.Project ∷ [])
+rule_line L0 = line (codes "L0") 403 (codes "setting is not countable") of_setting
+rule_line L1 = line (codes "L1") 403 (codes "limit is exceeded") of_limit
+rule_line L2 = line (codes "L2") 403 (codes "limit is exceeded") of_limit
+rule_line L3 = line (codes "L3") 403 (codes "limit is exceeded") of_limit
+rule_line L4 = line (codes "L4") 403 (codes "limit is exceeded") of_limit
+rule_line L5 = line (codes "L5") 403 (codes "limit is exceeded") of_limit
+rule_line L6 = line (codes "L6") 403 (codes "limit is exceeded") of_limit
+rule_line L7 = line (codes "L7") 403 (codes "limit is exceeded") of_limit
+rule_line L8 = line (codes "L8") 403 (codes "limit is exceeded") of_limit
+rule_line O1 = line (codes "O1") 400 (codes "operation has ended") (part.Key ∷ part.Number ∷ [])
+rule_line O2 = line (codes "O2") 400 (codes "operation may not be cancelled") (part.Number ∷ [])
+rule_line O3 = line (codes "O3") 400 (codes "operation is being cancelled") (part.Number ∷ [])
+rule_line O4 = line (codes "O4") 409 (codes "too many live operations") (part.Number ∷ [])
+rule_line O5 = line (codes "O5") 409 (codes "operation numbers are used up") (part.Number ∷ [])
+rule_line C1 = line (codes "C1") 409 (codes "table is full") (part.Kind ∷ part.Number ∷ [])
+rule_line C2 = line (codes "C2") 409 (codes "row is too large") (part.Kind ∷ part.Number ∷ [])
+rule_line K1 = line (codes "K1") 503 (codes "unavailable") []
+rule_line M1 = line (codes "M1") 500 (codes "no memory") []
+
 -- the name of a rule
 abbrev pub rule_name : Rule → List ℕ
-rule_name H1 = codes "H1"
-rule_name H2 = codes "H2"
-rule_name H3 = codes "H3"
-rule_name H4 = codes "H4"
-rule_name A0 = codes "A0"
-rule_name A1 = codes "A1"
-rule_name A2 = codes "A2"
-rule_name A3 = codes "A3"
-rule_name A4 = codes "A4"
-rule_name A5 = codes "A5"
-rule_name A6 = codes "A6"
-rule_name N1 = codes "N1"
-rule_name N2 = codes "N2"
-rule_name N3 = codes "N3"
-rule_name N4 = codes "N4"
-rule_name N5 = codes "N5"
-rule_name B1 = codes "B1"
-rule_name B2 = codes "B2"
-rule_name B3 = codes "B3"
-rule_name B4 = codes "B4"
-rule_name B5 = codes "B5"
-rule_name B6 = codes "B6"
-rule_name V1 = codes "V1"
-rule_name V2 = codes "V2"
-rule_name V3 = codes "V3"
-rule_name V4 = codes "V4"
-rule_name V5 = codes "V5"
-rule_name F1 = codes "F1"
-rule_name F2 = codes "F2"
-rule_name F3 = codes "F3"
-rule_name F4 = codes "F4"
-rule_name F5 = codes "F5"
-rule_name F6 = codes "F6"
-rule_name F7 = codes "F7"
-rule_name F8 = codes "F8"
-rule_name L0 = codes "L0"
-rule_name L1 = codes "L1"
-rule_name L2 = codes "L2"
-rule_name L3 = codes "L3"
-rule_name L4 = codes "L4"
-rule_name L5 = codes "L5"
-rule_name L6 = codes "L6"
-rule_name L7 = codes "L7"
-rule_name L8 = codes "L8"
-rule_name O1 = codes "O1"
-rule_name O2 = codes "O2"
-rule_name O3 = codes "O3"
-rule_name O4 = codes "O4"
-rule_name O5 = codes "O5"
-rule_name C1 = codes "C1"
-rule_name C2 = codes "C2"
-rule_name K1 = codes "K1"
-rule_name M1 = codes "M1"
+rule_name rule = (rule_line rule).name
 
 -- what went wrong, for a person
 abbrev pub rule_text : Rule → List ℕ
-rule_text H1 = codes "head is malformed"
-rule_text H2 = codes "head is too long"
-rule_text H3 = codes "length is malformed"
-rule_text H4 = codes "body is too long"
-rule_text A0 = codes "not built yet"
-rule_text A1 = codes "path is unknown"
-rule_text A2 = codes "method is not offered here"
-rule_text A3 = codes "query is malformed"
-rule_text A4 = codes "body is no JSON object"
-rule_text A5 = codes "field is malformed"
-rule_text A6 = codes "events need a WebSocket"
-rule_text N1 = codes "project is missing"
-rule_text N2 = codes "object is missing"
-rule_text N3 = codes "name is malformed"
-rule_text N4 = codes "name is taken"
-rule_text N5 = codes "name is held by an operation"
-rule_text B1 = codes "instance is busy"
-rule_text B2 = codes "instance is in the wrong state"
-rule_text B3 = codes "object is protected"
-rule_text B4 = codes "object is in use"
-rule_text B5 = codes "project is not empty"
-rule_text B6 = codes "profile is held by an operation"
-rule_text V1 = codes "key is unknown"
-rule_text V2 = codes "value is malformed"
-rule_text V3 = codes "device is malformed"
-rule_text V4 = codes "instance needs exactly one root disk"
-rule_text V5 = codes "named object is missing"
-rule_text F1 = codes "setting is forbidden"
-rule_text F2 = codes "setting is forbidden"
-rule_text F3 = codes "setting is forbidden"
-rule_text F4 = codes "setting is forbidden"
-rule_text F5 = codes "setting is forbidden"
-rule_text F6 = codes "setting is forbidden"
-rule_text F7 = codes "setting is forbidden"
-rule_text F8 = codes "snapshots are forbidden"
-rule_text L0 = codes "setting is not countable"
-rule_text L1 = codes "limit is exceeded"
-rule_text L2 = codes "limit is exceeded"
-rule_text L3 = codes "limit is exceeded"
-rule_text L4 = codes "limit is exceeded"
-rule_text L5 = codes "limit is exceeded"
-rule_text L6 = codes "limit is exceeded"
-rule_text L7 = codes "limit is exceeded"
-rule_text L8 = codes "limit is exceeded"
-rule_text O1 = codes "operation has ended"
-rule_text O2 = codes "operation may not be cancelled"
-rule_text O3 = codes "operation is being cancelled"
-rule_text O4 = codes "too many live operations"
-rule_text O5 = codes "operation numbers are used up"
-rule_text C1 = codes "table is full"
-rule_text C2 = codes "row is too large"
-rule_text K1 = codes "unavailable"
-rule_text M1 = codes "no memory"
+rule_text rule = (rule_line rule).text
 
 -- the HTTP status code of a rule
 abbrev pub rule_code : Rule → ℕ
-rule_code H1 = 400
-rule_code H2 = 400
-rule_code H3 = 400
-rule_code H4 = 400
-rule_code A0 = 501
-rule_code A1 = 404
-rule_code A2 = 405
-rule_code A3 = 400
-rule_code A4 = 400
-rule_code A5 = 400
-rule_code A6 = 400
-rule_code N1 = 404
-rule_code N2 = 404
-rule_code N3 = 400
-rule_code N4 = 409
-rule_code N5 = 409
-rule_code B1 = 409
-rule_code B2 = 400
-rule_code B3 = 403
-rule_code B4 = 400
-rule_code B5 = 400
-rule_code B6 = 409
-rule_code V1 = 400
-rule_code V2 = 400
-rule_code V3 = 400
-rule_code V4 = 400
-rule_code V5 = 400
-rule_code F1 = 403
-rule_code F2 = 403
-rule_code F3 = 403
-rule_code F4 = 403
-rule_code F5 = 403
-rule_code F6 = 403
-rule_code F7 = 403
-rule_code F8 = 403
-rule_code L0 = 403
-rule_code L1 = 403
-rule_code L2 = 403
-rule_code L3 = 403
-rule_code L4 = 403
-rule_code L5 = 403
-rule_code L6 = 403
-rule_code L7 = 403
-rule_code L8 = 403
-rule_code O1 = 400
-rule_code O2 = 400
-rule_code O3 = 400
-rule_code O4 = 409
-rule_code O5 = 409
-rule_code C1 = 409
-rule_code C2 = 409
-rule_code K1 = 503
-rule_code M1 = 500
+rule_code rule = (rule_line rule).code
 
 -- what is told with a rule
 abbrev pub kept_parts : Rule → List Part
-kept_parts H1 = []
-kept_parts H2 = []
-kept_parts H3 = []
-kept_parts H4 = []
-kept_parts A0 = []
-kept_parts A1 = []
-kept_parts A2 = []
-kept_parts A3 = part.Key ∷ []
-kept_parts A4 = []
-kept_parts A5 = part.Key ∷ []
-kept_parts A6 = []
-kept_parts N1 = part.Project ∷ []
-kept_parts N2 = part.Kind ∷ part.Name ∷ []
-kept_parts N3 = part.Kind ∷ part.Name ∷ []
-kept_parts N4 = part.Kind ∷ part.Name ∷ []
-kept_parts N5 = part.Kind ∷ part.Name ∷ part.Number ∷ []
-kept_parts B1 = part.Name ∷ part.Number ∷ []
-kept_parts B2 = part.Key ∷ part.Name ∷ []
-kept_parts B3 = part.Kind ∷ part.Name ∷ []
-kept_parts B4 = part.Key ∷ part.Kind ∷ part.Name ∷ []
-kept_parts B5 = part.Name ∷ []
-kept_parts B6 = part.Name ∷ part.Number ∷ []
-kept_parts V1 = part.Key ∷ []
-kept_parts V2 = part.Key ∷ part.Number ∷ []
-kept_parts V3 = part.Key ∷ part.Name ∷ part.Number ∷ []
-kept_parts V4 = part.Name ∷ []
-kept_parts V5 = part.Kind ∷ part.Name ∷ []
-kept_parts F1 = part.Key ∷ part.Name ∷ part.Project ∷ []
-kept_parts F2 = part.Key ∷ part.Name ∷ part.Project ∷ []
-kept_parts F3 = part.Key ∷ part.Name ∷ part.Project ∷ []
-kept_parts F4 = part.Key ∷ part.Name ∷ part.Project ∷ []
-kept_parts F5 = part.Key ∷ part.Name ∷ part.Project ∷ []
-kept_parts F6 = part.Key ∷ part.Name ∷ part.Project ∷ []
-kept_parts F7 = part.Key ∷ part.Name ∷ part.Project ∷ []
-kept_parts F8 = part.Project ∷ []
-kept_parts L0 = part.Key ∷ part.Name ∷ part.Project ∷ []
-kept_parts L1 = part.Asked ∷ part.Key ∷ part.Limit ∷ part.Project ∷ part.Used ∷ []
-kept_parts L2 = part.Asked ∷ part.Key ∷ part.Limit ∷ part.Project ∷ part.Used ∷ []
-kept_parts L3 = part.Asked ∷ part.Key ∷ part.Limit ∷ part.Project ∷ part.Used ∷ []
-kept_parts L4 = part.Asked ∷ part.Key ∷ part.Limit ∷ part.Project ∷ part.Used ∷ []
-kept_parts L5 = part.Asked ∷ part.Key ∷ part.Limit ∷ part.Project ∷ part.Used ∷ []
-kept_parts L6 = part.Asked ∷ part.Key ∷ part.Limit ∷ part.Project ∷ part.Used ∷ []
-kept_parts L7 = part.Asked ∷ part.Key ∷ part.Limit ∷ part.Project ∷ part.Used ∷ []
-kept_parts L8 = part.Asked ∷ part.Key ∷ part.Limit ∷ part.Project ∷ part.Used ∷ []
-kept_parts O1 = part.Key ∷ part.Number ∷ []
-kept_parts O2 = part.Number ∷ []
-kept_parts O3 = part.Number ∷ []
-kept_parts O4 = part.Number ∷ []
-kept_parts O5 = part.Number ∷ []
-kept_parts C1 = part.Kind ∷ part.Number ∷ []
-kept_parts C2 = part.Kind ∷ part.Number ∷ []
-kept_parts K1 = []
-kept_parts M1 = []
+kept_parts rule = (rule_line rule).parts
+
+-- ---- the parts
 
 -- the key of a part
 abbrev pub part_key : Part → List ℕ
