@@ -1,2 +1,3 @@
+mod Below
 pub mod Judged
 pub mod Unrestricted

@@ -2,7 +2,9 @@
 //! operations would put, and whether it forbids snapshots.
 #![tactic(auto)]
 
+mod lowest;
 mod policy;
+mod restricted;
 mod snapshots;
 
 pub use policy::policy_broken;

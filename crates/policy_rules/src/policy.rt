@@ -1,102 +1,37 @@
 //! Rules on policy: F1 to F7.
-ghost use Rattle.std.specs.Prelude.{◌≡◌};
 ghost use Rattle.plain_lists.specs.Firsts.{first_of};
 ghost use Rattle.size_values.specs.Causes.{Says};
-ghost use Rattle.restrictions.specs.Policies.{policy_of};
-ghost use Rattle.row_machine.specs.machine.PolicyRules.{policy_rule, subject_of, forbidden_key, forbids, project_forbids, policy_broken};
+ghost use Rattle.row_machine.specs.machine.PolicyRules.{project_forbids, policy_broken};
+ghost use Rattle.policy_rules.specs.Lowest.{HoldBelow};
 ghost use Rattle.policy_rules.specs.Within.{own_profile, own_instance, own_claim, own_objects};
 
-use config_lists::{Config, Devices};
+use crate::lowest::lowest_broken;
+use crate::restricted::{Restricted, subject_of};
 use operations::Operation;
-use records::{Instance, Profile, Project, Refusal, Rule};
-use restrictions::{Forbidden, Subject, first_forbidden, policy_of};
+use records::{Instance, Profile, Project, Refusal};
+use restrictions::{Subject, is_restricted};
 use row_machine::Work;
 use row_readings::{View, claimed_instance};
-use rule_refusals::{key_at, name_at, on_key_of};
-use size_values::{Kind, Or};
+use size_values::Or;
 use std::alloc::Global;
 
 /// The numbers of the rules on policy.
 const NUMBERS: [u8; 7] = [1, 2, 3, 4, 5, 6, 7];
 
-/// The rule of this number, from F1 on.
-fn policy_rule(number: u8) -> Rule
-    ensures { result ≡ policy_rule number }
-{
-    match number {
-        1 => Rule::F1,
-        2 => Rule::F2,
-        3 => Rule::F3,
-        4 => Rule::F4,
-        5 => Rule::F5,
-        6 => Rule::F6,
-        _ => Rule::F7,
-    }
-}
-
-fn subject_of(kind: Kind) -> Subject
-    ensures { result ≡ subject_of kind }
-{
-    match kind {
-        Kind::Container => Subject::Container,
-        Kind::Machine => Subject::Machine,
-    }
-}
-
-/// The setting or the device that is forbidden. One line of the table demands a key.
-#[tactic(auto, unfolding(restrictions::specs::Forbids::setting_lines))]
-fn forbidden_key<'x>(config: &'x Config, devices: &'x Devices, found: Forbidden) -> &'x str
-    ensures { result.now ≡ forbidden_key config.now devices.now found }
-{
-    if found.rule >= 6 {
-        return name_at(devices, found.place);
-    }
-    if found.place < config.len() {
-        key_at(config, found.place)
-    } else {
-        "security.idmap.isolated"
-    }
-}
-
-/// The rule of this number, where it is the first one that the settings and devices of a subject break.
-fn forbids(
-    alloc: Global,
-    project: &Project,
-    number: u8,
-    subject: Subject,
-    name: &str,
-    config: &Config,
-    devices: &Devices,
-) -> Result<(), Or<Refusal>>
-    ensures { Says result (forbids project.now number subject name.now config.now devices.now) }
-{
-    let policy = policy_of(&project.config);
-    let Some(found) = first_forbidden(&policy, subject, config, devices) else {
-        return Ok(());
-    };
-    if found.rule != number {
-        return Ok(());
-    }
-    let key = forbidden_key(config, devices, found);
-    let rule = policy_rule(number);
-    Err(Or::Why(on_key_of(alloc, rule, key, name, project.name.view())?))
-}
-
 #[tactic(auto, unfolding(row_machine::specs::machine::PolicyRules::forbids_profile))]
 fn profile_forbids(
     alloc: Global,
-    project: &Project,
+    project: &Restricted<'_>,
     number: u8,
     profile: &Profile,
 ) -> Result<(), Or<Refusal>>
     ensures { Says result (own_profile project.now number profile.now) }
 {
-    if !profile.project.is(&project.name) {
+    if !project.has(&profile.project) {
         return Ok(());
     }
-    forbids(
+    project.forbids(
         alloc,
-        project,
         number,
         Subject::Profile,
         profile.name.view(),
@@ -108,7 +43,7 @@ fn profile_forbids(
 /// The first profile of the project that breaks the rule.
 fn profiles_forbid(
     alloc: Global,
-    project: &Project,
+    project: &Restricted<'_>,
     number: u8,
     profiles: &[Profile],
 ) -> Result<(), Or<Refusal>>
@@ -127,19 +62,18 @@ fn profiles_forbid(
 fn instance_forbids(
     alloc: Global,
     view: &View<'_>,
-    project: &Project,
+    project: &Restricted<'_>,
     number: u8,
     row: &Instance,
 ) -> Result<(), Or<Refusal>>
     ensures { Says result (own_instance view.now project.now number row.now) }
 {
-    if !row.project.is(&project.name) {
+    if !project.has(&row.project) {
         return Ok(());
     }
     let expanded = view.expansion(alloc, row)?;
-    let forbidden = forbids(
+    let forbidden = project.forbids(
         alloc,
-        project,
         number,
         subject_of(row.kind),
         row.name.view(),
@@ -154,7 +88,7 @@ fn instance_forbids(
 fn instances_forbid(
     alloc: Global,
     view: &View<'_>,
-    project: &Project,
+    project: &Restricted<'_>,
     number: u8,
     rows: &[Instance],
 ) -> Result<(), Or<Refusal>>
@@ -172,7 +106,7 @@ fn instances_forbid(
 fn claim_forbids(
     alloc: Global,
     view: &View<'_>,
-    project: &Project,
+    project: &Restricted<'_>,
     number: u8,
     work: &Work,
 ) -> Result<(), Or<Refusal>>
@@ -188,7 +122,7 @@ fn claim_forbids(
 fn claims_forbid(
     alloc: Global,
     view: &View<'_>,
-    project: &Project,
+    project: &Restricted<'_>,
     number: u8,
     live: &[Operation<Work>],
 ) -> Result<(), Or<Refusal>>
@@ -207,19 +141,13 @@ fn objects_forbid(
     alloc: Global,
     view: &View<'_>,
     number: u8,
-    project: &Project,
+    project: &Restricted<'_>,
 ) -> Result<(), Or<Refusal>>
     ensures { Says result (own_objects view.now project.now number) }
 {
     profiles_forbid(alloc, project, number, view.profiles)?;
     instances_forbid(alloc, view, project, number, view.instances)?;
     claims_forbid(alloc, view, project, number, view.live)
-}
-
-fn is_restricted(project: &Project) -> bool
-    ensures { result ≡ (policy_of project.now.config).restricted }
-{
-    policy_of(&project.config).restricted
 }
 
 /// A project that is not restricted forbids nothing, whatever it has.
@@ -231,10 +159,10 @@ fn project_forbids(
 ) -> Result<(), Or<Refusal>>
     ensures { Says result (project_forbids view.now number project.now) }
 {
-    if !is_restricted(project) {
+    if !is_restricted(&project.config) {
         return Ok(());
     }
-    objects_forbid(alloc, view, number, project)
+    objects_forbid(alloc, view, number, &Restricted::new(project))
 }
 
 /// The first project at which the rule is broken.
@@ -254,13 +182,26 @@ fn projects_forbid(
     Ok(())
 }
 
-/// The first rule on policy that is broken, and the first project, profile or instance at which it is.
+/// The rule of this number. It is not asked where it is known to hold.
+fn number_forbids(alloc: Global, view: &View<'_>, lowest: u8, number: u8) -> Result<(), Or<Refusal>>
+    requires { HoldBelow lowest (λ n. first_of (project_forbids view.now n) view.now.projects) }
+    ensures { Says result (first_of (project_forbids view.now number) view.now.projects) }
+{
+    if number < lowest {
+        return Ok(());
+    }
+    projects_forbid(alloc, view, number, view.projects)
+}
+
+/// The first rule on policy that is broken, and the first project, profile or instance at which it is. One walk over the
+/// projects finds the number of that rule, and a second one where it is broken: where none is, there is no second walk.
 #[tactic(auto, unfolding(row_machine::specs::machine::PolicyRules::policy_broken))]
 pub fn policy_broken(alloc: Global, after: &View<'_>) -> Result<(), Or<Refusal>>
     ensures { Says result (policy_broken after.now) }
 {
+    let lowest = lowest_broken(alloc, after, after.projects)?;
     for number in NUMBERS {
-        if let Err(why) = projects_forbid(alloc, after, number, after.projects) {
+        if let Err(why) = number_forbids(alloc, after, lowest, number) {
             return Err(why);
         }
     }

@@ -12,45 +12,14 @@ use size_values::{ObjectKind, Text};
 pub(crate) fn is_parting(what: &What) -> bool
     ensures { result ≡ is_parting what.now }
 {
-    match what {
-        What::Move { .. } | What::Delete { .. } => true,
-        What::Root
-        | What::Server
-        | What::List { .. }
-        | What::Get { .. }
-        | What::State { .. }
-        | What::Create { .. }
-        | What::Put { .. }
-        | What::Patch { .. }
-        | What::Act { .. }
-        | What::Restore { .. }
-        | What::GetOp { .. }
-        | What::Cancel { .. }
-        | What::Wait { .. } => false,
-    }
+    matches!(what, What::Move { .. } | What::Delete { .. })
 }
 
 /// Whether a command deletes the object of its path.
 pub(crate) fn is_deletion(what: &What) -> bool
     ensures { result ≡ is_deletion what.now }
 {
-    match what {
-        What::Delete { .. } => true,
-        What::Root
-        | What::Server
-        | What::List { .. }
-        | What::Get { .. }
-        | What::State { .. }
-        | What::Create { .. }
-        | What::Put { .. }
-        | What::Patch { .. }
-        | What::Move { .. }
-        | What::Act { .. }
-        | What::Restore { .. }
-        | What::GetOp { .. }
-        | What::Cancel { .. }
-        | What::Wait { .. } => false,
-    }
+    matches!(what, What::Delete { .. })
 }
 
 /// The object that a command changes, renames or deletes.
@@ -62,17 +31,7 @@ pub(crate) fn object_changed(what: &What) -> Option<&Target>
         What::Patch { of, .. } => Some(of),
         What::Move { of, .. } => Some(of),
         What::Delete { of } => Some(of),
-        What::Root
-        | What::Server
-        | What::List { .. }
-        | What::Get { .. }
-        | What::State { .. }
-        | What::Create { .. }
-        | What::Act { .. }
-        | What::Restore { .. }
-        | What::GetOp { .. }
-        | What::Cancel { .. }
-        | What::Wait { .. } => None,
+        _ => None,
     }
 }
 
@@ -93,12 +52,7 @@ fn instance_in(of: &Target) -> Option<&Text>
     match of.kind {
         ObjectKind::Instance => Some(&of.name),
         ObjectKind::Snapshot => Some(&of.instance),
-        ObjectKind::Project
-        | ObjectKind::Profile
-        | ObjectKind::Network
-        | ObjectKind::Pool
-        | ObjectKind::Volume
-        | ObjectKind::Operation => None,
+        _ => None,
     }
 }
 
@@ -109,12 +63,7 @@ fn instance_made_from<'x>(of: &'x Target, body: &'x Body) -> Option<&'x Text>
     match of.kind {
         ObjectKind::Instance => copied_from(&body.origin),
         ObjectKind::Snapshot => Some(&of.instance),
-        ObjectKind::Project
-        | ObjectKind::Profile
-        | ObjectKind::Network
-        | ObjectKind::Pool
-        | ObjectKind::Volume
-        | ObjectKind::Operation => None,
+        _ => None,
     }
 }
 
@@ -130,13 +79,6 @@ pub(crate) fn instance_changed(what: &What) -> Option<&Text>
         What::Delete { of } => instance_in(of),
         What::Act { of, .. } => Some(&of.name),
         What::Restore { of, .. } => Some(&of.name),
-        What::Root
-        | What::Server
-        | What::List { .. }
-        | What::Get { .. }
-        | What::State { .. }
-        | What::GetOp { .. }
-        | What::Cancel { .. }
-        | What::Wait { .. } => None,
+        _ => None,
     }
 }

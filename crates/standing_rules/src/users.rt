@@ -1,6 +1,6 @@
 //! The first user of a profile, a network, a storage pool or a volume. These functions answer `Ok` where there is none, and
 //! else the link of the first one as the reason why the object may not go.
-ghost use Rattle.std.specs.Prelude.{◌≡◌, IfOk, [], false};
+ghost use Rattle.std.specs.Prelude.{◌≡◌, IfOk, Some, None, [], false, if◌then◌else◌};
 ghost use Rattle.std.specs.Option.{option_map_or};
 ghost use Rattle.std.specs.Str.{bytes_eq};
 ghost use Rattle.plain_lists.specs.Firsts.{first_of};
@@ -43,6 +43,24 @@ fn link_in(
     link
 }
 
+/// The link of a row of these names, where it is a user.
+fn unless_user(
+    alloc: Global,
+    uses: bool,
+    project: &str,
+    kind: ObjectKind,
+    pool: &str,
+    name: &str,
+) -> Result<(), Or<Text>>
+    ensures { Says result (if uses then Some (link_of project.now (record { kind = kind; pool = pool.now; instance = []; name = name.now })) else None) }
+{
+    if !uses {
+        return Ok(());
+    }
+    let link = link_in(alloc, project, kind, pool, name)?;
+    Err(Or::Why(link))
+}
+
 /// The link of a profile of the project, where it names the object.
 fn unused_by_profile(
     alloc: Global,
@@ -54,17 +72,18 @@ fn unused_by_profile(
 ) -> Result<(), Or<Text>>
     ensures { Says result (profile_link_in view.now home.now of.now project.now row.now) }
 {
-    if row.project.view() != project || !profile_uses(view, home, of, row) {
+    if row.project.view() != project {
         return Ok(());
     }
-    let link = link_in(
+    let uses = profile_uses(view, home, of, row);
+    unless_user(
         alloc,
+        uses,
         row.project.view(),
         ObjectKind::Profile,
         "",
         row.name.view(),
-    )?;
-    Err(Or::Why(link))
+    )
 }
 
 /// The first profile of the project that names the object.
@@ -97,17 +116,18 @@ fn unused_by_instance(
 ) -> Result<(), Or<Text>>
     ensures { Says result (instance_link_in view.now home.now of.now project.now row.now) }
 {
-    if row.project.view() != project || !instance_uses(alloc, view, home, of, row)? {
+    if row.project.view() != project {
         return Ok(());
     }
-    let link = link_in(
+    let uses = instance_uses(alloc, view, home, of, row)?;
+    unless_user(
         alloc,
+        uses,
         row.project.view(),
         ObjectKind::Instance,
         "",
         row.name.view(),
-    )?;
-    Err(Or::Why(link))
+    )
 }
 
 /// The first instance of the project that names the object.
@@ -133,17 +153,18 @@ fn unused_by_instances(
 fn unused_by_volume(alloc: Global, of: &Target, project: &str, row: &Volume) -> Result<(), Or<Text>>
     ensures { Says result (volume_link_in of.now project.now row.now) }
 {
-    if row.project.view() != project || !volume_uses(of, row) {
+    if row.project.view() != project {
         return Ok(());
     }
-    let link = link_in(
+    let uses = volume_uses(of, row);
+    unless_user(
         alloc,
+        uses,
         row.project.view(),
         ObjectKind::Volume,
         row.pool.view(),
         row.name.view(),
-    )?;
-    Err(Or::Why(link))
+    )
 }
 
 /// The first volume of the project that names the object.
@@ -254,17 +275,15 @@ fn unnamed_by(
 ) -> Result<(), Or<Text>>
     ensures { Says result (naming_link view.now home.now profile.now row.now) }
 {
-    if !names_profile(view, home, profile, row) {
-        return Ok(());
-    }
-    let link = link_in(
+    let uses = names_profile(view, home, profile, row);
+    unless_user(
         alloc,
+        uses,
         row.project.view(),
         ObjectKind::Instance,
         "",
         row.name.view(),
-    )?;
-    Err(Or::Why(link))
+    )
 }
 
 /// The first instance that names the profile.

@@ -1,4 +1,5 @@
-use Rattle.std.proofs.Common.{sym, ◌∙◌}
+use Rattle.std.proofs.Common.{sym, ap, ◌∙◌}
+use Rattle.policy_rules.specs.Within.{own_objects}
 use Rattle.policy_rules.proofs.Judged.{forbids-split}
 use Rattle.policy_rules.proofs.Unrestricted.{unrestricted-free}
 use Rattle.rule_refusals.proofs.Saying.{says-as}
@@ -9,4 +10,7 @@ returns-then-not-is_restricted c =
     unrestricted-free c.args.project.now c.args.number (sym c.is_restricted.ensures ∙ c.if-not-is_restricted.true) c.args.view.now
 
 pub returns : goal.returns
-returns c = says-as c.objects_forbid.result (forbids-split c.args.view.now c.args.number c.args.project.now) c.objects_forbid.ensures
+returns c =
+    says-as c.objects_forbid.result
+    (ap (λ p. own_objects c.args.view.now p c.args.number) c.new.ensures ∙ forbids-split c.args.view.now c.args.number c.args.project.now)
+    c.objects_forbid.ensures
