@@ -21,3 +21,5 @@ mod scripts;
 mod sessions;
 #[cfg(test)]
 mod sizes;
+#[cfg(test)]
+mod words;
