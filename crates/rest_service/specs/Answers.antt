@@ -38,13 +38,14 @@ HasText (written.Printed bytes) r last = bytes ≡ printed r last
 HasText written.NoMemory r last = no_memory_text last ≡ printed r last
 HasText written.Unprinted r last = r ≢ reply.NoMemory
 
--- The clock was read for a command that was asked at this moment, before the year 10000, and was not read where none was.
+-- The clock was read for a command that was asked at this moment, before the year 10000, or for none it was not read.
 pub record AsksAt (moment : Option ℕ) (told told' : Readings) : Type 0 where
   pub read : Reads told (option_to_list moment) told'
   pub early : IfSome moment (λ at. at < moment_limit)
 
--- One request was carried out, its command at the moment that the clock gave, with an outcome that the keeper's count bears out; its
--- changes went to the store, and these notices are left untold. Entries that were the records of the rows are so afterwards.
+-- One request was carried out, its command at the moment that the clock gave, with an outcome that the keeper's count
+-- bears out; its changes went to the store, and these notices are left untold. Entries that were the records of the
+-- rows are so afterwards.
 pub record Replies (s s' : State) (untold : List Untold) (store store' : Store) (told told' : Readings) (request : Request) (r : Reply) : Type 0 where
   pub moment : Option ℕ
   pub outcome : Outcome
@@ -54,9 +55,9 @@ pub record Replies (s s' : State) (untold : List Untold) (store store' : Store) 
   pub is : carried_out s moment outcome (command_of request 0) ≡ Some (and_then (answered r) (telling untold s'))
   pub kept : KeepsRecords store.told s store'.told s'
 
--- One request was answered: it came to a reply and to the rows and the store afterwards, its command at the moment that the clock
--- gave, with an outcome that the keeper's count bears out, and what is to be written is that reply. Entries that were the records of
--- the rows are so afterwards.
+-- One request was answered: it came to a reply and to the rows and the store afterwards, its command at the moment
+-- that the clock gave, with an outcome that the keeper's count bears out, and what is to be written is that reply.
+-- Entries that were the records of the rows are so afterwards.
 pub record Answers (s s' : State) (store store' : Store) (told told' : Readings) (request : Request) (result : Answered) : Type 0 where
   pub moment : Option ℕ
   pub outcome : Outcome

@@ -25,8 +25,8 @@ use Rattle.core_rows.specs.Asked.{answered, changes_of}
 use Rattle.rest_replies.specs.Replies.{printed_of}
 use Rattle.rest_routes.specs.Commands.{command_of}
 
--- A request that was taken, the moment at which its command was asked, how the outside fared with it, and its reply. There is no
--- moment where no command was asked.
+-- A request that was taken, the moment at which its command was asked, how the outside fared with it, and its reply.
+-- There is no moment where no command was asked.
 pub record Exchange : Type 0 where
   pub request : Request
   pub moment : Option ℕ
@@ -51,8 +51,9 @@ unasked s well = None
 unasked s (keeper_failed rise) = None
 unasked s no_memory = Some (and_then answer.NoMemory s)
 
--- The command that a request asks for is one step of the machine, at the moment at which it was asked. A request without a moment was
--- refused by its form, or memory was refused before its command was known; one that is refused by its form has no moment.
+-- The command that a request asks for is one step of the machine, at the moment at which it was asked. A request
+-- without a moment was refused by its form, or memory was refused before its command was known; one that is refused
+-- by its form has no moment.
 abbrev pub carried_out : State → Option ℕ → Outcome → Result Command Refusal → Option After
 carried_out s (Some moment) outcome (Ok command) = step s (event.Ask command moment) outcome
 carried_out s (Some moment) outcome (Err refusal) = None

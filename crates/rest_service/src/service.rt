@@ -41,7 +41,8 @@ fn drop_told(estate: &mut Estate)
     while let Some(_notice) = estate.take_told() {}
 }
 
-/// Carries a request out, its command at the next moment of the clock. The notices of its change are left in the estate.
+/// Carries a request out, its command at the next moment of the clock. The notices of its change are left in the
+/// estate.
 fn reply_to<R: Keeper, C: Clock>(
     alloc: Global,
     router: &Router,
@@ -77,8 +78,8 @@ impl Service {
         Ok(Service { router, estate })
     }
 
-    /// Answers one request: routes it, carries its command out, and prints the reply. The clock is read once for a command
-    /// that is asked, and not otherwise. What the keeper did not commit is not done.
+    /// Answers one request: routes it, carries its command out, and prints the reply. The clock is read once for a
+    /// command that is asked, and not otherwise. What the keeper did not commit is not done.
     pub fn answer<R: Keeper, C: Clock>(
         &mut self,
         alloc: Global,
@@ -86,7 +87,8 @@ impl Service {
         clock: &mut C,
         request: &Request,
     ) -> Answered
-        ensures { Answers self.old self.new (R.store keeper.old) (R.store keeper.new) (C.readings clock.old) (C.readings clock.new) request.now result }
+        ensures { Answers self.old self.new (R.store keeper.old) (R.store keeper.new)
+            (C.readings clock.old) (C.readings clock.new) request.now result }
     {
         let reply = reply_to(
             alloc,

@@ -6,7 +6,7 @@ use Rattle.core_rows.specs.Opening.{Refuses}
 use Rattle.core_rows.specs.declared.opening.OpenFault.{OpenFault}
 use Rattle.core_rows.specs.declared.opening.OpenFault.TheVariants as fault
 use Rattle.serial_run.specs.declared.words.Setup.{Setup}
-use Rattle.serial_run.specs.Runs.{Begins, HasCauseToRefuse, IsUnread, Opened, Refused, Runs, Unopened, clock_of, start_fault}
+use Rattle.serial_run.specs.Runs.{HasCauseToRefuse, IsUnread, Opened, Refused, Runs, RunsOver, Unopened, clock_of, start_fault}
 use Rattle.serial_run.specs.Words.{are_read, now_of, setup_of}
 use Rattle.serial_run.specs.Worlds.{Inlet, Outlet, outside}
 use Rattle.serial_run.proofs.Served.{session_still}
@@ -39,7 +39,7 @@ not_opened words source source' sink sink' keeper keeper' told told' run run' st
 
 -- a run whose words say a moment, over a clock that stands still at it
 pub runs_still : (words : List (List ℕ)) (source source' : Inlet) (sink sink' : Outlet) (keeper keeper' : Store) (told run' : Readings) (moment status : ℕ)
-    → are_read words ≡ true → now_of words ≡ Some moment → Begins (outside source sink keeper (standing_still moment)) (outside source' sink' keeper' run') status
+    → are_read words ≡ true → now_of words ≡ Some moment → RunsOver (outside source sink keeper (standing_still moment)) (outside source' sink' keeper' run') status
     → Runs words (outside source sink keeper told) (outside source' sink' keeper' told) status
 runs_still words source source' sink sink' keeper keeper' told run' moment status read now (inl opened) = inl (record {
   read = read;

@@ -15,7 +15,8 @@ use Rattle.serial_run.specs.Sessions.{Session}
 use Rattle.serial_run.specs.Words.{are_read, now_of}
 use Rattle.serial_run.specs.Worlds.{Outside, World, world}
 
--- the readings of the clock of a run: one that stands still at the moment that the words say, or the one that is handed in
+-- the readings of the clock of a run: one that stands still at the moment that the words say, or the one that is
+-- handed in
 abbrev pub clock_of : Option ℕ → Readings → Readings
 clock_of (Some moment) told = standing_still moment
 clock_of None told = told
@@ -103,5 +104,5 @@ pub record Unopened (before after : Outside) (status : ℕ) : Type 0 where
   pub clock : after.clock ≡ before.clock
 
 -- once the words are read, the rows were opened and there was a session, or they were not
-abbrev pub Begins : Outside → Outside → ℕ → Type 0
-Begins before after status = Opened before after status ⊎ Unopened before after status
+abbrev pub RunsOver : Outside → Outside → ℕ → Type 0
+RunsOver before after status = Opened before after status ⊎ Unopened before after status

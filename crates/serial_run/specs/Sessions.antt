@@ -52,8 +52,8 @@ pub record KeepsRows (w w' : World) : Type 0 where
   pub clock : w'.clock ≡ w.clock
   pub state : w'.state ≡ w.state
 
--- The next request was taken and carried out, its command at the moment that the clock gave, which led from the rows and the store
--- before to those after. Entries that were the records of the rows are so afterwards.
+-- The next request was taken and carried out, its command at the moment that the clock gave, which led from the rows
+-- and the store before to those after. Entries that were the records of the rows are so afterwards.
 pub record CarriesOut (w w' : World) (e : Exchange) : Type 0 where
   pub asked : Asks w w' (got.Request e.request)
   pub clock : AsksAt e.moment w.clock w'.clock

@@ -54,11 +54,12 @@ end_behind_all requests ending =
 abbrev pub end_due : List Request → Ending → End
 end_due messages ending = end_behind_all (answered messages) ending
 
--- The run did what its input asks, and nothing else: the requests that are answered, each with its moment, its outcome and its reply,
--- lead the row machine from the first rows to some state, and the store from the one after the opening to the one at the end; the
--- moments are the readings that the clock told, in their order, one for each command that was asked, and all before the year 10000;
--- the exit status is the one that is due, the sink took the replies in their order, the keeper has the records of that state, and its
--- count rose at least once for each request in which it failed.
+-- The run did what its input asks, and nothing else: the requests that are answered, each with its moment, its
+-- outcome and its reply, lead the row machine from the first rows to some state, and the store from the one after the
+-- opening to the one at the end; the moments are the readings that the clock told, in their order, one for each
+-- command that was asked, and all before the year 10000; the exit status is the one that is due, the sink took the
+-- replies in their order, the keeper has the records of that state, and its count rose at least once for each request
+-- in which it failed.
 pub record RunsText (messages : List Request) (ending : Ending) (status : ℕ) (held held' : Option (List ℕ)) (clock clock' : Readings) (keeper keeper' : Store) : Type 0 where
   pub exchanges : List Exchange
   pub state : State

@@ -23,8 +23,8 @@ is_equals_sign byte = byte == 61
 abbrev pub joined : List ℕ → Given
 joined word = (before_first is_equals_sign word, Some (after_first is_equals_sign word))
 
--- The options that words give, in their order: a word with an equals sign is an option, and another one is a name with the next word
--- as its value. The name at the end of the words has no value.
+-- The options that words give, in their order: a word with an equals sign is an option, and another one is a name
+-- with the next word as its value. The name at the end of the words has no value.
 abbrev pub options_in : List (List ℕ) → List Given
 options_in [] = []
 options_in (word ∷ []) = (if list_any is_equals_sign word then joined word else (word, None)) ∷ []
@@ -66,7 +66,7 @@ abbrev pub are_read : List (List ℕ) → Bool
 are_read [] = false
 are_read (word ∷ more) = bytes_eq word (codes "run") && are_options (options_in more)
 
--- the value of the option of this name in the words, behind the first one
+-- the value of the option of this name, in the words after the command
 abbrev pub value_in : List (List ℕ) → List ℕ → Option (List ℕ)
 value_in [] name = None
 value_in (word ∷ more) name = value_given (options_in more) name

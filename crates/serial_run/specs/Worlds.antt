@@ -25,7 +25,8 @@ pub record Outlet : Type 0 where
 abbrev pub outlet : {K : Type 0} → (K → Option (List ℕ)) → (K → ℕ) → K → Outlet
 outlet held failures sink = record { held = held sink; failures = failures sink }
 
--- what a program sees of the outside at one moment: a source, a sink, a keeper, and what a clock tells of its readings to come
+-- what a program sees of the outside at one moment: a source, a sink, a keeper, and what a clock tells of its
+-- readings to come
 pub record Outside : Type 0 where
   pub source : Inlet
   pub sink : Outlet

@@ -3,7 +3,7 @@ ghost use Rattle.size_values.specs.Causes.{Rose};
 ghost use Rattle.http_heads.specs.Messages.{Ending, ended, Splits};
 ghost use Rattle.http_heads.specs.declared.request.Request.{Request};
 ghost use Rattle.serial_run.specs.Most.{most_requests};
-ghost use Rattle.serial_run.specs.Runs.{Begins, Runs, SessionFrom, clock_of, start_fault, start_status, status_of};
+ghost use Rattle.serial_run.specs.Runs.{Runs, RunsOver, SessionFrom, clock_of, start_fault, start_status, status_of};
 ghost use Rattle.serial_run.specs.Texts.{RunsText, is_fault};
 ghost use Rattle.serial_run.specs.Words.{are_read, now_of};
 ghost use Rattle.serial_run.specs.Worlds.{inlet, outlet, outside, world};
@@ -104,7 +104,7 @@ fn run_over<S: Source, K: Sink, R: Keeper, C: Clock>(
     mut keeper: R,
     clock: &mut C,
 ) -> (u8, R)
-    ensures { Begins
+    ensures { RunsOver
         (outside (inlet S.left S.ended S.failures source.old) (outlet K.held K.failures sink.old) (R.store keeper) (C.readings clock.old))
         (outside (inlet S.left S.ended S.failures source.new) (outlet K.held K.failures sink.new) (R.store result.1) (C.readings clock.new)) result.0 }
 {
@@ -142,8 +142,8 @@ fn run<S: Source, K: Sink, R: Keeper, C: Clock>(
     }
 }
 
-/// All that the program does: one session over the source and the sink, with the words of the command line: `run`, and its
-/// options. It gives the exit status, and the keeper back.
+/// All that the program does: one session over the source and the sink, with the words of the command line: `run`,
+/// and its options. It gives the exit status, and the keeper back.
 pub fn run_main<S: Source, K: Sink, R: Keeper, C: Clock>(
     alloc: Global,
     words: &[String],
@@ -175,7 +175,8 @@ pub fn run_main<S: Source, K: Sink, R: Keeper, C: Clock>(
     ensures keeper_fault { result.0 ≡ 6 → Rose (R.store keeper).failures (R.store result.1).failures }
     ensures words { (result.0 ≡ 8) ↔ (are_read (map (λ w. string_bytes w) words.now) ≡ false) }
     // Where the words say a moment, the clock that is handed in is not read.
-    ensures still { IfSome (now_of (map (λ w. string_bytes w) words.now)) (λ _. C.readings clock.new ≡ C.readings clock.old) }
+    ensures still { IfSome (now_of (map (λ w. string_bytes w) words.now))
+        (λ _. C.readings clock.new ≡ C.readings clock.old) }
     ensures has_entries { result.0 ≡ 13 → IfSome (R.store keeper).told (λ entries. entries ≢ []) }
     ensures entries { IfSome (R.store keeper).told (λ entries. entries ≢ [] → are_read (map (λ w. string_bytes w) words.now) ≡ true →
         ¬ (Rose (R.store keeper).failures (R.store result.1).failures) → (K.held sink.new ≡ K.held sink.old) × ((result.0 ≡ 13) ⊎ (result.0 ≡ 9))) }
