@@ -1,8 +1,9 @@
 //! Requests from the bytes of a source, in whatever pieces they come, and the bytes of replies. The traits of the
-//! outside, `Source` and `Sink`, with an object in memory and one over std's readers and writers for each.
+//! outside, `Source`, `Sink` and `Clock`, with an object in memory and one over std or the system for each.
 #![tactic(auto)]
 
 mod buffer;
+mod clock;
 mod laws;
 mod read;
 mod reply;
@@ -10,6 +11,7 @@ mod sink;
 mod source;
 
 pub use buffer::{Buffer, PIECE, pieces_have_64_kib};
+pub use clock::{Clock, StillClock, SystemClock};
 pub use http_heads::{HeadFault, MAX_BODY, MAX_FIELDS, MAX_HEAD, Request};
 pub use laws::{pieces_agree, steps_split};
 pub use read::{Got, read_request};

@@ -1,7 +1,7 @@
-//! `incus_run`: answers the requests on standard input on standard output, over rows in memory.
+//! `incus_run`: answers the requests on standard input on standard output, over rows in memory, by the clock of the system.
 #![tactic(auto)]
 
-use http_front::{ReaderSource, WriterSink};
+use http_front::{ReaderSource, SystemClock, WriterSink};
 use record_keeper::MapKeeper;
 use serial_run::{StartFault, run_main};
 use size_values::Seq;
@@ -34,6 +34,14 @@ fn main(rt: HostRuntime) -> ExitCode {
     let mut source = ReaderSource::new(rt.stdin());
     let mut sink = WriterSink::new(rt.stdout());
     let keeper = MapKeeper::new(rt.alloc(), Seq::new(rt.alloc()));
-    let (status, _keeper) = run_main(rt.alloc(), &words, &mut source, &mut sink, keeper);
+    let mut clock = SystemClock::new(rt);
+    let (status, _keeper) = run_main(
+        rt.alloc(),
+        &words,
+        &mut source,
+        &mut sink,
+        keeper,
+        &mut clock,
+    );
     ExitCode::from(status)
 }

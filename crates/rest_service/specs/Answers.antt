@@ -1,7 +1,10 @@
 -- How a service opens and answers.
-use Rattle.std.specs.Prelude.{◌≡◌, ◌≢◌, ℕ, List, [], ◌∷◌, Bool, Some, IfSome, Result, Ok, Err}
+use Rattle.std.specs.Prelude.{◌≡◌, ◌≢◌, ◌<◌, ℕ, List, [], ◌∷◌, Bool, Option, Some, IfSome, Result, Ok, Err}
+use Rattle.std.specs.Option.{option_to_list}
+use Rattle.size_values.specs.Moments.{moment_limit}
 use Rattle.record_keeper.specs.Store.{Store}
 use Rattle.http_heads.specs.declared.request.Request.{Request}
+use Rattle.http_front.specs.Clocks.{Readings, Reads}
 use Rattle.http_front.specs.Replies.{reply_text, no_memory_body}
 use Rattle.records.specs.declared.notices.Untold.{Untold}
 use Rattle.records.specs.declared.replies.Reply.{Reply}
@@ -35,21 +38,32 @@ HasText (written.Printed bytes) r last = bytes ≡ printed r last
 HasText written.NoMemory r last = no_memory_text last ≡ printed r last
 HasText written.Unprinted r last = r ≢ reply.NoMemory
 
--- One request was carried out, with an outcome that the keeper's count bears out; its changes went to the store, and these notices
--- are left untold. Entries that were the records of the rows are so afterwards.
-pub record Replies (s s' : State) (untold : List Untold) (store store' : Store) (request : Request) (r : Reply) : Type 0 where
+-- The clock was read for a command that was asked at this moment, before the year 10000, or for none it was not read.
+pub record AsksAt (moment : Option ℕ) (told told' : Readings) : Type 0 where
+  pub read : Reads told (option_to_list moment) told'
+  pub early : IfSome moment (λ at. at < moment_limit)
+
+-- One request was carried out, its command at the moment that the clock gave, with an outcome that the keeper's count
+-- bears out; its changes went to the store, and these notices are left untold. Entries that were the records of the
+-- rows are so afterwards.
+pub record Replies (s s' : State) (untold : List Untold) (store store' : Store) (told told' : Readings) (request : Request) (r : Reply) : Type 0 where
+  pub moment : Option ℕ
   pub outcome : Outcome
+  pub clock : AsksAt moment told told'
   pub caused : IsCaused outcome store.failures store'.failures
-  pub stored : Stores (request_changes s request) outcome store store'
-  pub is : carried_out s outcome (command_of request 0) ≡ Some (and_then (answered r) (telling untold s'))
+  pub stored : Stores (request_changes s request moment) outcome store store'
+  pub is : carried_out s moment outcome (command_of request 0) ≡ Some (and_then (answered r) (telling untold s'))
   pub kept : KeepsRecords store.told s store'.told s'
 
--- One request was answered: it came to a reply and to the rows and the store afterwards, with an outcome that the keeper's count
--- bears out, and what is to be written is that reply. Entries that were the records of the rows are so afterwards.
-pub record Answers (s s' : State) (store store' : Store) (request : Request) (result : Answered) : Type 0 where
+-- One request was answered: it came to a reply and to the rows and the store afterwards, its command at the moment
+-- that the clock gave, with an outcome that the keeper's count bears out, and what is to be written is that reply.
+-- Entries that were the records of the rows are so afterwards.
+pub record Answers (s s' : State) (store store' : Store) (told told' : Readings) (request : Request) (result : Answered) : Type 0 where
+  pub moment : Option ℕ
   pub outcome : Outcome
   pub reply : Reply
+  pub clock : AsksAt moment told told'
   pub caused : IsCaused outcome store.failures store'.failures
-  pub leads : LeadTo s store (exchange request outcome reply ∷ []) s' store'
+  pub leads : LeadTo s store (exchange request moment outcome reply ∷ []) s' store'
   pub text : HasText result reply request.last
   pub kept : KeepsRecords store.told s store'.told s'

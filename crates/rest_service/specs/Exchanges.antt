@@ -1,6 +1,7 @@
 -- Requests one after the other, each carried out by the row machine, while nobody listens to what is told.
 use Rattle.std.specs.Prelude.{◌≡◌, ℕ, List, [], ◌∷◌, Bool, true, Option, Some, None, option_map, Result, Ok, Err}
 use Rattle.std.specs.List.{flat_map, sum_by}
+use Rattle.std.specs.Option.{option_to_list}
 use Rattle.http_heads.specs.declared.request.Request.{Request}
 use Rattle.http_heads.specs.declared.request.HeadFault.{HeadFault}
 use Rattle.http_heads.specs.declared.request.HeadFault.TheVariants as fault
@@ -24,15 +25,17 @@ use Rattle.core_rows.specs.Asked.{answered, changes_of}
 use Rattle.rest_replies.specs.Replies.{printed_of}
 use Rattle.rest_routes.specs.Commands.{command_of}
 
--- a request that was taken, how the outside fared with it, and its reply
+-- A request that was taken, the moment at which its command was asked, how the outside fared with it, and its reply.
+-- There is no moment where no command was asked.
 pub record Exchange : Type 0 where
   pub request : Request
+  pub moment : Option ℕ
   pub outcome : Outcome
   pub reply : Reply
 
--- this request, with this outcome and this reply
-abbrev pub exchange : Request → Outcome → Reply → Exchange
-exchange request outcome reply = record { request = request; outcome = outcome; reply = reply }
+-- this request, with this moment, this outcome and this reply
+abbrev pub exchange : Request → Option ℕ → Outcome → Reply → Exchange
+exchange request moment outcome reply = record { request = request; moment = moment; outcome = outcome; reply = reply }
 
 -- ---- one request
 
@@ -42,40 +45,56 @@ refused s refusal well = Some (and_then (answer.Reply (reply.Refused refusal)) s
 refused s refusal (keeper_failed rise) = None
 refused s refusal no_memory = Some (and_then answer.NoMemory s)
 
--- the command that a request asks for is one step of the machine; there is no clock yet, so its moment is 0
-abbrev pub carried_out : State → Outcome → Result Command Refusal → Option After
-carried_out s outcome (Ok command) = step s (event.Ask command 0) outcome
-carried_out s outcome (Err refusal) = refused s refusal outcome
+-- memory was refused before the command of a request was known: nothing changes
+abbrev pub unasked : State → Outcome → Option After
+unasked s well = None
+unasked s (keeper_failed rise) = None
+unasked s no_memory = Some (and_then answer.NoMemory s)
+
+-- The command that a request asks for is one step of the machine, at the moment at which it was asked. A request
+-- without a moment was refused by its form, or memory was refused before its command was known; one that is refused
+-- by its form has no moment.
+abbrev pub carried_out : State → Option ℕ → Outcome → Result Command Refusal → Option After
+carried_out s (Some moment) outcome (Ok command) = step s (event.Ask command moment) outcome
+carried_out s (Some moment) outcome (Err refusal) = None
+carried_out s None outcome (Ok command) = unasked s outcome
+carried_out s None outcome (Err refusal) = refused s refusal outcome
 
 -- nobody listens: the notices are dropped
 abbrev pub unheard : State → State
 unheard s = record s { notices = []; next_notice = 1 }
 
 -- What a request comes to: its answer, and the state after it. None where the outcome is not possible with it.
-unfoldable pub served : State → Request → Outcome → Option After
-served s request outcome = option_map (λ after. and_then after.answer (unheard after.state)) (carried_out s outcome (command_of request 0))
+unfoldable pub served : State → Request → Option ℕ → Outcome → Option After
+served s request moment outcome =
+    option_map (λ after. and_then after.answer (unheard after.state)) (carried_out s moment outcome (command_of request 0))
 
--- the changes of rows that a request is to commit: those of the command that it asks for, and none where its form is refused
-abbrev pub asked_changes : State → Result Command Refusal → List RowChange
-asked_changes s (Ok command) = changes_of s command 0
-asked_changes s (Err refusal) = []
+-- the changes of rows that a request is to commit: those of the command that was asked, and none where no command was
+abbrev pub asked_changes : State → Option ℕ → Result Command Refusal → List RowChange
+asked_changes s (Some moment) (Ok command) = changes_of s command moment
+asked_changes s (Some moment) (Err refusal) = []
+asked_changes s None asked = []
 
-unfoldable pub request_changes : State → Request → List RowChange
-request_changes s request = asked_changes s (command_of request 0)
+unfoldable pub request_changes : State → Request → Option ℕ → List RowChange
+request_changes s request moment = asked_changes s moment (command_of request 0)
 
 -- ---- one after the other
 
 -- One request comes to its reply, and from one state and store to the next: its changes go to the store in one call, and
 -- without changes the keeper is not called.
 pub record Leads (s : State) (store : Store) (e : Exchange) (s' : State) (store' : Store) : Type 0 where
-  pub comes : served s e.request e.outcome ≡ Some (and_then (answered e.reply) s')
-  pub stored : Stores (request_changes s e.request) e.outcome store store'
+  pub comes : served s e.request e.moment e.outcome ≡ Some (and_then (answered e.reply) s')
+  pub stored : Stores (request_changes s e.request e.moment) e.outcome store store'
 
 -- Exchanges lead from one state and store to another: each request comes to its reply, and to the state and the store in which
 -- the next one is taken.
 abbrev pub LeadTo : State → Store → List Exchange → State → Store → Type 0
 LeadTo s store [] s' store' = (s ≡ s') × (store ≡ store')
 LeadTo s store (e ∷ more) s' store' = (next : State) × (kept : Store) × Leads s store e next kept × LeadTo next kept more s' store'
+
+-- the moments at which commands were asked, in their order: one for each command
+abbrev pub moments_of : List Exchange → List ℕ
+moments_of exchanges = flat_map (λ e. option_to_list e.moment) exchanges
 
 -- how often the keeper failed: at most once for a request
 abbrev pub failure_of : Outcome → ℕ

@@ -6,15 +6,12 @@ ghost use Rattle.rest_service.specs.Answers.{Answers, Opens, Replies};
 use crate::answers::{Answered, BOOT, answer_for};
 use core_objects::do_object;
 use core_rows::{Estate, OpenFault, load_rows, refused_reply};
-use http_front::Request;
+use http_front::{Clock, Request};
 use record_keeper::Keeper;
 use records::Reply;
 use rest_routes::Router;
 use std::alloc::Global;
 use std::marker::Model;
-
-/// The moment of each request, in seconds since 1970: there is no clock yet, and no reply tells a moment.
-const MOMENT: u64 = 0;
 
 /// Takes one request after the other. Contracts see the state of the row machine that its rows are.
 #[derive(Drop)]
@@ -44,20 +41,23 @@ fn drop_told(estate: &mut Estate)
     while let Some(_notice) = estate.take_told() {}
 }
 
-/// Carries a request out. The notices of its change are left in the estate.
-fn reply_to<R: Keeper>(
+/// Carries a request out, its command at the next moment of the clock. The notices of its change are left in the
+/// estate.
+fn reply_to<R: Keeper, C: Clock>(
     alloc: Global,
     router: &Router,
     estate: &mut Estate,
     keeper: &mut R,
+    clock: &mut C,
     request: &Request,
 ) -> Reply
     requires quiet { estate.old.untold ≡ [] }
-    ensures { Replies estate.old.state estate.new.state estate.new.untold (R.store keeper.old) (R.store keeper.new) request.now result }
+    ensures { Replies estate.old.state estate.new.state estate.new.untold (R.store keeper.old) (R.store keeper.new)
+        (C.readings clock.old) (C.readings clock.new) request.now result }
 {
     match router.route(alloc, request, BOOT) {
         Ok(command) => {
-            let reply = do_object(alloc, estate, keeper, &command, MOMENT);
+            let reply = do_object(alloc, estate, keeper, &command, clock.now());
             drop(command);
             reply
         }
@@ -78,17 +78,26 @@ impl Service {
         Ok(Service { router, estate })
     }
 
-    /// Answers one request: routes it, carries its command out, and prints the reply. What the keeper did not commit
-    /// is not done.
-    pub fn answer<R: Keeper>(
+    /// Answers one request: routes it, carries its command out, and prints the reply. The clock is read once for a
+    /// command that is asked, and not otherwise. What the keeper did not commit is not done.
+    pub fn answer<R: Keeper, C: Clock>(
         &mut self,
         alloc: Global,
         keeper: &mut R,
+        clock: &mut C,
         request: &Request,
     ) -> Answered
-        ensures { Answers self.old self.new (R.store keeper.old) (R.store keeper.new) request.now result }
+        ensures { Answers self.old self.new (R.store keeper.old) (R.store keeper.new)
+            (C.readings clock.old) (C.readings clock.new) request.now result }
     {
-        let reply = reply_to(alloc, &self.router, &mut self.estate, keeper, request);
+        let reply = reply_to(
+            alloc,
+            &self.router,
+            &mut self.estate,
+            keeper,
+            clock,
+            request,
+        );
         drop_told(&mut self.estate);
         let answered = answer_for(alloc, &reply, request.last);
         drop(reply);

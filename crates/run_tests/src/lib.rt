@@ -35,3 +35,5 @@ mod sizes;
 mod usage;
 #[cfg(test)]
 mod volumes;
+#[cfg(test)]
+mod words;

@@ -1,6 +1,6 @@
 //! Runs of the program over objects in memory.
 
-use http_front::{ByteSink, ByteSource};
+use http_front::{ByteSink, ByteSource, StillClock};
 use record_keeper::{Keeper, MapKeeper};
 use serial_run::run_main;
 use size_values::{Entry, NoMemory, Seq, Text};
@@ -101,7 +101,8 @@ fn end_over(
     sink: &mut ByteSink,
     keeper: MapKeeper,
 ) -> End {
-    let (status, mut keeper) = run_main(alloc, words, source, sink, keeper);
+    let mut clock = StillClock::new(0);
+    let (status, mut keeper) = run_main(alloc, words, source, sink, keeper, &mut clock);
     let kept = kept_in(&mut keeper);
     drop(keeper);
     End { status, kept }

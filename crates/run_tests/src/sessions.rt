@@ -238,28 +238,6 @@ fn failing_writes(rt: HostRuntime) {
     }
 }
 
-/// Words that are not read.
-const WORDS: [&[&str]; 6] = [
-    &[],
-    &["runs"],
-    &["run", "run"],
-    &["--help"],
-    &["run", "--steps", "x"],
-    &[""],
-];
-
-#[test]
-fn words_that_are_not_read(rt: HostRuntime) {
-    for words in WORDS {
-        let setting = Setting { words, ..WELL };
-        let end = End { status: 8, kept: 0 };
-        assert!(rt;
-            is_run(rt.alloc(), &[LAB], setting, end, &[], true) == Ok(true),
-            "{words:?}"
-        );
-    }
-}
-
 #[test]
 fn entries_of_an_earlier_run(rt: HostRuntime) {
     let setting = Setting {

@@ -1,3 +1,5 @@
+pub mod Beginning
+pub mod Reading
 pub mod Served
 pub mod Tops
 pub mod Turning

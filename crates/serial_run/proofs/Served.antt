@@ -2,16 +2,21 @@
 use Rattle.std.proofs.Common.{◌≡◌, ◌≢◌, ◌==◌, ◌<◌, ◌≤◌, ◌+◌, ◌++◌, ◌⊎◌, ℕ, List, [], ◌∷◌, length, Bool, true, false, Option, Some, None, IfSome, refl, ap, sym, ◌∙◌, subst, arith, inl, inr, eqb-true, append_assoc}
 use Rattle.std.proofs.lemmas.Bool.Decides.{nat_tests}
 use Rattle.std.proofs.lemmas.List.{append-nil, length-append}
+use Rattle.std.proofs.lemmas.List.Elements.{All-cons, All-nil}
 use Rattle.std.proofs.lemmas.List.Sums.{sum_by-cons}
 use Rattle.std.specs.Io.KnownBytes.{Appends}
+use Rattle.std.specs.List.{All}
+use Rattle.std.specs.Option.{option_to_list}
 use Rattle.size_values.specs.Causes.{RoseBy}
+use Rattle.size_values.specs.Moments.{moment_limit}
 use Rattle.http_heads.specs.Messages.{Begins}
+use Rattle.http_front.specs.Clocks.{Readings, Reads, after_next, standing_still}
 use Rattle.http_front.specs.Held.{most_held}
 use Rattle.http_front.specs.Reading.{ReadsNext}
 use Rattle.http_front.specs.declared.read.Got.TheVariants as got
 use Rattle.row_machine.specs.machine.Step.{Outcome, well, keeper_failed, no_memory}
 use Rattle.core_rows.specs.Stores.{IsCaused, KeepsRecords}
-use Rattle.rest_service.specs.Exchanges.{Exchange, LeadTo, printed, printed_replies, failure_of, failures_in}
+use Rattle.rest_service.specs.Exchanges.{Exchange, LeadTo, moments_of, printed, printed_replies, failure_of, failures_in}
 use Rattle.serial_run.specs.declared.session.SessionEnd.{SessionEnd}
 use Rattle.serial_run.specs.declared.session.SessionEnd.TheVariants as end
 use Rattle.serial_run.specs.Most.{most_requests}
@@ -47,14 +52,33 @@ caused_rose well before now caused = omega (arith, caused)
 caused_rose (keeper_failed rise) before now caused = omega (arith, rise.rose, caused.0, caused.1)
 caused_rose no_memory before now caused = omega (arith, caused)
 
+-- ---- what a clock gives
+
+-- it was read, and then read again
+reads_twice : (a b c : Readings) (xs ys : List ℕ) → Reads a xs b → Reads b ys c → Reads a (xs ++ ys) c
+reads_twice a b c [] ys same then = subst (λ told. Reads told ys c) same then
+reads_twice a b c (x ∷ xs) ys first then = (first.0, reads_twice (after_next a) b c xs ys first.1 then)
+
+-- one that stands still tells the same after it was read
+still_reads : (moment : ℕ) (xs : List ℕ) (told : Readings) → Reads (standing_still moment) xs told → told ≡ standing_still moment
+still_reads moment [] told same = same
+still_reads moment (x ∷ xs) told reads = still_reads moment xs told reads.1
+
+-- a moment before the year 10000, if there is one, and then more of them
+early_more : (at : Option ℕ) (xs : List ℕ) → IfSome at (λ m. m < moment_limit) → All (λ m. m < moment_limit) xs → All (λ m. m < moment_limit) (option_to_list at ++ xs)
+early_more None xs first then = then
+early_more (Some m) xs first then = All-cons (λ m. m < moment_limit) m xs first then
+
 -- ---- all requests together
 
--- What serving requests comes to in all: the bytes to come began with them, the sink took their replies in order, and they led from
--- the rows and the store before to those after. No count of failures fell.
+-- What serving requests comes to in all: the bytes to come began with them, the sink took their replies in order, they led from the
+-- rows and the store before to those after, and the clock was read for their commands. No count of failures fell.
 pub record Together (w : World) (exchanges : List Exchange) (w' : World) : Type 0 where
   pub read : IfSome (input w) (λ bytes. (rest : List ℕ) × Begins bytes (requests_of exchanges) rest × (input w' ≡ Some rest))
   pub written : Appends w.sink.held w'.sink.held (printed_replies exchanges)
   pub leads : LeadTo w.state w.keeper exchanges w'.state w'.keeper
+  pub clock : Reads w.clock (moments_of exchanges) w'.clock
+  pub early : All (λ m. m < moment_limit) (moments_of exchanges)
   pub kept : KeepsRecords w.keeper.told w.state w'.keeper.told w'.state
   pub failed : RoseBy (failures_in exchanges) w.keeper.failures w'.keeper.failures
   pub reads : w.source.failures ≤ w'.source.failures
@@ -72,6 +96,8 @@ none_together w = record {
   read = same_input (input w) w refl;
   written = appends_nothing w.sink.held;
   leads = (refl, refl);
+  clock = refl;
+  early = All-nil (λ m. m < moment_limit);
   kept = λ start is. is;
   failed = omega arith;
   reads = omega arith;
@@ -95,6 +121,8 @@ first_together w next w' e more serves then = record {
   read = reads_first next w' e more (input w) serves.carried.asked.next then.read;
   written = appends_twice w.sink.held next.sink.held w'.sink.held (printed e.reply e.request.last) (printed_replies more) serves.replied.written then.written;
   leads = (next.state, next.keeper, serves.carried.leads, then.leads);
+  clock = reads_twice w.clock next.clock w'.clock (option_to_list e.moment) (moments_of more) serves.carried.clock.read then.clock;
+  early = early_more e.moment (moments_of more) serves.carried.clock.early then.early;
   kept = λ start is. then.kept start (serves.carried.kept start is);
   failed = rose (failures_in (e ∷ more)) (sum_by-cons (λ x. failure_of x.outcome) e more);
   reads = omega (arith, serves.carried.asked.later, then.reads);
@@ -108,6 +136,35 @@ first_together w next w' e more serves then = record {
 pub together : (w w' : World) (exchanges : List Exchange) → ServesAll w exchanges w' → Together w exchanges w'
 together w w' [] same = subst (Together w []) same (none_together w)
 together w w' (e ∷ more) serves = first_together w serves.0 w' e more serves.1 (together serves.0 w' more serves.2)
+
+-- the clock of a session gave the moments of its requests, and perhaps one more
+stop_reads : (ends : SessionEnd) (w w' : World) → Stops ends w w' → (moments : List ℕ) × Reads w.clock moments w'.clock
+stop_reads end.Ended w w' stops = ([], stops.1.clock)
+stop_reads end.Cut w w' stops = ([], stops.2.clock)
+stop_reads (end.Malformed fault) w w' stops = ([], stops.1.clock)
+stop_reads end.ReadFault w w' stops = ([], stops.1.clock)
+stop_reads end.WriteFault w w' (inl stops) = (option_to_list stops.0.moment, stops.1.clock.read)
+stop_reads end.WriteFault w w' (inr stops) = ([], stops.2.clock)
+stop_reads end.Spent w w' same = ([], ap (λ v. v.clock) same)
+stop_reads end.NoMemory w w' (inl stops) = ([], stops.1.clock)
+stop_reads end.NoMemory w w' (inr (inl stops)) = ([], stops.2.clock)
+stop_reads end.NoMemory w w' (inr (inr stops)) = (option_to_list stops.0.moment, stops.1.clock.read)
+
+-- a clock that stands still tells the same after a session
+pub session_still : (moment : ℕ) (w w' : World) (ends : SessionEnd) → w.clock ≡ standing_still moment → Session w w' ends → w'.clock ≡ standing_still moment
+session_still moment w w' ends still s = by s.stops where
+  all : Together w s.exchanges s.behind
+  all = together w s.behind s.exchanges s.serves
+
+  then : (told : Readings) (more : List ℕ) → Reads s.behind.clock more told → told ≡ standing_still moment
+  then told more reads = still_reads moment (moments_of s.exchanges ++ more) told
+      (subst (λ known. Reads known (moments_of s.exchanges ++ more) told) still
+      (reads_twice w.clock s.behind.clock told (moments_of s.exchanges) more all.clock reads))
+
+  by : (AllGoOn s.exchanges × Stops ends s.behind w') ⊎ (OnlyFinalEnds s.exchanges × StopsBehindFinal ends × (w' ≡ s.behind)) → w'.clock ≡ standing_still moment
+  by (inl (going, stops)) = let reads : (moments : List ℕ) × Reads s.behind.clock moments w'.clock = stop_reads ends s.behind w' stops in
+      then w'.clock reads.0 reads.1
+  by (inr (only, is, same)) = then w'.clock [] (ap (λ v. v.clock) same)
 
 -- the buffer never holds more than it may
 pub few_along : (w w' : World) (exchanges : List Exchange) → length w.held ≤ most_held → ServesAll w exchanges w' → length w'.held ≤ most_held

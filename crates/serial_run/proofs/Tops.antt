@@ -1,35 +1,38 @@
 -- The clauses of the top call, from what a run comes to.
 use Rattle.std.proofs.Common.{◌≡◌, ◌≢◌, ◌<◌, ◌≤◌, ◌++◌, ◌⊎◌, ℕ, List, [], ◌∷◌, length, Bool, true, false, Option, Some, None, IfSome, option_map, refl, ap, sym, ◌∙◌, subst, arith, inl, inr}
-use Rattle.std.proofs.lemmas.List.{length-take, append-nil}
+use Rattle.std.proofs.lemmas.List.{length-take}
 use Rattle.std.proofs.lemmas.Bool.{false≢true}
 use Rattle.std.specs.Io.KnownBytes.{Appends, prepend_known}
 use Rattle.size_values.specs.Causes.{Rose, RoseBy}
 use Rattle.size_values.specs.declared.entry.Entry.{Entry}
 use Rattle.http_heads.specs.Messages.{Splits, Ending, ended}
+use Rattle.http_front.specs.Clocks.{Reads}
 use Rattle.http_heads.specs.declared.request.Request.{Request}
 use Rattle.row_machine.specs.opening.Records.{records_of}
 use Rattle.core_rows.specs.Opening.{Refuses, first_state, opened_store}
 use Rattle.core_rows.specs.declared.opening.OpenFault.TheVariants as fault
 use Rattle.record_keeper.specs.Store.{Store}
-use Rattle.rest_service.specs.Exchanges.{LeadTo, printed_replies, failures_in}
+use Rattle.rest_service.specs.Exchanges.{LeadTo, moments_of, printed_replies, failures_in}
 use Rattle.serial_run.specs.declared.running.StartFault.{StartFault}
 use Rattle.serial_run.specs.declared.running.StartFault.TheVariants as start
 use Rattle.serial_run.specs.declared.session.SessionEnd.{SessionEnd}
 use Rattle.serial_run.specs.declared.session.SessionEnd.TheVariants as end
 use Rattle.serial_run.specs.Most.{most_requests}
-use Rattle.serial_run.specs.Runs.{are_run, status_of, start_status, Ran, Refused, Runs, HasCauseToRefuse}
+use Rattle.serial_run.specs.Runs.{status_of, start_status, clock_of, seen_with, IsUnread, Ran, Runs, HasCauseToRefuse}
 use Rattle.serial_run.specs.Sessions.{Session, Stops, StopsBehindFinal, AllGoOn, OnlyFinalEnds}
 use Rattle.serial_run.specs.Texts.{through_last, has_last, answered, end_due, RunsText, is_fault}
-use Rattle.serial_run.specs.Worlds.{Outside, World, world, input}
+use Rattle.serial_run.specs.Words.{are_read, now_of}
+use Rattle.serial_run.specs.Worlds.{Outside, World, world}
 use Rattle.serial_run.proofs.Served.{Together, together, appends_nothing, appends_twice}
 use Rattle.serial_run.proofs.Whole.{IsSettled, IsDue, session_due, text_at, not_full}
 
 -- ---- what a settled session did
 
--- what a settled stop wrote after the replies; the rows and the store are as before
+-- what a settled stop wrote after the replies; the rows, the store and the clock are as before
 record StopsQuietly (ends : SessionEnd) (w w' : World) : Type 0 where
   written : Appends w.sink.held w'.sink.held (text_at ends)
   keeper : w'.keeper ≡ w.keeper
+  clock : w'.clock ≡ w.clock
   state : w'.state ≡ w.state
 
 -- where nothing is written
@@ -41,14 +44,15 @@ same_quietly : (ends : SessionEnd) (w w' : World) → w' ≡ w → text_at ends 
 same_quietly ends w w' same none = subst (λ v. StopsQuietly ends w v) (sym same) (record {
   written = subst (Appends w.sink.held w.sink.held) (sym none) (appends_nothing w.sink.held);
   keeper = refl;
+  clock = refl;
   state = refl;
 })
 
 -- where it stops after requests that go on
 stops_quietly : (ends : SessionEnd) (w w' : World) → Stops ends w w' → IsSettled ends → StopsQuietly ends w w'
-stops_quietly end.Ended w w' stops settled = record { written = nothing_written w w' stops.2; keeper = stops.1.keeper; state = stops.1.state }
-stops_quietly end.Cut w w' stops settled = record { written = nothing_written w w' stops.3; keeper = stops.2.keeper; state = stops.2.state }
-stops_quietly (end.Malformed fault) w w' stops settled = record { written = stops.2.written; keeper = stops.1.keeper; state = stops.1.state }
+stops_quietly end.Ended w w' stops settled = record { written = nothing_written w w' stops.2; keeper = stops.1.keeper; clock = stops.1.clock; state = stops.1.state }
+stops_quietly end.Cut w w' stops settled = record { written = nothing_written w w' stops.3; keeper = stops.2.keeper; clock = stops.2.clock; state = stops.2.state }
+stops_quietly (end.Malformed fault) w w' stops settled = record { written = stops.2.written; keeper = stops.1.keeper; clock = stops.1.clock; state = stops.1.state }
 stops_quietly end.Spent w w' stops settled = same_quietly end.Spent w w' stops refl
 stops_quietly end.ReadFault w w' stops settled = absurd settled
 stops_quietly end.WriteFault w w' stops settled = absurd settled
@@ -77,11 +81,13 @@ opened before = world [] (record before { keeper = opened_store before.keeper })
 
 -- a settled session over a known text, from the first rows and their records on, does what the text asks
 session_text : (before : Outside) (w' : World) (ends : SessionEnd) (text : List ℕ) (messages : List Request) (ending : Ending) → Session (opened before) w' ends
-    → before.source.left ≡ Some text → Splits text messages ending → IsSettled ends → RunsText messages ending (status_of ends) before.sink.held w'.sink.held before.keeper w'.keeper
+    → before.source.left ≡ Some text → Splits text messages ending → IsSettled ends → RunsText messages ending (status_of ends) before.sink.held w'.sink.held before.clock w'.clock before.keeper w'.keeper
 session_text before w' ends text messages ending s known splits settled = record {
   exchanges = s.exchanges;
   state = w'.state;
   requests_are = due.requests_are;
+  moments = subst (Reads before.clock (moments_of s.exchanges)) (sym quiet.clock) all.clock;
+  early = all.early;
   leads = subst (λ kept. LeadTo first_state (opened_store before.keeper) s.exchanges w'.state kept) (sym quiet.keeper)
       (subst (λ rows. LeadTo first_state (opened_store before.keeper) s.exchanges rows s.behind.keeper) (sym quiet.state) all.leads);
   status_is = sym (ap (λ e. e.status) due.end_is);
@@ -153,8 +159,8 @@ no_start start.NoMemory n is small = let none : ⊥ = omega (arith, is, small) i
 -- status 2: the source has ended
 pub top_cut : (words : List (List ℕ)) (before after : Outside) (status : ℕ) → Runs words before after status → status ≡ 2 → after.source.ended ≡ true
 top_cut words before after status (inr refused) two = no_start refused.why 2 (sym refused.status_is ∙ two) (omega arith)
-top_cut words before after status (inl ran) two = by ran.ends (session_tells (opened before) (world ran.follows.held after ran.follows.state) ran.ends ran.follows.session) (sym ran.status_is ∙ two) where
-  by : (ends : SessionEnd) → Tells ends (opened before) (world ran.follows.held after ran.follows.state) → status_of ends ≡ 2 → after.source.ended ≡ true
+top_cut words before after status (inl ran) two = by ran.opened.ends (session_tells (opened (seen_with words before)) (world ran.opened.follows.held (seen_with words after) ran.opened.follows.state) ran.opened.ends ran.opened.follows.session) (sym ran.opened.status_is ∙ two) where
+  by : (ends : SessionEnd) → Tells ends (opened (seen_with words before)) (world ran.opened.follows.held (seen_with words after) ran.opened.follows.state) → status_of ends ≡ 2 → after.source.ended ≡ true
   by end.Cut tells is = tells
   by end.Ended tells is = let none : ⊥ = omega (arith, is) in absurd none
   by (end.Malformed fault) tells is = let none : ⊥ = omega (arith, is) in absurd none
@@ -166,8 +172,8 @@ top_cut words before after status (inl ran) two = by ran.ends (session_tells (op
 -- status 4: a read failed
 pub top_read_fault : (words : List (List ℕ)) (before after : Outside) (status : ℕ) → Runs words before after status → status ≡ 4 → Rose before.source.failures after.source.failures
 top_read_fault words before after status (inr refused) four = no_start refused.why 4 (sym refused.status_is ∙ four) (omega arith)
-top_read_fault words before after status (inl ran) four = by ran.ends (session_tells (opened before) (world ran.follows.held after ran.follows.state) ran.ends ran.follows.session) (sym ran.status_is ∙ four) where
-  by : (ends : SessionEnd) → Tells ends (opened before) (world ran.follows.held after ran.follows.state) → status_of ends ≡ 4 → Rose before.source.failures after.source.failures
+top_read_fault words before after status (inl ran) four = by ran.opened.ends (session_tells (opened (seen_with words before)) (world ran.opened.follows.held (seen_with words after) ran.opened.follows.state) ran.opened.ends ran.opened.follows.session) (sym ran.opened.status_is ∙ four) where
+  by : (ends : SessionEnd) → Tells ends (opened (seen_with words before)) (world ran.opened.follows.held (seen_with words after) ran.opened.follows.state) → status_of ends ≡ 4 → Rose before.source.failures after.source.failures
   by end.ReadFault tells is = tells
   by end.Ended tells is = let none : ⊥ = omega (arith, is) in absurd none
   by end.Cut tells is = let none : ⊥ = omega (arith, is) in absurd none
@@ -179,8 +185,8 @@ top_read_fault words before after status (inl ran) four = by ran.ends (session_t
 -- status 5: a write failed
 pub top_write_fault : (words : List (List ℕ)) (before after : Outside) (status : ℕ) → Runs words before after status → status ≡ 5 → Rose before.sink.failures after.sink.failures
 top_write_fault words before after status (inr refused) five = no_start refused.why 5 (sym refused.status_is ∙ five) (omega arith)
-top_write_fault words before after status (inl ran) five = by ran.ends (session_tells (opened before) (world ran.follows.held after ran.follows.state) ran.ends ran.follows.session) (sym ran.status_is ∙ five) where
-  by : (ends : SessionEnd) → Tells ends (opened before) (world ran.follows.held after ran.follows.state) → status_of ends ≡ 5 → Rose before.sink.failures after.sink.failures
+top_write_fault words before after status (inl ran) five = by ran.opened.ends (session_tells (opened (seen_with words before)) (world ran.opened.follows.held (seen_with words after) ran.opened.follows.state) ran.opened.ends ran.opened.follows.session) (sym ran.opened.status_is ∙ five) where
+  by : (ends : SessionEnd) → Tells ends (opened (seen_with words before)) (world ran.opened.follows.held (seen_with words after) ran.opened.follows.state) → status_of ends ≡ 5 → Rose before.sink.failures after.sink.failures
   by end.WriteFault tells is = tells
   by end.Ended tells is = let none : ⊥ = omega (arith, is) in absurd none
   by end.Cut tells is = let none : ⊥ = omega (arith, is) in absurd none
@@ -224,7 +230,7 @@ refuses_rose store store' (inr fails) = fails.rose
 
 -- status 6: the keeper failed
 pub top_keeper_fault : (words : List (List ℕ)) (before after : Outside) (status : ℕ) → Runs words before after status → status ≡ 6 → Rose before.keeper.failures after.keeper.failures
-top_keeper_fault words before after status (inl ran) six = not_of_session ran.ends 6 (sym ran.status_is ∙ six) (omega arith) six≢nine six≢ten
+top_keeper_fault words before after status (inl ran) six = not_of_session ran.opened.ends 6 (sym ran.opened.status_is ∙ six) (omega arith) six≢nine six≢ten
 top_keeper_fault words before after status (inr refused) six = by refused.why refused.cause (sym refused.status_is ∙ six) where
   by : (why : StartFault) → HasCauseToRefuse why words before.keeper after.keeper → start_status why ≡ 6 → Rose before.keeper.failures after.keeper.failures
   by start.KeeperFailed cause is = refuses_rose before.keeper after.keeper cause.1
@@ -233,17 +239,17 @@ top_keeper_fault words before after status (inr refused) six = by refused.why re
   by start.NoMemory cause is = let none : ⊥ = omega (arith, is) in absurd none
 
 -- status 8: the words are not read
-pub top_words : (words : List (List ℕ)) (before after : Outside) (status : ℕ) → Runs words before after status → status ≡ 8 → are_run words ≡ false
-top_words words before after status (inl ran) eight = not_of_session ran.ends 8 (sym ran.status_is ∙ eight) (omega arith) eight≢nine eight≢ten
+pub top_words : (words : List (List ℕ)) (before after : Outside) (status : ℕ) → Runs words before after status → status ≡ 8 → are_read words ≡ false
+top_words words before after status (inl ran) eight = not_of_session ran.opened.ends 8 (sym ran.opened.status_is ∙ eight) (omega arith) eight≢nine eight≢ten
 top_words words before after status (inr refused) eight = by refused.why refused.cause (sym refused.status_is ∙ eight) where
-  by : (why : StartFault) → HasCauseToRefuse why words before.keeper after.keeper → start_status why ≡ 8 → are_run words ≡ false
+  by : (why : StartFault) → HasCauseToRefuse why words before.keeper after.keeper → start_status why ≡ 8 → are_read words ≡ false
   by start.Words cause is = cause.0
   by start.KeeperFailed cause is = let none : ⊥ = omega (arith, is) in absurd none
   by start.HasEntries cause is = let none : ⊥ = omega (arith, is) in absurd none
   by start.NoMemory cause is = let none : ⊥ = omega (arith, is) in absurd none
 
 -- and where they are not read, that is the status
-pub top_not_read : (words : List (List ℕ)) (before after : Outside) (status : ℕ) → Runs words before after status → are_run words ≡ false → status ≡ 8
+pub top_not_read : (words : List (List ℕ)) (before after : Outside) (status : ℕ) → Runs words before after status → are_read words ≡ false → status ≡ 8
 top_not_read words before after status (inl ran) other = absurd (false≢true (sym other ∙ ran.read))
 top_not_read words before after status (inr refused) other = by refused.why refused.cause refused.status_is where
   by : (why : StartFault) → HasCauseToRefuse why words before.keeper after.keeper → status ≡ start_status why → status ≡ 8
@@ -254,7 +260,7 @@ top_not_read words before after status (inr refused) other = by refused.why refu
 
 -- status 13: the keeper has entries
 pub top_has_entries : (words : List (List ℕ)) (before after : Outside) (status : ℕ) → Runs words before after status → status ≡ 13 → IfSome before.keeper.told (λ entries. entries ≢ [])
-top_has_entries words before after status (inl ran) thirteen = not_of_session ran.ends 13 (sym ran.status_is ∙ thirteen) (omega arith) thirteen≢nine thirteen≢ten
+top_has_entries words before after status (inl ran) thirteen = not_of_session ran.opened.ends 13 (sym ran.opened.status_is ∙ thirteen) (omega arith) thirteen≢nine thirteen≢ten
 top_has_entries words before after status (inr refused) thirteen = by refused.why refused.cause (sym refused.status_is ∙ thirteen) where
   by : (why : StartFault) → HasCauseToRefuse why words before.keeper after.keeper → start_status why ≡ 13 → IfSome before.keeper.told (λ entries. entries ≢ [])
   by start.HasEntries cause is = cause.1.0
@@ -273,12 +279,12 @@ start_fault_is start.NoMemory = refl
 
 -- a run with a session ends with a fault, or does what its text asks
 ran_text : (words : List (List ℕ)) (before after : Outside) (status : ℕ) → Ran words before after status → (text : List ℕ) (messages : List Request) (ending : Ending) → before.source.left ≡ Some text → Splits text messages ending
-    → (is_fault status ≡ true) ⊎ RunsText messages ending status before.sink.held after.sink.held before.keeper after.keeper
-ran_text words before after status r text messages ending known splits = subst (λ n. (is_fault n ≡ true) ⊎ RunsText messages ending n before.sink.held after.sink.held before.keeper after.keeper) (sym r.status_is) (by r.ends r.follows.session) where
-  does : (ends : SessionEnd) → Session (opened before) (world r.follows.held after r.follows.state) ends → IsSettled ends → RunsText messages ending (status_of ends) before.sink.held after.sink.held before.keeper after.keeper
-  does ends s settled = session_text before (world r.follows.held after r.follows.state) ends text messages ending s known splits settled
+    → (is_fault status ≡ true) ⊎ RunsText messages ending status before.sink.held after.sink.held (clock_of (now_of words) before.clock) (clock_of (now_of words) after.clock) before.keeper after.keeper
+ran_text words before after status r text messages ending known splits = subst (λ n. (is_fault n ≡ true) ⊎ RunsText messages ending n before.sink.held after.sink.held (clock_of (now_of words) before.clock) (clock_of (now_of words) after.clock) before.keeper after.keeper) (sym r.opened.status_is) (by r.opened.ends r.opened.follows.session) where
+  does : (ends : SessionEnd) → Session (opened (seen_with words before)) (world r.opened.follows.held (seen_with words after) r.opened.follows.state) ends → IsSettled ends → RunsText messages ending (status_of ends) before.sink.held after.sink.held (clock_of (now_of words) before.clock) (clock_of (now_of words) after.clock) before.keeper after.keeper
+  does ends s settled = session_text (seen_with words before) (world r.opened.follows.held (seen_with words after) r.opened.follows.state) ends text messages ending s known splits settled
 
-  by : (ends : SessionEnd) → Session (opened before) (world r.follows.held after r.follows.state) ends → (is_fault (status_of ends) ≡ true) ⊎ RunsText messages ending (status_of ends) before.sink.held after.sink.held before.keeper after.keeper
+  by : (ends : SessionEnd) → Session (opened (seen_with words before)) (world r.opened.follows.held (seen_with words after) r.opened.follows.state) ends → (is_fault (status_of ends) ≡ true) ⊎ RunsText messages ending (status_of ends) before.sink.held after.sink.held (clock_of (now_of words) before.clock) (clock_of (now_of words) after.clock) before.keeper after.keeper
   by end.Ended s = inr (does end.Ended s tt)
   by end.Cut s = inr (does end.Cut s tt)
   by (end.Malformed fault) s = inr (does (end.Malformed fault) s tt)
@@ -289,7 +295,7 @@ ran_text words before after status r text messages ending known splits = subst (
 
 -- any run over a known text
 pub top_text : (words : List (List ℕ)) (before after : Outside) (status : ℕ) (known : Option (List ℕ)) → Runs words before after status → before.source.left ≡ known
-    → IfSome known (λ text. (messages : List Request) (ending : Ending) → Splits text messages ending → (is_fault status ≡ true) ⊎ RunsText messages ending status before.sink.held after.sink.held before.keeper after.keeper)
+    → IfSome known (λ text. (messages : List Request) (ending : Ending) → Splits text messages ending → (is_fault status ≡ true) ⊎ RunsText messages ending status before.sink.held after.sink.held (clock_of (now_of words) before.clock) (clock_of (now_of words) after.clock) before.keeper after.keeper)
 top_text words before after status None done is = tt
 top_text words before after status (Some text) (inl ran) is = λ messages ending splits. ran_text words before after status ran text messages ending is splits
 top_text words before after status (Some text) (inr refused) is = λ messages ending splits. inl (ap is_fault refused.status_is ∙ start_fault_is refused.why)
@@ -315,27 +321,27 @@ due_whole messages few = by (has_last (answered messages)) refl where
 -- a run over whole messages, in which nothing failed, answered all of them or was refused memory
 ran_complete : (words : List (List ℕ)) (before after : Outside) (status : ℕ) → Ran words before after status → (text : List ℕ) (messages : List Request) → before.source.left ≡ Some text → Splits text messages ended → length messages < most_requests
     → ¬ (Rose before.source.failures after.source.failures) → ¬ (Rose before.sink.failures after.sink.failures) → (status ≡ 0) ⊎ (status ≡ 9)
-ran_complete words before after status r text messages known splits few reads writes = subst (λ n. (n ≡ 0) ⊎ (n ≡ 9)) (sym r.status_is) (by r.ends r.follows.session) where
-  settled : (ends : SessionEnd) → Session (opened before) (world r.follows.held after r.follows.state) ends → IsSettled ends → (status_of ends ≡ 0) ⊎ (status_of ends ≡ 9)
-  settled ends s is = inl ((session_text before (world r.follows.held after r.follows.state) ends text messages ended s known splits is).status_is ∙ due_whole messages few)
+ran_complete words before after status r text messages known splits few reads writes = subst (λ n. (n ≡ 0) ⊎ (n ≡ 9)) (sym r.opened.status_is) (by r.opened.ends r.opened.follows.session) where
+  settled : (ends : SessionEnd) → Session (opened (seen_with words before)) (world r.opened.follows.held (seen_with words after) r.opened.follows.state) ends → IsSettled ends → (status_of ends ≡ 0) ⊎ (status_of ends ≡ 9)
+  settled ends s is = inl ((session_text (seen_with words before) (world r.opened.follows.held (seen_with words after) r.opened.follows.state) ends text messages ended s known splits is).status_is ∙ due_whole messages few)
 
-  by : (ends : SessionEnd) → Session (opened before) (world r.follows.held after r.follows.state) ends → (status_of ends ≡ 0) ⊎ (status_of ends ≡ 9)
+  by : (ends : SessionEnd) → Session (opened (seen_with words before)) (world r.opened.follows.held (seen_with words after) r.opened.follows.state) ends → (status_of ends ≡ 0) ⊎ (status_of ends ≡ 9)
   by end.Ended s = inl refl
   by end.Cut s = settled end.Cut s tt
   by (end.Malformed fault) s = settled (end.Malformed fault) s tt
   by end.Spent s = settled end.Spent s tt
   by end.NoMemory s = inr refl
-  by end.ReadFault s = absurd (reads (session_tells (opened before) (world r.follows.held after r.follows.state) end.ReadFault s))
-  by end.WriteFault s = absurd (writes (session_tells (opened before) (world r.follows.held after r.follows.state) end.WriteFault s))
+  by end.ReadFault s = absurd (reads (session_tells (opened (seen_with words before)) (world r.opened.follows.held (seen_with words after) r.opened.follows.state) end.ReadFault s))
+  by end.WriteFault s = absurd (writes (session_tells (opened (seen_with words before)) (world r.opened.follows.held (seen_with words after) r.opened.follows.state) end.WriteFault s))
 
 -- the same of any run
 pub top_complete : (words : List (List ℕ)) (before after : Outside) (status : ℕ) (known : Option (List ℕ)) → Runs words before after status → before.source.left ≡ known
-    → IfSome known (λ text. (messages : List Request) → Splits text messages ended → length messages < most_requests → are_run words ≡ true → before.keeper.told ≡ Some []
+    → IfSome known (λ text. (messages : List Request) → Splits text messages ended → length messages < most_requests → are_read words ≡ true → before.keeper.told ≡ Some []
     → ¬ (Rose before.source.failures after.source.failures) → ¬ (Rose before.sink.failures after.sink.failures) → ¬ (Rose before.keeper.failures after.keeper.failures) → (status ≡ 0) ⊎ (status ≡ 9))
 top_complete words before after status None done is = tt
 top_complete words before after status (Some text) (inl ran) is = λ messages splits few read none reads writes keeps. ran_complete words before after status ran text messages is splits few reads writes
 top_complete words before after status (Some text) (inr refused) is = λ messages splits few read none reads writes keeps. by refused.why refused.cause refused.status_is read none keeps where
-  by : (why : StartFault) → HasCauseToRefuse why words before.keeper after.keeper → status ≡ start_status why → are_run words ≡ true → before.keeper.told ≡ Some [] → ¬ (Rose before.keeper.failures after.keeper.failures) → (status ≡ 0) ⊎ (status ≡ 9)
+  by : (why : StartFault) → HasCauseToRefuse why words before.keeper after.keeper → status ≡ start_status why → are_read words ≡ true → before.keeper.told ≡ Some [] → ¬ (Rose before.keeper.failures after.keeper.failures) → (status ≡ 0) ⊎ (status ≡ 9)
   by start.Words cause is read none keeps = absurd (false≢true (sym cause.0 ∙ read))
   by start.KeeperFailed cause is read none keeps = absurd (keeps (refuses_rose before.keeper after.keeper cause.1))
   by start.HasEntries cause is read none keeps =
@@ -344,12 +350,23 @@ top_complete words before after status (Some text) (inr refused) is = λ message
 
 -- a run over a keeper that has entries ends with the status that says so, or is refused memory, and writes nothing
 pub top_entries : (words : List (List ℕ)) (before after : Outside) (status : ℕ) (known : Option (List Entry)) → Runs words before after status → before.keeper.told ≡ known
-    → IfSome known (λ entries. entries ≢ [] → are_run words ≡ true → ¬ (Rose before.keeper.failures after.keeper.failures) → (after.sink.held ≡ before.sink.held) × ((status ≡ 13) ⊎ (status ≡ 9)))
+    → IfSome known (λ entries. entries ≢ [] → are_read words ≡ true → ¬ (Rose before.keeper.failures after.keeper.failures) → (after.sink.held ≡ before.sink.held) × ((status ≡ 13) ⊎ (status ≡ 9)))
 top_entries words before after status None done is = tt
-top_entries words before after status (Some entries) (inl ran) is = λ some read keeps. absurd (some (subst (λ known. IfSome known (λ es. es ≡ [])) is ran.empty))
+top_entries words before after status (Some entries) (inl ran) is = λ some read keeps. absurd (some (subst (λ known. IfSome known (λ es. es ≡ [])) is ran.opened.empty))
 top_entries words before after status (Some entries) (inr refused) is = λ some read keeps. (ap (λ sink. sink.held) refused.sink, by refused.why refused.cause refused.status_is read keeps) where
-  by : (why : StartFault) → HasCauseToRefuse why words before.keeper after.keeper → status ≡ start_status why → are_run words ≡ true → ¬ (Rose before.keeper.failures after.keeper.failures) → (status ≡ 13) ⊎ (status ≡ 9)
+  by : (why : StartFault) → HasCauseToRefuse why words before.keeper after.keeper → status ≡ start_status why → are_read words ≡ true → ¬ (Rose before.keeper.failures after.keeper.failures) → (status ≡ 13) ⊎ (status ≡ 9)
   by start.Words cause is read keeps = absurd (false≢true (sym cause.0 ∙ read))
   by start.KeeperFailed cause is read keeps = absurd (keeps (refuses_rose before.keeper after.keeper cause.1))
   by start.HasEntries cause is read keeps = inl is
   by start.NoMemory cause is read keeps = inr is
+
+-- where the words say a moment, the clock that is handed in is not read
+pub top_still : (words : List (List ℕ)) (before after : Outside) (status : ℕ) → Runs words before after status → IfSome (now_of words) (λ _. after.clock ≡ before.clock)
+top_still words before after status (inl ran) = by (now_of words) ran.unread where
+  by : (now : Option ℕ) → IsUnread now before.clock after.clock → IfSome now (λ _. after.clock ≡ before.clock)
+  by None unread = tt
+  by (Some moment) unread = unread
+top_still words before after status (inr refused) = by (now_of words) where
+  by : (now : Option ℕ) → IfSome now (λ _. after.clock ≡ before.clock)
+  by None = tt
+  by (Some moment) = refused.clock

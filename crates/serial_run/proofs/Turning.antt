@@ -1,5 +1,5 @@
 -- A turn, from what its parts ensure.
-use Rattle.std.proofs.Common.{◌≡◌, ◌≢◌, ◌⊎◌, List, ℕ, [], ◌∷◌, Bool, refl, ap, sym, subst, inl, inr}
+use Rattle.std.proofs.Common.{◌≡◌, ◌≢◌, ◌⊎◌, Bool, ap, sym, subst, inl, inr}
 use Rattle.http_heads.specs.declared.request.HeadFault.{HeadFault}
 use Rattle.http_heads.specs.declared.request.Request.{Request}
 use Rattle.http_front.specs.declared.read.Got.TheVariants as got
@@ -36,18 +36,18 @@ takes_memory written.Unprinted r last has refused = has
 -- A turn that takes the next request and has it answered goes on after its reply, or ends after it, or stops at a failed write,
 -- or where memory for the reply was refused.
 pub turn_answers : (w w' : World) (request : Request) (result : Answered) (comes : Turn)
-    → Asks w w' (got.Request request) → Answers w.state w'.state w.keeper w'.keeper request result
+    → Asks w w' (got.Request request) → Answers w.state w'.state w.keeper w'.keeper w.clock w'.clock request result
     → WritesAnswer comes result request.last w.sink w'.sink → Turns comes w w'
 turn_answers w w' request result comes asks answers writes = by comes writes where
   e : Exchange
-  e = exchange request answers.outcome answers.reply
+  e = exchange request answers.moment answers.outcome answers.reply
 
   leads : Leads w.state w.keeper e w'.state w'.keeper
   leads = subst (λ kept. Leads w.state w.keeper e w'.state kept) answers.leads.3.1
       (subst (λ next. Leads w.state w.keeper e next answers.leads.1) answers.leads.3.0 answers.leads.2)
 
   carried : CarriesOut w w' e
-  carried = record { asked = asks; leads = leads; caused = answers.caused; kept = answers.kept }
+  carried = record { asked = asks; clock = answers.clock; leads = leads; caused = answers.caused; kept = answers.kept }
 
   text : ¬ IsUnprinted result → text_for result request.last ≡ printed answers.reply request.last
   text has = text_is result answers.reply request.last answers.text has

@@ -3,7 +3,7 @@ use Rattle.std.proofs.Common.{◌≡◌, ◌<◌, ◌≤◌, ◌++◌, ◌==◌,
 use Rattle.std.proofs.lemmas.Bool.Decides.{nat_tests}
 use Rattle.std.proofs.lemmas.List.{append-nil, take_all, length-map}
 use Rattle.std.proofs.Math.Seq.{take-append_seam}
-use Rattle.http_heads.specs.Messages.{Begins, Splits, Ending, ended, cut, malformed, EndsAs, IsBlank, IsCut, IsMalformed}
+use Rattle.http_heads.specs.Messages.{Begins, Splits, Ending, ended, cut, malformed, EndsAs}
 use Rattle.http_heads.specs.declared.request.Request.{Request}
 use Rattle.http_heads.proofs.MessageLemmas.{message_unique, ending_message, ending_unique}
 use Rattle.http_front.specs.Reading.{ReadsNext}

@@ -1,6 +1,6 @@
 -- A run of the program: its words are read, the rows are opened, and one session follows.
-use Rattle.std.specs.Prelude.{◌≡◌, ◌≤◌, ◌⊎◌, ℕ, List, [], ◌∷◌, length, Bool, true, false, IfSome, codes}
-use Rattle.std.specs.Str.{bytes_eq}
+use Rattle.std.specs.Prelude.{◌≡◌, ◌≤◌, ◌⊎◌, ℕ, List, [], length, true, false, Option, Some, None, IfSome}
+use Rattle.http_front.specs.Clocks.{Readings, standing_still}
 use Rattle.http_front.specs.Held.{most_held}
 use Rattle.record_keeper.specs.Store.{Store}
 use Rattle.row_machine.specs.machine.State.{State}
@@ -12,13 +12,23 @@ use Rattle.serial_run.specs.declared.running.StartFault.TheVariants as start
 use Rattle.serial_run.specs.declared.session.SessionEnd.{SessionEnd}
 use Rattle.serial_run.specs.declared.session.SessionEnd.TheVariants as end
 use Rattle.serial_run.specs.Sessions.{Session}
+use Rattle.serial_run.specs.Words.{are_read, now_of}
 use Rattle.serial_run.specs.Worlds.{Outside, World, world}
 
--- whether the words are the one word `run`
-abbrev pub are_run : List (List ℕ) → Bool
-are_run [] = false
-are_run (word ∷ []) = bytes_eq word (codes "run")
-are_run (word ∷ other ∷ more) = false
+-- the readings of the clock of a run: one that stands still at the moment that the words say, or the one that is
+-- handed in
+abbrev pub clock_of : Option ℕ → Readings → Readings
+clock_of (Some moment) told = standing_still moment
+clock_of None told = told
+
+-- what a run with these words sees of the outside: the clock of the run in place of the one that is handed in
+abbrev pub seen_with : List (List ℕ) → Outside → Outside
+seen_with words out = record out { clock = clock_of (now_of words) out.clock }
+
+-- where the words say a moment, the clock that is handed in is not read
+abbrev pub IsUnread : Option ℕ → Readings → Readings → Type 0
+IsUnread (Some moment) told told' = told' ≡ told
+IsUnread None told told' = Unit {0}
 
 -- the exit status of a session's end
 abbrev pub status_of : SessionEnd → ℕ
@@ -37,6 +47,12 @@ start_status start.Words = 8
 start_status start.NoMemory = 9
 start_status start.HasEntries = 13
 
+-- a refused opening as a reason for no session
+abbrev pub start_fault : OpenFault → StartFault
+start_fault fault.KeeperFailed = start.KeeperFailed
+start_fault fault.HasEntries = start.HasEntries
+start_fault fault.NoMemory = start.NoMemory
+
 -- A session from this world on, with the outside seen so at its end, and rows that nobody sees. What is still to come is what its
 -- buffer holds, at most one head, one body and one piece, and what the source has left.
 pub record SessionFrom (w : World) (after : Outside) (ends : SessionEnd) : Type 0 where
@@ -45,35 +61,48 @@ pub record SessionFrom (w : World) (after : Outside) (ends : SessionEnd) : Type 
   pub state : State
   pub session : Session w (world held after state) ends
 
--- the words were read, the rows of a keeper without entries were opened, and there was one session, from an empty buffer on
-pub record Ran (words : List (List ℕ)) (before after : Outside) (status : ℕ) : Type 0 where
-  pub read : are_run words ≡ true
+-- the rows of a keeper without entries were opened, and there was one session, from an empty buffer on
+pub record Opened (before after : Outside) (status : ℕ) : Type 0 where
   pub empty : IfSome before.keeper.told (λ entries. entries ≡ [])
   pub ends : SessionEnd
   pub follows : SessionFrom (world [] (record before { keeper = opened_store before.keeper }) first_state) after ends
   pub status_is : status ≡ status_of ends
 
+-- the words were read, and there was one session over the clock of the run
+pub record Ran (words : List (List ℕ)) (before after : Outside) (status : ℕ) : Type 0 where
+  pub read : are_read words ≡ true
+  pub opened : Opened (seen_with words before) (seen_with words after) status
+  pub unread : IsUnread (now_of words) before.clock after.clock
+
 -- Why there was no session. Words that are not read leave the keeper as it was, and a refused opening does what it may do to it.
 abbrev pub HasCauseToRefuse : StartFault → List (List ℕ) → Store → Store → Type 0
-HasCauseToRefuse start.Words words keeper keeper' = (are_run words ≡ false) × (keeper' ≡ keeper)
-HasCauseToRefuse start.KeeperFailed words keeper keeper' = (are_run words ≡ true) × Refuses fault.KeeperFailed keeper keeper'
-HasCauseToRefuse start.HasEntries words keeper keeper' = (are_run words ≡ true) × Refuses fault.HasEntries keeper keeper'
-HasCauseToRefuse start.NoMemory words keeper keeper' = (are_run words ≡ true) × Refuses fault.NoMemory keeper keeper'
+HasCauseToRefuse start.Words words keeper keeper' = (are_read words ≡ false) × (keeper' ≡ keeper)
+HasCauseToRefuse start.KeeperFailed words keeper keeper' = (are_read words ≡ true) × Refuses fault.KeeperFailed keeper keeper'
+HasCauseToRefuse start.HasEntries words keeper keeper' = (are_read words ≡ true) × Refuses fault.HasEntries keeper keeper'
+HasCauseToRefuse start.NoMemory words keeper keeper' = (are_read words ≡ true) × Refuses fault.NoMemory keeper keeper'
 
--- The run had no session. No call of the source or of the sink was made.
+-- The run had no session. No call of the source, of the sink or of the clock was made.
 pub record Refused (words : List (List ℕ)) (before after : Outside) (status : ℕ) : Type 0 where
   pub why : StartFault
   pub cause : HasCauseToRefuse why words before.keeper after.keeper
   pub status_is : status ≡ start_status why
   pub source : after.source ≡ before.source
   pub sink : after.sink ≡ before.sink
+  pub clock : after.clock ≡ before.clock
 
 -- there was a session, or there was none
 abbrev pub Runs : List (List ℕ) → Outside → Outside → ℕ → Type 0
 Runs words before after status = Ran words before after status ⊎ Refused words before after status
 
--- a refused opening as a reason for no session
-abbrev pub start_fault : OpenFault → StartFault
-start_fault fault.KeeperFailed = start.KeeperFailed
-start_fault fault.HasEntries = start.HasEntries
-start_fault fault.NoMemory = start.NoMemory
+-- The rows were not opened. No call of the source, of the sink or of the clock was made.
+pub record Unopened (before after : Outside) (status : ℕ) : Type 0 where
+  pub why : OpenFault
+  pub refuses : Refuses why before.keeper after.keeper
+  pub status_is : status ≡ start_status (start_fault why)
+  pub source : after.source ≡ before.source
+  pub sink : after.sink ≡ before.sink
+  pub clock : after.clock ≡ before.clock
+
+-- once the words are read, the rows were opened and there was a session, or they were not
+abbrev pub RunsOver : Outside → Outside → ℕ → Type 0
+RunsOver before after status = Opened before after status ⊎ Unopened before after status

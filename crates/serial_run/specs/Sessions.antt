@@ -10,7 +10,7 @@ use Rattle.http_front.specs.declared.read.Got.TheVariants as got
 use Rattle.records.specs.declared.replies.Reply.TheVariants as reply
 use Rattle.core_rows.specs.Stores.{IsCaused, KeepsRecords}
 use Rattle.rest_service.specs.Exchanges.{Exchange, Leads, printed, malformed_text}
-use Rattle.rest_service.specs.Answers.{no_memory_text}
+use Rattle.rest_service.specs.Answers.{AsksAt, no_memory_text}
 use Rattle.rest_service.specs.declared.answers.Answered.{Answered}
 use Rattle.rest_service.specs.declared.answers.Answered.TheVariants as written
 use Rattle.serial_run.specs.declared.session.SessionEnd.{SessionEnd}
@@ -46,15 +46,17 @@ pub record BreaksOff (sink sink' : Outlet) (text : List ℕ) : Type 0 where
   pub later : sink.failures ≤ sink'.failures
   pub rose : Rose sink.failures sink'.failures
 
--- the rows are as before, and the keeper was not called
+-- the rows are as before, the keeper was not called, and the clock was not read
 pub record KeepsRows (w w' : World) : Type 0 where
   pub keeper : w'.keeper ≡ w.keeper
+  pub clock : w'.clock ≡ w.clock
   pub state : w'.state ≡ w.state
 
--- The next request was taken and carried out, which led from the rows and the store before to those after. Entries that were the
--- records of the rows are so afterwards.
+-- The next request was taken and carried out, its command at the moment that the clock gave, which led from the rows
+-- and the store before to those after. Entries that were the records of the rows are so afterwards.
 pub record CarriesOut (w w' : World) (e : Exchange) : Type 0 where
   pub asked : Asks w w' (got.Request e.request)
+  pub clock : AsksAt e.moment w.clock w'.clock
   pub leads : Leads w.state w.keeper e w'.state w'.keeper
   pub caused : IsCaused e.outcome w.keeper.failures w'.keeper.failures
   pub kept : KeepsRecords w.keeper.told w.state w'.keeper.told w'.state

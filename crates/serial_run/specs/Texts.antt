@@ -1,15 +1,17 @@
 -- What a run comes to, told of its whole input: the requests that are answered, the exit status, and what the outside sees.
-use Rattle.std.specs.Prelude.{◌≡◌, ◌++◌, ◌==◌, ℕ, List, [], ◌∷◌, Bool, length, map, take, Option, option_map, if◌then◌else◌}
-use Rattle.std.specs.List.{list_any}
+use Rattle.std.specs.Prelude.{◌≡◌, ◌<◌, ◌++◌, ◌==◌, ℕ, List, [], ◌∷◌, Bool, length, map, take, Option, option_map, if◌then◌else◌}
+use Rattle.std.specs.List.{All, list_any}
 use Rattle.std.specs.Io.KnownBytes.{Appends}
+use Rattle.http_front.specs.Clocks.{Readings, Reads}
 use Rattle.record_keeper.specs.Store.{Store}
 use Rattle.http_heads.specs.Messages.{Ending, ended, cut, malformed}
 use Rattle.http_heads.specs.declared.request.Request.{Request}
 use Rattle.size_values.specs.Causes.{RoseBy}
+use Rattle.size_values.specs.Moments.{moment_limit}
 use Rattle.row_machine.specs.machine.State.{State}
 use Rattle.row_machine.specs.opening.Records.{records_of}
 use Rattle.core_rows.specs.Opening.{first_state, opened_store}
-use Rattle.rest_service.specs.Exchanges.{Exchange, LeadTo, printed_replies, failures_in, malformed_text}
+use Rattle.rest_service.specs.Exchanges.{Exchange, LeadTo, moments_of, printed_replies, failures_in, malformed_text}
 use Rattle.serial_run.specs.Most.{most_requests}
 
 -- the requests of these
@@ -52,14 +54,18 @@ end_behind_all requests ending =
 abbrev pub end_due : List Request → Ending → End
 end_due messages ending = end_behind_all (answered messages) ending
 
--- The run did what its input asks, and nothing else: the requests that are answered, each with its outcome and its reply, lead the
--- row machine from the first rows to some state, and the store from the one after the opening to the one at the end; the exit
--- status is the one that is due, the sink took the replies in their order, the keeper has the records of that state, and its count
--- rose at least once for each request in which it failed.
-pub record RunsText (messages : List Request) (ending : Ending) (status : ℕ) (held held' : Option (List ℕ)) (keeper keeper' : Store) : Type 0 where
+-- The run did what its input asks, and nothing else: the requests that are answered, each with its moment, its
+-- outcome and its reply, lead the row machine from the first rows to some state, and the store from the one after the
+-- opening to the one at the end; the moments are the readings that the clock told, in their order, one for each
+-- command that was asked, and all before the year 10000; the exit status is the one that is due, the sink took the
+-- replies in their order, the keeper has the records of that state, and its count rose at least once for each request
+-- in which it failed.
+pub record RunsText (messages : List Request) (ending : Ending) (status : ℕ) (held held' : Option (List ℕ)) (clock clock' : Readings) (keeper keeper' : Store) : Type 0 where
   pub exchanges : List Exchange
   pub state : State
   pub requests_are : requests_of exchanges ≡ answered messages
+  pub moments : Reads clock (moments_of exchanges) clock'
+  pub early : All (λ moment. moment < moment_limit) (moments_of exchanges)
   pub leads : LeadTo first_state (opened_store keeper) exchanges state keeper'
   pub status_is : status ≡ (end_due messages ending).status
   pub written : Appends held held' (printed_replies exchanges ++ (end_due messages ending).text)

@@ -1,6 +1,7 @@
 -- What a session works on.
-use Rattle.std.specs.Prelude.{ℕ, List, [], Bool, Option}
+use Rattle.std.specs.Prelude.{ℕ, List, Bool, Option}
 use Rattle.std.specs.Io.KnownBytes.{prepend_known}
+use Rattle.http_front.specs.Clocks.{Readings}
 use Rattle.record_keeper.specs.Store.{Store}
 use Rattle.row_machine.specs.machine.State.{State}
 
@@ -24,14 +25,16 @@ pub record Outlet : Type 0 where
 abbrev pub outlet : {K : Type 0} → (K → Option (List ℕ)) → (K → ℕ) → K → Outlet
 outlet held failures sink = record { held = held sink; failures = failures sink }
 
--- what a program sees of the outside at one moment: a source, a sink and a keeper
+-- what a program sees of the outside at one moment: a source, a sink, a keeper, and what a clock tells of its
+-- readings to come
 pub record Outside : Type 0 where
   pub source : Inlet
   pub sink : Outlet
   pub keeper : Store
+  pub clock : Readings
 
-abbrev pub outside : Inlet → Outlet → Store → Outside
-outside source sink keeper = record { source = source; sink = sink; keeper = keeper }
+abbrev pub outside : Inlet → Outlet → Store → Readings → Outside
+outside source sink keeper clock = record { source = source; sink = sink; keeper = keeper; clock = clock }
 
 -- what a session works on at one moment: the bytes that its buffer holds, the outside, and the state of the row machine
 pub record World : Type 0 where
@@ -39,10 +42,12 @@ pub record World : Type 0 where
   pub source : Inlet
   pub sink : Outlet
   pub keeper : Store
+  pub clock : Readings
   pub state : State
 
 abbrev pub world : List ℕ → Outside → State → World
-world held out state = record { held = held; source = out.source; sink = out.sink; keeper = out.keeper; state = state }
+world held out state =
+    record { held = held; source = out.source; sink = out.sink; keeper = out.keeper; clock = out.clock; state = state }
 
 -- the bytes to come: those held, and then those that the source has left
 abbrev pub input : World → Option (List ℕ)

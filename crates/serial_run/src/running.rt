@@ -3,13 +3,15 @@ ghost use Rattle.size_values.specs.Causes.{Rose};
 ghost use Rattle.http_heads.specs.Messages.{Ending, ended, Splits};
 ghost use Rattle.http_heads.specs.declared.request.Request.{Request};
 ghost use Rattle.serial_run.specs.Most.{most_requests};
-ghost use Rattle.serial_run.specs.Runs.{Runs, SessionFrom, are_run, start_fault, start_status, status_of};
+ghost use Rattle.serial_run.specs.Runs.{Runs, RunsOver, SessionFrom, clock_of, start_fault, start_status, status_of};
 ghost use Rattle.serial_run.specs.Texts.{RunsText, is_fault};
+ghost use Rattle.serial_run.specs.Words.{are_read, now_of};
 ghost use Rattle.serial_run.specs.Worlds.{inlet, outlet, outside, world};
 
 use crate::serving::serve;
 use crate::session::SessionEnd;
-use http_front::{Buffer, Sink, Source};
+use crate::words::setup_of;
+use http_front::{Buffer, Clock, Sink, Source, StillClock};
 use record_keeper::Keeper;
 use rest_service::{OpenFault, Service};
 use std::alloc::Global;
@@ -56,16 +58,6 @@ impl SessionEnd {
     }
 }
 
-/// Whether the words are the one word `run`.
-fn are_run(words: &[String]) -> bool
-    ensures { result ≡ are_run (map (λ w. string_bytes w) words.now) }
-{
-    if words.len() != 1 {
-        return false;
-    }
-    words[0].as_str() == "run"
-}
-
 impl StartFault {
     fn of(fault: OpenFault) -> StartFault
         ensures { result ≡ start_fault fault }
@@ -79,69 +71,101 @@ impl StartFault {
 }
 
 /// One session, from an empty buffer on.
-fn session<S: Source, K: Sink, R: Keeper>(
+fn session<S: Source, K: Sink, R: Keeper, C: Clock>(
     alloc: Global,
     source: &mut S,
     sink: &mut K,
     keeper: &mut R,
+    clock: &mut C,
     mut buffer: Buffer,
     mut service: Service,
 ) -> SessionEnd
     requires { buffer ≡ [] }
-    ensures { SessionFrom (world [] (outside (inlet S.left S.ended S.failures source.old) (outlet K.held K.failures sink.old) (R.store keeper.old)) service)
-        (outside (inlet S.left S.ended S.failures source.new) (outlet K.held K.failures sink.new) (R.store keeper.new)) result }
+    ensures { SessionFrom
+        (world [] (outside (inlet S.left S.ended S.failures source.old) (outlet K.held K.failures sink.old) (R.store keeper.old) (C.readings clock.old)) service)
+        (outside (inlet S.left S.ended S.failures source.new) (outlet K.held K.failures sink.new) (R.store keeper.new) (C.readings clock.new)) result }
 {
-    serve(alloc, &mut buffer, source, sink, keeper, &mut service)
+    serve(
+        alloc,
+        &mut buffer,
+        source,
+        sink,
+        keeper,
+        clock,
+        &mut service,
+    )
 }
 
-/// A run of the program.
-fn run<S: Source, K: Sink, R: Keeper>(
+/// A run whose words are read, over its clock.
+fn run_over<S: Source, K: Sink, R: Keeper, C: Clock>(
     alloc: Global,
-    words: &[String],
     source: &mut S,
     sink: &mut K,
     mut keeper: R,
+    clock: &mut C,
 ) -> (u8, R)
-    ensures { Runs (map (λ w. string_bytes w) words.now)
-        (outside (inlet S.left S.ended S.failures source.old) (outlet K.held K.failures sink.old) (R.store keeper))
-        (outside (inlet S.left S.ended S.failures source.new) (outlet K.held K.failures sink.new) (R.store result.1)) result.0 }
+    ensures { RunsOver
+        (outside (inlet S.left S.ended S.failures source.old) (outlet K.held K.failures sink.old) (R.store keeper) (C.readings clock.old))
+        (outside (inlet S.left S.ended S.failures source.new) (outlet K.held K.failures sink.new) (R.store result.1) (C.readings clock.new)) result.0 }
 {
-    if !are_run(words) {
-        return (StartFault::Words.status(), keeper);
-    }
     let Ok(buffer) = Buffer::new(alloc) else {
         return (StartFault::NoMemory.status(), keeper);
     };
     match Service::new(alloc, &mut keeper) {
         Ok(service) => {
-            let ends = session(alloc, source, sink, &mut keeper, buffer, service);
+            let ends = session(alloc, source, sink, &mut keeper, clock, buffer, service);
             (ends.status(), keeper)
         }
         Err(fault) => (StartFault::of(fault).status(), keeper),
     }
 }
 
-/// All that the program does: one session over the source and the sink, with the words of the command line. It gives the exit
-/// status, and the keeper back.
-pub fn run_main<S: Source, K: Sink, R: Keeper>(
+/// A run of the program.
+fn run<S: Source, K: Sink, R: Keeper, C: Clock>(
     alloc: Global,
     words: &[String],
     source: &mut S,
     sink: &mut K,
     keeper: R,
+    clock: &mut C,
+) -> (u8, R)
+    ensures { Runs (map (λ w. string_bytes w) words.now)
+        (outside (inlet S.left S.ended S.failures source.old) (outlet K.held K.failures sink.old) (R.store keeper) (C.readings clock.old))
+        (outside (inlet S.left S.ended S.failures source.new) (outlet K.held K.failures sink.new) (R.store result.1) (C.readings clock.new)) result.0 }
+{
+    let Some(setup) = setup_of(words) else {
+        return (StartFault::Words.status(), keeper);
+    };
+    match setup.now {
+        Some(moment) => run_over(alloc, source, sink, keeper, &mut StillClock::new(moment)),
+        None => run_over(alloc, source, sink, keeper, clock),
+    }
+}
+
+/// All that the program does: one session over the source and the sink, with the words of the command line: `run`,
+/// and its options. It gives the exit status, and the keeper back.
+pub fn run_main<S: Source, K: Sink, R: Keeper, C: Clock>(
+    alloc: Global,
+    words: &[String],
+    source: &mut S,
+    sink: &mut K,
+    keeper: R,
+    clock: &mut C,
 ) -> (u8, R)
     // There was a session, or there was none.
     ensures done { Runs (map (λ w. string_bytes w) words.now)
-        (outside (inlet S.left S.ended S.failures source.old) (outlet K.held K.failures sink.old) (R.store keeper))
-        (outside (inlet S.left S.ended S.failures source.new) (outlet K.held K.failures sink.new) (R.store result.1)) result.0 }
+        (outside (inlet S.left S.ended S.failures source.old) (outlet K.held K.failures sink.old) (R.store keeper) (C.readings clock.old))
+        (outside (inlet S.left S.ended S.failures source.new) (outlet K.held K.failures sink.new) (R.store result.1) (C.readings clock.new)) result.0 }
 
     // Over a source that tells its bytes: a fault, or what these bytes ask.
     ensures text { IfSome (S.left source.old) (λ text. (messages : List Request) (ending : Ending) → Splits text messages ending →
-        (is_fault result.0 ≡ true) ⊎ RunsText messages ending result.0 (K.held sink.old) (K.held sink.new) (R.store keeper) (R.store result.1)) }
+        (is_fault result.0 ≡ true) ⊎ RunsText messages ending result.0 (K.held sink.old) (K.held sink.new)
+        (clock_of (now_of (map (λ w. string_bytes w) words.now)) (C.readings clock.old))
+        (clock_of (now_of (map (λ w. string_bytes w) words.now)) (C.readings clock.new)) (R.store keeper) (R.store result.1)) }
 
     // Whole messages and no fault: all of them are answered, or memory was refused.
     ensures complete { IfSome (S.left source.old) (λ text. (messages : List Request) → Splits text messages ended → length messages < most_requests →
-        are_run (map (λ w. string_bytes w) words.now) ≡ true → (R.store keeper).told ≡ Some [] →
+        are_read (map (λ w. string_bytes w) words.now) ≡ true → (R.store keeper).told ≡ Some [] →
         ¬ (Rose (S.failures source.old) (S.failures source.new)) → ¬ (Rose (K.failures sink.old) (K.failures sink.new)) → ¬ (Rose (R.store keeper).failures (R.store result.1).failures) →
         (result.0 ≡ 0) ⊎ (result.0 ≡ 9)) }
 
@@ -149,10 +173,13 @@ pub fn run_main<S: Source, K: Sink, R: Keeper>(
     ensures read_fault { result.0 ≡ 4 → Rose (S.failures source.old) (S.failures source.new) }
     ensures write_fault { result.0 ≡ 5 → Rose (K.failures sink.old) (K.failures sink.new) }
     ensures keeper_fault { result.0 ≡ 6 → Rose (R.store keeper).failures (R.store result.1).failures }
-    ensures words { (result.0 ≡ 8) ↔ (are_run (map (λ w. string_bytes w) words.now) ≡ false) }
+    ensures words { (result.0 ≡ 8) ↔ (are_read (map (λ w. string_bytes w) words.now) ≡ false) }
+    // Where the words say a moment, the clock that is handed in is not read.
+    ensures still { IfSome (now_of (map (λ w. string_bytes w) words.now))
+        (λ _. C.readings clock.new ≡ C.readings clock.old) }
     ensures has_entries { result.0 ≡ 13 → IfSome (R.store keeper).told (λ entries. entries ≢ []) }
-    ensures entries { IfSome (R.store keeper).told (λ entries. entries ≢ [] → are_run (map (λ w. string_bytes w) words.now) ≡ true →
+    ensures entries { IfSome (R.store keeper).told (λ entries. entries ≢ [] → are_read (map (λ w. string_bytes w) words.now) ≡ true →
         ¬ (Rose (R.store keeper).failures (R.store result.1).failures) → (K.held sink.new ≡ K.held sink.old) × ((result.0 ≡ 13) ⊎ (result.0 ≡ 9))) }
 {
-    run(alloc, words, source, sink, keeper)
+    run(alloc, words, source, sink, keeper, clock)
 }

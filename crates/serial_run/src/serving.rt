@@ -5,7 +5,7 @@ ghost use Rattle.serial_run.specs.Worlds.{inlet, outlet, outside, world};
 
 use crate::session::{MOST_REQUESTS, SessionEnd, Turn};
 use crate::turn::turn;
-use http_front::{Buffer, Sink, Source};
+use http_front::{Buffer, Clock, Sink, Source};
 use record_keeper::Keeper;
 use rest_service::Service;
 use std::alloc::Global;
@@ -23,21 +23,22 @@ fn end_behind(done: u32) -> SessionEnd
 }
 
 /// Answers requests one after the other until the session stops.
-pub(crate) fn serve<S: Source, K: Sink, R: Keeper>(
+pub(crate) fn serve<S: Source, K: Sink, R: Keeper, C: Clock>(
     alloc: Global,
     buffer: &mut Buffer,
     source: &mut S,
     sink: &mut K,
     keeper: &mut R,
+    clock: &mut C,
     service: &mut Service,
 ) -> SessionEnd
     ensures { Session
-        (world buffer.old (outside (inlet S.left S.ended S.failures source.old) (outlet K.held K.failures sink.old) (R.store keeper.old)) service.old)
-        (world buffer.new (outside (inlet S.left S.ended S.failures source.new) (outlet K.held K.failures sink.new) (R.store keeper.new)) service.new)
+        (world buffer.old (outside (inlet S.left S.ended S.failures source.old) (outlet K.held K.failures sink.old) (R.store keeper.old) (C.readings clock.old)) service.old)
+        (world buffer.new (outside (inlet S.left S.ended S.failures source.new) (outlet K.held K.failures sink.new) (R.store keeper.new) (C.readings clock.new)) service.new)
         result }
 {
     for done in 0..MOST_REQUESTS {
-        match turn(alloc, buffer, source, sink, keeper, service) {
+        match turn(alloc, buffer, source, sink, keeper, clock, service) {
             Turn::GoOn => {}
             Turn::Final => return end_behind(done),
             Turn::Stop(ends) => return ends,

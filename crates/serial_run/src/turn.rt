@@ -3,7 +3,9 @@ ghost use Rattle.serial_run.specs.Sessions.{RefusesPlace, Turns, WritesAnswer, t
 ghost use Rattle.serial_run.specs.Worlds.{inlet, outlet, outside, world};
 
 use crate::session::{SessionEnd, Turn};
-use http_front::{Buffer, Got, HeadFault, Sink, SinkFailed, Source, no_memory_reply, read_request};
+use http_front::{
+    Buffer, Clock, Got, HeadFault, Sink, SinkFailed, Source, no_memory_reply, read_request,
+};
 use record_keeper::Keeper;
 use rest_service::{Answered, Service, print_malformed};
 use size_values::NoMemory;
@@ -44,21 +46,22 @@ fn refuse<K: Sink>(alloc: Global, sink: &mut K, fault: HeadFault) -> SessionEnd
 }
 
 /// One turn of a session: takes the next message and answers it.
-pub(crate) fn turn<S: Source, K: Sink, R: Keeper>(
+pub(crate) fn turn<S: Source, K: Sink, R: Keeper, C: Clock>(
     alloc: Global,
     buffer: &mut Buffer,
     source: &mut S,
     sink: &mut K,
     keeper: &mut R,
+    clock: &mut C,
     service: &mut Service,
 ) -> Turn
     ensures { Turns result
-        (world buffer.old (outside (inlet S.left S.ended S.failures source.old) (outlet K.held K.failures sink.old) (R.store keeper.old)) service.old)
-        (world buffer.new (outside (inlet S.left S.ended S.failures source.new) (outlet K.held K.failures sink.new) (R.store keeper.new)) service.new) }
+        (world buffer.old (outside (inlet S.left S.ended S.failures source.old) (outlet K.held K.failures sink.old) (R.store keeper.old) (C.readings clock.old)) service.old)
+        (world buffer.new (outside (inlet S.left S.ended S.failures source.new) (outlet K.held K.failures sink.new) (R.store keeper.new) (C.readings clock.new)) service.new) }
 {
     match read_request(alloc, buffer, source) {
         Got::Request(request) => {
-            let answered = service.answer(alloc, keeper, &request);
+            let answered = service.answer(alloc, keeper, clock, &request);
             write_answer(sink, &answered, request.last)
         }
         Got::End => Turn::Stop(SessionEnd::Ended),

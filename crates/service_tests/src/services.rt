@@ -1,6 +1,6 @@
 //! Whole requests over a keeper.
 
-use http_front::{HeadFault, Request};
+use http_front::{HeadFault, Request, StillClock};
 use record_keeper::MapKeeper;
 use rest_service::{Answered, Service, print_malformed};
 use size_values::{NoMemory, Seq, Text};
@@ -44,7 +44,8 @@ fn answers(alloc: Global, keeper: &mut MapKeeper, request: &Request, text: &str)
     let Ok(mut service) = Service::new(alloc, keeper) else {
         return false;
     };
-    let answered = service.answer(alloc, keeper, request);
+    let mut clock = StillClock::new(0);
+    let answered = service.answer(alloc, keeper, &mut clock, request);
     let is_so = is_printed(&answered, text);
     drop(answered);
     drop(service);

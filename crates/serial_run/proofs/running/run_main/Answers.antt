@@ -1,5 +1,5 @@
 use Rattle.std.proofs.Common.{refl}
-use Rattle.serial_run.proofs.Tops.{top_text, top_complete, top_cut, top_read_fault, top_write_fault, top_keeper_fault, top_words, top_not_read, top_has_entries, top_entries}
+use Rattle.serial_run.proofs.Tops.{top_text, top_complete, top_cut, top_read_fault, top_write_fault, top_keeper_fault, top_words, top_not_read, top_has_entries, top_entries, top_still}
 use Rattle.serial_run.proofs.running.run_main.Goals as goal
 
 pub returns-clause-text : goal.returns-clause-text
@@ -22,6 +22,9 @@ returns-clause-keeper_fault g c = top_keeper_fault _ _ _ _ c.run.ensures
 
 pub returns-clause-words : goal.returns-clause-words
 returns-clause-words g c = (top_words _ _ _ _ c.run.ensures, top_not_read _ _ _ _ c.run.ensures)
+
+pub returns-clause-still : goal.returns-clause-still
+returns-clause-still g c = top_still _ _ _ _ c.run.ensures
 
 pub returns-clause-has_entries : goal.returns-clause-has_entries
 returns-clause-has_entries g c = top_has_entries _ _ _ _ c.run.ensures

@@ -28,7 +28,7 @@ returns-in-End g c = (
       fault = c.in-End.ensures.fault;
       ended = c.in-End.ensures.ended;
     },
-    record { keeper = refl; state = refl },
+    record { keeper = refl; clock = refl; state = refl },
     refl,
   ),
   λ e. cc,
@@ -47,7 +47,7 @@ returns-in-Cut g c = (
       fault = c.in-Cut.ensures.fault;
       ended = c.in-Cut.ensures.ended;
     },
-    record { keeper = refl; state = refl },
+    record { keeper = refl; clock = refl; state = refl },
     refl,
   ),
   λ e. cc,
@@ -63,7 +63,7 @@ returns-in-Malformed g c =
       later = c.in-Malformed.ensures.later;
       fault = c.in-Malformed.ensures.fault;
       ended = c.in-Malformed.ensures.ended;
-    }) (record { keeper = refl; state = refl }) c.refuse.ensures
+    }) (record { keeper = refl; clock = refl; state = refl }) c.refuse.ensures
 
 pub returns-in-ReadFault : goal.returns-in-ReadFault
 returns-in-ReadFault g c = (
@@ -77,7 +77,7 @@ returns-in-ReadFault g c = (
       fault = c.in-ReadFault.ensures.fault;
       ended = c.in-ReadFault.ensures.ended;
     },
-    record { keeper = refl; state = refl },
+    record { keeper = refl; clock = refl; state = refl },
     refl,
   ),
   λ e. cc,
@@ -95,7 +95,7 @@ returns-in-NoMemory g c = (
       fault = c.in-NoMemory.ensures.fault;
       ended = c.in-NoMemory.ensures.ended;
     },
-    record { keeper = refl; state = refl },
+    record { keeper = refl; clock = refl; state = refl },
     refl,
   ),
   λ e. cc,
