@@ -1,5 +1,6 @@
 -- What a body says of where a new volume gets its content.
 use Rattle.std.specs.Prelude.{ℕ, Bool, true, false, ◌&&◌, List, [], Option, Some, None, is_some, unwrap_or, codes}
+use Rattle.std.specs.Option.{option_map_or}
 use Rattle.serde_json.specs.Data.{Data}
 use Rattle.serde_json.specs.Find.{as_str}
 use Rattle.records.specs.declared.commands.Origin.{Origin}
@@ -16,10 +17,18 @@ abbrev pub has_word : List ℕ → Option Data → Bool
 has_word word None = false
 has_word word (Some value) = is_word word value
 
+-- a source that is an object with the type `copy`, whatever else it says
+abbrev pub is_copy_source : Data → Bool
+is_copy_source source = has_word (codes "copy") (given (codes "type") source)
+
+-- a body that asks for a copy of a volume
+unfoldable pub copies_volume : Data → Bool
+copies_volume body = option_map_or is_copy_source (given (codes "source") body) false
+
 -- the form of a volume's source: an object with the type `copy`, the name of a volume, and maybe its pool
 unfoldable pub fits_source : Data → Bool
 fits_source source =
-    has_word (codes "copy") (given (codes "type") source)
+    is_copy_source source
     && is_some (text_at (codes "name") source)
     && may_be_text (given (codes "pool") source)
 

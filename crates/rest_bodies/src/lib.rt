@@ -14,4 +14,4 @@ pub use bodies::{body_of, judge_fields};
 pub use fields::{Field, Shape};
 pub use laws::names_first_bad;
 pub use members::{given, name_at, object_in};
-pub use origins::volume_origin;
+pub use origins::{copies_volume, volume_origin};

@@ -1,6 +1,6 @@
 ghost use Rattle.std.specs.Prelude.{◌≡◌, IfOk, Some, option_map};
 ghost use Rattle.serde_json.specs.View.{view};
-ghost use Rattle.rest_bodies.specs.Origins.{may_be_text, has_word, fits_source, source_pool, volume_copied, volume_origin};
+ghost use Rattle.rest_bodies.specs.Origins.{may_be_text, has_word, is_copy_source, copies_volume, fits_source, source_pool, volume_copied, volume_origin};
 
 use crate::members::{given, is_word, name_at, str_at};
 use records::Origin;
@@ -26,14 +26,30 @@ fn has_word(word: &str, field: Option<&Value>) -> bool
     }
 }
 
+/// Whether a source is an object with the type `copy`, whatever else it says.
+fn is_copy_source(source: &Value) -> bool
+    ensures { result ≡ is_copy_source (view source.now) }
+{
+    has_word("copy", given("type", source))
+}
+
+/// Whether the body of a new volume asks for a copy.
+#[tactic(auto, unfolding(crate::specs::Origins::copies_volume))]
+pub fn copies_volume(body: &Value) -> bool
+    ensures { result ≡ copies_volume (view body.now) }
+{
+    match given("source", body) {
+        Some(source) => is_copy_source(source),
+        None => false,
+    }
+}
+
 /// Whether a value is the source of a volume: an object with the type `copy`, the name of a volume, and maybe its pool.
 #[tactic(auto, unfolding(crate::specs::Origins::fits_source))]
 pub(crate) fn fits_source(source: &Value) -> bool
     ensures { result ≡ fits_source (view source.now) }
 {
-    has_word("copy", given("type", source))
-        && str_at("name", source).is_some()
-        && may_be_text(given("pool", source))
+    is_copy_source(source) && str_at("name", source).is_some() && may_be_text(given("pool", source))
 }
 
 /// The pool that a source names. Only where it names none, not where its text is empty, the path's pool is meant.

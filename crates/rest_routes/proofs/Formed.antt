@@ -1,5 +1,5 @@
 -- Each command of a request is formed, and is one that is built: from the settings in a body up to the request.
-use Rattle.std.proofs.Common.{◌≡◌, ℕ, Bool, true, false, ◌&&◌, ◌||◌, List, [], ◌∷◌, Option, Some, None, Result, Ok, Err, IfOk, IsTrue, refl, sym, subst, option_map, cond, not, codes}
+use Rattle.std.proofs.Common.{◌≡◌, absurd, ℕ, Bool, true, false, ◌&&◌, ◌||◌, List, [], ◌∷◌, Option, Some, None, Result, Ok, Err, IfOk, IsTrue, refl, sym, subst, option_map, cond, not, codes}
 use Rattle.std.specs.Prelude.{is_some, option_and_then}
 use Rattle.std.specs.declared.cmp.Ordering.{Ordering}
 use Rattle.std.specs.declared.cmp.Ordering.TheVariants.{Less, Equal, Greater}
@@ -30,7 +30,7 @@ use Rattle.rest_paths.specs.Answers.{Gives, mapped, followed}
 use Rattle.rest_bodies.specs.Bodies.{body_of, config_at, devices_at}
 use Rattle.rest_bodies.specs.Drivers.{driver_in, driver_at}
 use Rattle.rest_bodies.specs.Members.{object_in, text_at, given}
-use Rattle.rest_bodies.specs.Origins.{volume_copied, volume_origin}
+use Rattle.rest_bodies.specs.Origins.{copies_volume, fits_source, is_copy_source, may_be_text, volume_copied, volume_origin}
 use Rattle.records.specs.Built.{is_built_kind, is_built_state, is_built_request, is_built_command}
 use Rattle.rest_routes.specs.Commands.{needed, object_of, objects_of, one_read, what_read, shape_of, unless_fault, creation_said, change_said, what_said, what_sent, sent_body, what_of, command_built, is_copy, command_of}
 use Rattle.rest_paths.specs.Paths.{path_of, pool_of, query_of}
@@ -246,6 +246,30 @@ driver_there body h = by (given (codes "driver") body) h
 pool_driver : (body : Data) → first_fault (fields_of shape.NewPool) body ≡ None → is_some (driver_at body) ≡ true
 pool_driver body h = driver_there body (fine_first _ _ (fine_next (fault_of field.Name body) _ h))
 
+-- a source that is no copy is at fault, so that a body without a fault has none
+source_absent : (body : Data) → fault_of field.VolumeSource body ≡ None → copies_volume body ≡ false → is_some (given (codes "source") body) ≡ false
+unfolding fault_of copies_volume fits_source
+source_absent body h k = by (given (codes "source") body) h k
+  where
+    none_fits : (a b c : Bool) → unless (a && b && c) (codes "source") ≡ None → a ≡ false → ⊥
+    none_fits true b c h k = cc
+    none_fits false b c h k = cc
+
+    by : (o : Option Data) → fault_in field.VolumeSource o ≡ None → option_map_or is_copy_source o false ≡ false → is_some o ≡ false
+    by None h k = refl
+    by (Some source) h k =
+        absurd (none_fits (is_copy_source source) (is_some (text_at (codes "name") source)) (may_be_text (given (codes "pool") source)) h k)
+
+-- the source of a new volume, whose body was judged
+volume_source : (body : Data) → first_fault (fields_of shape.NewVolume) body ≡ None → copies_volume body ≡ false → is_some (given (codes "source") body) ≡ false
+volume_source body h k =
+    source_absent body
+    (fine_first _ _
+    (fine_next (fault_of field.Config body) _
+    (fine_next (fault_of field.Description body) _
+    (fine_next (fault_of field.VolumeType body) _
+    (fine_next (fault_of field.Name body) _ h))))) k
+
 -- a volume without a source is made from nothing
 no_source : (body : Data) (pool : List ℕ) → is_some (given (codes "source") body) ≡ false → volume_origin body pool ≡ origin.None
 unfolding volume_origin
@@ -340,7 +364,7 @@ said_passes (place.List kind.Project) verb path body built copy sends = judged_p
 said_passes (place.List kind.Profile) verb path body built copy sends = judged_passes _ _ (λ fine. profile_creation body)
 said_passes (place.List kind.Network) verb path body built copy sends = judged_passes _ _ (λ fine. network_creation body)
 said_passes (place.List kind.Pool) verb path body built copy sends = judged_passes _ _ (λ fine. pool_creation body fine)
-said_passes (place.List kind.Volume) verb path body built copy sends = judged_passes _ _ (λ fine. volume_creation (pool_of kind.Volume path) body copy)
+said_passes (place.List kind.Volume) verb path body built copy sends = judged_passes _ _ (λ fine. volume_creation (pool_of kind.Volume path) body (volume_source body fine copy))
 said_passes (place.List other) verb path body built copy sends = cc
 said_passes (place.One kind.Project) verb.Post path body built copy sends = judged_passes _ _ (λ fine. project_changed path body verb.Post)
 said_passes (place.One kind.Project) verb.Put path body built copy sends = judged_passes _ _ (λ fine. project_changed path body verb.Put)

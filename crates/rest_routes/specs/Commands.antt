@@ -1,5 +1,5 @@
 -- Which command a request asks for, or by which rule of its form it is refused.
-use Rattle.std.specs.Prelude.{ℕ, Bool, false, not, List, [], Option, Some, None, Result, Ok, Err, ok_or, is_some, if◌then◌else◌, codes}
+use Rattle.std.specs.Prelude.{ℕ, Bool, false, not, List, [], Option, Some, None, Result, Ok, Err, ok_or, if◌then◌else◌, codes}
 use Rattle.serde_json.specs.Data.{Data}
 use Rattle.size_values.specs.declared.kinds.ObjectKind.{ObjectKind}
 use Rattle.size_values.specs.declared.kinds.ObjectKind.TheVariants as kind
@@ -13,7 +13,8 @@ use Rattle.records.specs.declared.refusals.Rule.TheVariants as rule
 use Rattle.records.specs.declared.refusals.Refusal.{Refusal}
 use Rattle.rest_bodies.specs.Bodies.{body_of}
 use Rattle.rest_bodies.specs.Fields.{fields_of, first_fault}
-use Rattle.rest_bodies.specs.Members.{object_in, given, name_at}
+use Rattle.rest_bodies.specs.Members.{object_in, name_at}
+use Rattle.rest_bodies.specs.Origins.{copies_volume}
 use Rattle.rest_bodies.specs.declared.fields.Shape.{Shape}
 use Rattle.rest_bodies.specs.declared.fields.Shape.TheVariants as shape
 use Rattle.rest_paths.specs.Answers.{mapped, followed}
@@ -134,14 +135,14 @@ command_built place verb target sent =
     mapped (λ asked. record { project = project_of query; what = asked })
     (what_of place verb (path_of target) (recursion_asked query) sent))
 
--- a body that names what its object is copied from
-abbrev pub has_source : Option Data → Bool
-has_source None = false
-has_source (Some body) = is_some (given (codes "source") body)
+-- a body that asks for a copy of a volume
+abbrev pub sends_copy : Option Data → Bool
+sends_copy None = false
+sends_copy (Some body) = copies_volume body
 
--- the body makes a volume from a source, which is not built yet
+-- the body makes a volume as a copy, which is not built yet
 abbrev pub is_copy : Place → Option Data → Bool
-is_copy (place.List kind.Volume) sent = has_source sent
+is_copy (place.List kind.Volume) sent = sends_copy sent
 is_copy other sent = false
 
 -- a request that is not a copy is read further

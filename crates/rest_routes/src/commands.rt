@@ -2,11 +2,11 @@ ghost use Rattle.std.specs.Prelude.{◌≡◌, IfOk, option_map};
 ghost use Rattle.serde_json.specs.View.{view};
 ghost use Rattle.rest_bodies.specs.Members.{name_at};
 ghost use Rattle.rest_paths.specs.Answers.{Gives};
-ghost use Rattle.rest_routes.specs.Commands.{named, object_of, objects_of, one_read, what_read, creation_shape, change_shape, shape_of, creation_said, change_said, what_said, what_sent, sent_body, what_of, command_built, has_source, is_copy, unless_copy, command_of};
+ghost use Rattle.rest_routes.specs.Commands.{named, object_of, objects_of, one_read, what_read, creation_shape, change_shape, shape_of, creation_said, change_said, what_said, what_sent, sent_body, what_of, command_built, sends_copy, is_copy, unless_copy, command_of};
 
 use http_heads::Request;
 use records::{Command, Refusal, Rule, Target, What};
-use rest_bodies::{Shape, body_of, given, judge_fields, name_at, object_in};
+use rest_bodies::{Shape, body_of, copies_volume, judge_fields, name_at, object_in};
 use rest_paths::{
     PathTable, Place, Verb, has_body, is_built, name_of, path_of, plainly, pool_of, project_of,
     query_of, query_said, recursion_asked, refused, verb_offered,
@@ -255,22 +255,22 @@ fn command_built(
     }
 }
 
-/// Whether a body names what its object is copied from.
-fn has_source(sent: &Option<Value>) -> bool
-    ensures { result ≡ has_source (option_map view sent.now) }
+/// Whether a body asks for a copy of a volume.
+fn sends_copy(sent: &Option<Value>) -> bool
+    ensures { result ≡ sends_copy (option_map view sent.now) }
 {
     match sent {
-        Some(body) => given("source", body).is_some(),
+        Some(body) => copies_volume(body),
         None => false,
     }
 }
 
-/// Whether a body makes a volume from a source, which is not built yet.
+/// Whether a body makes a volume as a copy, which is not built yet.
 fn is_copy(place: Place, sent: &Option<Value>) -> bool
     ensures { result ≡ is_copy place (option_map view sent.now) }
 {
     match place {
-        Place::List(ObjectKind::Volume) => has_source(sent),
+        Place::List(ObjectKind::Volume) => sends_copy(sent),
         _ => false,
     }
 }

@@ -427,9 +427,23 @@ const BODIES: &[(&str, &str, &str, Rule, &str)] = &[
     (
         "POST",
         "/1.0/storage-pools/p/volumes/custom",
-        "{\"source\":7}",
+        "{\"source\":{\"type\":\"copy\"}}",
         Rule::A0,
         "",
+    ),
+    (
+        "POST",
+        "/1.0/storage-pools/p/volumes/custom",
+        "{\"name\":\"v\",\"source\":7}",
+        Rule::A5,
+        "source",
+    ),
+    (
+        "POST",
+        "/1.0/storage-pools/p/volumes/custom",
+        "{\"name\":\"v\",\"source\":{\"type\":\"move\",\"name\":\"w\"}}",
+        Rule::A5,
+        "source",
     ),
     (
         "PATCH",
