@@ -1,2 +1,4 @@
+pub mod Matching
+pub mod Names
 pub mod Rows
 pub mod Taken

@@ -1,4 +1,5 @@
 pub mod Answers
+pub mod Filled
 pub mod Paths
 pub mod Places
 pub mod Queries

@@ -1,9 +1,16 @@
 //! What can be said of the table of paths. A law is the contract of a function that does nothing.
 ghost use Rattle.std.specs.Prelude.{◌≡◌, true, []};
+ghost use Rattle.rest_paths.specs.Filled.{NamesFill};
 ghost use Rattle.rest_paths.specs.Places.{routes, are_taken};
 
 /// No path of the table is malformed, and none conflicts with one before it, so that a table of paths fails to be made
 /// for memory alone.
 pub fn paths_do_not_conflict()
     ensures { are_taken routes [] ≡ true }
+{}
+
+/// The names that requests read off a path are what stands in it in place of the braces of its line in the table, where the
+/// router finds one, but for snapshots, whose requests are not read yet.
+pub fn names_fill_the_braces()
+    ensures { NamesFill }
 {}
