@@ -1,5 +1,5 @@
 -- Each command of a request is formed, and is one that is built: from the settings in a body up to the request.
-use Rattle.std.proofs.Common.{◌≡◌, absurd, ℕ, Bool, true, false, ◌&&◌, ◌||◌, List, [], ◌∷◌, Option, Some, None, Result, Ok, Err, IfOk, IsTrue, refl, sym, subst, option_map, cond, not, codes}
+use Rattle.std.proofs.Common.{◌≡◌, ℕ, Bool, true, false, ◌&&◌, ◌||◌, List, [], ◌∷◌, Option, Some, None, Result, Ok, Err, IfOk, IsTrue, refl, sym, subst, option_map, cond, not, codes}
 use Rattle.std.specs.Prelude.{is_some, option_and_then}
 use Rattle.std.specs.declared.cmp.Ordering.{Ordering}
 use Rattle.std.specs.declared.cmp.Ordering.TheVariants.{Less, Equal, Greater}
