@@ -86,11 +86,6 @@ const POOLS: Filling = Filling {
     kept: 66,
 };
 
-#[test]
-fn a_full_table_of_pools(rt: HostRuntime) {
-    assert!(rt; fills_table(rt.alloc(), POOLS) == Ok(true));
-}
-
 /// A project with networks of its own, and one without.
 const TWO_HOMES: &str = r#"
 POST /1.0/projects {"config":{"features.networks":"true"},"name":"own"}
@@ -129,6 +124,7 @@ const NETWORKS: Filling = Filling {
 };
 
 #[test]
-fn a_full_table_of_networks(rt: HostRuntime) {
+fn full_tables_of_objects(rt: HostRuntime) {
+    assert!(rt; fills_table(rt.alloc(), POOLS) == Ok(true));
     assert!(rt; fills_table(rt.alloc(), NETWORKS) == Ok(true));
 }

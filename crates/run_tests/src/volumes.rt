@@ -1,9 +1,6 @@
 //! Storage volumes over HTTP: each request with its exact reply.
 
-use crate::runs::{End, Setting, WELL};
-use crate::scripts::{Script, is_well, wrong_among};
-use size_values::NoMemory;
-use std::alloc::Global;
+use crate::scripts::{Script, wrong_among};
 
 /// Volumes are made, read, changed, used, renamed and deleted.
 const LIFE: &str = r#"
@@ -412,95 +409,4 @@ const SCRIPTS: [Script; 5] = [
 fn volumes_live_by_their_rules(rt: HostRuntime) {
     let wrong = wrong_among(rt.alloc(), &SCRIPTS);
     assert!(rt; wrong == Ok(("", "")), "{wrong:?}");
-}
-
-/// Readings of the clock, and what is read of a volume that is made and changed then.
-const MOMENTS: [(&str, &str); 4] = [
-    (
-        "0",
-        r#"
-POST /1.0/storage-pools {"driver":"dir","name":"p0"}
-200 {"metadata":{},"status":"Success","status_code":200,"type":"sync"}
-POST /1.0/storage-pools/p0/volumes {"name":"v"}
-200 {"metadata":{},"status":"Success","status_code":200,"type":"sync"}
-PATCH /1.0/storage-pools/p0/volumes/custom/v {"description":"d"}
-200 {"metadata":{},"status":"Success","status_code":200,"type":"sync"}
-PUT /1.0/storage-pools/p0/volumes/custom/v {"config":{"size":"1GiB"}}
-200 {"metadata":{},"status":"Success","status_code":200,"type":"sync"}
-POST /1.0/storage-pools/p0/volumes/custom/v {"name":"w"}
-200 {"metadata":{},"status":"Success","status_code":200,"type":"sync"}
-GET /1.0/storage-pools/p0/volumes/custom/w
-200 {"metadata":{"config":{"size":"1GiB"},"created_at":"1970-01-01T00:00:00Z","description":"","name":"w","pool":"p0","project":"default","type":"custom","used_by":[]},"status":"Success","status_code":200,"type":"sync"}
-"#,
-    ),
-    (
-        "951782400",
-        r#"
-POST /1.0/storage-pools {"driver":"dir","name":"p0"}
-200 {"metadata":{},"status":"Success","status_code":200,"type":"sync"}
-POST /1.0/storage-pools/p0/volumes {"name":"v"}
-200 {"metadata":{},"status":"Success","status_code":200,"type":"sync"}
-PATCH /1.0/storage-pools/p0/volumes/custom/v {"description":"d"}
-200 {"metadata":{},"status":"Success","status_code":200,"type":"sync"}
-PUT /1.0/storage-pools/p0/volumes/custom/v {"config":{"size":"1GiB"}}
-200 {"metadata":{},"status":"Success","status_code":200,"type":"sync"}
-POST /1.0/storage-pools/p0/volumes/custom/v {"name":"w"}
-200 {"metadata":{},"status":"Success","status_code":200,"type":"sync"}
-GET /1.0/storage-pools/p0/volumes/custom/w
-200 {"metadata":{"config":{"size":"1GiB"},"created_at":"2000-02-29T00:00:00Z","description":"","name":"w","pool":"p0","project":"default","type":"custom","used_by":[]},"status":"Success","status_code":200,"type":"sync"}
-"#,
-    ),
-    (
-        "1700000000",
-        r#"
-POST /1.0/storage-pools {"driver":"dir","name":"p0"}
-200 {"metadata":{},"status":"Success","status_code":200,"type":"sync"}
-POST /1.0/storage-pools/p0/volumes {"name":"v"}
-200 {"metadata":{},"status":"Success","status_code":200,"type":"sync"}
-PATCH /1.0/storage-pools/p0/volumes/custom/v {"description":"d"}
-200 {"metadata":{},"status":"Success","status_code":200,"type":"sync"}
-PUT /1.0/storage-pools/p0/volumes/custom/v {"config":{"size":"1GiB"}}
-200 {"metadata":{},"status":"Success","status_code":200,"type":"sync"}
-POST /1.0/storage-pools/p0/volumes/custom/v {"name":"w"}
-200 {"metadata":{},"status":"Success","status_code":200,"type":"sync"}
-GET /1.0/storage-pools/p0/volumes/custom/w
-200 {"metadata":{"config":{"size":"1GiB"},"created_at":"2023-11-14T22:13:20Z","description":"","name":"w","pool":"p0","project":"default","type":"custom","used_by":[]},"status":"Success","status_code":200,"type":"sync"}
-"#,
-    ),
-    (
-        "253402300799",
-        r#"
-POST /1.0/storage-pools {"driver":"dir","name":"p0"}
-200 {"metadata":{},"status":"Success","status_code":200,"type":"sync"}
-POST /1.0/storage-pools/p0/volumes {"name":"v"}
-200 {"metadata":{},"status":"Success","status_code":200,"type":"sync"}
-PATCH /1.0/storage-pools/p0/volumes/custom/v {"description":"d"}
-200 {"metadata":{},"status":"Success","status_code":200,"type":"sync"}
-PUT /1.0/storage-pools/p0/volumes/custom/v {"config":{"size":"1GiB"}}
-200 {"metadata":{},"status":"Success","status_code":200,"type":"sync"}
-POST /1.0/storage-pools/p0/volumes/custom/v {"name":"w"}
-200 {"metadata":{},"status":"Success","status_code":200,"type":"sync"}
-GET /1.0/storage-pools/p0/volumes/custom/w
-200 {"metadata":{"config":{"size":"1GiB"},"created_at":"9999-12-31T23:59:59Z","description":"","name":"w","pool":"p0","project":"default","type":"custom","used_by":[]},"status":"Success","status_code":200,"type":"sync"}
-"#,
-    ),
-];
-
-/// Whether a script is answered so in a run at this moment.
-fn is_answered_at(alloc: Global, now: &str, script: &str) -> Result<bool, NoMemory> {
-    let setting = Setting {
-        words: &["run", "--now", now],
-        ..WELL
-    };
-    is_well(alloc, script, "", setting, End { status: 0, kept: 4 })
-}
-
-#[test]
-fn volumes_tell_when_they_were_made(rt: HostRuntime) {
-    for (now, script) in MOMENTS {
-        assert!(rt;
-            is_answered_at(rt.alloc(), now, script) == Ok(true),
-            "at {now}"
-        );
-    }
 }
