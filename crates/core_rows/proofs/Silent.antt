@@ -1,5 +1,5 @@
 -- Changes of rows tell nothing.
-use Rattle.std.proofs.Common.{List, ◌∙◌, ap}
+use Rattle.std.proofs.Common.{◌≡◌, List, [], ◌∷◌, ◌++◌, map, refl, ◌∙◌, ap}
 use Rattle.row_machine.specs.declared.changes.RowChange.{RowChange}
 use Rattle.row_machine.specs.machine.State.{State}
 use Rattle.row_machine.specs.machine.Changes.{applied}
@@ -8,3 +8,13 @@ use Rattle.core_rows.specs.Kept.{IsSilent}
 
 pub applied-silent : (cs : List RowChange) (s : State) → IsSilent s → IsSilent (applied s cs)
 applied-silent cs s h = record { notices = ap (λ told. told.0) (applied-notices cs s) ∙ h.notices; next = ap (λ told. told.1) (applied-notices cs s) ∙ h.next }
+
+-- where no notices wait, none do as read over other operations
+pub still-quiet : {X Y : Type 0} (f g : X → Y) (xs : List X) → map f xs ≡ [] → map g xs ≡ []
+still-quiet f g [] e = refl
+still-quiet f g (x ∷ xs) e = cc
+
+-- one that waits behind none is the only one
+pub only-one : {X Y : Type 0} (f g : X → Y) (xs ys : List X) (x : X) → map f xs ≡ [] → ys ≡ xs ++ x ∷ [] → map g ys ≡ g x ∷ []
+only-one f g [] ys x e is = ap (map g) is
+only-one f g (y ∷ xs) ys x e is = cc

@@ -4,3 +4,4 @@ pub mod Opening
 pub mod Planned
 pub mod Stores
 pub mod View
+pub mod Waiting

@@ -1,12 +1,13 @@
 -- What contracts see of the rows of the server, and what is true of the fields.
-use Rattle.std.specs.Prelude.{◌≡◌, ◌≤◌, [], vec_capacity}
+use Rattle.std.specs.Prelude.{◌≡◌, ◌≤◌, [], map, vec_capacity}
 use Rattle.row_machine.specs.facts.Whole.{IsWhole}
 use Rattle.core_rows.specs.declared.estate.Estate.TheInside.{Inside}
 use Rattle.core_rows.specs.Kept.{Kept, IsSilent, untold_limit}
+use Rattle.core_rows.specs.Waiting.{told_by}
 
--- the state and its notices
+-- the state, and the notices that wait
 abbrev pub kept : Inside → Kept
-kept e = record { state = e.draft.state; untold = e.untold.items }
+kept e = record { state = e.draft.state; untold = map (told_by e.draft.state.operations) e.untold.items }
 
 -- the facts hold of the state, in which nothing was told; no change of it is left unsettled; and there is room for the notices of
 -- a step

@@ -1,4 +1,4 @@
-ghost use Rattle.std.specs.Prelude.{◌≡◌, ◌<◌, ◌∷◌, [], IfOk, IfSome, IfNone, OnOk};
+ghost use Rattle.std.specs.Prelude.{◌≡◌, ◌<◌, ◌∷◌, [], IfOk, IfSome, IfNone, OnOk, OnErr};
 ghost use Rattle.limit_rules.specs.Exceeding.{Serves};
 ghost use Rattle.row_drafts.specs.Drafted.{IsReady};
 ghost use Rattle.row_machine.specs.machine.Changes.{applied};
@@ -7,6 +7,7 @@ ghost use Rattle.core_rows.specs.Kept.{IsSilent};
 ghost use Rattle.core_rows.specs.Planned.{Follows, IsToDo};
 
 use crate::changing::{commit, copy_changes, give_up, judge};
+use crate::waiting::{Waiting, told_by};
 use limit_rules::{Usage, usage_before_changes};
 use plain_lists::push_reserved;
 use record_keeper::Keeper;
@@ -23,7 +24,7 @@ use std::marker::Model;
 #[derive(Drop)]
 pub struct Estate {
     draft: Draft,
-    untold: Vec<Untold>,
+    untold: Vec<Waiting>,
 }
 
 impl Model for Estate {
@@ -121,20 +122,31 @@ impl Estate {
             return give_up(&mut self.draft, why);
         }
         self.draft.settle();
-        push_reserved(&mut self.untold, notice);
+        push_reserved(&mut self.untold, Waiting::Whole(notice));
         Reply::Empty
     }
 
     /// Hands out the first notice that was not yet taken.
-    pub fn take_told(&mut self) -> Option<Untold>
-        ensures some { IfSome result (λ notice. self.old.untold ≡ notice ∷ self.new.untold) }
-        ensures none { IfNone result ((self.old.untold ≡ []) × (self.new.untold ≡ [])) }
+    pub fn take_told(&mut self, alloc: Global) -> Result<Option<Untold>, NoMemory>
+        ensures some { IfOk result (λ taken. IfSome taken (λ notice. self.old.untold ≡ notice ∷ self.new.untold)) }
+        ensures none { IfOk result (λ taken. IfNone taken ((self.old.untold ≡ []) × (self.new.untold ≡ []))) }
+        ensures error { OnErr result (self.new.untold ≡ self.old.untold) }
+        ensures state { self.new.state ≡ self.old.state }
+    {
+        if self.untold.is_empty() {
+            return Ok(None);
+        }
+        let notice = told_by(alloc, &self.draft.view(), &self.untold[0])?;
+        self.untold.remove(0);
+        Ok(Some(notice))
+    }
+
+    /// Drops the notices that were not yet taken: nobody listens.
+    pub fn forget_told(&mut self)
+        ensures untold { self.new.untold ≡ [] }
         ensures state { self.new.state ≡ self.old.state }
         ensures silent { IsSilent self.new.state }
     {
-        if self.untold.is_empty() {
-            return None;
-        }
-        Some(self.untold.remove(0))
+        self.untold.clear();
     }
 }

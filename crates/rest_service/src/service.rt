@@ -1,6 +1,5 @@
 ghost use Rattle.std.specs.Prelude.{◌≡◌, []};
 ghost use Rattle.row_machine.specs.machine.State.{State};
-ghost use Rattle.core_rows.specs.Kept.{IsSilent};
 ghost use Rattle.rest_service.specs.Answers.{Answers, Opens, Replies};
 
 use crate::answers::{Answered, BOOT, answer_for};
@@ -30,15 +29,6 @@ impl Model for Service {
     ghost view = { rows_of };
 
     ghost invariant = { IsQuiet };
-}
-
-/// Drops the notices that were not yet taken: nobody listens.
-fn drop_told(estate: &mut Estate)
-    ensures quiet { estate.new.untold ≡ [] }
-    ensures state { estate.new.state ≡ estate.old.state }
-    ensures silent { IsSilent estate.new.state }
-{
-    while let Some(_notice) = estate.take_told() {}
 }
 
 /// Carries a request out, its command at the next moment of the clock. The notices of its change are left in the
@@ -98,7 +88,7 @@ impl Service {
             clock,
             request,
         );
-        drop_told(&mut self.estate);
+        self.estate.forget_told();
         let answered = answer_for(alloc, &reply, request.last);
         drop(reply);
         answered

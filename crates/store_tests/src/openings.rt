@@ -156,9 +156,21 @@ fn tells_once(alloc: Global, estate: &mut Estate, keeper: &mut MapKeeper, comman
     let reply = do_object(alloc, estate, keeper, command, 0);
     let done = matches!(&reply, Reply::Empty);
     drop(reply);
-    let told = estate.take_told().is_some();
-    let more = estate.take_told().is_some();
+    let told = is_told(alloc, estate);
+    let more = is_told(alloc, estate);
     done && told && !more
+}
+
+/// Whether a notice waits, which is taken.
+fn is_told(alloc: Global, estate: &mut Estate) -> bool {
+    match estate.take_told(alloc) {
+        Ok(taken) => {
+            let told = taken.is_some();
+            drop(taken);
+            told
+        }
+        Err(NoMemory) => false,
+    }
 }
 
 /// Whether the first rows are opened, tell a notice of a change once, and stay where nothing is changed.

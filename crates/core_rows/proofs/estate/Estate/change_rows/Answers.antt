@@ -1,4 +1,4 @@
-use Rattle.std.proofs.Common.{◌∷◌, [], ◌++◌, ◌∙◌, ap, sym, subst, arith}
+use Rattle.std.proofs.Common.{◌∙◌, ap, sym, subst, arith}
 use Rattle.std.specs.List.{AllByRecursion}
 use Rattle.record_keeper.specs.Store.{after_commit}
 use Rattle.limit_rules.specs.Exceeding.{Serves}
@@ -7,7 +7,7 @@ use Rattle.row_machine.specs.facts.Whole.{IsWhole}
 use Rattle.machine_laws.specs.Entries.{entry_changes}
 use Rattle.row_drafts.specs.Steps.{before_changes}
 use Rattle.core_rows.specs.Kept.{Kept, HasEntry, IsSilent}
-use Rattle.core_rows.proofs.Silent.{applied-silent}
+use Rattle.core_rows.proofs.Silent.{applied-silent, still-quiet, only-one}
 use Rattle.core_rows.proofs.Changed.{accepted-from, refused-from, uncommitted-from, unready-from}
 use Rattle.core_rows.proofs.Following.{follows-made}
 use Rattle.core_rows.proofs.Judging.{entries-ready}
@@ -17,18 +17,18 @@ use Rattle.core_rows.proofs.estate.Estate.change_rows.Goals as goal
 pub returns-in_default : goal.returns-in_default
 returns-in_default g c =
     unready-from c.args.self.now.state c.args.command.now c.args.moment c.args.changes c.args.notice c.self.inside.draft.state c.make_ready.new.draft.state
-    c.self.inside.untold.items (g.R.Keeper.store c.args.keeper.now) (ap (λ (k : Kept). k.state) c.self.view_is) c.make_ready.ensures.state (ap (λ (k : Kept). k.untold) c.self.view_is ∙ c.requires.quiet)
+    _ (g.R.Keeper.store c.args.keeper.now) (ap (λ (k : Kept). k.state) c.self.view_is) c.make_ready.ensures.state (still-quiet _ _ c.self.inside.untold.items (ap (λ (k : Kept). k.untold) c.self.view_is ∙ c.requires.quiet))
 
 pub returns-in-Err : goal.returns-in-Err
 returns-in-Err g c =
     refused-from c.args.self.now.state c.args.command.now c.args.moment c.args.changes c.args.notice c.self.inside.draft.state c.view.result c.give_up.new.draft.state
-    c.view-2.result.now c.self.inside.untold.items c.in-Err.why c.give_up.result (g.R.Keeper.store c.args.keeper.now)
+    c.view-2.result.now _ c.in-Err.why c.give_up.result (g.R.Keeper.store c.args.keeper.now)
     (ap (λ (k : Kept). k.state) c.self.view_is) c.requires.planned
     (c.view.ensures ∙ c.apply.ensures.state ∙ ap (λ t. applied t c.args.changes) c.make_ready.ensures.state)
     (c.view-2.ensures ∙ c.in-Ok.ensures.changes) (c.in-Err.ensures c.self.inside.draft.state
     (subst (Serves c.in-Ok.ready.before c.self.inside.draft.state) (sym (c.view.ensures ∙ c.apply.ensures.state ∙ ap (λ t. applied t c.args.changes) c.make_ready.ensures.state)) c.in-Ok.ensures.before))
     (c.give_up.ensures.state ∙ c.apply.ensures.former ∙ ap (λ us. before_changes us c.make_ready.new.draft.state) c.make_ready.ensures.log ∙ c.make_ready.ensures.state)
-    (ap (λ (k : Kept). k.untold) c.self.view_is ∙ c.requires.quiet) c.give_up.ensures.reply
+    (still-quiet _ _ c.self.inside.untold.items (ap (λ (k : Kept). k.untold) c.self.view_is ∙ c.requires.quiet)) c.give_up.ensures.reply
 
 pub commit-committed-requires : goal.commit-committed-requires
 commit-committed-requires g c = record {
@@ -44,7 +44,7 @@ commit-committed-requires g c = record {
 pub returns-in-Err-committed : goal.returns-in-Err-committed
 returns-in-Err-committed g c =
     uncommitted-from c.args.self.now.state c.args.command.now c.args.moment c.args.changes c.args.notice c.self.inside.draft.state
-    c.give_up-in-Err-committed.new.draft.state c.in-Ok.ready.changes c.self.inside.untold.items c.in-Err-committed.why c.give_up-in-Err-committed.result
+    c.give_up-in-Err-committed.new.draft.state c.in-Ok.ready.changes _ c.in-Err-committed.why c.give_up-in-Err-committed.result
     (g.R.Keeper.store c.args.keeper.now) (g.R.Keeper.store c.commit-committed.new.keeper)
     (ap (λ (k : Kept). k.state) c.self.view_is)
     (accepted-from c.args.self.now.state c.args.command.now c.args.moment c.args.changes c.args.notice c.self.inside.draft.state c.view.result c.view-2.result.now
@@ -54,7 +54,7 @@ returns-in-Err-committed g c =
     (subst (Serves c.in-Ok.ready.before c.self.inside.draft.state) (sym (c.view.ensures ∙ c.apply.ensures.state ∙ ap (λ t. applied t c.args.changes) c.make_ready.ensures.state)) c.in-Ok.ensures.before)))
     c.in-Ok.ensures.changes c.in-Err-committed.ensures
     (c.give_up-in-Err-committed.ensures.state ∙ c.apply.ensures.former ∙ ap (λ us. before_changes us c.make_ready.new.draft.state) c.make_ready.ensures.log ∙ c.make_ready.ensures.state)
-    (ap (λ (k : Kept). k.untold) c.self.view_is ∙ c.requires.quiet) c.give_up-in-Err-committed.ensures.reply
+    (still-quiet _ _ c.self.inside.untold.items (ap (λ (k : Kept). k.untold) c.self.view_is ∙ c.requires.quiet)) c.give_up-in-Err-committed.ensures.reply
 
 pub invariant_of-self-2 : goal.invariant_of-self-2
 invariant_of-self-2 g c = record {
@@ -77,7 +77,7 @@ invariant_of-self-2 g c = record {
 
 pub returns : goal.returns
 returns g c =
-    follows-made c.args.self.now.state c.args.command.now c.args.moment c.args.changes c.args.notice c.settle.new.self.state c.push_reserved.new.items.items
+    follows-made c.args.self.now.state c.args.command.now c.args.moment c.args.changes c.args.notice c.settle.new.self.state _
     (g.R.Keeper.store c.args.keeper.now) (g.R.Keeper.store c.commit-committed.new.keeper)
     (accepted-from c.args.self.now.state c.args.command.now c.args.moment c.args.changes c.args.notice c.self.inside.draft.state c.view.result c.view-2.result.now
     c.self.invariant.whole (ap (λ (k : Kept). k.state) c.self.view_is) c.requires.planned
@@ -89,4 +89,4 @@ returns g c =
     (c.settle.ensures.state
     ∙ c.apply.ensures.state
     ∙ ap (λ t. applied t c.args.changes) (c.make_ready.ensures.state ∙ ap (λ (k : Kept). k.state) c.self.view_is))
-    (c.push_reserved.ensures.items ∙ ap (λ ns. ns ++ c.args.notice ∷ []) (ap (λ (k : Kept). k.untold) c.self.view_is ∙ c.requires.quiet))
+    (only-one _ _ c.self.inside.untold.items _ _ (ap (λ (k : Kept). k.untold) c.self.view_is ∙ c.requires.quiet) c.push_reserved.ensures.items)
