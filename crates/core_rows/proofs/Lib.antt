@@ -1,7 +1,9 @@
 mod Changed
 mod FirstEntries
 pub mod Following
+mod Handing
 pub mod Judging
 mod Opens
+mod Reporting
 mod Silent
 pub mod Stepping

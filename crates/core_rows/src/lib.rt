@@ -5,10 +5,12 @@
 mod changing;
 mod entries;
 mod estate;
+mod jobs;
 mod opening;
 mod waiting;
 
 pub use changing::refused_reply;
 pub use entries::{default_profile, entry_changes};
 pub use estate::Estate;
+pub use jobs::Turned;
 pub use opening::{OpenFault, load_rows};

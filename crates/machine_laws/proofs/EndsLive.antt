@@ -59,9 +59,9 @@ find-ring p cap x xs some others passes =
 -- ---- an end
 
 -- the operation that ended is the one kept of its number
-pub kept-ended : {W : Type 0} (k : Kept W) (n : ℕ) (now : Status) (why : OpFault) (moment : ℕ) (o : Operation W) → AreKept k → live_at k n ≡ Some o
-    → option_map (λ (x : Operation W). x.status) (kept_at (ends n now why moment k) n) ≡ Some now
-kept-ended {W} k n now why moment o h live = ap (option_map (λ (x : Operation W). x.status)) found where
+pub found-ended : {W : Type 0} (k : Kept W) (n : ℕ) (now : Status) (why : OpFault) (moment : ℕ) (o : Operation W) → AreKept k → live_at k n ≡ Some o
+    → kept_at (ends n now why moment k) n ≡ Some (record o { status = now; fault = why; updated = moment })
+found-ended {W} k n now why moment o h live = found where
   over : Operation W
   over = record o { status = now; fault = why; updated = moment }
 
@@ -85,6 +85,10 @@ kept-ended {W} k n now why moment o h live = ap (option_map (λ (x : Operation W
       ∙ find-append (has_number n) (dropped (has_number n) k.live) (ring_push most_ended over k.ended)
       ∙ ap (λ x. option_or x (find (has_number n) (ring_push most_ended over k.ended))) gone
       ∙ find-ring (has_number n) most_ended over k.ended (omega arith) others (eq-eqb o.number n number)
+
+pub kept-ended : {W : Type 0} (k : Kept W) (n : ℕ) (now : Status) (why : OpFault) (moment : ℕ) (o : Operation W) → AreKept k → live_at k n ≡ Some o
+    → option_map (λ (x : Operation W). x.status) (kept_at (ends n now why moment k) n) ≡ Some now
+kept-ended {W} k n now why moment o h live = ap (option_map (λ (x : Operation W). x.status)) (found-ended k n now why moment o h live)
 
 -- an end of another number leaves an operation live
 pub live-apart : {W : Type 0} (k : Kept W) (n m : ℕ) → n ≢ m → find (has_number n) (dropped (has_number m) k.live) ≡ live_at k n
