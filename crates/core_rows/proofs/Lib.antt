@@ -5,5 +5,6 @@ mod Handing
 pub mod Judging
 mod Opens
 mod Reporting
+mod Reports
 mod Silent
 pub mod Stepping
