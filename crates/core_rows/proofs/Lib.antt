@@ -4,6 +4,7 @@ pub mod Following
 mod Handing
 pub mod Judging
 mod Opens
+mod Powers
 mod Reporting
 mod Reports
 mod Silent

@@ -1,5 +1,5 @@
 -- A report taken as one step of the machine, with what went to the store, from what was done for it.
-use Rattle.std.proofs.Common.{◌≡◌, ℕ, ◌+◌, List, [], ◌∷◌, ◌++◌, Option, Some, None, refl, ap, sym, subst, ◌∙◌, inl, inr}
+use Rattle.std.proofs.Common.{◌≡◌, ℕ, ◌+◌, List, [], ◌∷◌, ◌++◌, Option, Some, None, refl, ap, sym, subst, ◌∙◌}
 use Rattle.std.specs.Option.{option_map}
 use Rattle.size_values.specs.declared.entry.Entry.{Entry}
 use Rattle.size_values.specs.declared.rise.Rise.{Rise}
@@ -13,15 +13,15 @@ use Rattle.operations.specs.declared.status.Status.{Status}
 use Rattle.operations.specs.declared.status.Status.TheVariants as status
 use Rattle.operations.specs.Kept.{live_at}
 use Rattle.record_keeper.specs.Entries.{after_changes}
-use Rattle.record_keeper.specs.Store.{Store, FailsAtCall, IsAfterUpTo, after_commit}
+use Rattle.record_keeper.specs.Store.{Store, FailsAtCall, IsAfterUpTo}
 use Rattle.records.specs.declared.notices.Untold.{Untold}
 use Rattle.row_machine.specs.declared.changes.RowChange.{RowChange}
 use Rattle.row_machine.specs.declared.events.Event.TheVariants as event
 use Rattle.row_machine.specs.declared.events.Answer.TheVariants as answer
 use Rattle.row_machine.specs.machine.Task.{Task}
 use Rattle.row_machine.specs.machine.State.{State}
-use Rattle.row_machine.specs.machine.Accept.{After, and_then}
-use Rattle.row_machine.specs.machine.Step.{Outcome, well, keeper_failed, no_memory, step, done, reported, stray, committed, failure}
+use Rattle.row_machine.specs.machine.Accept.{and_then}
+use Rattle.row_machine.specs.machine.Step.{well, keeper_failed, no_memory, step, done, reported, committed, failure}
 use Rattle.row_machine.specs.machine.Work.{with_task, one_more_done, undone, failed, succeeded, cancelled, success_changes}
 use Rattle.row_machine.specs.opening.Records.{records_of}
 use Rattle.row_machine.specs.shown.Notices.{telling, success_notices}
