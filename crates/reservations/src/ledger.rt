@@ -107,6 +107,14 @@ impl Ledger {
         self.books.returned = self.books.returned.plus(&share);
     }
 
+    /// The shares that are held, in the order of their operations.
+    pub fn holds(&self) -> &[Hold]
+        ensures held { result.now ≡ self.now.held }
+        ensures facts { AreHoldings self.now }
+    {
+        &self.holds
+    }
+
     /// What the operations of a project hold together.
     pub fn held(&self, project: &str) -> Amounts
         ensures sums { (k : Part) → part k result ≡ held_part k project.now self.now.held }
