@@ -16,7 +16,12 @@ pub fn two_names(alloc: Global, first: &str, second: &str) -> Result<Text, NoMem
 }
 
 /// The key of a row that has three names.
-pub fn three_names(alloc: Global, first: &Text, second: &Text, third: &Text) -> Result<Text, NoMemory>
+pub fn three_names(
+    alloc: Global,
+    first: &Text,
+    second: &Text,
+    third: &Text,
+) -> Result<Text, NoMemory>
     ensures { IfOk result (λ key. key ≡ two_names first.now (two_names second.now third.now)) }
 {
     let behind = two_names(alloc, second.view(), third.view())?;
