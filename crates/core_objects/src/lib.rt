@@ -4,4 +4,4 @@
 
 mod objects;
 
-pub use objects::do_object;
+pub use objects::{answer_read, change_at_once, do_object, first_broken};

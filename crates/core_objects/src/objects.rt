@@ -1,11 +1,13 @@
-ghost use Rattle.std.specs.Prelude.{◌≡◌, ◌<◌, ◌∷◌, [], true};
+ghost use Rattle.std.specs.Prelude.{◌≡◌, ◌≢◌, ◌<◌, ◌∷◌, [], true, None};
 ghost use Rattle.size_values.specs.Causes.{Says};
 ghost use Rattle.plain_lists.specs.Firsts.{first};
 ghost use Rattle.records.specs.Built.{is_built_command};
 ghost use Rattle.records.specs.Forms.{is_formed};
 ghost use Rattle.row_machine.specs.machine.Rules.{names_broken};
 ghost use Rattle.row_machine.specs.machine.Rules.{standing_broken};
+ghost use Rattle.row_machine.specs.machine.Plans.{plan_of};
 ghost use Rattle.row_machine.specs.shown.Views.{read};
+ghost use Rattle.object_plans.specs.Planning.{changes_in};
 ghost use Rattle.core_rows.specs.Planned.{Follows};
 ghost use Rattle.core_objects.specs.Answers.{IsAnswer, is_read};
 
@@ -44,7 +46,7 @@ fn is_read(asked: &What) -> bool
 }
 
 /// The first rule that a command breaks on names and on what stands in the way.
-fn first_broken(alloc: Global, view: &View<'_>, command: &Command) -> Result<(), Or<Refusal>>
+pub fn first_broken(alloc: Global, view: &View<'_>, command: &Command) -> Result<(), Or<Refusal>>
     ensures { Says result (first (names_broken view.now command.now ∷ standing_broken view.now command.now ∷ [])) }
 {
     names_broken(alloc, view, command)?;
@@ -52,12 +54,40 @@ fn first_broken(alloc: Global, view: &View<'_>, command: &Command) -> Result<(),
 }
 
 /// What a read is answered, once it breaks no rule.
-fn answer(alloc: Global, view: &View<'_>, command: &Command) -> Reply
+pub fn answer_read(alloc: Global, view: &View<'_>, command: &Command) -> Reply
     ensures { IsAnswer result (read view.now command.now.project command.now.what) }
 {
     match read(alloc, view, &command.project, &command.what) {
         Ok(reply) => reply,
         Err(NoMemory) => Reply::NoMemory,
+    }
+}
+
+/// Makes the changes of a command that changes rows at once, and breaks no rule on names and on what stands in the way.
+pub fn change_at_once<R: Keeper>(
+    alloc: Global,
+    estate: &mut Estate,
+    keeper: &mut R,
+    command: &Command,
+    moment: u64,
+) -> Reply
+    requires quiet { estate.old.untold ≡ [] }
+    requires formed { is_formed command.now ≡ true }
+    requires moment { moment < MOMENT_LIMIT }
+    requires free { first (names_broken estate.old.state command.now ∷ standing_broken estate.old.state command.now ∷ []) ≡ None }
+    requires changes { changes_in (plan_of estate.old.state command.now moment) ≢ None }
+    ensures { Follows estate.old.state command.now moment estate.new.state estate.new.untold result (R.store keeper.old) (R.store keeper.new) }
+{
+    let Ok(planned) = plan_change(alloc, &estate.view(), command, moment) else {
+        return Reply::NoMemory;
+    };
+    match planned {
+        Some(planned) => {
+            let changes = planned.changes;
+            let notice = planned.notice;
+            estate.change_rows(alloc, keeper, command, moment, changes, notice)
+        }
+        None => unreachable!(),
     }
 }
 
@@ -81,17 +111,7 @@ pub fn do_object<R: Keeper>(
         return refused_reply(why);
     }
     if is_read(&command.what) {
-        return answer(alloc, &estate.view(), command);
+        return answer_read(alloc, &estate.view(), command);
     }
-    let Ok(planned) = plan_change(alloc, &estate.view(), command, moment) else {
-        return Reply::NoMemory;
-    };
-    match planned {
-        Some(planned) => {
-            let changes = planned.changes;
-            let notice = planned.notice;
-            estate.change_rows(alloc, keeper, command, moment, changes, notice)
-        }
-        None => unreachable!(),
-    }
+    change_at_once(alloc, estate, keeper, command, moment)
 }

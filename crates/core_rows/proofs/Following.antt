@@ -82,9 +82,14 @@ stored-no-memory [] store store' some h = absurd (some refl)
 stored-no-memory (c ∷ cs) store store' some h = h
 
 -- at most one call leaves the count of failures
-failures-same : (store store' : Store) → IsAfterUpTo 1 store store' → store'.failures ≡ store.failures
+pub failures-same : (store store' : Store) → IsAfterUpTo 1 store store' → store'.failures ≡ store.failures
 failures-same store store' (inl is) = ap (λ (x : Store). x.failures) is
 failures-same store store' (inr is) = ap (λ (x : Store). x.failures) is
+
+-- and what is told of the entries
+pub told-same : (store store' : Store) → IsAfterUpTo 1 store store' → store'.told ≡ store.told
+told-same store store' (inl is) = ap (λ (x : Store). x.told) is
+told-same store store' (inr is) = ap (λ (x : Store). x.told) is
 
 -- ---- steps
 
@@ -150,11 +155,8 @@ follows-uncommitted s c moment cs untold or.NoMemory store store' h after none =
   asked = asked-no-memory s c moment s untold store store' refl none (failures-same store store' after)
       (subst (λ xs. Stores xs no_memory store store') (sym (changes_of-free s c moment cs h.plan h.unbroken))
       (stored-no-memory cs store store' (some-changes s cs (at_once h)) after));
-  kept = λ start is. told-same after ∙ is;
-} where
-  told-same : IsAfterUpTo 1 store store' → store'.told ≡ store.told
-  told-same (inl is) = ap (λ (x : Store). x.told) is
-  told-same (inr is) = ap (λ (x : Store). x.told) is
+  kept = λ start is. told-same store store' after ∙ is;
+}
 
 -- entries that are the records of the old state, after these changes
 tells-after : (s : State) (c : Command) (moment : ℕ) (cs : List RowChange) (start : Option (List Entry)) → IsAccepted s c moment (changes cs)

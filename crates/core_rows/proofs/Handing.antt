@@ -1,15 +1,12 @@
 -- What a step of an operation comes to, from the change that it makes: a call is handed out, or the operation ends.
-use Rattle.std.proofs.Common.{◌≡◌, ℕ, ◌+◌, ◌<◌, true, List, [], ◌∷◌, Option, Some, None, refl, ap, sym, subst, ◌∙◌}
+use Rattle.std.proofs.Common.{◌≡◌, ℕ, List, [], ◌∷◌, Option, Some, refl, ap, sym, ◌∙◌}
 use Rattle.std.specs.Option.{option_map, option_to_list}
 use Rattle.std.proofs.lemmas.Bool.{eq-eqb}
 use Rattle.plain_lists.proofs.EditLemmas.{find-changed}
 use Rattle.host_model.specs.declared.call.HostCall.{HostCall}
 use Rattle.host_model.specs.declared.report.Report.{Report}
 use Rattle.host_model.specs.declared.report.Report.TheVariants as report
-use Rattle.size_values.specs.declared.rise.Rise.{Rise}
 use Rattle.operations.specs.declared.operation.Operation.{Operation}
-use Rattle.operations.specs.declared.operation.OpFault.{OpFault}
-use Rattle.operations.specs.declared.operation.OpFault.TheVariants as fault
 use Rattle.operations.specs.declared.status.Status.{Status}
 use Rattle.operations.specs.declared.status.Status.TheVariants.{Running, Cancelling}
 use Rattle.operations.specs.Kept.{has_number, live_at, kept_at}
@@ -20,9 +17,9 @@ use Rattle.row_machine.specs.declared.events.Event.TheVariants as event
 use Rattle.row_machine.specs.machine.Task.{Task}
 use Rattle.row_machine.specs.machine.State.{State}
 use Rattle.row_machine.specs.machine.Accept.{and_then, told}
-use Rattle.row_machine.specs.machine.Step.{well, step, first_pending, taken, handed_out, done, reported, while_running, call_done, while_cancelling}
+use Rattle.row_machine.specs.machine.Step.{well, step, first_pending, taken, handed_out, done, reported, call_done, while_cancelling}
 use Rattle.row_machine.specs.machine.Work.{with_task, moved, handing_out, one_more_done, undone}
-use Rattle.row_machine.specs.shown.Notices.{telling, operation_notice, view_of}
+use Rattle.row_machine.specs.shown.Notices.{telling, view_of}
 use Rattle.machine_laws.proofs.CancelsBegin.{live-kept}
 use Rattle.core_rows.specs.Jobs.{IsTaken}
 

@@ -4,6 +4,8 @@ pub mod Following
 mod Handing
 pub mod Judging
 mod Opens
+mod Powers
 mod Reporting
+mod Reports
 mod Silent
 pub mod Stepping

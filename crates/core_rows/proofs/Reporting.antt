@@ -1,6 +1,5 @@
 -- What the end of an operation comes to, as one step of the machine.
-use Rattle.std.proofs.Common.{◌≡◌, ℕ, ◌+◌, List, [], ◌∷◌, ◌++◌, Option, Some, None, refl, ap, sym, subst, ◌∙◌}
-use Rattle.size_values.specs.declared.rise.Rise.{Rise}
+use Rattle.std.proofs.Common.{◌≡◌, ℕ, List, [], ◌∷◌, ◌++◌, Option, Some, None, refl, ap, sym, ◌∙◌}
 use Rattle.host_model.specs.declared.report.Report.{Report}
 use Rattle.host_model.specs.declared.report.Report.TheVariants as report
 use Rattle.operations.specs.declared.operation.Operation.{Operation}
@@ -11,14 +10,13 @@ use Rattle.operations.specs.declared.status.Status.TheVariants as status
 use Rattle.operations.specs.Kept.{Kept, live_at, kept_at, ends}
 use Rattle.operations.specs.Facts.{AreKept}
 use Rattle.records.specs.declared.notices.Untold.{Untold}
-use Rattle.row_machine.specs.declared.changes.RowChange.{RowChange}
 use Rattle.row_machine.specs.declared.events.Answer.TheVariants as answer
 use Rattle.row_machine.specs.declared.events.Event.TheVariants as event
 use Rattle.row_machine.specs.machine.Task.{Task}
 use Rattle.row_machine.specs.machine.State.{State}
 use Rattle.row_machine.specs.machine.Accept.{After, and_then, told}
-use Rattle.row_machine.specs.machine.Step.{Outcome, well, keeper_failed, no_memory, step, done, reported, while_running, call_done, committed, while_cancelling, failure, success}
-use Rattle.row_machine.specs.machine.Work.{failed, succeeded, cancelled, success_changes, after_failure, power_after, with_power_after}
+use Rattle.row_machine.specs.machine.Step.{Outcome, well, step, done, reported, while_running, call_done, committed, while_cancelling, failure, success}
+use Rattle.row_machine.specs.machine.Work.{failed, succeeded, cancelled, success_changes, power_after, with_power_after}
 use Rattle.row_machine.specs.shown.Notices.{telling, success_notices}
 use Rattle.machine_laws.proofs.BooksSteps.{telling-keeps, failure-keeps, applied-same}
 use Rattle.machine_laws.proofs.EndsLive.{found-ended}
