@@ -1,6 +1,6 @@
 //! Lists of changes of rows.
 ghost use Rattle.std.specs.Prelude.{◌≡◌, [], ◌∷◌, ◌++◌, IfOk};
-ghost use Rattle.row_codec.specs.Spelling.{two_names, key_of};
+ghost use Rattle.row_codec.specs.Spelling.{key_of};
 ghost use Rattle.records.specs.declared.rows.Row.TheVariants as row_of;
 ghost use Rattle.row_machine.specs.declared.changes.RowChange.TheVariants as change;
 ghost use Rattle.row_machine.specs.machine.NewRows.{default_profile};
@@ -8,28 +8,11 @@ ghost use Rattle.row_machine.specs.machine.Changes.{removal};
 ghost use Rattle.object_plans.specs.Rows.{row_at};
 
 use crate::found::Found;
+use object_links::{three_names, two_names};
 use records::Row;
 use row_machine::RowChange;
 use size_values::{NoMemory, ObjectKind, Seq, Text};
 use std::alloc::Global;
-
-/// The key of a row that has two names.
-fn two_names(alloc: Global, first: &str, second: &str) -> Result<Text, NoMemory>
-    ensures { IfOk result (λ key. key ≡ two_names first.now second.now) }
-{
-    let mut key = String::from_str(alloc, first)?;
-    key.push_str("/")?;
-    key.push_str(second)?;
-    Ok(Text::from_string(key))
-}
-
-/// The key of a row that has three names.
-fn three_names(alloc: Global, first: &Text, second: &Text, third: &Text) -> Result<Text, NoMemory>
-    ensures { IfOk result (λ key. key ≡ two_names first.now (two_names second.now third.now)) }
-{
-    let behind = two_names(alloc, second.view(), third.view())?;
-    two_names(alloc, first.view(), behind.view())
-}
 
 /// The key of a row.
 fn key_of(alloc: Global, row: Found<'_>) -> Result<Text, NoMemory>

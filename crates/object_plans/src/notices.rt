@@ -2,15 +2,15 @@
 ghost use Rattle.std.specs.Prelude.{◌≡◌, [], ◌∷◌, IfOk};
 ghost use Rattle.row_machine.specs.machine.Homes.{home_of};
 ghost use Rattle.row_machine.specs.machine.Plans.{Plan};
-ghost use Rattle.row_machine.specs.shown.Notices.{life_notice, project_told, made_life, changed_life, moved_life, deleted_life};
+ghost use Rattle.row_machine.specs.shown.Notices.{life_notice, made_life, changed_life, moved_life, deleted_life};
 ghost use Rattle.object_plans.specs.Planning.{changes_in, IsPlanned};
 
 use crate::planned::Planned;
-use object_links::link_of;
-use records::{Life, Target, Told, Untold};
+use object_links::life_notice;
+use records::{Life, Target};
 use row_machine::RowChange;
 use row_readings::{View, home_of};
-use size_values::{NoMemory, ObjectKind, Seq, Text};
+use size_values::{NoMemory, ObjectKind, Seq};
 use std::alloc::Global;
 
 /// What a creation at once tells.
@@ -69,41 +69,6 @@ pub(crate) fn deleted_life(kind: ObjectKind) -> Option<Life>
         ObjectKind::Volume => Some(Life::VolumeDeleted),
         ObjectKind::Instance | ObjectKind::Snapshot | ObjectKind::Operation => None,
     }
-}
-
-/// The project that the notice of an object has: `default` for pools and projects, which belong to none.
-fn project_told<'x>(project: &'x str, kind: ObjectKind) -> &'x str
-    ensures { result.now ≡ project_told project.now kind }
-{
-    match kind {
-        ObjectKind::Project | ObjectKind::Pool => "default",
-        ObjectKind::Profile
-        | ObjectKind::Network
-        | ObjectKind::Volume
-        | ObjectKind::Instance
-        | ObjectKind::Snapshot
-        | ObjectKind::Operation => project,
-    }
-}
-
-/// The lifecycle event of an action on an object that belongs to a project
-/// (<https://linuxcontainers.org/incus/docs/main/events/>). The moment is in seconds since 1970.
-fn life_notice(
-    alloc: Global,
-    moment: u64,
-    project: &str,
-    of: &Target,
-    action: Life,
-) -> Result<Untold, NoMemory>
-    ensures { IfOk result (λ n. n ≡ life_notice moment project.now of.now action) }
-{
-    let source = link_of(alloc, project, of)?;
-    let project = Text::from_text(alloc, project_told(project, of.kind))?;
-    Ok(Untold {
-        moment,
-        project,
-        told: Told::Life { action, source },
-    })
 }
 
 /// The changes of a plan, where it makes some at once, with the notice of an action on the object that they are of.

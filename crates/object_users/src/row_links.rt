@@ -1,66 +1,27 @@
 //! The links of rows, as they stand and in byte order.
-ghost use Rattle.std.specs.Prelude.{◌≡◌, [], IfOk, OnOk};
-ghost use Rattle.records.specs.declared.rows.Row.TheVariants as row;
+ghost use Rattle.std.specs.Prelude.{◌≡◌, IfOk, OnOk};
 ghost use Rattle.row_machine.specs.machine.Claims.{project_of_row};
 ghost use Rattle.row_machine.specs.shown.Links.{sorted, target_of};
 ghost use Rattle.row_machine.specs.shown.Views.{row_link, links};
 
 use crate::row_ref::{AnyRow, RowRef};
-use object_links::link_of;
-use records::{Snapshot, Target, Volume};
+use object_links::{link_of, snapshot_target, target_named, volume_target};
+use records::Target;
 use size_values::{NoMemory, ObjectKind, Seq, Text};
 use std::alloc::Global;
-
-fn named(alloc: Global, kind: ObjectKind, name: &Text) -> Result<Target, NoMemory>
-    ensures { IfOk result (λ t. t ≡ record { kind = kind; pool = []; instance = []; name = name.now }) }
-{
-    let name = name.copy(alloc)?;
-    Ok(Target {
-        kind,
-        pool: Text::new(alloc),
-        instance: Text::new(alloc),
-        name,
-    })
-}
-
-fn in_pool(alloc: Global, volume: &Volume) -> Result<Target, NoMemory>
-    ensures { IfOk result (λ t. t ≡ target_of (row.Volume volume.now)) }
-{
-    let pool = volume.pool.copy(alloc)?;
-    let name = volume.name.copy(alloc)?;
-    Ok(Target {
-        kind: ObjectKind::Volume,
-        pool,
-        instance: Text::new(alloc),
-        name,
-    })
-}
-
-fn in_instance(alloc: Global, snapshot: &Snapshot) -> Result<Target, NoMemory>
-    ensures { IfOk result (λ t. t ≡ target_of (row.Snapshot snapshot.now)) }
-{
-    let instance = snapshot.instance.copy(alloc)?;
-    let name = snapshot.name.copy(alloc)?;
-    Ok(Target {
-        kind: ObjectKind::Snapshot,
-        pool: Text::new(alloc),
-        instance,
-        name,
-    })
-}
 
 /// What names a row.
 pub(crate) fn target_of(alloc: Global, row: &RowRef<'_>) -> Result<Target, NoMemory>
     ensures { IfOk result (λ t. t ≡ target_of row.now) }
 {
     match row.row {
-        AnyRow::Project(row) => named(alloc, ObjectKind::Project, &row.name),
-        AnyRow::Profile(row) => named(alloc, ObjectKind::Profile, &row.name),
-        AnyRow::Network(row) => named(alloc, ObjectKind::Network, &row.name),
-        AnyRow::Pool(row) => named(alloc, ObjectKind::Pool, &row.name),
-        AnyRow::Volume(row) => in_pool(alloc, row),
-        AnyRow::Instance(row) => named(alloc, ObjectKind::Instance, &row.name),
-        AnyRow::Snapshot(row) => in_instance(alloc, row),
+        AnyRow::Project(row) => target_named(alloc, ObjectKind::Project, &row.name),
+        AnyRow::Profile(row) => target_named(alloc, ObjectKind::Profile, &row.name),
+        AnyRow::Network(row) => target_named(alloc, ObjectKind::Network, &row.name),
+        AnyRow::Pool(row) => target_named(alloc, ObjectKind::Pool, &row.name),
+        AnyRow::Volume(row) => volume_target(alloc, row),
+        AnyRow::Instance(row) => target_named(alloc, ObjectKind::Instance, &row.name),
+        AnyRow::Snapshot(row) => snapshot_target(alloc, row),
     }
 }
 

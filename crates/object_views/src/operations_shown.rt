@@ -9,6 +9,7 @@ ghost use Rattle.row_machine.specs.shown.Notices.{view_of};
 ghost use Rattle.row_machine.specs.shown.Views.{if_any, one, operation_view, operations_reply, status_number};
 
 use crate::operation_ref::OperationRef;
+use object_links::view_of;
 use operations::{Operation, Status};
 use records::{OpView, Reply, View as Shown};
 use row_machine::Work;
@@ -17,24 +18,6 @@ use size_values::{NoMemory, Seq};
 use std::alloc::Global;
 
 // ---- single operations
-
-/// How an operation is shown.
-fn view_of(alloc: Global, operation: &Operation<Work>) -> Result<OpView, NoMemory>
-    ensures { IfOk result (λ v. v ≡ view_of operation.now) }
-{
-    let project = operation.work.project.copy(alloc)?;
-    let target = operation.work.target.copy(alloc)?;
-    Ok(OpView {
-        number: operation.number,
-        status: operation.status,
-        may_cancel: operation.may_cancel,
-        created: operation.created,
-        updated: operation.updated,
-        fault: operation.fault,
-        project,
-        target,
-    })
-}
 
 /// The operation of a number, if it is kept.
 pub(crate) fn operation_reply(
