@@ -30,7 +30,7 @@ use Rattle.rest_paths.specs.Answers.{Gives, mapped, followed}
 use Rattle.rest_bodies.specs.Bodies.{body_of, config_at, devices_at}
 use Rattle.rest_bodies.specs.Drivers.{driver_in, driver_at}
 use Rattle.rest_bodies.specs.Members.{object_in, text_at, given}
-use Rattle.rest_bodies.specs.Origins.{copies_volume, fits_source, is_copy_source, may_be_text, volume_copied, volume_origin}
+use Rattle.rest_bodies.specs.Origins.{asks_for_copy, fits_source, is_copy_source, may_be_text, volume_copied, volume_origin}
 use Rattle.records.specs.Built.{is_built_kind, is_built_state, is_built_request, is_built_command}
 use Rattle.rest_routes.specs.Commands.{needed, object_of, objects_of, one_read, what_read, shape_of, unless_fault, creation_said, change_said, what_said, what_sent, sent_body, what_of, command_built, is_copy, command_of}
 use Rattle.rest_paths.specs.Paths.{path_of, pool_of, query_of}
@@ -247,8 +247,8 @@ pool_driver : (body : Data) → first_fault (fields_of shape.NewPool) body ≡ N
 pool_driver body h = driver_there body (fine_first _ _ (fine_next (fault_of field.Name body) _ h))
 
 -- a source that is no copy is at fault, so that a body without a fault has none
-source_absent : (body : Data) → fault_of field.VolumeSource body ≡ None → copies_volume body ≡ false → is_some (given (codes "source") body) ≡ false
-unfolding fault_of copies_volume fits_source
+source_absent : (body : Data) → fault_of field.VolumeSource body ≡ None → asks_for_copy body ≡ false → is_some (given (codes "source") body) ≡ false
+unfolding fault_of asks_for_copy fits_source
 source_absent body h k = by (given (codes "source") body) h k
   where
     none_fits : (a b c : Bool) → unless (a && b && c) (codes "source") ≡ None → a ≡ false → ⊥
@@ -261,7 +261,7 @@ source_absent body h k = by (given (codes "source") body) h k
         absurd (none_fits (is_copy_source source) (is_some (text_at (codes "name") source)) (may_be_text (given (codes "pool") source)) h k)
 
 -- the source of a new volume, whose body was judged
-volume_source : (body : Data) → first_fault (fields_of shape.NewVolume) body ≡ None → copies_volume body ≡ false → is_some (given (codes "source") body) ≡ false
+volume_source : (body : Data) → first_fault (fields_of shape.NewVolume) body ≡ None → asks_for_copy body ≡ false → is_some (given (codes "source") body) ≡ false
 volume_source body h k =
     source_absent body
     (fine_first _ _

@@ -14,7 +14,7 @@ use Rattle.records.specs.declared.refusals.Refusal.{Refusal}
 use Rattle.rest_bodies.specs.Bodies.{body_of}
 use Rattle.rest_bodies.specs.Fields.{fields_of, first_fault}
 use Rattle.rest_bodies.specs.Members.{object_in, name_at}
-use Rattle.rest_bodies.specs.Origins.{copies_volume}
+use Rattle.rest_bodies.specs.Origins.{asks_for_copy}
 use Rattle.rest_bodies.specs.declared.fields.Shape.{Shape}
 use Rattle.rest_bodies.specs.declared.fields.Shape.TheVariants as shape
 use Rattle.rest_paths.specs.Answers.{mapped, followed}
@@ -138,7 +138,7 @@ command_built place verb target sent =
 -- a body that asks for a copy of a volume
 abbrev pub sends_copy : Option Data → Bool
 sends_copy None = false
-sends_copy (Some body) = copies_volume body
+sends_copy (Some body) = asks_for_copy body
 
 -- the body makes a volume as a copy, which is not built yet
 abbrev pub is_copy : Place → Option Data → Bool

@@ -6,7 +6,7 @@ ghost use Rattle.rest_routes.specs.Commands.{named, object_of, objects_of, one_r
 
 use http_heads::Request;
 use records::{Command, Refusal, Rule, Target, What};
-use rest_bodies::{Shape, body_of, copies_volume, judge_fields, name_at, object_in};
+use rest_bodies::{Shape, body_of, asks_for_copy, judge_fields, name_at, object_in};
 use rest_paths::{
     PathTable, Place, Verb, has_body, is_built, name_of, path_of, plainly, pool_of, project_of,
     query_of, query_said, recursion_asked, refused, verb_offered,
@@ -260,7 +260,7 @@ fn sends_copy(sent: &Option<Value>) -> bool
     ensures { result ≡ sends_copy (option_map view sent.now) }
 {
     match sent {
-        Some(body) => copies_volume(body),
+        Some(body) => asks_for_copy(body),
         None => false,
     }
 }
