@@ -1,4 +1,6 @@
 pub mod Words
+pub mod Estate
+pub mod Readings
 pub mod machine
 pub mod shown
 pub mod opening

@@ -1,15 +1,7 @@
 -- What an accepted command makes of the state, and what it is answered.
-use Rattle.std.specs.Prelude.{ℕ, ◌==◌, Bool, false, not, ◌&&◌, Result, Ok, Err, ℤ, pos, negsuc, is_some, if◌then◌else◌}
-use Rattle.std.specs.Option.{option_map_or}
-use Rattle.row_machine.specs.Words.{Status, CancelFault, kept_at, live_at, cancel_answer, Command, What, Reply}
-use Rattle.row_machine.specs.Words.status
-use Rattle.row_machine.specs.Words.what
-use Rattle.row_machine.specs.Words.reply
-use Rattle.row_machine.specs.declared.events.Answer.{Answer}
-use Rattle.row_machine.specs.declared.events.Answer.TheVariants as answer
-use Rattle.row_machine.specs.machine.Task.{Task}
-use Rattle.row_machine.specs.machine.State.{State}
-use Rattle.row_machine.specs.machine.Changes.{applied}
+use Rattle.row_machine.specs.Words.{ℕ, ◌==◌, Bool, false, not, ◌&&◌, Result, Ok, Err, ℤ, pos, negsuc, is_some, if◌then◌else◌, option_map_or, Status, CancelFault, kept_at, live_at, cancel_answer, Command, What, Reply, Status as status, What as what, Reply as reply, Answer, Answer as answer}
+use Rattle.row_machine.specs.Estate.{Task, State}
+use Rattle.row_machine.specs.Readings.{applied}
 use Rattle.row_machine.specs.machine.Plans.{Plan, nothing, changes, starts, plan_of}
 use Rattle.row_machine.specs.machine.Work.{entered, moved, cancelled}
 use Rattle.row_machine.specs.shown.Notices.{telling, change_notices, operation_notice, view_of}

@@ -1,16 +1,6 @@
 -- What a command speaks of: its object, the name that it gives, the instance that it would change or copy from.
-use Rattle.std.specs.Prelude.{ℕ, ◌==◌, Bool, true, false, List, length, Option, Some, None, if◌then◌else◌, codes, unwrap_or, filter, fold}
-use Rattle.std.specs.Option.{option_map_or}
-use Rattle.std.specs.Str.{bytes_eq}
-use Rattle.row_machine.specs.Words.{ObjectKind, setting, unseen, seen, next_name, Target, Origin, Body, What}
-use Rattle.row_machine.specs.Words.kind
-use Rattle.row_machine.specs.Words.origin
-use Rattle.row_machine.specs.Words.what
-use Rattle.records.specs.declared.rows.Instance.{Instance}
-use Rattle.records.specs.declared.rows.Snapshot.{Snapshot}
-use Rattle.row_machine.specs.machine.State.{State}
-use Rattle.row_machine.specs.machine.Rows.{instance_named}
-use Rattle.row_machine.specs.machine.Expansions.{expanded_of}
+use Rattle.row_machine.specs.Words.{ℕ, ◌==◌, Bool, true, false, List, length, Option, Some, None, if◌then◌else◌, codes, unwrap_or, filter, fold, option_map_or, bytes_eq, ObjectKind, setting, unseen, seen, next_name, Target, Origin, Body, What, ObjectKind as kind, Origin as origin, What as what, Instance, Snapshot}
+use Rattle.row_machine.specs.Estate.{State, instance_named, expanded_of}
 
 -- the object that a command speaks of, or the objects of a list
 abbrev pub object_of : What → Option Target

@@ -1,16 +1,6 @@
 -- Changes of rows: what the state is after each change of a list.
-use Rattle.std.specs.Prelude.{ℕ, Bool, List, [], ◌∷◌, Option, Some, None, if◌then◌else◌}
-use Rattle.std.specs.List.{filter_map, list_any}
-use Rattle.std.specs.Str.{bytes_eq}
-use Rattle.row_machine.specs.Words.{dropped, ObjectKind, Stopped, Row, two_names}
-use Rattle.row_machine.specs.Words.kind
-use Rattle.row_machine.specs.Words.row
-use Rattle.records.specs.declared.rows.Instance.{Instance}
-use Rattle.row_codec.specs.Spelling.{key_of}
-use Rattle.row_machine.specs.declared.changes.RowChange.{RowChange}
-use Rattle.row_machine.specs.declared.changes.RowChange.TheVariants as change
-use Rattle.row_machine.specs.machine.State.{State, Standing}
-use Rattle.row_machine.specs.machine.Rows.{with_project, with_profile, with_network, with_pool, with_volume, with_instance, with_snapshot, with_standing, is_standing}
+use Rattle.row_machine.specs.Words.{ℕ, Bool, List, [], ◌∷◌, Option, Some, None, if◌then◌else◌, filter_map, list_any, bytes_eq, dropped, ObjectKind, Stopped, Row, two_names, ObjectKind as kind, Row as row, Instance, key_of, RowChange, RowChange as change}
+use Rattle.row_machine.specs.Estate.{State, Standing, with_project, with_profile, with_network, with_pool, with_volume, with_instance, with_snapshot, with_standing, is_standing}
 
 -- whether a row has this key
 abbrev pub has_key : List ℕ → Row → Bool

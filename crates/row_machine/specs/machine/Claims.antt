@@ -1,18 +1,6 @@
 -- What live operations claim: the rows that they would put, and the shares of limits that they hold for them.
-use Rattle.std.specs.Prelude.{ℕ, List, [], ◌++◌, Option, Some, None, if◌then◌else◌, option_and_then}
-use Rattle.std.specs.List.{filter_map}
-use Rattle.std.specs.Option.{option_map_or}
-use Rattle.std.specs.Str.{bytes_eq}
-use Rattle.row_machine.specs.Words.{excess_of, Amounts, Expanded, instance_amounts, volume_amounts, Row}
-use Rattle.row_machine.specs.Words.row
-use Rattle.size_values.specs.Amounts.{nothing}
-use Rattle.records.specs.declared.rows.Volume.{Volume}
-use Rattle.records.specs.declared.rows.Instance.{Instance}
-use Rattle.records.specs.declared.rows.Snapshot.{Snapshot}
-use Rattle.row_machine.specs.machine.Task.{Task}
-use Rattle.row_machine.specs.machine.State.{State}
-use Rattle.row_machine.specs.machine.Rows.{instance_named}
-use Rattle.row_machine.specs.machine.Expansions.{expanded_of}
+use Rattle.row_machine.specs.Words.{ℕ, List, [], ◌++◌, Option, Some, None, if◌then◌else◌, option_and_then, filter_map, option_map_or, bytes_eq, excess_of, Amounts, Expanded, instance_amounts, volume_amounts, Row, Row as row, no_amounts, Volume, Instance, Snapshot}
+use Rattle.row_machine.specs.Estate.{Task, State, instance_named, expanded_of}
 
 -- ---- claimed rows by kind
 
@@ -65,7 +53,7 @@ amounts_of_volume v = volume_amounts v.config
 abbrev pub amounts_of : State → Row → Amounts
 amounts_of s (row.Instance i) = amounts_of_instance s i
 amounts_of s (row.Volume v) = amounts_of_volume v
-amounts_of s other = nothing
+amounts_of s other = no_amounts
 
 -- the project that a row belongs to; a pool belongs to none, and a project to itself
 abbrev pub project_of_row : Row → List ℕ
@@ -89,4 +77,4 @@ share_over s new (Some old) =
 
 -- The share of an operation by the rows as they stand: what its claimed row adds to the usage of that row's project.
 unfoldable pub share_of : State → Task → Amounts
-share_of s task = option_map_or (λ new. share_over s new (replaced_instance s task)) task.claim nothing
+share_of s task = option_map_or (λ new. share_over s new (replaced_instance s task)) task.claim no_amounts

@@ -1,9 +1,5 @@
 -- The deeds of background operations, as a table.
-use Rattle.std.specs.Prelude.{Bool, true, false, Option, Some, None, is_none}
-use Rattle.std.specs.Option.{option_map_or}
-use Rattle.row_machine.specs.Words.{Deed, ObjectKind, Target}
-use Rattle.row_machine.specs.Words.deed
-use Rattle.row_machine.specs.Words.kind
+use Rattle.row_machine.specs.Words.{Bool, true, false, Option, Some, None, is_none, option_map_or, Deed, ObjectKind, Target, Deed as deed, ObjectKind as kind}
 
 -- the kind of object that a deed is about, and whether that object is there before it; the kind of row that it would put, if
 -- any; whether this row takes the place of the target's, and under its name; and whether a failure leaves the instance in an

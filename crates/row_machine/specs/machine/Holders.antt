@@ -1,20 +1,7 @@
 -- Who holds what: the operation that keeps an instance busy, the one that holds a profile, and the first user of a
 -- profile, network, pool or volume.
-use Rattle.std.specs.Prelude.{ℕ, Bool, false, ◌&&◌, ◌||◌, List, [], ◌∷◌, ◌++◌, filter, find, Option, Some, None, if◌then◌else◌}
-use Rattle.std.specs.List.{list_any}
-use Rattle.std.specs.Option.{option_map_or, option_to_list}
-use Rattle.std.specs.Str.{bytes_eq}
-use Rattle.row_machine.specs.Words.{first, first_of, ObjectKind, NamedDevices, names_network, names_pool, names_volume, Row, Target}
-use Rattle.row_machine.specs.Words.kind
-use Rattle.row_machine.specs.Words.row
-use Rattle.operations.specs.declared.operation.Operation.{Operation}
-use Rattle.records.specs.declared.rows.Profile.{Profile}
-use Rattle.records.specs.declared.rows.Volume.{Volume}
-use Rattle.records.specs.declared.rows.Instance.{Instance}
-use Rattle.row_machine.specs.machine.Task.{Task}
-use Rattle.row_machine.specs.machine.State.{State}
-use Rattle.row_machine.specs.machine.Homes.{home_of}
-use Rattle.row_machine.specs.machine.Expansions.{expanded_of}
+use Rattle.row_machine.specs.Words.{ℕ, Bool, false, ◌&&◌, ◌||◌, List, [], ◌∷◌, ◌++◌, filter, find, Option, Some, None, if◌then◌else◌, list_any, option_map_or, option_to_list, bytes_eq, first, first_of, ObjectKind, NamedDevices, names_network, names_pool, names_volume, Row, Target, ObjectKind as kind, Row as row, Operation, Profile, Volume, Instance}
+use Rattle.row_machine.specs.Estate.{Task, State, home_of, expanded_of}
 use Rattle.row_machine.specs.machine.Claims.{claimed_instance, claimed_volume, replaced_instance, project_of_row}
 use Rattle.row_machine.specs.shown.Links.{link_of, target_of}
 

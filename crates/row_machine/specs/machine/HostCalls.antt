@@ -1,7 +1,5 @@
 -- The calls on the host that each operation makes, fixed when it begins.
-use Rattle.std.specs.Prelude.{ℕ, Bool, true, false, List, [], ◌∷◌}
-use Rattle.row_machine.specs.Words.{Action, Expanded, Place, Spec, HostCall, Clear, MakeRoot, CopyRoot, Start, Stop, Freeze, Thaw}
-use Rattle.row_machine.specs.Words.action
+use Rattle.row_machine.specs.Words.{ℕ, Bool, true, false, List, [], ◌∷◌, Action, Expanded, Place, Spec, HostCall, Clear, MakeRoot, CopyRoot, Start, Stop, Freeze, Thaw, Action as action}
 
 -- where the root of an instance stands
 abbrev pub place_of : List ℕ → List ℕ → Place

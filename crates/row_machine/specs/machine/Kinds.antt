@@ -1,7 +1,5 @@
 -- The kinds of objects, as a table.
-use Rattle.std.specs.Prelude.{ℕ, Bool, true, false, List, codes}
-use Rattle.row_machine.specs.Words.{ObjectKind}
-use Rattle.row_machine.specs.Words.kind
+use Rattle.row_machine.specs.Words.{ℕ, Bool, true, false, List, codes, ObjectKind, ObjectKind as kind}
 
 -- how refusals write the kind, the number that its entries have, whether its objects belong to projects, and how many rows of
 -- it there may be, with those that live operations claim

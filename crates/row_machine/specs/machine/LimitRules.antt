@@ -1,20 +1,7 @@
 -- Rules on limits: L0 to L8. Each project's usage, with what live operations claim, stands within its limits.
-use Rattle.std.specs.Prelude.{ℕ, List, [], ◌∷◌, filter, Option, codes, option_map}
-use Rattle.std.specs.Option.{option_to_list}
-use Rattle.std.specs.Str.{bytes_eq}
-use Rattle.row_machine.specs.Words.{first, first_of, amount_above, Part, LimitKey, Instances, Containers, Machines, Cpu, Memory, Processes, Disk, Networks, Over, SumKey, over, limit_on, parts, first_uncounted, volume_uncounted, limits_of, Rule, Refusal}
-use Rattle.row_machine.specs.Words.rule
-use Rattle.project_limits.specs.declared.sums.SumKey.TheVariants as sum
-use Rattle.project_limits.specs.Admission.{key_of}
-use Rattle.records.specs.declared.rows.Project.{Project}
-use Rattle.records.specs.declared.rows.Volume.{Volume}
-use Rattle.records.specs.declared.rows.Instance.{Instance}
-use Rattle.row_machine.specs.machine.Task.{Task}
-use Rattle.row_machine.specs.machine.State.{State}
-use Rattle.row_machine.specs.machine.Expansions.{expanded_of}
-use Rattle.row_machine.specs.machine.Claims.{claimed_instance, claimed_volume}
-use Rattle.row_machine.specs.machine.Usage.{used, networks_of}
-use Rattle.row_machine.specs.machine.Refusals.{untold, on_key_of}
+use Rattle.row_machine.specs.Words.{ℕ, List, [], ◌∷◌, filter, Option, codes, option_map, option_to_list, bytes_eq, first, first_of, amount_above, Part, LimitKey, Instances, Containers, Machines, Cpu, Memory, Processes, Disk, Networks, Over, SumKey, over, limit_on, parts, first_uncounted, volume_uncounted, limits_of, Rule, Refusal, Rule as rule, SumKey as sum, key_of_part, Project, Volume, Instance}
+use Rattle.row_machine.specs.Estate.{Task, State, expanded_of, untold, on_key_of}
+use Rattle.row_machine.specs.Readings.{claimed_instance, claimed_volume, used, networks_of}
 
 -- ---- L0: a limited sum to which a setting gives no number
 
@@ -94,7 +81,7 @@ exceeds p key limit before after = option_map (over_refusal p) (over key limit b
 
 -- one part of the usage of a project, before and after a change
 unfoldable pub part_exceeds : State → State → Part → Project → Option Refusal
-part_exceeds s after k p = exceeds p (key_of k) (limit_on k (limits_of p.config)) (used s p.name k) (used after p.name k)
+part_exceeds s after k p = exceeds p (key_of_part k) (limit_on k (limits_of p.config)) (used s p.name k) (used after p.name k)
 
 -- its number of networks
 unfoldable pub networks_exceed : State → State → Project → Option Refusal

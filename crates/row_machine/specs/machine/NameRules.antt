@@ -1,22 +1,7 @@
 -- Rules on names: N1 to N5.
-use Rattle.std.specs.Prelude.{ℕ, ◌==◌, Bool, true, false, ◌&&◌, List, [], ◌∷◌, length, find, Option, Some, None, is_some, is_none, if◌then◌else◌, option_and_then, option_map}
-use Rattle.std.specs.Fmt.{decimal}
-use Rattle.std.specs.Option.{option_map_or}
-use Rattle.std.specs.Str.{bytes_eq}
-use Rattle.row_machine.specs.Words.{first, ObjectKind, good_name_of, kept_at, Refusal, Target, Origin, Command, What}
-use Rattle.row_machine.specs.Words.kind
-use Rattle.row_machine.specs.Words.rule
-use Rattle.row_machine.specs.Words.origin
-use Rattle.row_machine.specs.Words.what
-use Rattle.row_machine.specs.machine.Kinds.{kind_number, is_in_project}
-use Rattle.row_machine.specs.machine.Task.{Task}
-use Rattle.row_machine.specs.machine.State.{State}
-use Rattle.row_machine.specs.machine.Rows.{project_named, profile_named, network_named, pool_named, volume_named, instance_named, snapshot_named}
-use Rattle.row_machine.specs.machine.Homes.{home_of}
-use Rattle.row_machine.specs.machine.Claims.{project_of_row}
-use Rattle.row_machine.specs.shown.Links.{target_of}
-use Rattle.row_machine.specs.machine.Refusals.{on_project, on_object, on_held}
-use Rattle.row_machine.specs.machine.Asked.{object_of, named_anew}
+use Rattle.row_machine.specs.Words.{ℕ, ◌==◌, Bool, true, false, ◌&&◌, List, [], ◌∷◌, length, find, Option, Some, None, is_some, is_none, if◌then◌else◌, option_and_then, option_map, decimal, option_map_or, bytes_eq, first, ObjectKind, good_name_of, kept_at, Refusal, Target, Origin, Command, What, ObjectKind as kind, Rule as rule, Origin as origin, What as what}
+use Rattle.row_machine.specs.Estate.{kind_number, is_in_project, Task, State, project_named, profile_named, network_named, pool_named, volume_named, instance_named, snapshot_named, home_of, on_project, on_object, on_held}
+use Rattle.row_machine.specs.Readings.{project_of_row, target_of, object_of, named_anew}
 
 -- ---- N1: the project is missing
 

@@ -1,18 +1,6 @@
 -- The rows that commands make: of a creation, a PUT, a PATCH, a rename, a restore and a snapshot.
-use Rattle.std.specs.Prelude.{ℕ, false, List, [], ◌∷◌, is_none, if◌then◌else◌, codes, unwrap_or, fold}
-use Rattle.std.specs.Option.{option_map_or}
-use Rattle.row_machine.specs.Words.{Kind, Container, Settings, setting, settled, patched, put, NamedDevices, Target, Origin, Body}
-use Rattle.row_machine.specs.Words.driver
-use Rattle.row_machine.specs.Words.origin
-use Rattle.config_lists.specs.Entries.{replaced}
-use Rattle.records.specs.declared.rows.Project.{Project}
-use Rattle.records.specs.declared.rows.Profile.{Profile}
-use Rattle.records.specs.declared.rows.Network.{Network}
-use Rattle.records.specs.declared.rows.Pool.{Pool}
-use Rattle.records.specs.declared.rows.Volume.{Volume}
-use Rattle.records.specs.declared.rows.Instance.{Instance}
-use Rattle.records.specs.declared.rows.Snapshot.{Snapshot}
-use Rattle.row_machine.specs.machine.Rows.{default_name}
+use Rattle.row_machine.specs.Words.{ℕ, false, List, [], ◌∷◌, is_none, if◌then◌else◌, codes, unwrap_or, fold, option_map_or, Kind, Container, Settings, setting, settled, patched, put, NamedDevices, Target, Origin, Body, Driver as driver, Origin as origin, put_each, Project, Profile, Network, Pool, Volume, Instance, Snapshot}
+use Rattle.row_machine.specs.Estate.{default_name}
 
 -- ---- parts of a body; a creation and a PUT take an absent part as empty, a PATCH leaves it
 
@@ -36,9 +24,9 @@ patched_description old body = unwrap_or body.description old
 abbrev pub patched_config : Settings → Body → Settings
 patched_config old body = option_map_or (patched old) body.config old
 
--- the named devices are replaced whole
+-- the named devices are put_each whole
 abbrev pub patched_devices : NamedDevices → Body → NamedDevices
-patched_devices old body = option_map_or (replaced old) body.devices old
+patched_devices old body = option_map_or (put_each old) body.devices old
 
 -- ---- creations
 
@@ -124,7 +112,7 @@ abbrev pub source_snapshot : Instance → Snapshot → Source
 source_snapshot i r = record { kind = i.kind; profiles = r.profiles; config = r.config; devices = r.devices }
 
 -- A copy has the kind of its source, the source's profiles where none are given, its settings patched by the request's,
--- and its devices replaced by the request's.
+-- and its devices put_each by the request's.
 abbrev pub copied_instance : List ℕ → List ℕ → Body → ℕ → Source → Instance
 copied_instance project name body moment source = record (made_instance project name body moment) {
   kind = source.kind;

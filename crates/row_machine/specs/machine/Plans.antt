@@ -1,27 +1,7 @@
 -- What each command makes of the state: nothing, changes of rows at once, or a background operation.
-use Rattle.std.specs.Prelude.{ℕ, ◌==◌, Bool, true, false, List, [], ◌∷◌, ◌++◌, map, length, Option, Some, None, if◌then◌else◌, codes, option_map}
-use Rattle.std.specs.Option.{option_map_or, option_to_list}
-use Rattle.row_machine.specs.Words.{Action, Deed, ObjectKind, Place, HostCall, Row, Target, Origin, Body, Command, What}
-use Rattle.row_machine.specs.Words.deed
-use Rattle.row_machine.specs.Words.kind
-use Rattle.row_machine.specs.Words.row
-use Rattle.row_machine.specs.Words.origin
-use Rattle.row_machine.specs.Words.what
-use Rattle.host_model.specs.declared.call.HostCall.TheVariants as call
-use Rattle.records.specs.declared.rows.Project.{Project}
-use Rattle.records.specs.declared.rows.Profile.{Profile}
-use Rattle.records.specs.declared.rows.Volume.{Volume}
-use Rattle.records.specs.declared.rows.Instance.{Instance}
-use Rattle.records.specs.declared.rows.Snapshot.{Snapshot}
-use Rattle.row_machine.specs.declared.changes.RowChange.{RowChange}
-use Rattle.row_machine.specs.declared.changes.RowChange.TheVariants as change
-use Rattle.row_machine.specs.machine.Task.{Task}
-use Rattle.row_machine.specs.machine.State.{State}
-use Rattle.row_machine.specs.machine.Rows.{default_name, project_named, profile_named, network_named, pool_named, volume_named, instance_named, snapshot_named}
-use Rattle.row_machine.specs.machine.Homes.{home_of, is_on}
-use Rattle.row_machine.specs.machine.Expansions.{expanded_of}
-use Rattle.row_machine.specs.machine.Changes.{removal, rows_put}
-use Rattle.row_machine.specs.machine.Asked.{with_name}
+use Rattle.row_machine.specs.Words.{ℕ, ◌==◌, Bool, true, false, List, [], ◌∷◌, ◌++◌, map, length, Option, Some, None, if◌then◌else◌, codes, option_map, option_map_or, option_to_list, Action, Deed, ObjectKind, Place, HostCall, Row, Target, Origin, Body, Command, What, Deed as deed, ObjectKind as kind, Row as row, Origin as origin, What as what, HostCall as call, Project, Profile, Volume, Instance, Snapshot, RowChange, RowChange as change}
+use Rattle.row_machine.specs.Estate.{Task, State, default_name, project_named, profile_named, network_named, pool_named, volume_named, instance_named, snapshot_named, home_of, is_on, expanded_of}
+use Rattle.row_machine.specs.Readings.{removal, rows_put, with_name}
 use Rattle.row_machine.specs.machine.NameRules.{volume_source}
 use Rattle.row_machine.specs.machine.HostCalls.{place_of, volume_place, spec_of, create_calls, copy_calls, act_calls}
 use Rattle.row_machine.specs.machine.Tasks.{creation, copy, volume_copy, snapshot_creation, update, restoring, renaming, deletion, snapshot_deletion, acting}

@@ -1,23 +1,8 @@
 -- Rules on policy: F1 to F8. What a restricted project forbids of its profiles, its instances, and those that live
 -- operations would put.
-use Rattle.std.specs.Prelude.{ℕ, ◌==◌, nat_lt, List, [], ◌∷◌, filter, find, length, Option, Some, None, if◌then◌else◌, option_and_then}
-use Rattle.std.specs.Map.{keys_of}
-use Rattle.std.specs.Option.{option_map_or}
-use Rattle.std.specs.Str.{bytes_eq}
-use Rattle.row_machine.specs.Words.{first, first_of, Kind, ObjectKind, Settings, NamedDevices, Expanded, Forbidden, Subject, policy_of, demands, setting_lines, first_forbidden, snapshots_forbidden, Rule, Refusal, Command, What}
-use Rattle.row_machine.specs.Words.kind
-use Rattle.row_machine.specs.Words.rule
-use Rattle.row_machine.specs.Words.what
-use Rattle.size_values.specs.declared.kinds.Kind.TheVariants as kind_of
-use Rattle.restrictions.specs.declared.rows.Subject.TheVariants as subject
-use Rattle.records.specs.declared.rows.Project.{Project}
-use Rattle.records.specs.declared.rows.Profile.{Profile}
-use Rattle.records.specs.declared.rows.Instance.{Instance}
-use Rattle.row_machine.specs.machine.State.{State}
-use Rattle.row_machine.specs.machine.Rows.{project_named}
-use Rattle.row_machine.specs.machine.Expansions.{expanded_of}
-use Rattle.row_machine.specs.machine.Claims.{judged_instances}
-use Rattle.row_machine.specs.machine.Refusals.{on_project, on_key_of}
+use Rattle.row_machine.specs.Words.{ℕ, ◌==◌, nat_lt, List, [], ◌∷◌, filter, find, length, Option, Some, None, if◌then◌else◌, option_and_then, keys_of, option_map_or, bytes_eq, first, first_of, Kind, ObjectKind, Settings, NamedDevices, Expanded, Forbidden, Subject, policy_of, demands, setting_lines, first_forbidden, snapshots_forbidden, Rule, Refusal, Command, What, ObjectKind as kind, Rule as rule, What as what, Kind as kind_of, Subject as subject, Project, Profile, Instance}
+use Rattle.row_machine.specs.Estate.{State, project_named, expanded_of, on_project, on_key_of}
+use Rattle.row_machine.specs.Readings.{judged_instances}
 use Rattle.row_machine.specs.machine.SettingRules.{text_at}
 
 -- the rule of this number, from F1 on

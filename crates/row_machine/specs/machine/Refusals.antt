@@ -1,7 +1,5 @@
 -- Refusals: a rule with what it tells.
-use Rattle.std.specs.Prelude.{ℕ, List, []}
-use Rattle.row_machine.specs.Words.{Rule, Refusal, ObjectKind}
-use Rattle.records.specs.declared.refusals.Kept.{Kept}
+use Rattle.row_machine.specs.Words.{ℕ, List, [], Rule, Refusal, ObjectKind, Kept}
 use Rattle.row_machine.specs.machine.Kinds.{kind_text}
 
 -- nothing is told

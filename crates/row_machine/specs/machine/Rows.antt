@@ -1,16 +1,5 @@
 -- Rows by their names, and the order in which they stand.
-use Rattle.std.specs.Prelude.{ℕ, Bool, ◌&&◌, List, ◌∷◌, [], Option, find, codes}
-use Rattle.std.specs.Cmp.Lexicographic.{slice_cmp}
-use Rattle.std.specs.Ordering.{nat_cmp, is_lt}
-use Rattle.std.specs.Str.{bytes_eq}
-use Rattle.plain_lists.specs.Edits.{replaced}
-use Rattle.records.specs.declared.rows.Project.{Project}
-use Rattle.records.specs.declared.rows.Profile.{Profile}
-use Rattle.records.specs.declared.rows.Network.{Network}
-use Rattle.records.specs.declared.rows.Pool.{Pool}
-use Rattle.records.specs.declared.rows.Volume.{Volume}
-use Rattle.records.specs.declared.rows.Instance.{Instance}
-use Rattle.records.specs.declared.rows.Snapshot.{Snapshot}
+use Rattle.row_machine.specs.Words.{ℕ, Bool, ◌&&◌, List, ◌∷◌, [], Option, find, codes, slice_cmp, nat_cmp, is_lt, bytes_eq, replaced, Project, Profile, Network, Pool, Volume, Instance, Snapshot}
 use Rattle.row_machine.specs.machine.State.{Standing}
 
 -- ---- names

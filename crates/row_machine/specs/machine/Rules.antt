@@ -1,9 +1,7 @@
 -- The first rule that a command breaks: all rules, in the order in which they are judged.
-use Rattle.std.specs.Prelude.{ℕ, List, [], ◌∷◌, Option, None, option_and_then}
-use Rattle.row_machine.specs.Words.{first, Refusal, Row, Command}
-use Rattle.row_machine.specs.machine.State.{State}
-use Rattle.row_machine.specs.machine.Changes.{applied}
-use Rattle.row_machine.specs.machine.Asked.{named_anew}
+use Rattle.row_machine.specs.Words.{ℕ, List, [], ◌∷◌, Option, None, option_and_then, first, Refusal, Row, Command}
+use Rattle.row_machine.specs.Estate.{State}
+use Rattle.row_machine.specs.Readings.{applied, named_anew}
 use Rattle.row_machine.specs.machine.Plans.{Plan, nothing, changes, starts, plan_of, rows_of_plan}
 use Rattle.row_machine.specs.machine.Work.{claiming}
 use Rattle.row_machine.specs.machine.NameRules.{project_missing, what_is_missing, name_broken}

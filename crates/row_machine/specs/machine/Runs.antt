@@ -1,12 +1,6 @@
 -- Runs: steps one after the other, with their answers and the operations that ended.
-use Rattle.std.specs.Prelude.{ℕ, List, [], ◌∷◌, ◌++◌, Option, Some, None, find, is_none, if◌then◌else◌, option_map, option_and_then}
-use Rattle.std.specs.List.{filter_map}
-use Rattle.row_machine.specs.Words.{Status, has_number, live_at}
-use Rattle.operations.specs.declared.operation.Operation.{Operation}
-use Rattle.row_machine.specs.declared.events.Event.{Event}
-use Rattle.row_machine.specs.declared.events.Answer.{Answer}
-use Rattle.row_machine.specs.machine.Task.{Task}
-use Rattle.row_machine.specs.machine.State.{State}
+use Rattle.row_machine.specs.Words.{ℕ, List, [], ◌∷◌, ◌++◌, Option, Some, None, find, is_none, if◌then◌else◌, option_map, option_and_then, filter_map, Status, has_number, live_at, Operation, Event, Answer}
+use Rattle.row_machine.specs.Estate.{Task, State}
 use Rattle.row_machine.specs.machine.Accept.{After}
 use Rattle.row_machine.specs.machine.Step.{Outcome, step}
 

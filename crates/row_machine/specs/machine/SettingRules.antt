@@ -1,25 +1,7 @@
 -- Rules on settings: V1 to V5, of the rows that a command would put.
-use Rattle.std.specs.Prelude.{ℕ, Bool, true, false, List, [], ◌∷◌, filter, find, Option, Some, None, is_none, if◌then◌else◌, codes, option_and_then, slice_get, unwrap_or, option_map}
-use Rattle.std.specs.Map.{keys_of, values_of}
-use Rattle.std.specs.Option.{option_or}
-use Rattle.row_machine.specs.Words.{first, first_of, fault_number, Kind, Container, Machine, Settings, setting, has_setting, NamedDevices, root_of, Root, Scope, SettingFault, DeviceFault, instance_fault, project_fault, network_fault, pool_fault, volume_fault, devices_fault, Refusal, Row}
-use Rattle.row_machine.specs.Words.kind
-use Rattle.row_machine.specs.Words.scope
-use Rattle.row_machine.specs.Words.rule
-use Rattle.row_machine.specs.Words.row
-use Rattle.config_lists.specs.declared.root.Root.TheVariants as root
-use Rattle.option_tables.specs.declared.faults.SettingFault.TheVariants as fault
-use Rattle.option_tables.specs.declared.faults.DeviceFault.TheVariants as device
-use Rattle.records.specs.declared.rows.Project.{Project}
-use Rattle.records.specs.declared.rows.Profile.{Profile}
-use Rattle.records.specs.declared.rows.Instance.{Instance}
-use Rattle.row_machine.specs.machine.State.{State}
-use Rattle.row_machine.specs.machine.Rows.{default_name, profile_named, network_named, pool_named, volume_named}
-use Rattle.row_machine.specs.machine.Homes.{home_of}
-use Rattle.row_machine.specs.machine.Expansions.{expanded_of}
-use Rattle.row_machine.specs.machine.Claims.{judged_instances}
-use Rattle.row_machine.specs.machine.Holders.{names_profile}
-use Rattle.row_machine.specs.machine.Refusals.{untold, on_name, on_object}
+use Rattle.row_machine.specs.Words.{ℕ, Bool, true, false, List, [], ◌∷◌, filter, find, Option, Some, None, is_none, if◌then◌else◌, codes, option_and_then, slice_get, unwrap_or, option_map, keys_of, values_of, option_or, first, first_of, fault_number, Kind, Container, Machine, Settings, setting, has_setting, NamedDevices, root_of, Root, Scope, SettingFault, DeviceFault, instance_fault, project_fault, network_fault, pool_fault, volume_fault, devices_fault, Refusal, Row, ObjectKind as kind, Scope as scope, Rule as rule, Row as row, Root as root, SettingFault as fault, DeviceFault as device, Project, Profile, Instance}
+use Rattle.row_machine.specs.Estate.{State, default_name, profile_named, network_named, pool_named, volume_named, home_of, expanded_of, untold, on_name, on_object}
+use Rattle.row_machine.specs.Readings.{judged_instances, names_profile}
 
 -- the key, the name or the device at a place
 abbrev pub text_at : List (List ℕ) → ℕ → List ℕ

@@ -1,25 +1,8 @@
 -- Rules on what stands in the way: B1 to B6.
-use Rattle.std.specs.Prelude.{ℕ, Bool, true, false, not, ◌&&◌, ◌||◌, List, [], ◌∷◌, Option, Some, None, if◌then◌else◌, codes, option_and_then, find, option_map}
-use Rattle.std.specs.List.{list_any}
-use Rattle.std.specs.Option.{option_map_or}
-use Rattle.std.specs.Result.{result_ok}
-use Rattle.std.specs.Str.{bytes_eq}
-use Rattle.row_machine.specs.Words.{first, truth_of, Power, Stopped, Frozen, Error, Deed, ObjectKind, Settings, setting, is_allowed, Refusal, Target, Command, What}
-use Rattle.row_machine.specs.Words.deed
-use Rattle.row_machine.specs.Words.kind
-use Rattle.row_machine.specs.Words.rule
-use Rattle.row_machine.specs.Words.what
-use Rattle.size_values.specs.declared.kinds.Power.TheVariants.{Running}
-use Rattle.records.specs.declared.rows.Project.{Project}
-use Rattle.row_machine.specs.machine.State.{State}
-use Rattle.row_machine.specs.machine.Rows.{default_name, project_named, instance_named, is_standing}
-use Rattle.row_machine.specs.machine.Homes.{home_of, is_on}
-use Rattle.row_machine.specs.machine.Expansions.{expanded_of}
-use Rattle.row_machine.specs.machine.Holders.{busy_with, holder_of, first_user_of}
-use Rattle.row_machine.specs.machine.Kinds.{kind_text}
+use Rattle.row_machine.specs.Words.{ℕ, Bool, true, false, not, ◌&&◌, ◌||◌, List, [], ◌∷◌, Option, Some, None, if◌then◌else◌, codes, option_and_then, find, option_map, list_any, option_map_or, result_ok, bytes_eq, first, truth_of, Power, Stopped, Frozen, Error, Deed, ObjectKind, Settings, setting, is_allowed, Refusal, Target, Command, What, Deed as deed, ObjectKind as kind, Rule as rule, What as what, Project}
+use Rattle.row_machine.specs.Estate.{State, default_name, project_named, instance_named, is_standing, home_of, is_on, expanded_of, kind_text, untold, on_name, on_object}
+use Rattle.row_machine.specs.Readings.{busy_with, holder_of, first_user_of, instance_changed, is_parting}
 use Rattle.row_machine.specs.machine.NewRows.{put_project, patched_project}
-use Rattle.row_machine.specs.machine.Refusals.{untold, on_name, on_object}
-use Rattle.row_machine.specs.machine.Asked.{instance_changed, is_parting}
 
 -- ---- B1: the instance that the command would change or copy from is busy
 
@@ -37,7 +20,7 @@ instance_busy s c = option_and_then (busy s c.project) (instance_changed c.what)
 -- how a status is written
 abbrev pub power_text : Power → List ℕ
 power_text Stopped = codes "Stopped"
-power_text Running = codes "Running"
+power_text Power.Running = codes "Running"
 power_text Frozen = codes "Frozen"
 power_text Error = codes "Error"
 

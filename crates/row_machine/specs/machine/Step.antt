@@ -1,20 +1,6 @@
 -- One step of the machine: what each event is answered, with each outcome of the outside, and the state after it.
-use Rattle.std.specs.Prelude.{ℕ, ◌+◌, true, List, [], ◌∷◌, Option, Some, None, find, is_some, if◌then◌else◌}
-use Rattle.row_machine.specs.Words.{Rise, HostCall, Report, OpFault, Status, Cancelling, is_pending, live_at, Command, Filter, Refusal}
-use Rattle.row_machine.specs.Words.report
-use Rattle.row_machine.specs.Words.rule
-use Rattle.row_machine.specs.Words.reply
-use Rattle.operations.specs.declared.operation.Operation.{Operation}
-use Rattle.operations.specs.declared.operation.OpFault.TheVariants as fault
-use Rattle.operations.specs.declared.status.Status.TheVariants.{Running}
-use Rattle.row_machine.specs.declared.changes.RowChange.{RowChange}
-use Rattle.row_machine.specs.declared.events.Event.{Event}
-use Rattle.row_machine.specs.declared.events.Event.TheVariants as event
-use Rattle.row_machine.specs.declared.events.Answer.{Answer}
-use Rattle.row_machine.specs.declared.events.Answer.TheVariants as answer
-use Rattle.row_machine.specs.machine.Task.{Task}
-use Rattle.row_machine.specs.machine.State.{State}
-use Rattle.row_machine.specs.machine.Refusals.{plainly}
+use Rattle.row_machine.specs.Words.{ℕ, ◌+◌, true, List, [], ◌∷◌, Option, Some, None, find, is_some, if◌then◌else◌, Rise, HostCall, Report, OpFault, Status, Cancelling, is_pending, live_at, Command, Filter, Refusal, Report as report, Rule as rule, Reply as reply, Operation, OpFault as fault, RowChange, Event, Event as event, Answer, Answer as answer}
+use Rattle.row_machine.specs.Estate.{Task, State, plainly}
 use Rattle.row_machine.specs.machine.Plans.{Plan, changes, plan_of}
 use Rattle.row_machine.specs.machine.Rules.{broken}
 use Rattle.row_machine.specs.machine.Accept.{After, and_then, accepted, told}
@@ -52,7 +38,7 @@ first_pending s = find (λ o. is_pending o.status) s.operations.live
 abbrev pub handed_out : State → Operation Task → ℕ → List HostCall → After
 handed_out s o moment [] = and_then answer.NoJob s
 handed_out s o moment (call ∷ rest) =
-    and_then (answer.Job o.number call) (told (with_task o.number (handing_out o.work rest) (moved o.number Running moment s)) o.number moment)
+    and_then (answer.Job o.number call) (told (with_task o.number (handing_out o.work rest) (moved o.number Status.Running moment s)) o.number moment)
 
 -- the first call of an operation that waits, or that there is none
 abbrev pub taken : State → ℕ → Option (Operation Task) → After
@@ -110,7 +96,7 @@ stray s number other = None
 
 -- what is reported of an operation, by its status
 abbrev pub reported : State → Operation Task → Report → ℕ → Outcome → Status → Option After
-reported s o r moment outcome Running = while_running s o r moment outcome
+reported s o r moment outcome Status.Running = while_running s o r moment outcome
 reported s o r moment outcome Cancelling = while_cancelling s o moment outcome o.work.undo
 reported s o r moment outcome other = stray s o.number outcome
 

@@ -1,24 +1,14 @@
 -- Rules on the size of tables and rows (C1, C2), and on the number of operations (O1 to O5).
-use Rattle.std.specs.Prelude.{ℕ, ◌+◌, nat_lt, List, [], ◌∷◌, length, min, ◌-◌, ◌^◌, Option, Some, None, if◌then◌else◌, option_and_then, codes, option_map}
-use Rattle.std.specs.Result.{result_err}
-use Rattle.row_machine.specs.Words.{first, first_of, ObjectKind, Status, Pending, Cancelling, Success, Failure, Cancelled, CancelFault, EnterFault, Full, Spent, kept_at, enter_fault, cancel_answer, most_live, number_limit, Refusal, Row, What, body_of}
-use Rattle.row_machine.specs.Words.kind
-use Rattle.row_machine.specs.Words.rule
-use Rattle.row_machine.specs.Words.what
-use Rattle.operations.specs.declared.status.Status.TheVariants.{Running}
-use Rattle.operations.specs.declared.faults.CancelFault.TheVariants as cancel_fault
-use Rattle.row_machine.specs.machine.State.{State}
-use Rattle.row_machine.specs.machine.Claims.{of_live, claimed_instance, claimed_volume, claimed_snapshot}
-use Rattle.row_machine.specs.shown.Links.{target_of}
-use Rattle.row_machine.specs.machine.Kinds.{kind_text, cap_of}
-use Rattle.row_machine.specs.machine.Refusals.{untold, on_number}
+use Rattle.row_machine.specs.Words.{ℕ, ◌+◌, nat_lt, List, [], ◌∷◌, length, min, ◌-◌, ◌^◌, Option, Some, None, if◌then◌else◌, option_and_then, codes, option_map, result_err, first, first_of, ObjectKind, Status, Pending, Cancelling, Success, Failure, Cancelled, CancelFault, EnterFault, Full, Spent, kept_at, enter_fault, cancel_answer, most_live, number_limit, Refusal, Row, What, body_of, ObjectKind as kind, Rule as rule, What as what, CancelFault as cancel_fault}
+use Rattle.row_machine.specs.Estate.{State, kind_text, cap_of, untold, on_number}
+use Rattle.row_machine.specs.Readings.{of_live, claimed_instance, claimed_volume, claimed_snapshot, target_of}
 
 -- ---- O1 to O3: an operation that cannot be cancelled
 
 -- how a status is written
 abbrev pub status_text : Status → List ℕ
 status_text Pending = codes "Pending"
-status_text Running = codes "Running"
+status_text Status.Running = codes "Running"
 status_text Cancelling = codes "Cancelling"
 status_text Success = codes "Success"
 status_text Failure = codes "Failure"

@@ -1,13 +1,6 @@
 -- How much of its limits a project uses, summed anew from its rows and from what live operations claim.
-use Rattle.std.specs.Prelude.{ℕ, List, ◌++◌, map, filter, length, Option, if◌then◌else◌, option_map}
-use Rattle.std.specs.List.{sum_by}
-use Rattle.std.specs.Str.{bytes_eq}
-use Rattle.row_machine.specs.Words.{part, Amounts, Part}
-use Rattle.row_machine.specs.Words.part_of
-use Rattle.records.specs.declared.rows.Volume.{Volume}
-use Rattle.records.specs.declared.rows.Instance.{Instance}
-use Rattle.row_machine.specs.machine.Task.{Task}
-use Rattle.row_machine.specs.machine.State.{State}
+use Rattle.row_machine.specs.Words.{ℕ, List, ◌++◌, map, filter, length, Option, if◌then◌else◌, option_map, sum_by, bytes_eq, part, Amounts, Part, Part as part_of, Volume, Instance}
+use Rattle.row_machine.specs.Estate.{Task, State}
 use Rattle.row_machine.specs.machine.Claims.{of_live, amounts_of_instance, amounts_of_volume, share_of, project_of_row}
 
 -- what counts for the limits of a project

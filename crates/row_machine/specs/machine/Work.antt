@@ -1,26 +1,9 @@
 -- Background operations: how one is entered, what each status becomes, and how one ends.
-use Rattle.std.specs.Prelude.{ℕ, ◌+◌, ◌==◌, nat_lt, Bool, true, false, ◌&&◌, List, [], ◌∷◌, ◌++◌, map, find, Option, Some, None, is_some, if◌then◌else◌, option_and_then}
-use Rattle.std.specs.Option.{option_map_or, option_to_list}
-use Rattle.std.specs.Result.{result_ok}
-use Rattle.row_machine.specs.Words.{dropped, changed_first, Amounts, Action, Deed, Power, Error, HostCall, undo_of, after_of, OpFault, Status, granted_more, converted_more, returned_more}
-use Rattle.row_machine.specs.Words.action
-use Rattle.row_machine.specs.Words.deed
-use Rattle.row_machine.specs.Words.status
-use Rattle.row_machine.specs.Words.row
-use Rattle.row_machine.specs.machine.Deeds.{breaks_instance}
-use Rattle.size_values.specs.Amounts.{nothing}
-use Rattle.operations.specs.declared.operation.Operation.{Operation}
-use Rattle.operations.specs.declared.operation.OpFault.TheVariants as op_fault
+use Rattle.row_machine.specs.Words.{ℕ, ◌+◌, ◌==◌, nat_lt, Bool, true, false, ◌&&◌, List, [], ◌∷◌, ◌++◌, map, find, Option, Some, None, is_some, if◌then◌else◌, option_and_then, option_map_or, option_to_list, result_ok, dropped, changed_first, Amounts, Action, Deed, Power, Error, HostCall, undo_of, after_of, OpFault, Status, granted_more, converted_more, returned_more, Action as action, Deed as deed, Status as status, Row as row, no_amounts, Operation, OpFault as op_fault, Instance, RowChange, RowChange as change}
+use Rattle.row_machine.specs.Estate.{breaks_instance, Task, instance_named, snapshot_named, is_standing}
+use Rattle.row_machine.specs.Readings.{share_of, project_of_row, claimed_instance, applied, removal, snapshots_of}
 use Rattle.operations.specs.Kept as kept
-use Rattle.records.specs.declared.rows.Instance.{Instance}
-use Rattle.row_machine.specs.declared.changes.RowChange.{RowChange}
-use Rattle.row_machine.specs.declared.changes.RowChange.TheVariants as change
-use Rattle.row_machine.specs.machine.Task.{Task}
 use Rattle.row_machine.specs.machine.State.{State, Held}
-use Rattle.row_machine.specs.machine.Rows.{instance_named, snapshot_named, is_standing}
-use Rattle.row_machine.specs.machine.Claims.{share_of, project_of_row, claimed_instance}
-use Rattle.row_machine.specs.machine.Changes.{applied, removal}
-use Rattle.row_machine.specs.machine.Asked.{snapshots_of}
 
 -- ---- shares
 
@@ -30,7 +13,7 @@ is_held_by op h = h.op == op
 
 -- the share that an operation holds
 abbrev pub held_share : State → ℕ → Amounts
-held_share s op = option_map_or (λ h. h.share) (find (is_held_by op) s.held) nothing
+held_share s op = option_map_or (λ h. h.share) (find (is_held_by op) s.held) no_amounts
 
 -- the share is no longer held
 abbrev pub without_share : ℕ → State → State
