@@ -7,12 +7,10 @@ use Rattle.row_machine.specs.machine.Work.{entered, moved, cancelled}
 use Rattle.row_machine.specs.shown.Notices.{telling, change_notices, operation_notice, view_of}
 use Rattle.row_machine.specs.shown.Views.{read}
 
--- an answer, and the state after it
 pub record After : Type 0 where
   pub answer : Answer
   pub state : State
 
--- this answer, and this state
 abbrev pub and_then : Answer → State → After
 and_then a s = record { answer = a; state = s }
 
@@ -20,9 +18,6 @@ and_then a s = record { answer = a; state = s }
 abbrev pub told : State → ℕ → ℕ → State
 told s number moment = telling (operation_notice s number moment) s
 
--- ---- a background operation
-
--- the operation of this number as it has just begun
 abbrev pub started : State → ℕ → Reply
 started s number = option_map_or (λ o. reply.Started (view_of o)) (kept_at s.operations number) reply.Empty
 
@@ -32,21 +27,15 @@ begun s task moment = and_then (answer.Reply (started after s.operations.next)) 
   after : State
   after = entered s task moment
 
--- ---- a cancel
-
 -- one that waits is cancelled at once, one that runs becomes Cancelling
 abbrev pub after_cancel : State → ℕ → ℕ → Result Status CancelFault → State
 after_cancel s number moment (Err why) = s
 after_cancel s number moment (Ok status.Cancelled) = told (cancelled s number moment) number moment
 after_cancel s number moment (Ok now) = told (moved number now moment s) number moment
 
--- a cancel is answered by nothing, and changes the operation
 abbrev pub cancel : State → ℕ → ℕ → After
 cancel s number moment = and_then (answer.Reply reply.Empty) (after_cancel s number moment (cancel_answer (kept_at s.operations number)))
 
--- ---- a read
-
--- whether a number of seconds is none
 abbrev pub is_zero : ℤ → Bool
 is_zero (pos n) = n == 0
 is_zero (negsuc n) = false
@@ -62,9 +51,6 @@ abbrev pub cancel_or_read : State → Command → ℕ → What → After
 cancel_or_read s c moment (what.Cancel op) = cancel s op moment
 cancel_or_read s c moment other = and_then (wait_or_read s c other) s
 
--- ---- all commands
-
--- what a plan makes of the state
 abbrev pub carried_out : State → Command → ℕ → Plan → After
 carried_out s c moment nothing = cancel_or_read s c moment c.what
 carried_out s c moment (changes cs) = and_then (answer.Reply reply.Empty) (telling (change_notices s c moment) (applied s cs))

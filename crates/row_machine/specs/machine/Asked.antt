@@ -27,13 +27,9 @@ operation_of (what.Cancel op) = Some op
 operation_of (what.Wait op timeout) = Some op
 operation_of other = None
 
--- ---- the name of a new snapshot
-
--- the pattern of an instance's snapshot names, by its expanded settings
 abbrev pub pattern_of : State → Instance → List ℕ
 pattern_of s i = unwrap_or (setting (expanded_of s.projects s.profiles i).config (codes "snapshots.pattern")) (codes "snap%d")
 
--- the snapshots of an instance
 abbrev pub snapshots_of : State → List ℕ → List ℕ → List Snapshot
 snapshots_of s project instance = filter (λ r. if bytes_eq r.project project then bytes_eq r.instance instance else false) s.snapshots
 
@@ -48,8 +44,6 @@ with_name s project of =
     then option_map_or (λ i. record of { name = next_snapshot s i }) (instance_named s.instances project of.instance) of
     else of
 
--- ---- what is new, and what is changed
-
 -- the object under the name that a creation or a rename gives it
 abbrev pub named_anew : State → List ℕ → What → Option Target
 named_anew s project (what.Create of body) = Some (named of.kind) where
@@ -59,7 +53,6 @@ named_anew s project (what.Create of body) = Some (named of.kind) where
 named_anew s project (what.Move of to) = Some (record of { name = to })
 named_anew s project other = None
 
--- the instance that a body copies from
 abbrev pub copied_from : ObjectKind → Origin → Option (List ℕ)
 copied_from kind.Instance (origin.Copy from snapshot pool) = Some from
 copied_from kind other = None

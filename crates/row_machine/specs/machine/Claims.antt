@@ -2,23 +2,19 @@
 use Rattle.row_machine.specs.Words.{ℕ, List, [], ◌++◌, Option, Some, None, if◌then◌else◌, option_and_then, filter_map, option_map_or, bytes_eq, excess_of, Amounts, Expanded, instance_amounts, volume_amounts, Row, Row as row, no_amounts, Volume, Instance, Snapshot}
 use Rattle.row_machine.specs.Estate.{Task, State, instance_named, expanded_of}
 
--- ---- claimed rows by kind
-
--- the instance that an operation would put
+-- the instance, the volume or the snapshot that an operation would put
 abbrev pub claimed_instance : Task → Option Instance
 claimed_instance task = option_and_then instance_in task.claim where
   instance_in : Row → Option Instance
   instance_in (row.Instance i) = Some i
   instance_in other = None
 
--- the volume that an operation would put
 abbrev pub claimed_volume : Task → Option Volume
 claimed_volume task = option_and_then volume_in task.claim where
   volume_in : Row → Option Volume
   volume_in (row.Volume v) = Some v
   volume_in other = None
 
--- the snapshot that an operation would put
 abbrev pub claimed_snapshot : Task → Option Snapshot
 claimed_snapshot task = option_and_then snapshot_in task.claim where
   snapshot_in : Row → Option Snapshot
@@ -29,23 +25,18 @@ claimed_snapshot task = option_and_then snapshot_in task.claim where
 abbrev pub of_live : {X : Type 0} → (Task → Option X) → State → List X
 of_live read s = filter_map (λ o. read o.work) s.operations.live
 
--- each instance that there is or would be
+-- each instance or volume that there is or would be
 unfoldable pub judged_instances : State → List Instance
 judged_instances s = s.instances ++ of_live claimed_instance s
 
--- each volume that there is or would be
 unfoldable pub judged_volumes : State → List Volume
 judged_volumes s = s.volumes ++ of_live claimed_volume s
 
--- ---- amounts and shares
-
--- what an instance counts for
 unfoldable pub amounts_of_instance : State → Instance → Amounts
 amounts_of_instance s i = amounts (expanded_of s.projects s.profiles i) where
   amounts : Expanded → Amounts
   amounts e = instance_amounts i.kind e.config e.devices
 
--- what a volume counts for
 abbrev pub amounts_of_volume : Volume → Amounts
 amounts_of_volume v = volume_amounts v.config
 
@@ -65,7 +56,6 @@ project_of_row (row.Volume r) = r.project
 project_of_row (row.Instance r) = r.project
 project_of_row (row.Snapshot r) = r.project
 
--- the instance that the claimed row replaces, as it now stands
 abbrev pub replaced_instance : State → Task → Option Instance
 replaced_instance s task = option_and_then (λ names. instance_named s.instances names.0 names.1) task.replaces
 

@@ -12,21 +12,17 @@ pub record DeedLine : Type 0 where
   pub keeps_name : Bool
   pub breaks : Bool
 
--- a deed that makes a new row
 abbrev pub makes : ObjectKind → Bool → DeedLine
 makes kind is_there = record { target = kind; is_there = is_there; claims = Some kind; replaces = false; keeps_name = false; breaks = false }
 
--- a deed that replaces the row of an instance
 abbrev pub replaces : Bool → DeedLine
 replaces keeps_name =
     record { target = kind.Instance; is_there = true; claims = Some kind.Instance; replaces = true; keeps_name = keeps_name; breaks = true }
 
--- a deed that puts no row
 abbrev pub puts_none : ObjectKind → Bool → DeedLine
 puts_none kind breaks =
     record { target = kind; is_there = true; claims = None; replaces = false; keeps_name = false; breaks = breaks }
 
--- The table.
 abbrev pub deed_line : Deed → DeedLine
 deed_line deed.Create = makes kind.Instance false
 deed_line deed.Copy = makes kind.Instance false
@@ -39,7 +35,6 @@ deed_line deed.Snap = makes kind.Snapshot true
 deed_line deed.Unsnap = puts_none kind.Snapshot false
 deed_line deed.CopyVolume = makes kind.Volume false
 
--- the kind of object that a deed is about
 abbrev pub target_kind : Deed → ObjectKind
 target_kind deed = (deed_line deed).target
 
@@ -47,11 +42,9 @@ target_kind deed = (deed_line deed).target
 abbrev pub has_target : Deed → Bool
 has_target deed = (deed_line deed).is_there
 
--- what a deed claims: nothing, a volume, a snapshot or an instance
 abbrev pub claim_kind : Deed → Option ObjectKind
 claim_kind deed = (deed_line deed).claims
 
--- whether a claimed row takes the place of the target's
 abbrev pub replaces_target : Deed → Bool
 replaces_target deed = (deed_line deed).replaces
 
@@ -59,17 +52,14 @@ replaces_target deed = (deed_line deed).replaces
 abbrev pub keeps_name : Deed → Bool
 keeps_name deed = (deed_line deed).keeps_name
 
--- whether a failure leaves the instance in an unknown state
 abbrev pub breaks_instance : Deed → Bool
 breaks_instance deed = (deed_line deed).breaks
 
--- whether an object is an instance or a snapshot
 abbrev pub is_instance_or_snapshot : ObjectKind → Bool
 is_instance_or_snapshot kind.Instance = true
 is_instance_or_snapshot kind.Snapshot = true
 is_instance_or_snapshot other = false
 
--- whether an object is a volume
 abbrev pub is_volume_kind : ObjectKind → Bool
 is_volume_kind kind.Volume = true
 is_volume_kind other = false

@@ -8,7 +8,6 @@ abbrev pub layer_of : Option Profile → Expanded
 layer_of None = no_layer
 layer_of (Some r) = record { config = r.config; devices = r.devices }
 
--- what an instance has itself
 abbrev pub own_layer : Instance → Expanded
 own_layer i = record { config = i.config; devices = i.devices }
 

@@ -6,11 +6,9 @@ use Rattle.row_machine.specs.machine.Rows.{default_name, project_named}
 abbrev pub is_on : Settings → List ℕ → Bool
 is_on config key = option_map_or is_true (setting config key) false
 
--- a project is there and has this feature
 abbrev pub has_feature : List Project → List ℕ → List ℕ → Bool
 has_feature projects name key = option_map_or (λ r. is_on r.config key) (project_named projects name) false
 
--- a project, or the project `default` where it has not the feature
 abbrev pub home_by : List Project → List ℕ → List ℕ → List ℕ
 home_by projects name key = if has_feature projects name key then name else default_name
 

@@ -9,7 +9,6 @@ pub record KindLine : Type 0 where
   pub in_project : Bool
   pub cap : ℕ
 
--- a line of the table
 abbrev pub kind_of_object : List ℕ → ℕ → Bool → ℕ → KindLine
 kind_of_object text number in_project cap = record { text = text; number = number; in_project = in_project; cap = cap }
 
@@ -24,11 +23,9 @@ kind_line kind.Instance = kind_of_object (codes "instance") 6 true 65536
 kind_line kind.Snapshot = kind_of_object (codes "snapshot") 7 true 65536
 kind_line kind.Operation = kind_of_object (codes "operation") 0 true 0
 
--- how refusals write a kind
 abbrev pub kind_text : ObjectKind → List ℕ
 kind_text kind = (kind_line kind).text
 
--- the number of a kind, as its entries have it
 abbrev pub kind_number : ObjectKind → ℕ
 kind_number kind = (kind_line kind).number
 
@@ -36,6 +33,5 @@ kind_number kind = (kind_line kind).number
 abbrev pub is_in_project : ObjectKind → Bool
 is_in_project kind = (kind_line kind).in_project
 
--- how many rows of a kind there may be, with those that live operations claim
 abbrev pub cap_of : ObjectKind → ℕ
 cap_of kind = (kind_line kind).cap

@@ -7,24 +7,18 @@ use Rattle.row_machine.specs.machine.HostCalls.{place_of, volume_place, spec_of,
 use Rattle.row_machine.specs.machine.Tasks.{creation, copy, volume_copy, snapshot_creation, update, restoring, renaming, deletion, snapshot_deletion, acting}
 use Rattle.row_machine.specs.machine.NewRows as new
 
--- what a command makes of the state
 pub data Plan : Type 0 where
   nothing : Plan
   changes : List RowChange → Plan
   starts : Task → Plan
 
--- the plan for an object that is there
 abbrev pub if_there : {X : Type 0} → (X → Plan) → Option X → Plan
 if_there plan None = nothing
 if_there plan (Some x) = plan x
 
--- ---- changes of rows at once
-
--- all these rows are put
 abbrev pub put_all : List Row → List RowChange
 put_all rows = map change.Put rows
 
--- a row under another name
 abbrev pub moved_row : Row → Row → List RowChange
 moved_row old new = removal old ∷ change.Put new ∷ []
 
@@ -43,31 +37,23 @@ project_change old r = change.Put (row.Project r) ∷ by_profiles (is_on old.con
   by_profiles false true = change.Put (row.Profile (new.default_profile r.name)) ∷ []
   by_profiles was is_so = []
 
--- the profile `default` of a project's own
 abbrev pub own_profile : State → Project → Option Profile
 own_profile s r = profile_named s.profiles r.name default_name
 
--- a project under another name, and its profile `default` with it
 abbrev pub project_rename : State → List ℕ → Project → List RowChange
 project_rename s to r =
     moved_row (row.Project r) (row.Project (record r { name = to }))
     ++ option_map_or (λ p. moved_row (row.Profile p) (row.Profile (record p { project = to }))) (own_profile s r) []
 
--- a project without what belongs to it: its profile `default`
 abbrev pub project_deletion : State → Project → List RowChange
 project_deletion s r = map removal (row.Project r ∷ map row.Profile (option_to_list (own_profile s r)))
 
--- ---- by command
-
--- an instance, by its name
 abbrev pub instance_target : List ℕ → Target
 instance_target name = record { kind = kind.Instance; pool = []; instance = []; name = name }
 
--- a snapshot, by its instance and its name
 abbrev pub snapshot_target : List ℕ → List ℕ → Target
 snapshot_target instance name = record { kind = kind.Snapshot; pool = []; instance = instance; name = name }
 
--- a copy from an instance, or from its snapshot where one is named
 abbrev pub copy_from : State → List ℕ → Target → Body → ℕ → List ℕ → List ℕ → Plan
 copy_from s project of body moment from snapshot = if_there by_instance (instance_named s.instances project from) where
   by_snapshot : Instance → Snapshot → Plan
@@ -83,7 +69,6 @@ abbrev pub instance_creation : State → List ℕ → Target → Body → ℕ �
 instance_creation s project of body moment (origin.Copy from snapshot pool) = copy_from s project of body moment from snapshot
 instance_creation s project of body moment other = starts (creation project of body moment)
 
--- a copy from a volume of the same home
 abbrev pub volume_copy_from : State → List ℕ → Target → Body → ℕ → Target → Plan
 volume_copy_from s home of body moment from =
     if_there (λ v. starts (volume_copy home of body moment from v)) (volume_named s.volumes home from.pool from.name)
@@ -93,7 +78,6 @@ abbrev pub volume_creation : State → List ℕ → Target → Body → ℕ → 
 volume_creation s home of body moment (origin.Copy from snapshot pool) = volume_copy_from s home of body moment (volume_source of from pool)
 volume_creation s home of body moment other = changes (put_all (row.Volume (new.made_volume home of body moment) ∷ []))
 
--- a creation, by the kind of the object
 abbrev pub plan_create : State → List ℕ → Target → Body → ℕ → Plan
 plan_create s project of body moment = plan of.kind where
   home : ObjectKind → List ℕ
@@ -159,7 +143,6 @@ plan_delete s project of (row.Instance i) = starts (deletion project of)
 plan_delete s project of (row.Snapshot r) = starts (snapshot_deletion project of)
 plan_delete s project of other = changes (removal other ∷ [])
 
--- an instance is taken back to the named snapshot
 abbrev pub plan_restore : State → List ℕ → Target → List ℕ → Instance → Plan
 plan_restore s project of snapshot i = if_there (λ r. starts (restoring project of i r)) (snapshot_named s.snapshots project of.name snapshot)
 

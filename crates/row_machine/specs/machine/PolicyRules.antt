@@ -5,7 +5,6 @@ use Rattle.row_machine.specs.Estate.{State, project_named, expanded_of, on_proje
 use Rattle.row_machine.specs.Readings.{judged_instances}
 use Rattle.row_machine.specs.machine.SettingRules.{text_at}
 
--- the rule of this number, from F1 on
 abbrev pub policy_rule : ℕ → Rule
 policy_rule n =
     if n == 1 then rule.F1
@@ -16,7 +15,6 @@ policy_rule n =
     else (if n == 6 then rule.F6
     else rule.F7)))))
 
--- whom the lines of a policy judge in an instance of this kind
 abbrev pub subject_of : Kind → Subject
 subject_of kind_of.Container = subject.Container
 subject_of kind_of.Machine = subject.Machine
@@ -39,11 +37,9 @@ forbids p number judged name config devices =
     (λ f. if f.rule == number then Some (on_key_of (policy_rule number) (forbidden_key config devices f) name p.name) else None)
     (first_forbidden (policy_of p.config) judged config devices)
 
--- a profile is judged by its own settings
 unfoldable pub forbids_profile : Project → ℕ → Profile → Option Refusal
 forbids_profile p number r = forbids p number subject.Profile r.name r.config r.devices
 
--- an instance is judged by what it has
 unfoldable pub forbids_instance : State → Project → ℕ → Instance → Option Refusal
 forbids_instance s p number i = forbids p number (subject_of i.kind) i.name expanded.config expanded.devices where
   expanded : Expanded
@@ -56,7 +52,7 @@ project_forbids s number p = first
     ∷ first_of (forbids_instance s p number) (filter (λ i. bytes_eq i.project p.name) (judged_instances s))
     ∷ [])
 
--- the first rule that is broken, and the first project, profile or instance at which it is
+-- F1 to F7: the first rule that is broken, and the first project, profile or instance at which it is.
 unfoldable pub policy_broken : State → Option Refusal
 policy_broken s = first_of (λ number. first_of (project_forbids s number) s.projects) (1 ∷ 2 ∷ 3 ∷ 4 ∷ 5 ∷ 6 ∷ 7 ∷ [])
 

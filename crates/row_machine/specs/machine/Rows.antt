@@ -32,8 +32,6 @@ snapshot_names r = r.project ∷ r.instance ∷ r.name ∷ []
 abbrev pub standing_names : Standing → List (List ℕ)
 standing_names r = r.project ∷ r.name ∷ []
 
--- ---- names that are the same, and names that go before others
-
 -- whether these are the same names, one by one
 abbrev pub same_names : List (List ℕ) → List (List ℕ) → Bool
 same_names (a ∷ rest) (b ∷ more) = so_far (bytes_eq a b) rest more where
@@ -51,8 +49,6 @@ text_before a b = is_lt (slice_cmp nat_cmp a b)
 -- the first place at which they differ decides
 abbrev pub texts_before : List (List ℕ) → List (List ℕ) → Bool
 texts_before texts others = is_lt (slice_cmp (slice_cmp nat_cmp) texts others)
-
--- ---- whether a row has these names
 
 abbrev pub is_project : List ℕ → Project → Bool
 is_project name r = same_names (project_names r) (name ∷ [])
@@ -77,8 +73,6 @@ is_snapshot project instance name r = same_names (snapshot_names r) (project ∷
 
 abbrev pub is_standing : List ℕ → List ℕ → Standing → Bool
 is_standing project name r = same_names (standing_names r) (project ∷ name ∷ [])
-
--- ---- the row of these names
 
 abbrev pub project_named : List Project → List ℕ → Option Project
 project_named rows name = find (is_project name) rows

@@ -11,17 +11,14 @@ end_of later o =
     then option_map (λ e. (e.number, e.status)) (find (has_number o.number) later.operations.ended)
     else None
 
--- the operations that are live in one state and have ended in the next
 abbrev pub ends_between : State → State → List (ℕ × Status)
 ends_between s later = filter_map (end_of later) s.operations.live
 
--- what a run gives: the answers, the ends, and the last state
 pub record Ran : Type 0 where
   pub answers : List Answer
   pub ends : List (ℕ × Status)
   pub state : State
 
--- a run that begins with this step
 abbrev pub behind : State → After → Ran → Ran
 behind s first rest = record {
   answers = first.answer ∷ rest.answers;

@@ -3,17 +3,13 @@ use Rattle.row_machine.specs.Words.{ℕ, Bool, true, false, List, [], ◌∷◌,
 use Rattle.row_machine.specs.Estate.{State, default_name, profile_named, network_named, pool_named, volume_named, home_of, expanded_of, untold, on_name, on_object}
 use Rattle.row_machine.specs.Readings.{judged_instances, names_profile}
 
--- the key, the name or the device at a place
 abbrev pub text_at : List (List ℕ) → ℕ → List ℕ
 text_at texts place = unwrap_or (slice_get texts place) []
 
--- the device at a place
 abbrev pub device_at : NamedDevices → ℕ → Settings
 device_at devices place = unwrap_or (slice_get (values_of devices) place) []
 
--- ---- V1 to V3: a key, a value or a device that the tables refuse
-
--- the numbers by which V3 tells a device's fault
+-- how V3 tells what is wrong with a device
 abbrev pub device_fault_number : DeviceFault → ℕ
 device_fault_number device.BadName = 1
 device_fault_number device.NoType = 2
@@ -23,13 +19,12 @@ device_fault_number (device.BadValue place why) = 5
 device_fault_number device.NicSource = 6
 device_fault_number device.DiskShape = 7
 
--- the key of a device at which the fault is
 abbrev pub faulty_key : Settings → DeviceFault → List ℕ
 faulty_key settings (device.UnknownKey place) = text_at (keys_of settings) place
 faulty_key settings (device.BadValue place why) = text_at (keys_of settings) place
 faulty_key settings other = []
 
--- how a fault of the tables is told
+-- V1: no such key. V2: no such value of the key. V3: a device that the tables refuse.
 abbrev pub setting_refusal : Settings → NamedDevices → SettingFault → Refusal
 setting_refusal config devices (fault.Unknown place) = record { rule = rule.V1; kept = record untold { key = text_at (keys_of config) place } }
 setting_refusal config devices (fault.Bad place why) =
@@ -43,46 +38,36 @@ setting_refusal config devices (fault.Device place why) = record {
   };
 }
 
--- settings and devices against the tables
 abbrev pub tables_break : Settings → Option SettingFault → NamedDevices → Option Refusal
 tables_break config settings devices = option_map (setting_refusal config devices) (option_or settings (devices_fault devices))
 
--- which options the tables take for an instance of this kind
 abbrev pub scope_of : Kind → Scope
 scope_of Container = scope.Container
 scope_of Machine = scope.Machine
 
--- ---- V4: not exactly one root disk
-
--- whether there is exactly one root disk
 abbrev pub is_one : Root → Bool
 is_one root.None = false
 is_one (root.One place) = true
 is_one root.Several = false
 
--- V4 of an instance
+-- V4: not exactly one root disk.
 unfoldable pub root_missing : State → Instance → Option Refusal
 root_missing s i =
     if is_one (root_of (expanded_of s.projects s.profiles i).devices) then None else Some (on_name rule.V4 i.name)
 
--- ---- V5: a profile, or a network, pool or volume of a device, is missing
-
--- V5 of the first profile of an instance that is missing
+-- V5: the first profile of an instance that is missing; or a network, pool or volume that a device names.
 unfoldable pub profile_missing : State → Instance → Option Refusal
 profile_missing s i =
     option_map (λ name. on_object rule.V5 kind.Profile name)
     (find (λ name. is_none (profile_named s.profiles (home_of s.projects i.project kind.Profile) name)) i.profiles)
 
--- V5 of a network
 abbrev pub network_missing : State → List ℕ → List ℕ → Option Refusal
 network_missing s project name =
     if is_none (network_named s.networks (home_of s.projects project kind.Network) name) then Some (on_object rule.V5 kind.Network name) else None
 
--- V5 of a pool
 abbrev pub pool_missing : State → List ℕ → Option Refusal
 pool_missing s name = if is_none (pool_named s.pools name) then Some (on_object rule.V5 kind.Pool name) else None
 
--- V5 of a volume
 abbrev pub volume_missing : State → List ℕ → List ℕ → List ℕ → Option Refusal
 volume_missing s project pool name =
     if is_none (volume_named s.volumes (home_of s.projects project kind.Volume) pool name) then Some (on_object rule.V5 kind.Volume name) else None
@@ -99,11 +84,8 @@ device_misses s project settings =
     else if has_setting settings (codes "type") (codes "disk") then option_and_then (disk_misses s project settings) (setting settings (codes "pool"))
     else None
 
--- the first thing that devices in a project name and that is missing
 unfoldable pub devices_miss : State → List ℕ → NamedDevices → Option Refusal
 devices_miss s project devices = first_of (device_misses s project) (values_of devices)
-
--- ---- of a row
 
 -- an instance: its own settings and devices, and what its expansion names
 unfoldable pub instance_settings : State → Instance → Option Refusal
@@ -114,14 +96,12 @@ instance_settings s i = first
     ∷ devices_miss s i.project (expanded_of s.projects s.profiles i).devices
     ∷ [])
 
--- a profile by itself
 unfoldable pub profile_settings : State → Profile → Option Refusal
 profile_settings s r = first
     (tables_break r.config (instance_fault r.config scope.Any) r.devices
     ∷ devices_miss s r.project r.devices
     ∷ [])
 
--- the instances that are or would be there and name a profile
 abbrev pub naming : State → Profile → List Instance
 naming s r = filter (names_profile s r.project r.name) (judged_instances s)
 

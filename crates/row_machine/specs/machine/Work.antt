@@ -44,35 +44,24 @@ entered s task moment = record (claiming s task moment) {
   books = granted_more (share_of s task) s.books;
 }
 
--- ---- going on
-
--- a live operation with another task
 abbrev pub with_task : ℕ → Task → State → State
 with_task number task s = record s { operations = kept.with_work number task s.operations }
 
--- a live operation has another status, since this moment
 abbrev pub moved : ℕ → Status → ℕ → State → State
 moved number now moment s = record s { operations = kept.moved number now moment s.operations }
 
--- a task whose first call that is left is handed out
 abbrev pub handing_out : Task → List HostCall → Task
 handing_out task rest = record task { calls = rest }
 
--- the same, after one more call was done
 abbrev pub one_more_done : Task → List HostCall → Task
 one_more_done task rest = record task { calls = rest; done = task.done + 1 }
 
--- a task whose undo call was handed out
 abbrev pub undone : Task → Task
 undone task = record task { undo = None }
 
--- ---- ends
-
--- the status of an instance
 abbrev pub with_power : State → List ℕ → List ℕ → Power → State
 with_power s project name power = record s { powers = changed_first (is_standing project name) (λ p. record p { power = power }) s.powers }
 
--- an instance, and all its snapshots, are removed
 abbrev pub removes_instance : State → List ℕ → List ℕ → List RowChange
 removes_instance s project name = map removal
     (map row.Snapshot (snapshots_of s project name)
@@ -84,7 +73,6 @@ renames_instance s task i =
     removes_instance s task.project task.target.name
     ++ map change.Put (row.Instance i ∷ map (λ r. row.Snapshot (record r { instance = i.name; project = i.project })) (snapshots_of s task.project task.target.name))
 
--- the changes of rows at the success of an operation
 abbrev pub success_changes : State → Task → List RowChange
 success_changes s task = changes task.deed where
   puts_claim : List RowChange
@@ -106,7 +94,6 @@ success_changes s task = changes task.deed where
   changes deed.Unsnap = map removal (map row.Snapshot (option_to_list (snapshot_named s.snapshots task.project task.target.instance task.target.name)))
   changes deed.CopyVolume = puts_claim
 
--- the status of the target after a change of state
 abbrev pub power_after : State → Task → Option Power
 power_after s task = after task.deed where
   by_action : Action → Option Power
@@ -116,12 +103,10 @@ power_after s task = after task.deed where
   after (deed.Act does ephemeral) = by_action does
   after other = None
 
--- its target has this status, where there is one
 abbrev pub with_power_after : Task → Option Power → State → State
 with_power_after task None s = s
 with_power_after task (Some power) s = with_power s task.project task.target.name power
 
--- an operation has ended
 abbrev pub ended : ℕ → Status → OpFault → ℕ → State → State
 ended number now why moment s = record s { operations = kept.ends number now why moment s.operations }
 
