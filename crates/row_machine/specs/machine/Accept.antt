@@ -23,9 +23,10 @@ started s number = option_map_or (λ o. reply.Started (view_of o)) (kept_at s.op
 
 -- it is entered under the next number, and shown as it waits
 abbrev pub begun : State → Task → ℕ → After
-begun s task moment = and_then (answer.Reply (started after s.operations.next)) (told after s.operations.next moment) where
-  after : State
-  after = entered s task moment
+begun s task moment =
+    and_then (answer.Reply (started after s.operations.next)) (told after s.operations.next moment) where
+      after : State
+      after = entered s task moment
 
 -- one that waits is cancelled at once, one that runs becomes Cancelling
 abbrev pub after_cancel : State → ℕ → ℕ → Result Status CancelFault → State
@@ -34,16 +35,18 @@ after_cancel s number moment (Ok status.Cancelled) = told (cancelled s number mo
 after_cancel s number moment (Ok now) = told (moved number now moment s) number moment
 
 abbrev pub cancel : State → ℕ → ℕ → After
-cancel s number moment = and_then (answer.Reply reply.Empty) (after_cancel s number moment (cancel_answer (kept_at s.operations number)))
-
-abbrev pub is_zero : ℤ → Bool
-is_zero (pos n) = n == 0
-is_zero (negsuc n) = false
+cancel s number moment =
+    and_then (answer.Reply reply.Empty) (after_cancel s number moment (cancel_answer (kept_at s.operations number)))
 
 -- a wait for a live operation holds, unless its timeout is 0
 abbrev pub wait_or_read : State → Command → What → Answer
 wait_or_read s c (what.Wait op timeout) =
-    if is_some (live_at s.operations op) && not (is_zero timeout) then answer.Hold op else answer.Reply (read s c.project c.what)
+    if is_some (live_at s.operations op) && not (is_zero timeout)
+    then answer.Hold op
+    else answer.Reply (read s c.project c.what) where
+      is_zero : ℤ → Bool
+      is_zero (pos n) = n == 0
+      is_zero (negsuc n) = false
 wait_or_read s c other = answer.Reply (read s c.project c.what)
 
 -- a command that changes no row and begins nothing
@@ -53,7 +56,8 @@ cancel_or_read s c moment other = and_then (wait_or_read s c other) s
 
 abbrev pub carried_out : State → Command → ℕ → Plan → After
 carried_out s c moment nothing = cancel_or_read s c moment c.what
-carried_out s c moment (changes cs) = and_then (answer.Reply reply.Empty) (telling (change_notices s c moment) (applied s cs))
+carried_out s c moment (changes cs) =
+    and_then (answer.Reply reply.Empty) (telling (change_notices s c moment) (applied s cs))
 carried_out s c moment (starts task) = begun s task moment
 
 -- what a command that breaks no rule makes of the state, and what it is answered

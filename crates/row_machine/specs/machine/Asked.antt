@@ -4,8 +4,6 @@ use Rattle.row_machine.specs.Estate.{State, instance_named, expanded_of}
 
 -- the object that a command speaks of, or the objects of a list
 abbrev pub object_of : What → Option Target
-object_of what.Root = None
-object_of what.Server = None
 object_of (what.List of recursion) = Some of
 object_of (what.Get of) = Some of
 object_of (what.State of) = Some of
@@ -16,26 +14,19 @@ object_of (what.Move of to) = Some of
 object_of (what.Delete of) = Some of
 object_of (what.Act of action) = Some of
 object_of (what.Restore of snapshot) = Some of
-object_of (what.GetOp op) = None
-object_of (what.Cancel op) = None
-object_of (what.Wait op timeout) = None
-
--- the operation that a command speaks of
-abbrev pub operation_of : What → Option ℕ
-operation_of (what.GetOp op) = Some op
-operation_of (what.Cancel op) = Some op
-operation_of (what.Wait op timeout) = Some op
-operation_of other = None
-
-abbrev pub pattern_of : State → Instance → List ℕ
-pattern_of s i = unwrap_or (setting (expanded_of s.projects s.profiles i).config (codes "snapshots.pattern")) (codes "snap%d")
+object_of other = None
 
 abbrev pub snapshots_of : State → List ℕ → List ℕ → List Snapshot
-snapshots_of s project instance = filter (λ r. if bytes_eq r.project project then bytes_eq r.instance instance else false) s.snapshots
+snapshots_of s project instance =
+    filter (λ r. if bytes_eq r.project project then bytes_eq r.instance instance else false) s.snapshots
 
 -- the next name of the pattern after those of the instance's snapshots
 abbrev pub next_snapshot : State → Instance → List ℕ
-next_snapshot s i = next_name (fold (λ numbers r. seen r.name numbers) (unseen (pattern_of s i)) (snapshots_of s i.project i.name))
+next_snapshot s i =
+    next_name (fold (λ numbers r. seen r.name numbers) (unseen pattern) (snapshots_of s i.project i.name)) where
+      pattern : List ℕ
+      pattern =
+          unwrap_or (setting (expanded_of s.projects s.profiles i).config (codes "snapshots.pattern")) (codes "snap%d")
 
 -- a new snapshot without a name gets the next one
 abbrev pub with_name : State → List ℕ → Target → Target
@@ -82,14 +73,6 @@ instance_changed (what.Delete of) = instance_in of
 instance_changed (what.Act of action) = Some of.name
 instance_changed (what.Restore of snapshot) = Some of.name
 instance_changed other = None
-
--- whether a command changes, renames or deletes the object of its path
-abbrev pub is_change : What → Bool
-is_change (what.Put of body) = true
-is_change (what.Patch of body) = true
-is_change (what.Move of to) = true
-is_change (what.Delete of) = true
-is_change other = false
 
 -- whether a command renames or deletes the object of its path
 abbrev pub is_parting : What → Bool

@@ -1,6 +1,7 @@
 -- Changes of rows: what the state is after each change of a list.
 use Rattle.row_machine.specs.Words.{ℕ, Bool, List, [], ◌∷◌, Option, Some, None, if◌then◌else◌, filter_map, list_any, bytes_eq, dropped, ObjectKind, Stopped, Row, two_names, ObjectKind as kind, Row as row, Instance, key_of, RowChange, RowChange as change}
 use Rattle.row_machine.specs.Estate.{State, Standing, with_project, with_profile, with_network, with_pool, with_volume, with_instance, with_snapshot, with_standing, is_standing}
+use Rattle.row_machine.specs.shown.Links.{target_of}
 
 abbrev pub has_key : List ℕ → Row → Bool
 has_key key r = bytes_eq (key_of r) key
@@ -42,15 +43,7 @@ applied s [] = s
 applied s (c ∷ cs) = applied (changed s c) cs
 
 abbrev pub removal : Row → RowChange
-removal r = change.Remove (kind_of_row r) (key_of r) where
-  kind_of_row : Row → ObjectKind
-  kind_of_row (row.Project x) = kind.Project
-  kind_of_row (row.Profile x) = kind.Profile
-  kind_of_row (row.Network x) = kind.Network
-  kind_of_row (row.Pool x) = kind.Pool
-  kind_of_row (row.Volume x) = kind.Volume
-  kind_of_row (row.Instance x) = kind.Instance
-  kind_of_row (row.Snapshot x) = kind.Snapshot
+removal r = change.Remove (target_of r).kind (key_of r)
 
 abbrev pub rows_put : List RowChange → List Row
 rows_put cs = filter_map put_in cs where

@@ -59,11 +59,13 @@ project_of_row (row.Snapshot r) = r.project
 abbrev pub replaced_instance : State → Task → Option Instance
 replaced_instance s task = option_and_then (λ names. instance_named s.instances names.0 names.1) task.replaces
 
--- a claim's share where its row is there: what the row counts for, above what the replaced instance of its own project does
+-- what a claimed row counts for, above what the replaced instance does if that is of the same project
 abbrev pub share_over : State → Row → Option Instance → Amounts
 share_over s new None = amounts_of s new
 share_over s new (Some old) =
-    if bytes_eq old.project (project_of_row new) then excess_of (amounts_of s new) (amounts_of_instance s old) else amounts_of s new
+    if bytes_eq old.project (project_of_row new)
+    then excess_of (amounts_of s new) (amounts_of_instance s old)
+    else amounts_of s new
 
 -- The share of an operation by the rows as they stand: what its claimed row adds to the usage of that row's project.
 unfoldable pub share_of : State → Task → Amounts

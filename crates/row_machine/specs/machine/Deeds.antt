@@ -1,9 +1,9 @@
 -- The deeds of background operations, as a table.
 use Rattle.row_machine.specs.Words.{Bool, true, false, Option, Some, None, is_none, option_map_or, Deed, ObjectKind, Target, Deed as deed, ObjectKind as kind}
 
--- the kind of object that a deed is about, and whether that object is there before it; the kind of row that it would put, if
--- any; whether this row takes the place of the target's, and under its name; and whether a failure leaves the instance in an
--- unknown state, since its change was begun on the host
+-- The kind of object that a deed is about, and whether that object is there before it; the kind of row that it would
+-- put, if any; whether this row takes the place of the target's, and under its name; and whether a failure leaves the
+-- instance in an unknown state, since its change was begun on the host.
 pub record DeedLine : Type 0 where
   pub target : ObjectKind
   pub is_there : Bool
@@ -13,15 +13,20 @@ pub record DeedLine : Type 0 where
   pub breaks : Bool
 
 abbrev pub makes : ObjectKind → Bool → DeedLine
-makes kind is_there = record { target = kind; is_there = is_there; claims = Some kind; replaces = false; keeps_name = false; breaks = false }
+makes kind is_there = record {
+  target = kind;
+  is_there = is_there;
+  claims = Some kind;
+  replaces = false;
+  keeps_name = false;
+  breaks = false;
+}
 
 abbrev pub replaces : Bool → DeedLine
-replaces keeps_name =
-    record { target = kind.Instance; is_there = true; claims = Some kind.Instance; replaces = true; keeps_name = keeps_name; breaks = true }
+replaces keeps_name = record (makes kind.Instance true) { replaces = true; keeps_name = keeps_name; breaks = true }
 
 abbrev pub puts_none : ObjectKind → Bool → DeedLine
-puts_none kind breaks =
-    record { target = kind; is_there = true; claims = None; replaces = false; keeps_name = false; breaks = breaks }
+puts_none kind breaks = record (makes kind true) { claims = None; breaks = breaks }
 
 abbrev pub deed_line : Deed → DeedLine
 deed_line deed.Create = makes kind.Instance false
@@ -55,17 +60,15 @@ keeps_name deed = (deed_line deed).keeps_name
 abbrev pub breaks_instance : Deed → Bool
 breaks_instance deed = (deed_line deed).breaks
 
-abbrev pub is_instance_or_snapshot : ObjectKind → Bool
-is_instance_or_snapshot kind.Instance = true
-is_instance_or_snapshot kind.Snapshot = true
-is_instance_or_snapshot other = false
-
-abbrev pub is_volume_kind : ObjectKind → Bool
-is_volume_kind kind.Volume = true
-is_volume_kind other = false
-
 -- a copy has an instance or a snapshot as its source, a volume copy a volume, and no other deed has a source
 abbrev pub has_source : Deed → Option Target → Bool
-has_source deed.Copy source = option_map_or (λ of. is_instance_or_snapshot of.kind) source false
-has_source deed.CopyVolume source = option_map_or (λ of. is_volume_kind of.kind) source false
+has_source deed.Copy source = option_map_or (λ of. is_copied of.kind) source false where
+  is_copied : ObjectKind → Bool
+  is_copied kind.Instance = true
+  is_copied kind.Snapshot = true
+  is_copied other = false
+has_source deed.CopyVolume source = option_map_or (λ of. is_copied of.kind) source false where
+  is_copied : ObjectKind → Bool
+  is_copied kind.Volume = true
+  is_copied other = false
 has_source other source = is_none source

@@ -18,4 +18,5 @@ layers_by profile i = map (λ name. layer_of (profile name)) i.profiles ++ own_l
 -- The settings and devices of an instance: of each key the value in the last layer that has the key, of each name the
 -- device in the last layer that has the name, whole.
 unfoldable pub expanded_of : List Project → List Profile → Instance → Expanded
-expanded_of projects profiles i = expanded (layers_by (profile_named profiles (home_of projects i.project kind.Profile)) i)
+expanded_of projects profiles i =
+    expanded (layers_by (profile_named profiles (home_of projects i.project kind.Profile)) i)

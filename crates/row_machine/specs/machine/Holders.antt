@@ -15,7 +15,8 @@ is_about instance of = about of.kind where
 
 abbrev pub keeps_busy : List ℕ → List ℕ → Task → Bool
 keeps_busy project instance task =
-    bytes_eq task.project project && (is_about instance task.target || option_map_or (is_about instance) task.source false)
+    bytes_eq task.project project
+    && (is_about instance task.target || option_map_or (is_about instance) task.source false)
 
 unfoldable pub busy_with : State → List ℕ → List ℕ → Option (Operation Task)
 busy_with s project instance = find (λ o. keeps_busy project instance o.work) s.operations.live
@@ -80,13 +81,18 @@ work_link task = link_of task.project task.target
 abbrev pub user_in : State → List ℕ → Target → List ℕ → Option (List ℕ)
 user_in s home of project =
     first
-    (first_of (λ r. user_link (profile_uses s home of r) (row.Profile r)) (filter (λ r. bytes_eq r.project project) s.profiles)
-    ∷ first_of (λ r. user_link (instance_uses s home of r) (row.Instance r)) (filter (λ r. bytes_eq r.project project) s.instances)
+    (first_of (λ r. user_link (profile_uses s home of r) (row.Profile r))
+    (filter (λ r. bytes_eq r.project project) s.profiles)
+    ∷ first_of (λ r. user_link (instance_uses s home of r) (row.Instance r))
+    (filter (λ r. bytes_eq r.project project) s.instances)
     ∷ first_of (λ r. user_link (volume_uses of r) (row.Volume r)) (filter (λ r. bytes_eq r.project project) s.volumes)
-    ∷ first_of (λ o. if claims_in o.work && claim_uses s home of o.work then Some (work_link o.work) else None) s.operations.live
+    ∷ first_of (λ o. work_user o.work) s.operations.live
     ∷ []) where
       claims_in : Task → Bool
       claims_in task = option_map_or (λ new. bytes_eq (project_of_row new) project) task.claim false
+
+      work_user : Task → Option (List ℕ)
+      work_user task = if claims_in task && claim_uses s home of task then Some (work_link task) else None
 
 abbrev pub profile_user : State → List ℕ → List ℕ → Option (List ℕ)
 profile_user s home profile = first_of (λ i. user_link (names_profile s home profile i) (row.Instance i)) s.instances

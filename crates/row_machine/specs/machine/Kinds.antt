@@ -1,8 +1,8 @@
 -- The kinds of objects, as a table.
 use Rattle.row_machine.specs.Words.{ℕ, Bool, true, false, List, codes, ObjectKind, ObjectKind as kind}
 
--- how refusals write the kind, the number that its entries have, whether its objects belong to projects, and how many rows of
--- it there may be, with those that live operations claim
+-- how refusals write the kind, the number that its entries have, whether its objects belong to projects, and how many
+-- rows of it there may be, with those that live operations claim
 pub record KindLine : Type 0 where
   pub text : List ℕ
   pub number : ℕ

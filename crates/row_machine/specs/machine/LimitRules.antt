@@ -1,5 +1,5 @@
 -- Rules on limits: L0 to L8. Each project's usage, with what live operations claim, stands within its limits.
-use Rattle.row_machine.specs.Words.{ℕ, List, [], ◌∷◌, filter, Option, codes, option_map, option_to_list, bytes_eq, first, first_of, amount_above, Part, LimitKey, Instances, Containers, Machines, Cpu, Memory, Processes, Disk, Networks, Over, SumKey, over, limit_on, parts, first_uncounted, volume_uncounted, limits_of, Rule, Refusal, Rule as rule, SumKey as sum, key_of_part, Project, Volume, Instance}
+use Rattle.row_machine.specs.Words.{Expanded, ℕ, List, [], ◌∷◌, filter, Option, codes, option_map, option_to_list, bytes_eq, first, first_of, amount_above, Part, LimitKey, Instances, Containers, Machines, Cpu, Memory, Processes, Disk, Networks, Over, SumKey, over, limit_on, parts, first_uncounted, volume_uncounted, limits_of, Rule, Refusal, Rule as rule, SumKey as sum, key_of_part, Project, Volume, Instance}
 use Rattle.row_machine.specs.Estate.{Task, State, expanded_of, untold, on_key_of}
 use Rattle.row_machine.specs.Readings.{claimed_instance, claimed_volume, used, networks_of}
 
@@ -14,14 +14,17 @@ uncounted p name key = option_map (λ k. on_key_of rule.L0 (sum_text k) name p.n
 
 unfoldable pub instance_uncounted : State → Project → Instance → Option Refusal
 instance_uncounted s p i =
-    uncounted p i.name (first_uncounted (limits_of p.config) i.kind (expanded_of s.projects s.profiles i).config (expanded_of s.projects s.profiles i).devices)
+    uncounted p i.name (first_uncounted (limits_of p.config) i.kind expanded.config expanded.devices) where
+      expanded : Expanded
+      expanded = expanded_of s.projects s.profiles i
 
 unfoldable pub volume_uncounts : Project → Volume → Option Refusal
 volume_uncounts p v = uncounted p v.name (volume_uncounted (limits_of p.config) v.config)
 
 abbrev pub claim_uncounted : State → Project → Task → Option Refusal
 claim_uncounted s p task = first
-    (first_of (instance_uncounted s p) (filter (λ i. bytes_eq i.project p.name) (option_to_list (claimed_instance task)))
+    (first_of (instance_uncounted s p)
+    (filter (λ i. bytes_eq i.project p.name) (option_to_list (claimed_instance task)))
     ∷ first_of (volume_uncounts p) (filter (λ v. bytes_eq v.project p.name) (option_to_list (claimed_volume task)))
     ∷ [])
 
@@ -67,12 +70,15 @@ abbrev pub exceeds : Project → LimitKey → Option ℕ → ℕ → ℕ → Opt
 exceeds p key limit before after = option_map (over_refusal p) (over key limit before (amount_above after before))
 
 unfoldable pub part_exceeds : State → State → Part → Project → Option Refusal
-part_exceeds s after k p = exceeds p (key_of_part k) (limit_on k (limits_of p.config)) (used s p.name k) (used after p.name k)
+part_exceeds s after k p =
+    exceeds p (key_of_part k) (limit_on k (limits_of p.config)) (used s p.name k) (used after p.name k)
 
 unfoldable pub networks_exceed : State → State → Project → Option Refusal
-networks_exceed s after p = exceeds p Networks (limits_of p.config).networks (networks_of s p.name) (networks_of after p.name)
+networks_exceed s after p =
+    exceeds p Networks (limits_of p.config).networks (networks_of s p.name) (networks_of after p.name)
 
--- L1 to L8: the first limit that is exceeded, and the first project at which it is. The limits are those after the change.
+-- L1 to L8: the first limit that is exceeded, and the first project at which it is. The limits are those after the
+-- change.
 unfoldable pub limits_broken : State → State → Option Refusal
 limits_broken s after = first
     (first_of (λ k. first_of (part_exceeds s after k) after.projects) parts

@@ -6,7 +6,8 @@ use Rattle.row_machine.specs.Readings.{project_of_row, target_of, object_of, nam
 -- N1: the project is missing, of a command on what belongs to a project.
 unfoldable pub project_missing : State → Command → Option Refusal
 project_missing s c =
-    if option_map_or (λ of. is_in_project of.kind) (object_of c.what) false && is_none (project_named s.projects c.project)
+    if option_map_or (λ of. is_in_project of.kind) (object_of c.what) false
+    && is_none (project_named s.projects c.project)
     then Some (on_project rule.N1 c.project)
     else None
 
@@ -30,14 +31,16 @@ abbrev pub parent_missing : State → List ℕ → Target → Option Refusal
 parent_missing s project of = missing of.kind where
   missing : ObjectKind → Option Refusal
   missing kind.Volume = missing_unless (is_some (pool_named s.pools of.pool)) kind.Pool of.pool
-  missing kind.Snapshot = missing_unless (is_some (instance_named s.instances project of.instance)) kind.Instance of.instance
+  missing kind.Snapshot =
+      missing_unless (is_some (instance_named s.instances project of.instance)) kind.Instance of.instance
   missing other = None
 
 -- the object of a path, after what it stands in
 abbrev pub object_missing : State → List ℕ → Target → Option Refusal
-object_missing s project of = first (parent_missing s project of ∷ missing_unless (is_there s project of) of.kind of.name ∷ [])
+object_missing s project of =
+    first (parent_missing s project of ∷ missing_unless (is_there s project of) of.kind of.name ∷ [])
 
--- the volume that a volume is copied from, in the pool that the command names; the route fills it in where a body names none
+-- the volume that a volume is copied from; where a body names no pool, the route fills it in
 abbrev pub volume_source : Target → List ℕ → List ℕ → Target
 volume_source of from pool = record of { name = from; pool = pool }
 
@@ -62,21 +65,15 @@ operation_missing s number = missing_unless (is_some (kept_at s.operations numbe
 
 -- N2: the first object that a command needs and that is missing.
 unfoldable pub what_is_missing : State → List ℕ → What → Option Refusal
-what_is_missing s project what.Root = None
-what_is_missing s project what.Server = None
 what_is_missing s project (what.List of recursion) = parent_missing s project of
-what_is_missing s project (what.Get of) = object_missing s project of
-what_is_missing s project (what.State of) = object_missing s project of
-what_is_missing s project (what.Create of body) = first (parent_missing s project of ∷ source_missing s project of body.origin ∷ [])
-what_is_missing s project (what.Put of body) = object_missing s project of
-what_is_missing s project (what.Patch of body) = object_missing s project of
-what_is_missing s project (what.Move of to) = object_missing s project of
-what_is_missing s project (what.Delete of) = object_missing s project of
-what_is_missing s project (what.Act of action) = object_missing s project of
-what_is_missing s project (what.Restore of snapshot) = first (object_missing s project of ∷ snapshot_missing s project of.name snapshot ∷ [])
+what_is_missing s project (what.Create of body) =
+    first (parent_missing s project of ∷ source_missing s project of body.origin ∷ [])
+what_is_missing s project (what.Restore of snapshot) =
+    first (object_missing s project of ∷ snapshot_missing s project of.name snapshot ∷ [])
 what_is_missing s project (what.GetOp op) = operation_missing s op
 what_is_missing s project (what.Cancel op) = operation_missing s op
 what_is_missing s project (what.Wait op timeout) = operation_missing s op
+what_is_missing s project other = option_and_then (object_missing s project) (object_of other)
 
 -- N3: the new name is malformed.
 abbrev pub malformed : Target → Option Refusal
@@ -87,10 +84,13 @@ abbrev pub taken : State → List ℕ → Target → Option Refusal
 taken s project of = if is_there s project of then Some (on_object rule.N4 of.kind of.name) else None
 
 abbrev pub same_target : Target → Target → Bool
-same_target a b = kind_number a.kind == kind_number b.kind && bytes_eq a.pool b.pool && bytes_eq a.instance b.instance && bytes_eq a.name b.name
+same_target a b =
+    kind_number a.kind == kind_number b.kind && bytes_eq a.pool b.pool
+    && bytes_eq a.instance b.instance && bytes_eq a.name b.name
 
 abbrev pub claims_object : List ℕ → Target → Task → Bool
-claims_object home of task = option_map_or (λ new. bytes_eq (project_of_row new) home && same_target (target_of new) of) task.claim false
+claims_object home of task =
+    option_map_or (λ new. bytes_eq (project_of_row new) home && same_target (target_of new) of) task.claim false
 
 -- N5: a live operation claims the new name.
 abbrev pub held : State → List ℕ → Target → Option Refusal

@@ -30,24 +30,40 @@ feature_on config key = if is_none (setting config key) then put config key (cod
 -- all features but that of networks
 abbrev pub with_features : Settings → Settings
 with_features config =
-    fold feature_on config (codes "features.profiles" ∷ codes "features.storage.volumes" ∷ codes "features.images" ∷ codes "features.storage.buckets" ∷ [])
+    fold feature_on config
+    (codes "features.profiles"
+    ∷ codes "features.storage.volumes"
+    ∷ codes "features.images"
+    ∷ codes "features.storage.buckets"
+    ∷ [])
 
 abbrev pub made_project : List ℕ → Body → Project
-made_project name body = record { name = name; description = new_description body; config = with_features (new_config body) }
+made_project name body =
+    record { name = name; description = new_description body; config = with_features (new_config body) }
 
 abbrev pub made_profile : List ℕ → List ℕ → Body → Profile
-made_profile project name body =
-    record { project = project; name = name; description = new_description body; config = new_config body; devices = new_devices body }
+made_profile project name body = record {
+  project = project;
+  name = name;
+  description = new_description body;
+  config = new_config body;
+  devices = new_devices body;
+}
 
 abbrev pub default_profile : List ℕ → Profile
 default_profile project = record { project = project; name = default_name; description = []; config = []; devices = [] }
 
 abbrev pub made_network : List ℕ → List ℕ → Body → Network
-made_network project name body = record { project = project; name = name; description = new_description body; config = new_config body }
+made_network project name body =
+    record { project = project; name = name; description = new_description body; config = new_config body }
 
 abbrev pub made_pool : List ℕ → Body → Pool
-made_pool name body =
-    record { name = name; driver = unwrap_or body.driver driver.Dir; description = new_description body; config = new_config body }
+made_pool name body = record {
+  name = name;
+  driver = unwrap_or body.driver driver.Dir;
+  description = new_description body;
+  config = new_config body;
+}
 
 abbrev pub made_volume : List ℕ → Target → Body → ℕ → Volume
 made_volume project of body moment = record {
@@ -61,7 +77,8 @@ made_volume project of body moment = record {
 
 -- a copy has the settings of its source, patched
 abbrev pub copied_volume : List ℕ → Target → Body → ℕ → Volume → Volume
-copied_volume project of body moment source = record (made_volume project of body moment) { config = patched_config source.config body }
+copied_volume project of body moment source =
+    record (made_volume project of body moment) { config = patched_config source.config body }
 
 abbrev pub image_of : Origin → List ℕ
 image_of (origin.Image alias) = alias
@@ -122,7 +139,8 @@ abbrev pub put_project : Project → Body → Project
 put_project r body = record r { description = new_description body; config = new_config body }
 
 abbrev pub put_profile : Profile → Body → Profile
-put_profile r body = record r { description = new_description body; config = new_config body; devices = new_devices body }
+put_profile r body =
+    record r { description = new_description body; config = new_config body; devices = new_devices body }
 
 abbrev pub put_network : Network → Body → Network
 put_network r body = record r { description = new_description body; config = new_config body }
@@ -145,7 +163,8 @@ put_instance i body = record i {
 -- ---- PATCH: what the body leaves out stays
 
 abbrev pub patched_project : Project → Body → Project
-patched_project r body = record r { description = patched_description r.description body; config = patched_config r.config body }
+patched_project r body =
+    record r { description = patched_description r.description body; config = patched_config r.config body }
 
 abbrev pub patched_profile : Profile → Body → Profile
 patched_profile r body = record r {
@@ -155,13 +174,16 @@ patched_profile r body = record r {
 }
 
 abbrev pub patched_network : Network → Body → Network
-patched_network r body = record r { description = patched_description r.description body; config = patched_config r.config body }
+patched_network r body =
+    record r { description = patched_description r.description body; config = patched_config r.config body }
 
 abbrev pub patched_pool : Pool → Body → Pool
-patched_pool r body = record r { description = patched_description r.description body; config = patched_config r.config body }
+patched_pool r body =
+    record r { description = patched_description r.description body; config = patched_config r.config body }
 
 abbrev pub patched_volume : Volume → Body → Volume
-patched_volume r body = record r { description = patched_description r.description body; config = patched_config r.config body }
+patched_volume r body =
+    record r { description = patched_description r.description body; config = patched_config r.config body }
 
 abbrev pub patched_instance : Instance → Body → Instance
 patched_instance i body = record i {

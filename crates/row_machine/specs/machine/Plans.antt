@@ -29,13 +29,17 @@ project_creation r =
     then put_all (row.Project r ∷ row.Profile (new.default_profile r.name) ∷ [])
     else put_all (row.Project r ∷ [])
 
--- A changed project. Where its profiles are turned off its profile `default` goes, where they are turned on there is one.
+-- where its profiles are turned off its profile `default` goes, where they are turned on there is one
 abbrev pub project_change : Project → Project → List RowChange
-project_change old r = change.Put (row.Project r) ∷ by_profiles (is_on old.config (codes "features.profiles")) (is_on r.config (codes "features.profiles")) where
-  by_profiles : Bool → Bool → List RowChange
-  by_profiles true false = removal (row.Profile (new.default_profile r.name)) ∷ []
-  by_profiles false true = change.Put (row.Profile (new.default_profile r.name)) ∷ []
-  by_profiles was is_so = []
+project_change old r =
+    change.Put (row.Project r) ∷ by_profiles (has_profiles old) (has_profiles r) where
+      has_profiles : Project → Bool
+      has_profiles x = is_on x.config (codes "features.profiles")
+
+      by_profiles : Bool → Bool → List RowChange
+      by_profiles true false = removal (row.Profile (new.default_profile r.name)) ∷ []
+      by_profiles false true = change.Put (row.Profile (new.default_profile r.name)) ∷ []
+      by_profiles was is_so = []
 
 abbrev pub own_profile : State → Project → Option Profile
 own_profile s r = profile_named s.profiles r.name default_name
@@ -66,16 +70,17 @@ copy_from s project of body moment from snapshot = if_there by_instance (instanc
 
 -- a new instance: a copy, or from nothing or an image
 abbrev pub instance_creation : State → List ℕ → Target → Body → ℕ → Origin → Plan
-instance_creation s project of body moment (origin.Copy from snapshot pool) = copy_from s project of body moment from snapshot
+instance_creation s project of body moment (origin.Copy from snapshot pool) =
+    copy_from s project of body moment from snapshot
 instance_creation s project of body moment other = starts (creation project of body moment)
-
-abbrev pub volume_copy_from : State → List ℕ → Target → Body → ℕ → Target → Plan
-volume_copy_from s home of body moment from =
-    if_there (λ v. starts (volume_copy home of body moment from v)) (volume_named s.volumes home from.pool from.name)
 
 -- a new volume: a copy in the background, or at once
 abbrev pub volume_creation : State → List ℕ → Target → Body → ℕ → Origin → Plan
-volume_creation s home of body moment (origin.Copy from snapshot pool) = volume_copy_from s home of body moment (volume_source of from pool)
+volume_creation s home of body moment (origin.Copy from snapshot pool) =
+    if_there (λ v. starts (volume_copy home of body moment source v))
+    (volume_named s.volumes home source.pool source.name) where
+      source : Target
+      source = volume_source of from pool
 volume_creation s home of body moment other = changes (put_all (row.Volume (new.made_volume home of body moment) ∷ []))
 
 abbrev pub plan_create : State → List ℕ → Target → Body → ℕ → Plan
@@ -90,7 +95,9 @@ plan_create s project of body moment = plan of.kind where
   plan kind.Pool = changes (put_all (row.Pool (new.made_pool of.name body) ∷ []))
   plan kind.Volume = volume_creation s (home kind.Volume) of body moment body.origin
   plan kind.Instance = instance_creation s project of body moment body.origin
-  plan kind.Snapshot = if_there (λ i. starts (snapshot_creation project (with_name s project of) moment i)) (instance_named s.instances project of.instance)
+  plan kind.Snapshot =
+      if_there (λ i. starts (snapshot_creation project (with_name s project of) moment i))
+      (instance_named s.instances project of.instance)
   plan kind.Operation = nothing
 
 -- the row that the object of a path is, in its home
@@ -98,10 +105,13 @@ abbrev pub row_of : State → List ℕ → Target → Option Row
 row_of s project of = found of.kind where
   found : ObjectKind → Option Row
   found kind.Project = option_map row.Project (project_named s.projects of.name)
-  found kind.Profile = option_map row.Profile (profile_named s.profiles (home_of s.projects project kind.Profile) of.name)
-  found kind.Network = option_map row.Network (network_named s.networks (home_of s.projects project kind.Network) of.name)
+  found kind.Profile =
+      option_map row.Profile (profile_named s.profiles (home_of s.projects project kind.Profile) of.name)
+  found kind.Network =
+      option_map row.Network (network_named s.networks (home_of s.projects project kind.Network) of.name)
   found kind.Pool = option_map row.Pool (pool_named s.pools of.name)
-  found kind.Volume = option_map row.Volume (volume_named s.volumes (home_of s.projects project kind.Volume) of.pool of.name)
+  found kind.Volume =
+      option_map row.Volume (volume_named s.volumes (home_of s.projects project kind.Volume) of.pool of.name)
   found kind.Instance = option_map row.Instance (instance_named s.instances project of.name)
   found kind.Snapshot = option_map row.Snapshot (snapshot_named s.snapshots project of.instance of.name)
   found kind.Operation = None
@@ -144,7 +154,8 @@ plan_delete s project of (row.Snapshot r) = starts (snapshot_deletion project of
 plan_delete s project of other = changes (removal other ∷ [])
 
 abbrev pub plan_restore : State → List ℕ → Target → List ℕ → Instance → Plan
-plan_restore s project of snapshot i = if_there (λ r. starts (restoring project of i r)) (snapshot_named s.snapshots project of.name snapshot)
+plan_restore s project of snapshot i =
+    if_there (λ r. starts (restoring project of i r)) (snapshot_named s.snapshots project of.name snapshot)
 
 -- What a command makes of the state, where no rule is broken. Reads, cancels and waits change no row and begin nothing.
 unfoldable pub plan_of : State → Command → ℕ → Plan
@@ -155,8 +166,10 @@ plan_of s c moment = plan c.what where
   plan (what.Patch of body) = if_there (plan_patch body) (row_of s c.project of)
   plan (what.Move of to) = if_there (plan_move s c.project of to) (row_of s c.project of)
   plan (what.Delete of) = if_there (plan_delete s c.project of) (row_of s c.project of)
-  plan (what.Act of action) = if_there (λ i. starts (acting s c.project of action i)) (instance_named s.instances c.project of.name)
-  plan (what.Restore of snapshot) = if_there (plan_restore s c.project of snapshot) (instance_named s.instances c.project of.name)
+  plan (what.Act of action) =
+      if_there (λ i. starts (acting s c.project of action i)) (instance_named s.instances c.project of.name)
+  plan (what.Restore of snapshot) =
+      if_there (plan_restore s c.project of snapshot) (instance_named s.instances c.project of.name)
   plan other = nothing
 
 -- the rows that a plan puts, now or at its success

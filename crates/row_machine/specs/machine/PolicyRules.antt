@@ -34,7 +34,8 @@ forbidden_key config devices f =
 abbrev pub forbids : Project → ℕ → Subject → List ℕ → Settings → NamedDevices → Option Refusal
 forbids p number judged name config devices =
     option_and_then
-    (λ f. if f.rule == number then Some (on_key_of (policy_rule number) (forbidden_key config devices f) name p.name) else None)
+    (λ f. if f.rule == number then Some (on_key_of (policy_rule number) (forbidden_key config devices f) name p.name)
+    else None)
     (first_forbidden (policy_of p.config) judged config devices)
 
 unfoldable pub forbids_profile : Project → ℕ → Profile → Option Refusal
@@ -60,7 +61,9 @@ policy_broken s = first_of (λ number. first_of (project_forbids s number) s.pro
 unfoldable pub snapshot_blocked : State → Command → Option Refusal
 snapshot_blocked s c = blocked c.what where
   in_project : Option Refusal
-  in_project = option_and_then (λ p. if snapshots_forbidden (policy_of p.config) then Some (on_project rule.F8 p.name) else None) (project_named s.projects c.project)
+  in_project =
+      option_and_then (λ p. if snapshots_forbidden (policy_of p.config) then Some (on_project rule.F8 p.name) else None)
+      (project_named s.projects c.project)
 
   of_kind : ObjectKind → Option Refusal
   of_kind kind.Snapshot = in_project

@@ -19,10 +19,12 @@ abbrev pub on_object : Rule → ObjectKind → List ℕ → Refusal
 on_object rule kind name = record { rule = rule; kept = record untold { kind = kind_text kind; name = name } }
 
 abbrev pub on_held : Rule → ObjectKind → List ℕ → ℕ → Refusal
-on_held rule kind name number = record { rule = rule; kept = record untold { kind = kind_text kind; name = name; number = number } }
+on_held rule kind name number =
+    record { rule = rule; kept = record untold { kind = kind_text kind; name = name; number = number } }
 
 abbrev pub on_project : Rule → List ℕ → Refusal
 on_project rule project = record { rule = rule; kept = record untold { project = project } }
 
 abbrev pub on_key_of : Rule → List ℕ → List ℕ → List ℕ → Refusal
-on_key_of rule key name project = record { rule = rule; kept = record untold { key = key; name = name; project = project } }
+on_key_of rule key name project =
+    record { rule = rule; kept = record untold { key = key; name = name; project = project } }

@@ -6,8 +6,8 @@ use Rattle.row_machine.specs.machine.State.{Standing}
 abbrev pub default_name : List ℕ
 default_name = codes "default"
 
--- What a row is named by: a project or a pool by its own name, a volume or a snapshot by its project, by the pool or the
--- instance that it stands in, and by its name, and all others by their project and name.
+-- What a row is named by: a project or a pool by its own name, a volume or a snapshot by its project, by the pool or
+-- the instance that it stands in, and by its name, and all others by their project and name.
 abbrev pub project_names : Project → List (List ℕ)
 project_names r = r.name ∷ []
 

@@ -26,7 +26,8 @@ faulty_key settings other = []
 
 -- V1: no such key. V2: no such value of the key. V3: a device that the tables refuse.
 abbrev pub setting_refusal : Settings → NamedDevices → SettingFault → Refusal
-setting_refusal config devices (fault.Unknown place) = record { rule = rule.V1; kept = record untold { key = text_at (keys_of config) place } }
+setting_refusal config devices (fault.Unknown place) =
+    record { rule = rule.V1; kept = record untold { key = text_at (keys_of config) place } }
 setting_refusal config devices (fault.Bad place why) =
     record { rule = rule.V2; kept = record untold { key = text_at (keys_of config) place; number = fault_number why } }
 setting_refusal config devices (fault.Device place why) = record {
@@ -39,7 +40,8 @@ setting_refusal config devices (fault.Device place why) = record {
 }
 
 abbrev pub tables_break : Settings → Option SettingFault → NamedDevices → Option Refusal
-tables_break config settings devices = option_map (setting_refusal config devices) (option_or settings (devices_fault devices))
+tables_break config settings devices =
+    option_map (setting_refusal config devices) (option_or settings (devices_fault devices))
 
 abbrev pub scope_of : Kind → Scope
 scope_of Container = scope.Container
@@ -63,25 +65,34 @@ profile_missing s i =
 
 abbrev pub network_missing : State → List ℕ → List ℕ → Option Refusal
 network_missing s project name =
-    if is_none (network_named s.networks (home_of s.projects project kind.Network) name) then Some (on_object rule.V5 kind.Network name) else None
+    if is_none (network_named s.networks (home_of s.projects project kind.Network) name)
+    then Some (on_object rule.V5 kind.Network name)
+    else None
 
 abbrev pub pool_missing : State → List ℕ → Option Refusal
 pool_missing s name = if is_none (pool_named s.pools name) then Some (on_object rule.V5 kind.Pool name) else None
 
 abbrev pub volume_missing : State → List ℕ → List ℕ → List ℕ → Option Refusal
 volume_missing s project pool name =
-    if is_none (volume_named s.volumes (home_of s.projects project kind.Volume) pool name) then Some (on_object rule.V5 kind.Volume name) else None
+    if is_none (volume_named s.volumes (home_of s.projects project kind.Volume) pool name)
+    then Some (on_object rule.V5 kind.Volume name)
+    else None
 
 -- a disk in a pool names the pool, and with a source the volume
 abbrev pub disk_misses : State → List ℕ → Settings → List ℕ → Option Refusal
 disk_misses s project settings pool =
-    first (pool_missing s pool ∷ option_and_then (volume_missing s project pool) (setting settings (codes "source")) ∷ [])
+    first
+    (pool_missing s pool
+    ∷ option_and_then (volume_missing s project pool) (setting settings (codes "source"))
+    ∷ [])
 
 -- what a device in a project names: a nic its network, a disk its pool and then its volume
 abbrev pub device_misses : State → List ℕ → Settings → Option Refusal
 device_misses s project settings =
-    if has_setting settings (codes "type") (codes "nic") then option_and_then (network_missing s project) (setting settings (codes "network"))
-    else if has_setting settings (codes "type") (codes "disk") then option_and_then (disk_misses s project settings) (setting settings (codes "pool"))
+    if has_setting settings (codes "type") (codes "nic")
+    then option_and_then (network_missing s project) (setting settings (codes "network"))
+    else if has_setting settings (codes "type") (codes "disk")
+    then option_and_then (disk_misses s project settings) (setting settings (codes "pool"))
     else None
 
 unfoldable pub devices_miss : State → List ℕ → NamedDevices → Option Refusal
@@ -107,7 +118,8 @@ naming s r = filter (names_profile s r.project r.name) (judged_instances s)
 
 -- the profile `default` of a project, where it has one: the homes of its devices change with the project's features
 abbrev pub own_default : State → Project → Option Refusal
-own_default s r = option_and_then (λ p. devices_miss s p.project p.devices) (profile_named s.profiles r.name default_name)
+own_default s r =
+    option_and_then (λ p. devices_miss s p.project p.devices) (profile_named s.profiles r.name default_name)
 
 -- The first rule that a row of the state breaks: a profile by itself and then each instance that names it.
 unfoldable pub row_settings : State → Row → Option Refusal

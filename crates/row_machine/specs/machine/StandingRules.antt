@@ -6,7 +6,8 @@ use Rattle.row_machine.specs.machine.NewRows.{put_project, patched_project}
 
 abbrev pub busy : State → List ℕ → List ℕ → Option Refusal
 busy s project name =
-    option_map (λ o. record { rule = rule.B1; kept = record untold { name = name; number = o.number } }) (busy_with s project name)
+    option_map (λ o. record { rule = rule.B1; kept = record untold { name = name; number = o.number } })
+    (busy_with s project name)
 
 -- B1: the instance that a command would change or copy from is busy.
 unfoldable pub instance_busy : State → Command → Option Refusal
@@ -21,20 +22,20 @@ power_text Error = codes "Error"
 abbrev pub power_of : State → List ℕ → List ℕ → Option Power
 power_of s project name = option_map (λ p. p.power) (find (is_standing project name) s.powers)
 
+abbrev pub on_instance : Deed → Target → Option (Deed × List ℕ)
+on_instance does of = on of.kind where
+  on : ObjectKind → Option (Deed × List ℕ)
+  on kind.Instance = Some (does, of.name)
+  on other = None
+
 -- what the command does to which instance, where the instance must have a status for it
 abbrev pub deed_asked : What → Option (Deed × List ℕ)
 deed_asked (what.Create of body) = on of.kind where
   on : ObjectKind → Option (Deed × List ℕ)
   on kind.Snapshot = Some (deed.Snap, of.instance)
   on other = None
-deed_asked (what.Move of to) = on of.kind where
-  on : ObjectKind → Option (Deed × List ℕ)
-  on kind.Instance = Some (deed.Rename, of.name)
-  on other = None
-deed_asked (what.Delete of) = on of.kind where
-  on : ObjectKind → Option (Deed × List ℕ)
-  on kind.Instance = Some (deed.Delete, of.name)
-  on other = None
+deed_asked (what.Move of to) = on_instance deed.Rename of
+deed_asked (what.Delete of) = on_instance deed.Delete of
 deed_asked (what.Act of action) = Some (deed.Act action false, of.name)
 deed_asked (what.Restore of snapshot) = Some (deed.Restore, of.name)
 deed_asked other = None
@@ -46,7 +47,9 @@ in_wrong_state does name power =
 
 -- B2: the status of the instance does not allow what a command asks for.
 unfoldable pub wrong_state : State → Command → Option Refusal
-wrong_state s c = option_and_then (λ asked. option_and_then (in_wrong_state asked.0 asked.1) (power_of s c.project asked.1)) (deed_asked c.what)
+wrong_state s c =
+    option_and_then (λ asked. option_and_then (in_wrong_state asked.0 asked.1) (power_of s c.project asked.1))
+    (deed_asked c.what)
 
 abbrev pub feature_keys : List (List ℕ)
 feature_keys =
@@ -62,25 +65,27 @@ abbrev pub feature_changes : Settings → Settings → List ℕ → Bool
 feature_changes old new key = changes (setting new key) where
   changes : Option (List ℕ) → Bool
   changes None = is_on old key
-  changes (Some text) = option_map_or (λ truth. if truth then not (is_on old key) else is_on old key) (result_ok (truth_of text)) false
+  changes (Some text) =
+      option_map_or (λ truth. if truth then not (is_on old key) else is_on old key) (result_ok (truth_of text)) false
 
 abbrev pub changes_features : Project → Project → Bool
 changes_features old new = list_any (feature_changes old.config new.config) feature_keys
 
+abbrev pub changes_of : State → (Project → Project) → Target → Bool
+changes_of s changed of = asks of.kind where
+  asks : ObjectKind → Bool
+  asks kind.Project = option_map_or (λ r. changes_features r (changed r)) (project_named s.projects of.name) false
+  asks other = false
+
 abbrev pub asks_for_features : State → What → Bool
-asks_for_features s (what.Put of body) = asks of.kind where
-  asks : ObjectKind → Bool
-  asks kind.Project = option_map_or (λ r. changes_features r (put_project r body)) (project_named s.projects of.name) false
-  asks other = false
-asks_for_features s (what.Patch of body) = asks of.kind where
-  asks : ObjectKind → Bool
-  asks kind.Project = option_map_or (λ r. changes_features r (patched_project r body)) (project_named s.projects of.name) false
-  asks other = false
+asks_for_features s (what.Put of body) = changes_of s (λ r. put_project r body) of
+asks_for_features s (what.Patch of body) = changes_of s (λ r. patched_project r body) of
 asks_for_features s other = false
 
 abbrev pub protects_itself : State → List ℕ → List ℕ → Bool
 protects_itself s project name =
-    option_map_or (λ i. is_on (expanded_of s.projects s.profiles i).config (codes "security.protection.delete")) (instance_named s.instances project name) false
+    option_map_or (λ i. is_on (expanded_of s.projects s.profiles i).config (codes "security.protection.delete"))
+    (instance_named s.instances project name) false
 
 abbrev pub is_deletion : What → Bool
 is_deletion (what.Delete of) = true
@@ -104,12 +109,14 @@ object_changed other = None
 -- B3: the object of a command is protected against it.
 unfoldable pub object_protected : State → Command → Option Refusal
 object_protected s c =
-    option_and_then (λ of. if is_protected s c of then Some (on_object rule.B3 of.kind of.name) else None) (object_changed c.what)
+    option_and_then (λ of. if is_protected s c of then Some (on_object rule.B3 of.kind of.name) else None)
+    (object_changed c.what)
 
 abbrev pub used_by_first : State → Command → Target → Option Refusal
 used_by_first s c of =
-    option_map (λ link. record { rule = rule.B4; kept = record untold { key = link; kind = kind_text of.kind; name = of.name } })
-    (first_user_of s (home_of s.projects c.project of.kind) of)
+    option_map used_by (first_user_of s (home_of s.projects c.project of.kind) of) where
+      used_by : List ℕ → Refusal
+      used_by link = record { rule = rule.B4; kept = record untold { key = link; kind = kind_text of.kind; name = of.name } }
 
 -- B4: the object that a command renames or deletes has a user.
 unfoldable pub object_used : State → Command → Option Refusal
@@ -133,7 +140,9 @@ must_be_empty s asked of = must of.kind where
 -- B5: the project that a command needs empty is not.
 unfoldable pub project_occupied : State → Command → Option Refusal
 project_occupied s c =
-    option_and_then (λ of. if must_be_empty s c.what of && is_occupied s of.name then Some (on_name rule.B5 of.name) else None) (object_changed c.what)
+    option_and_then
+    (λ of. if must_be_empty s c.what of && is_occupied s of.name then Some (on_name rule.B5 of.name) else None)
+    (object_changed c.what)
 
 abbrev pub held_profile : State → Command → Target → Option Refusal
 held_profile s c of = held of.kind where

@@ -32,7 +32,8 @@ first_pending s = find (λ o. is_pending o.status) s.operations.live
 abbrev pub handed_out : State → Operation Task → ℕ → List HostCall → After
 handed_out s o moment [] = and_then answer.NoJob s
 handed_out s o moment (call ∷ rest) =
-    and_then (answer.Job o.number call) (told (with_task o.number (handing_out o.work rest) (moved o.number Status.Running moment s)) o.number moment)
+    and_then (answer.Job o.number call)
+    (told (with_task o.number (handing_out o.work rest) (moved o.number Status.Running moment s)) o.number moment)
 
 abbrev pub taken : State → ℕ → Option (Operation Task) → After
 taken s moment (Some o) = handed_out s o moment o.work.calls
@@ -52,11 +53,13 @@ failure s o why done moment = over (failed s o why done moment) o.number moment
 abbrev pub committed : State → Operation Task → ℕ → Outcome → List RowChange → Option After
 committed s o moment well cs = Some (success s o moment)
 committed s o moment (keeper_failed rise) [] = None
-committed s o moment (keeper_failed rise) (c ∷ cs) = Some (failure s o (fault.Keeper rise.before rise.after) (o.work.done + 1) moment)
+committed s o moment (keeper_failed rise) (c ∷ cs) =
+    Some (failure s o (fault.Keeper rise.before rise.after) (o.work.done + 1) moment)
 committed s o moment no_memory cs = Some (failure s o fault.NoMemory (o.work.done + 1) moment)
 
 abbrev pub call_done : State → Operation Task → ℕ → Outcome → List HostCall → Option After
-call_done s o moment well (call ∷ rest) = Some (and_then (answer.Job o.number call) (with_task o.number (one_more_done o.work rest) s))
+call_done s o moment well (call ∷ rest) =
+    Some (and_then (answer.Job o.number call) (with_task o.number (one_more_done o.work rest) s))
 call_done s o moment other (call ∷ rest) = None
 call_done s o moment outcome [] = committed s o moment outcome (success_changes s o.work)
 
@@ -66,12 +69,14 @@ call_failed s o moment other why = None
 
 abbrev pub while_running : State → Operation Task → Report → ℕ → Outcome → Option After
 while_running s o report.Done moment outcome = call_done s o moment outcome o.work.calls
-while_running s o (report.Failed rise) moment outcome = call_failed s o moment outcome (fault.Host (o.work.done + 1) rise.before rise.after)
+while_running s o (report.Failed rise) moment outcome =
+    call_failed s o moment outcome (fault.Host (o.work.done + 1) rise.before rise.after)
 while_running s o report.NoMemory moment outcome = call_failed s o moment outcome fault.NoMemory
 
 -- whatever is reported, the deed is taken back; and then the operation is cancelled
 abbrev pub while_cancelling : State → Operation Task → ℕ → Outcome → Option HostCall → Option After
-while_cancelling s o moment well (Some call) = Some (and_then (answer.Job o.number call) (with_task o.number (undone o.work) s))
+while_cancelling s o moment well (Some call) =
+    Some (and_then (answer.Job o.number call) (with_task o.number (undone o.work) s))
 while_cancelling s o moment well None = Some (over (cancelled s o.number moment) o.number moment)
 while_cancelling s o moment other undo = None
 
@@ -89,9 +94,6 @@ abbrev pub done : State → ℕ → Report → ℕ → Outcome → Option (Opera
 done s number r moment outcome (Some o) = reported s o r moment outcome o.status
 done s number r moment outcome None = stray s number outcome
 
-abbrev pub looked : State → ℕ → Answer
-looked s number = if is_some (live_at s.operations number) then answer.NotYet number else answer.Ended number
-
 abbrev pub always : After → Outcome → Option After
 always a well = Some a
 always a other = None
@@ -105,7 +107,9 @@ fetched s cursor filter no_memory = Some (and_then answer.NoMemory s)
 -- One step. None where an outcome is not possible with the event.
 unfoldable pub step : State → Event → Outcome → Option After
 step s (event.Ask c moment) outcome = asked s c moment outcome (broken s c moment)
-step s (event.Look number) outcome = always (and_then (looked s number) s) outcome
+step s (event.Look number) outcome = always (and_then looked s) outcome where
+  looked : Answer
+  looked = if is_some (live_at s.operations number) then answer.NotYet number else answer.Ended number
 step s (event.Take moment) outcome = always (taken s moment (first_pending s)) outcome
 step s (event.Done number r moment) outcome = done s number r moment outcome (live_at s.operations number)
 step s (event.Fetch cursor filter) outcome = fetched s cursor filter outcome

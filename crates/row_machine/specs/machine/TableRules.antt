@@ -14,13 +14,15 @@ status_text Cancelled = codes "Cancelled"
 -- what a cancel is refused by; an operation that is not kept is missing
 abbrev pub cancel_refusal : ℕ → CancelFault → Option Refusal
 cancel_refusal number cancel_fault.Unknown = None
-cancel_refusal number (cancel_fault.Ended status) = Some (record { rule = rule.O1; kept = record untold { key = status_text status; number = number } })
+cancel_refusal number (cancel_fault.Ended status) =
+    Some (record { rule = rule.O1; kept = record untold { key = status_text status; number = number } })
 cancel_refusal number cancel_fault.Fixed = Some (on_number rule.O2 number)
 cancel_refusal number cancel_fault.Already = Some (on_number rule.O3 number)
 
 -- O1: the operation has ended. O2: it cannot be cancelled. O3: it is being cancelled.
 unfoldable pub cancel_broken : State → What → Option Refusal
-cancel_broken s (what.Cancel op) = option_and_then (cancel_refusal op) (result_err (cancel_answer (kept_at s.operations op)))
+cancel_broken s (what.Cancel op) =
+    option_and_then (cancel_refusal op) (result_err (cancel_answer (kept_at s.operations op)))
 cancel_broken s other = None
 
 abbrev pub enter_refusal : EnterFault → Refusal
@@ -62,7 +64,11 @@ largest_row = 65536
 abbrev pub too_large : Row → Option Refusal
 too_large r =
     if nat_lt largest_row (size_of r)
-    then Some (record { rule = rule.C2; kept = record untold { kind = kind_text (target_of r).kind; number = min (size_of r) (2 ^ 64 - 1) } })
+    then Some (record {
+      rule = rule.C2;
+      kept =
+          record untold { kind = kind_text (target_of r).kind; number = min (size_of r) (2 ^ 64 - 1) };
+    })
     else None
 
 -- the first kind of which there are too many rows after a change, and then the first of the rows put that is too large

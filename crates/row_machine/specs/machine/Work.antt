@@ -60,7 +60,8 @@ abbrev pub undone : Task → Task
 undone task = record task { undo = None }
 
 abbrev pub with_power : State → List ℕ → List ℕ → Power → State
-with_power s project name power = record s { powers = changed_first (is_standing project name) (λ p. record p { power = power }) s.powers }
+with_power s project name power =
+    record s { powers = changed_first (is_standing project name) (λ p. record p { power = power }) s.powers }
 
 abbrev pub removes_instance : State → List ℕ → List ℕ → List RowChange
 removes_instance s project name = map removal
@@ -71,7 +72,9 @@ removes_instance s project name = map removal
 abbrev pub renames_instance : State → Task → Instance → List RowChange
 renames_instance s task i =
     removes_instance s task.project task.target.name
-    ++ map change.Put (row.Instance i ∷ map (λ r. row.Snapshot (record r { instance = i.name; project = i.project })) (snapshots_of s task.project task.target.name))
+    ++ map change.Put
+    (row.Instance i ∷ map (λ r. row.Snapshot (record r { instance = i.name; project = i.project }))
+    (snapshots_of s task.project task.target.name))
 
 abbrev pub success_changes : State → Task → List RowChange
 success_changes s task = changes task.deed where
@@ -91,13 +94,18 @@ success_changes s task = changes task.deed where
   changes deed.Delete = removes_instance s task.project task.target.name
   changes (deed.Act does ephemeral) = act_changes does ephemeral
   changes deed.Snap = puts_claim
-  changes deed.Unsnap = map removal (map row.Snapshot (option_to_list (snapshot_named s.snapshots task.project task.target.instance task.target.name)))
+  changes deed.Unsnap =
+      map removal
+      (map row.Snapshot
+      (option_to_list (snapshot_named s.snapshots task.project task.target.instance task.target.name)))
   changes deed.CopyVolume = puts_claim
 
 abbrev pub power_after : State → Task → Option Power
 power_after s task = after task.deed where
   by_action : Action → Option Power
-  by_action does = option_and_then (λ p. result_ok (after_of p.power does)) (find (is_standing task.project task.target.name) s.powers)
+  by_action does =
+      option_and_then (λ p. result_ok (after_of p.power does))
+      (find (is_standing task.project task.target.name) s.powers)
 
   after : Deed → Option Power
   after (deed.Act does ephemeral) = by_action does
