@@ -1,5 +1,5 @@
 -- What the state is made of, passed on: kinds and deeds, rows by their names, homes, expansions, and refusals.
-pub use Rattle.row_machine.specs.machine.Kinds.{cap_of, is_in_project, kind_number, kind_text}
+pub use Rattle.row_machine.specs.machine.Kinds.{cap_of, is_in_project, is_of_kind, kind_number, kind_text}
 pub use Rattle.row_machine.specs.machine.Deeds.{breaks_instance}
 pub use Rattle.row_machine.specs.machine.Task.{Task}
 pub use Rattle.row_machine.specs.machine.State.{Standing, State}

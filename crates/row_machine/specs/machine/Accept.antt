@@ -2,10 +2,7 @@
 use Rattle.row_machine.specs.Words.{ℕ, ◌==◌, Bool, false, not, ◌&&◌, Result, Ok, Err, ℤ, pos, negsuc, is_some, if◌then◌else◌, option_map_or, Status, CancelFault, kept_at, live_at, cancel_answer, Command, What, Reply, Status as status, What as what, Reply as reply, Answer, Answer as answer}
 use Rattle.row_machine.specs.Estate.{Task, State}
 use Rattle.row_machine.specs.Readings.{applied}
-use Rattle.row_machine.specs.machine.Plans.{Plan, nothing, changes, starts, plan_of}
-use Rattle.row_machine.specs.machine.Work.{entered, moved, cancelled}
-use Rattle.row_machine.specs.shown.Notices.{telling, change_notices, operation_notice, view_of}
-use Rattle.row_machine.specs.shown.Views.{read}
+use Rattle.row_machine.specs.Doings.{Plan, nothing, changes, starts, plan_of, entered, moved, cancelled, telling, change_notices, operation_notice, view_of, read}
 
 pub record After : Type 0 where
   pub answer : Answer

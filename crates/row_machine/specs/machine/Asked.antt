@@ -1,6 +1,6 @@
 -- What a command speaks of: its object, the name that it gives, the instance that it would change or copy from.
 use Rattle.row_machine.specs.Words.{ℕ, ◌==◌, Bool, true, false, List, length, Option, Some, None, if◌then◌else◌, codes, unwrap_or, filter, fold, option_map_or, bytes_eq, ObjectKind, setting, unseen, seen, next_name, Target, Origin, Body, What, ObjectKind as kind, Origin as origin, What as what, Instance, Snapshot}
-use Rattle.row_machine.specs.Estate.{State, instance_named, expanded_of}
+use Rattle.row_machine.specs.Estate.{State, instance_named, expanded_of, is_of_kind}
 
 -- the object that a command speaks of, or the objects of a list
 abbrev pub object_of : What → Option Target
@@ -37,10 +37,7 @@ with_name s project of =
 
 -- the object under the name that a creation or a rename gives it
 abbrev pub named_anew : State → List ℕ → What → Option Target
-named_anew s project (what.Create of body) = Some (named of.kind) where
-  named : ObjectKind → Target
-  named kind.Snapshot = with_name s project of
-  named other = of
+named_anew s project (what.Create of body) = Some (if is_of_kind kind.Snapshot of then with_name s project of else of)
 named_anew s project (what.Move of to) = Some (record of { name = to })
 named_anew s project other = None
 

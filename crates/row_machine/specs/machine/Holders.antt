@@ -1,7 +1,7 @@
 -- Who holds what: the operation that keeps an instance busy, the one that holds a profile, and the first user of a
 -- profile, network, pool or volume.
 use Rattle.row_machine.specs.Words.{ℕ, Bool, false, ◌&&◌, ◌||◌, List, [], ◌∷◌, ◌++◌, filter, find, Option, Some, None, if◌then◌else◌, list_any, option_map_or, option_to_list, bytes_eq, first, first_of, ObjectKind, NamedDevices, names_network, names_pool, names_volume, Row, Target, ObjectKind as kind, Row as row, Operation, Profile, Volume, Instance}
-use Rattle.row_machine.specs.Estate.{Task, State, home_of, expanded_of}
+use Rattle.row_machine.specs.Estate.{Task, State, home_of, expanded_of, is_of_kind}
 use Rattle.row_machine.specs.machine.Claims.{claimed_instance, claimed_volume, replaced_instance, project_of_row}
 use Rattle.row_machine.specs.shown.Links.{link_of, target_of}
 
@@ -51,10 +51,7 @@ abbrev pub instance_uses : State → List ℕ → Target → Instance → Bool
 instance_uses s home of i = devices_name s home of i.project (expanded_of s.projects s.profiles i).devices
 
 abbrev pub volume_uses : Target → Volume → Bool
-volume_uses of v = uses of.kind where
-  uses : ObjectKind → Bool
-  uses kind.Pool = bytes_eq v.pool of.name
-  uses other = false
+volume_uses of v = is_of_kind kind.Pool of && bytes_eq v.pool of.name
 
 -- the volume that a copy is made from names its pool and itself
 abbrev pub source_uses : List ℕ → Target → List ℕ → Target → Bool

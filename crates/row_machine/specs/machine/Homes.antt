@@ -15,11 +15,7 @@ home_by projects name key = if has_feature projects name key then name else defa
 -- The home of a project for the objects of a kind: profiles, networks and volumes of a project without the feature
 -- belong to the project `default`.
 unfoldable pub home_of : List Project → List ℕ → ObjectKind → List ℕ
-home_of projects name kind.Project = name
 home_of projects name kind.Profile = home_by projects name (codes "features.profiles")
 home_of projects name kind.Network = home_by projects name (codes "features.networks")
-home_of projects name kind.Pool = name
 home_of projects name kind.Volume = home_by projects name (codes "features.storage.volumes")
-home_of projects name kind.Instance = name
-home_of projects name kind.Snapshot = name
-home_of projects name kind.Operation = name
+home_of projects name other = name

@@ -1,5 +1,5 @@
 -- The kinds of objects, as a table.
-use Rattle.row_machine.specs.Words.{ℕ, Bool, true, false, List, codes, ObjectKind, ObjectKind as kind}
+use Rattle.row_machine.specs.Words.{ℕ, Bool, true, false, List, codes, ObjectKind, ObjectKind as kind, Target, ◌==◌}
 
 -- how refusals write the kind, the number that its entries have, whether its objects belong to projects, and how many
 -- rows of it there may be, with those that live operations claim
@@ -35,3 +35,6 @@ is_in_project kind = (kind_line kind).in_project
 
 abbrev pub cap_of : ObjectKind → ℕ
 cap_of kind = (kind_line kind).cap
+
+abbrev pub is_of_kind : ObjectKind → Target → Bool
+is_of_kind kind of = kind_number of.kind == kind_number kind

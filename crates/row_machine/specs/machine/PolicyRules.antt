@@ -1,7 +1,7 @@
 -- Rules on policy: F1 to F8. What a restricted project forbids of its profiles, its instances, and those that live
 -- operations would put.
 use Rattle.row_machine.specs.Words.{ℕ, ◌==◌, nat_lt, List, [], ◌∷◌, filter, find, length, Option, Some, None, if◌then◌else◌, option_and_then, keys_of, option_map_or, bytes_eq, first, first_of, Kind, ObjectKind, Settings, NamedDevices, Expanded, Forbidden, Subject, policy_of, demands, setting_lines, first_forbidden, snapshots_forbidden, Rule, Refusal, Command, What, ObjectKind as kind, Rule as rule, What as what, Kind as kind_of, Subject as subject, Project, Profile, Instance}
-use Rattle.row_machine.specs.Estate.{State, project_named, expanded_of, on_project, on_key_of}
+use Rattle.row_machine.specs.Estate.{State, project_named, expanded_of, on_project, on_key_of, is_of_kind}
 use Rattle.row_machine.specs.Readings.{judged_instances}
 use Rattle.row_machine.specs.machine.SettingRules.{text_at}
 
@@ -57,18 +57,13 @@ project_forbids s number p = first
 unfoldable pub policy_broken : State → Option Refusal
 policy_broken s = first_of (λ number. first_of (project_forbids s number) s.projects) (1 ∷ 2 ∷ 3 ∷ 4 ∷ 5 ∷ 6 ∷ 7 ∷ [])
 
--- F8: a snapshot is made where the policy of the project blocks it
+-- F8: a snapshot is made where the policy of the project blocks it.
 unfoldable pub snapshot_blocked : State → Command → Option Refusal
 snapshot_blocked s c = blocked c.what where
-  in_project : Option Refusal
-  in_project =
-      option_and_then (λ p. if snapshots_forbidden (policy_of p.config) then Some (on_project rule.F8 p.name) else None)
-      (project_named s.projects c.project)
-
-  of_kind : ObjectKind → Option Refusal
-  of_kind kind.Snapshot = in_project
-  of_kind other = None
+  by : Project → Option Refusal
+  by p = if snapshots_forbidden (policy_of p.config) then Some (on_project rule.F8 p.name) else None
 
   blocked : What → Option Refusal
-  blocked (what.Create of body) = of_kind of.kind
+  blocked (what.Create of body) =
+      if is_of_kind kind.Snapshot of then option_and_then by (project_named s.projects c.project) else None
   blocked other = None

@@ -2,8 +2,7 @@
 use Rattle.row_machine.specs.Words.{ℕ, List, [], ◌∷◌, Option, None, option_and_then, first, Refusal, Row, Command}
 use Rattle.row_machine.specs.Estate.{State}
 use Rattle.row_machine.specs.Readings.{applied, named_anew}
-use Rattle.row_machine.specs.machine.Plans.{Plan, nothing, changes, starts, plan_of, rows_of_plan}
-use Rattle.row_machine.specs.machine.Work.{claiming}
+use Rattle.row_machine.specs.Doings.{Plan, nothing, changes, starts, plan_of, rows_of_plan, claiming}
 use Rattle.row_machine.specs.machine.NameRules.{project_missing, what_is_missing, name_broken}
 use Rattle.row_machine.specs.machine.StandingRules.{instance_busy, wrong_state, object_protected, object_used, project_occupied, profile_held}
 use Rattle.row_machine.specs.machine.SettingRules.{settings_broken}

@@ -1,6 +1,6 @@
 -- Rules on what stands in the way: B1 to B6.
 use Rattle.row_machine.specs.Words.{ℕ, Bool, true, false, not, ◌&&◌, ◌||◌, List, [], ◌∷◌, Option, Some, None, if◌then◌else◌, codes, option_and_then, find, option_map, list_any, option_map_or, result_ok, bytes_eq, first, truth_of, Power, Stopped, Frozen, Error, Deed, ObjectKind, Settings, setting, is_allowed, Refusal, Target, Command, What, Deed as deed, ObjectKind as kind, Rule as rule, What as what, Project}
-use Rattle.row_machine.specs.Estate.{State, default_name, project_named, instance_named, is_standing, home_of, is_on, expanded_of, kind_text, untold, on_name, on_object}
+use Rattle.row_machine.specs.Estate.{State, default_name, project_named, instance_named, is_standing, home_of, is_on, expanded_of, kind_text, untold, on_name, on_object, is_of_kind}
 use Rattle.row_machine.specs.Readings.{busy_with, holder_of, first_user_of, instance_changed, is_parting}
 use Rattle.row_machine.specs.machine.NewRows.{put_project, patched_project}
 
@@ -23,17 +23,11 @@ abbrev pub power_of : State → List ℕ → List ℕ → Option Power
 power_of s project name = option_map (λ p. p.power) (find (is_standing project name) s.powers)
 
 abbrev pub on_instance : Deed → Target → Option (Deed × List ℕ)
-on_instance does of = on of.kind where
-  on : ObjectKind → Option (Deed × List ℕ)
-  on kind.Instance = Some (does, of.name)
-  on other = None
+on_instance does of = if is_of_kind kind.Instance of then Some (does, of.name) else None
 
 -- what the command does to which instance, where the instance must have a status for it
 abbrev pub deed_asked : What → Option (Deed × List ℕ)
-deed_asked (what.Create of body) = on of.kind where
-  on : ObjectKind → Option (Deed × List ℕ)
-  on kind.Snapshot = Some (deed.Snap, of.instance)
-  on other = None
+deed_asked (what.Create of body) = if is_of_kind kind.Snapshot of then Some (deed.Snap, of.instance) else None
 deed_asked (what.Move of to) = on_instance deed.Rename of
 deed_asked (what.Delete of) = on_instance deed.Delete of
 deed_asked (what.Act of action) = Some (deed.Act action false, of.name)
@@ -72,10 +66,9 @@ abbrev pub changes_features : Project → Project → Bool
 changes_features old new = list_any (feature_changes old.config new.config) feature_keys
 
 abbrev pub changes_of : State → (Project → Project) → Target → Bool
-changes_of s changed of = asks of.kind where
-  asks : ObjectKind → Bool
-  asks kind.Project = option_map_or (λ r. changes_features r (changed r)) (project_named s.projects of.name) false
-  asks other = false
+changes_of s changed of =
+    is_of_kind kind.Project of
+    && option_map_or (λ r. changes_features r (changed r)) (project_named s.projects of.name) false
 
 abbrev pub asks_for_features : State → What → Bool
 asks_for_features s (what.Put of body) = changes_of s (λ r. put_project r body) of
@@ -132,10 +125,7 @@ is_occupied s name =
     || list_any (λ o. bytes_eq o.work.project name) s.operations.live
 
 abbrev pub must_be_empty : State → What → Target → Bool
-must_be_empty s asked of = must of.kind where
-  must : ObjectKind → Bool
-  must kind.Project = is_parting asked || asks_for_features s asked
-  must other = false
+must_be_empty s asked of = is_of_kind kind.Project of && (is_parting asked || asks_for_features s asked)
 
 -- B5: the project that a command needs empty is not.
 unfoldable pub project_occupied : State → Command → Option Refusal
@@ -145,12 +135,11 @@ project_occupied s c =
     (object_changed c.what)
 
 abbrev pub held_profile : State → Command → Target → Option Refusal
-held_profile s c of = held of.kind where
-  held : ObjectKind → Option Refusal
-  held kind.Profile =
-      option_map (λ o. record { rule = rule.B6; kept = record untold { name = of.name; number = o.number } })
-      (holder_of s (home_of s.projects c.project kind.Profile) of.name)
-  held other = None
+held_profile s c of =
+    if is_of_kind kind.Profile of
+    then option_map (λ o. record { rule = rule.B6; kept = record untold { name = of.name; number = o.number } })
+    (holder_of s (home_of s.projects c.project kind.Profile) of.name)
+    else None
 
 -- B6: an operation holds the profile that a command changes.
 unfoldable pub profile_held : State → Command → Option Refusal

@@ -1,11 +1,9 @@
 -- One step of the machine: what each event is answered, with each outcome of the outside, and the state after it.
 use Rattle.row_machine.specs.Words.{ℕ, ◌+◌, true, List, [], ◌∷◌, Option, Some, None, find, is_some, if◌then◌else◌, Rise, HostCall, Report, OpFault, Status, Cancelling, is_pending, live_at, Command, Filter, Refusal, Report as report, Rule as rule, Reply as reply, Operation, OpFault as fault, RowChange, Event, Event as event, Answer, Answer as answer}
 use Rattle.row_machine.specs.Estate.{Task, State, plainly}
-use Rattle.row_machine.specs.machine.Plans.{Plan, changes, plan_of}
+use Rattle.row_machine.specs.Doings.{Plan, changes, plan_of, telling, success_notices, since, with_task, moved, handing_out, one_more_done, undone, succeeded, failed, cancelled, success_changes}
 use Rattle.row_machine.specs.machine.Rules.{broken}
 use Rattle.row_machine.specs.machine.Accept.{After, and_then, accepted, told}
-use Rattle.row_machine.specs.shown.Notices.{telling, success_notices, since}
-use Rattle.row_machine.specs.machine.Work.{with_task, moved, handing_out, one_more_done, undone, succeeded, failed, cancelled, success_changes}
 
 -- What the outside made of a step: all went well, the store failed and its count rose, or memory was refused.
 pub data Outcome : Type 0 where

@@ -78,27 +78,19 @@ renames_instance s task i =
 
 abbrev pub success_changes : State → Task → List RowChange
 success_changes s task = changes task.deed where
-  puts_claim : List RowChange
-  puts_claim = map change.Put (option_to_list task.claim)
-
   act_changes : Action → Bool → List RowChange
   act_changes action.Stop true = removes_instance s task.project task.target.name
   act_changes other ephemeral = []
 
   changes : Deed → List RowChange
-  changes deed.Create = puts_claim
-  changes deed.Copy = puts_claim
-  changes deed.Update = puts_claim
-  changes deed.Restore = puts_claim
   changes deed.Rename = option_map_or (renames_instance s task) (claimed_instance task) []
   changes deed.Delete = removes_instance s task.project task.target.name
   changes (deed.Act does ephemeral) = act_changes does ephemeral
-  changes deed.Snap = puts_claim
   changes deed.Unsnap =
       map removal
       (map row.Snapshot
       (option_to_list (snapshot_named s.snapshots task.project task.target.instance task.target.name)))
-  changes deed.CopyVolume = puts_claim
+  changes other = map change.Put (option_to_list task.claim)
 
 abbrev pub power_after : State → Task → Option Power
 power_after s task = after task.deed where
