@@ -3,11 +3,33 @@ use Rattle.row_machine.specs.Words.{Expanded, ℕ, List, [], ◌∷◌, filter, 
 use Rattle.row_machine.specs.Estate.{Task, State, expanded_of, untold, on_key_of}
 use Rattle.row_machine.specs.Readings.{claimed_instance, claimed_volume, used, networks_of}
 
+-- the rule by which a limit refuses, and its key
+pub record LimitLine : Type 0 where
+  pub rule : Rule
+  pub key : List ℕ
+
+-- The table.
+abbrev pub limit_line : LimitKey → LimitLine
+limit_line Instances = record { rule = rule.L1; key = codes "limits.instances" }
+limit_line Containers = record { rule = rule.L2; key = codes "limits.containers" }
+limit_line Machines = record { rule = rule.L3; key = codes "limits.virtual-machines" }
+limit_line Cpu = record { rule = rule.L4; key = codes "limits.cpu" }
+limit_line Memory = record { rule = rule.L5; key = codes "limits.memory" }
+limit_line Processes = record { rule = rule.L6; key = codes "limits.processes" }
+limit_line Disk = record { rule = rule.L7; key = codes "limits.disk" }
+limit_line Networks = record { rule = rule.L8; key = codes "limits.networks" }
+
+abbrev pub limit_rule : LimitKey → Rule
+limit_rule key = (limit_line key).rule
+
+abbrev pub limit_text : LimitKey → List ℕ
+limit_text key = (limit_line key).key
+
 abbrev pub sum_text : SumKey → List ℕ
-sum_text sum.Cpu = codes "limits.cpu"
-sum_text sum.Memory = codes "limits.memory"
-sum_text sum.Processes = codes "limits.processes"
-sum_text sum.Disk = codes "limits.disk"
+sum_text sum.Cpu = limit_text Cpu
+sum_text sum.Memory = limit_text Memory
+sum_text sum.Processes = limit_text Processes
+sum_text sum.Disk = limit_text Disk
 
 abbrev pub uncounted : Project → List ℕ → Option SumKey → Option Refusal
 uncounted p name key = option_map (λ k. on_key_of rule.L0 (sum_text k) name p.name) key
@@ -38,26 +60,6 @@ project_uncounted s p = first
 -- L0: a setting gives no number for a limited sum, at the first project and there its first object.
 unfoldable pub counts_broken : State → Option Refusal
 counts_broken s = first_of (project_uncounted s) s.projects
-
-abbrev pub limit_rule : LimitKey → Rule
-limit_rule Instances = rule.L1
-limit_rule Containers = rule.L2
-limit_rule Machines = rule.L3
-limit_rule Cpu = rule.L4
-limit_rule Memory = rule.L5
-limit_rule Processes = rule.L6
-limit_rule Disk = rule.L7
-limit_rule Networks = rule.L8
-
-abbrev pub limit_text : LimitKey → List ℕ
-limit_text Instances = codes "limits.instances"
-limit_text Containers = codes "limits.containers"
-limit_text Machines = codes "limits.virtual-machines"
-limit_text Cpu = codes "limits.cpu"
-limit_text Memory = codes "limits.memory"
-limit_text Processes = codes "limits.processes"
-limit_text Disk = codes "limits.disk"
-limit_text Networks = codes "limits.networks"
 
 abbrev pub over_refusal : Project → Over → Refusal
 over_refusal p o = record {
