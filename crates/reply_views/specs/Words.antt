@@ -5,7 +5,8 @@ use Rattle.size_values.specs.declared.kinds.Kind.TheVariants.{Container, Machine
 use Rattle.size_values.specs.declared.kinds.Power.{Power}
 use Rattle.size_values.specs.declared.kinds.Power.TheVariants as power
 use Rattle.operations.specs.declared.status.Status.{Status}
-use Rattle.operations.specs.declared.status.Status.TheVariants.{Pending, Running, Cancelling, Success, Failure, Cancelled}
+use Rattle.operations.specs.declared.status.Status.TheVariants.{Pending, Running, Cancelling, Success, Failure}
+use Rattle.operations.specs.declared.status.Status.TheVariants.{Cancelled}
 use Rattle.operations.specs.declared.operation.OpFault.{OpFault}
 use Rattle.operations.specs.declared.operation.OpFault.TheVariants as fault
 use Rattle.records.specs.declared.replies.LimitKeyName.{LimitKeyName}
