@@ -1,5 +1,6 @@
 mod Backs
 mod Fitting
+mod Handed
 mod Logs
 mod Orders
 mod Rooms

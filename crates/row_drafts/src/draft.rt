@@ -81,16 +81,18 @@ fn spares_of(alloc: Global, changes: &Seq<RowChange>) -> Result<Vec<InstancePowe
 }
 
 impl Draft {
-    /// No rows.
-    pub fn new(alloc: Global) -> Draft
-        ensures state { result.state ≡ empty_state }
-        ensures log { result.log ≡ [] }
+    /// No rows and no operations, with room for operations that end.
+    pub fn new(alloc: Global) -> Result<Draft, NoMemory>
+        ensures state { IfOk result (λ d. d.state ≡ empty_state) }
+        ensures log { IfOk result (λ d. d.log ≡ []) }
+        ensures greatest { IfOk result (λ d. d.backing.greatest ≡ 0) }
     {
-        Draft {
-            lists: Lists::new(alloc),
+        let lists = Lists::new(alloc)?;
+        Ok(Draft {
+            lists,
             log: Vec::new(alloc),
             spares: Vec::new(alloc),
-        }
+        })
     }
 
     /// The rows, to be read.

@@ -2,6 +2,8 @@
 //! taken back to what they were before the changes.
 #![tactic(auto)]
 
+mod background;
+mod calls;
 mod draft;
 mod edits;
 mod keys;

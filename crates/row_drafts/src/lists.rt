@@ -1,4 +1,4 @@
-ghost use Rattle.std.specs.Prelude.{◌≡◌, ◌+◌, ◌≤◌, ◌∷◌, [], length, take, drop, if◌then◌else◌, OnOk};
+ghost use Rattle.std.specs.Prelude.{◌≡◌, ◌+◌, ◌≤◌, ◌∷◌, [], length, take, drop, if◌then◌else◌, OnOk, IfOk};
 ghost use Rattle.std.specs.List.{list_any};
 ghost use Rattle.records.specs.declared.rows.Row.TheVariants as row_of;
 ghost use Rattle.row_machine.specs.declared.changes.RowChange.TheVariants as change_of;
@@ -8,10 +8,10 @@ ghost use Rattle.row_machine.specs.machine.State.{empty_state};
 ghost use Rattle.row_drafts.specs.Drafted.{spares_for, stopped};
 ghost use Rattle.row_drafts.specs.Steps.{before_change, before_step, FitsChange, FitsStep};
 
+use crate::background::Background;
 use crate::edits::{Step, put, put_new, remove, take_back};
-use operations::Operation;
 use records::{Instance, Network, Pool, Profile, Project, Row, Snapshot, Volume};
-use row_machine::{RowChange, Work};
+use row_machine::RowChange;
 use row_readings::{InstancePower, View};
 use size_values::{NoMemory, ObjectKind};
 use std::alloc::Global;
@@ -42,9 +42,7 @@ pub(crate) struct Lists {
     instances: Vec<Instance>,
     snapshots: Vec<Snapshot>,
     powers: Vec<InstancePower>,
-    live: Vec<Operation<Work>>,
-    ended: Vec<Operation<Work>>,
-    next: u64,
+    background: Background,
 }
 
 impl Model for Lists {
@@ -59,10 +57,12 @@ impl Model for Lists {
 
 impl Lists {
     /// No rows and no operations.
-    pub(crate) fn new(alloc: Global) -> Lists
-        ensures { result.state ≡ empty_state }
+    pub(crate) fn new(alloc: Global) -> Result<Lists, NoMemory>
+        ensures state { IfOk result (λ l. l.state ≡ empty_state) }
+        ensures greatest { IfOk result (λ l. l.backing.greatest ≡ 0) }
     {
-        Lists {
+        let background = Background::new(alloc)?;
+        Ok(Lists {
             projects: Vec::new(alloc),
             profiles: Vec::new(alloc),
             networks: Vec::new(alloc),
@@ -71,10 +71,8 @@ impl Lists {
             instances: Vec::new(alloc),
             snapshots: Vec::new(alloc),
             powers: Vec::new(alloc),
-            live: Vec::new(alloc),
-            ended: Vec::new(alloc),
-            next: 1,
-        }
+            background,
+        })
     }
 
     /// All of it, to be read.
@@ -90,9 +88,11 @@ impl Lists {
             instances: &self.instances,
             snapshots: &self.snapshots,
             powers: &self.powers,
-            live: &self.live,
-            ended: &self.ended,
-            next: self.next,
+            live: self.background.live(),
+            ended: self.background.ended(),
+            next: self.background.next(),
+            held: self.background.holds(),
+            books: self.background.books(),
         }
     }
 

@@ -1,5 +1,5 @@
 -- Background operations: how one is entered, what each status becomes, and how one ends.
-use Rattle.std.specs.Prelude.{ℕ, ◌+◌, ◌==◌, nat_lt, Bool, true, false, ◌&&◌, List, [], ◌∷◌, ◌++◌, map, find, Option, Some, None, is_some, if◌then◌else◌, option_and_then}
+use Rattle.std.specs.Prelude.{ℕ, ◌+◌, ◌==◌, nat_lt, Bool, true, ◌&&◌, List, [], ◌∷◌, ◌++◌, map, find, Option, Some, None, is_some, if◌then◌else◌, option_and_then}
 use Rattle.std.specs.Option.{option_map_or, option_to_list}
 use Rattle.std.specs.Result.{result_ok}
 use Rattle.row_machine.specs.Words.{dropped, changed_first, Amounts, Action, Deed, Power, Error, HostCall, undo_of, after_of, OpFault, Status, granted_more, converted_more, returned_more}
@@ -16,7 +16,8 @@ use Rattle.records.specs.declared.rows.Instance.{Instance}
 use Rattle.row_machine.specs.declared.changes.RowChange.{RowChange}
 use Rattle.row_machine.specs.declared.changes.RowChange.TheVariants as change
 use Rattle.row_machine.specs.machine.Task.{Task}
-use Rattle.row_machine.specs.machine.State.{State, Held}
+use Rattle.reservations.specs.declared.books.Hold.{Hold}
+use Rattle.row_machine.specs.machine.State.{State}
 use Rattle.row_machine.specs.machine.Rows.{instance_named, snapshot_named, is_standing}
 use Rattle.row_machine.specs.machine.Claims.{share_of, project_of_row, claimed_instance}
 use Rattle.row_machine.specs.machine.Changes.{applied, removal}
@@ -25,7 +26,7 @@ use Rattle.row_machine.specs.machine.Asked.{snapshots_of}
 -- ---- shares
 
 -- whether it is the share of this operation
-abbrev pub is_held_by : ℕ → Held → Bool
+abbrev pub is_held_by : ℕ → Hold → Bool
 is_held_by op h = h.op == op
 
 -- the share that an operation holds
