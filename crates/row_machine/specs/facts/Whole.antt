@@ -1,7 +1,6 @@
 -- What is true of the state at all times: ten facts, each kept by every step.
-use Rattle.std.specs.Prelude.{◌≡◌, ◌≢◌, ℕ, ◌+◌, ◌<◌, ◌≤◌, ◌^◌, Bool, true, false, List, [], ◌∷◌, ◌++◌, map, length, Option, Some, None, is_some, is_none, IfSome, if◌then◌else◌, codes, filter, drop, option_map}
+use Rattle.std.specs.Prelude.{◌≡◌, ◌≢◌, ℕ, ◌+◌, ◌<◌, ◌≤◌, ◌^◌, true, List, [], ◌∷◌, ◌++◌, map, length, Option, Some, None, is_some, IfSome, if◌then◌else◌, codes, filter, drop, option_map}
 use Rattle.std.specs.List.{sum_by}
-use Rattle.std.specs.Option.{option_map_or}
 use Rattle.row_machine.specs.Words.{Each, Distinct, part, Part, Deed, ObjectKind, calls_of, undo_of, name_of, limit_on, limits_of, Status, AreKept, are_profiles, Target, Notice, Row, HasGoodKey, HasMoments}
 use Rattle.row_machine.specs.Words.deed
 use Rattle.row_machine.specs.Words.kind
