@@ -63,6 +63,7 @@ breaks_instance deed = (deed_line deed).breaks
 
 -- a copy has an instance or a snapshot as its source, a volume copy a volume, and no other deed has a source
 abbrev pub has_source : Deed → Option Target → Bool
-has_source deed.Copy source = option_map_or (λ of. is_of_kind kind.Instance of || is_of_kind kind.Snapshot of) source false
+has_source deed.Copy source =
+    option_map_or (λ of. is_of_kind kind.Instance of || is_of_kind kind.Snapshot of) source false
 has_source deed.CopyVolume source = option_map_or (is_of_kind kind.Volume) source false
 has_source other source = is_none source

@@ -106,7 +106,8 @@ abbrev pub used_by_first : State → Command → Target → Option Refusal
 used_by_first s c of =
     option_map used_by (first_user_of s (home_of s.projects c.project of.kind) of) where
       used_by : List ℕ → Refusal
-      used_by link = record { rule = rule.B4; kept = record untold { key = link; kind = kind_text of.kind; name = of.name } }
+      used_by link =
+          record { rule = rule.B4; kept = record untold { key = link; kind = kind_text of.kind; name = of.name } }
 
 -- B4: the object that a command renames or deletes has a user.
 unfoldable pub object_used : State → Command → Option Refusal
