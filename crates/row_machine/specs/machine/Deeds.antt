@@ -1,5 +1,6 @@
 -- The deeds of background operations, as a table.
-use Rattle.row_machine.specs.Words.{Bool, true, false, Option, Some, None, is_none, option_map_or, Deed, ObjectKind, Target, Deed as deed, ObjectKind as kind}
+use Rattle.row_machine.specs.Words.{◌||◌, Bool, true, false, Option, Some, None, is_none, option_map_or, Deed, ObjectKind, Target, Deed as deed, ObjectKind as kind}
+use Rattle.row_machine.specs.machine.Kinds.{is_of_kind}
 
 -- The kind of object that a deed is about, and whether that object is there before it; the kind of row that it would
 -- put, if any; whether this row takes the place of the target's, and under its name; and whether a failure leaves the
@@ -62,13 +63,7 @@ breaks_instance deed = (deed_line deed).breaks
 
 -- a copy has an instance or a snapshot as its source, a volume copy a volume, and no other deed has a source
 abbrev pub has_source : Deed → Option Target → Bool
-has_source deed.Copy source = option_map_or (λ of. is_copied of.kind) source false where
-  is_copied : ObjectKind → Bool
-  is_copied kind.Instance = true
-  is_copied kind.Snapshot = true
-  is_copied other = false
-has_source deed.CopyVolume source = option_map_or (λ of. is_copied of.kind) source false where
-  is_copied : ObjectKind → Bool
-  is_copied kind.Volume = true
-  is_copied other = false
+has_source deed.Copy source =
+    option_map_or (λ of. is_of_kind kind.Instance of || is_of_kind kind.Snapshot of) source false
+has_source deed.CopyVolume source = option_map_or (is_of_kind kind.Volume) source false
 has_source other source = is_none source

@@ -10,8 +10,8 @@ use Rattle.row_machine.specs.machine.PolicyRules.{policy_broken, snapshot_blocke
 use Rattle.row_machine.specs.machine.LimitRules.{counts_broken, limits_broken}
 use Rattle.row_machine.specs.machine.TableRules.{cancel_broken, entry_broken, tables_broken}
 
--- Rules on names: the project is missing (N1), another object is (N2), or the new name is malformed, taken or held (N3 to
--- N5).
+-- Rules on names: the project is missing (N1), another object is (N2), or the new name is malformed, taken or held
+-- (N3 to N5).
 unfoldable pub names_broken : State → Command → Option Refusal
 names_broken s c = first
     (project_missing s c
@@ -19,8 +19,8 @@ names_broken s c = first
     ∷ option_and_then (name_broken s c.project) (named_anew s c.project c.what)
     ∷ [])
 
--- Rules on what stands in the way: the instance is busy (B1) or in the wrong state (B2), the object is protected (B3) or
--- in use (B4), the project is not empty (B5), or an operation holds the profile (B6).
+-- Rules on what stands in the way: the instance is busy (B1) or in the wrong state (B2), the object is protected (B3)
+-- or in use (B4), the project is not empty (B5), or an operation holds the profile (B6).
 unfoldable pub standing_broken : State → Command → Option Refusal
 standing_broken s c = first
     (instance_busy s c

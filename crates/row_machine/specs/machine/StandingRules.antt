@@ -1,7 +1,7 @@
 -- Rules on what stands in the way: B1 to B6.
 use Rattle.row_machine.specs.Words.{ℕ, Bool, true, false, not, ◌&&◌, ◌||◌, List, [], ◌∷◌, Option, Some, None, if◌then◌else◌, codes, option_and_then, find, option_map, list_any, option_map_or, result_ok, bytes_eq, truth_of, Power, Stopped, Frozen, Error, Deed, ObjectKind, Settings, setting, is_allowed, Refusal, Target, Command, What, Deed as deed, ObjectKind as kind, Rule as rule, What as what, Project}
 use Rattle.row_machine.specs.Estate.{State, default_name, project_named, instance_named, is_standing, home_of, is_on, expanded_of, kind_text, untold, on_name, on_object, is_of_kind}
-use Rattle.row_machine.specs.Readings.{busy_with, holder_of, first_user_of, instance_changed, is_parting}
+use Rattle.row_machine.specs.Readings.{power_line, busy_with, holder_of, first_user_of, instance_changed, is_parting}
 use Rattle.row_machine.specs.machine.NewRows.{put_project, patched_project}
 
 abbrev pub busy : State → List ℕ → List ℕ → Option Refusal
@@ -14,10 +14,7 @@ unfoldable pub instance_busy : State → Command → Option Refusal
 instance_busy s c = option_and_then (busy s c.project) (instance_changed c.what)
 
 abbrev pub power_text : Power → List ℕ
-power_text Stopped = codes "Stopped"
-power_text Power.Running = codes "Running"
-power_text Frozen = codes "Frozen"
-power_text Error = codes "Error"
+power_text power = (power_line power).text
 
 abbrev pub power_of : State → List ℕ → List ℕ → Option Power
 power_of s project name = option_map (λ p. p.power) (find (is_standing project name) s.powers)
@@ -109,7 +106,8 @@ abbrev pub used_by_first : State → Command → Target → Option Refusal
 used_by_first s c of =
     option_map used_by (first_user_of s (home_of s.projects c.project of.kind) of) where
       used_by : List ℕ → Refusal
-      used_by link = record { rule = rule.B4; kept = record untold { key = link; kind = kind_text of.kind; name = of.name } }
+      used_by link =
+          record { rule = rule.B4; kept = record untold { key = link; kind = kind_text of.kind; name = of.name } }
 
 -- B4: the object that a command renames or deletes has a user.
 unfoldable pub object_used : State → Command → Option Refusal

@@ -1,15 +1,10 @@
 -- Rules on the size of tables and rows (C1, C2), and on the number of operations (O1 to O5).
 use Rattle.row_machine.specs.Words.{ℕ, ◌+◌, nat_lt, List, [], ◌∷◌, length, min, ◌-◌, ◌^◌, Option, Some, None, if◌then◌else◌, option_and_then, codes, option_map, result_err, first, first_of, ObjectKind, Status, Pending, Cancelling, Success, Failure, Cancelled, CancelFault, EnterFault, Full, Spent, kept_at, enter_fault, cancel_answer, most_live, number_limit, Refusal, Row, What, body_of, ObjectKind as kind, Rule as rule, What as what, CancelFault as cancel_fault}
 use Rattle.row_machine.specs.Estate.{State, kind_text, cap_of, untold, on_number}
-use Rattle.row_machine.specs.Readings.{of_live, claimed_instance, claimed_volume, claimed_snapshot, target_of}
+use Rattle.row_machine.specs.Readings.{status_line, of_live, claimed_instance, claimed_volume, claimed_snapshot, target_of}
 
 abbrev pub status_text : Status → List ℕ
-status_text Pending = codes "Pending"
-status_text Status.Running = codes "Running"
-status_text Cancelling = codes "Cancelling"
-status_text Success = codes "Success"
-status_text Failure = codes "Failure"
-status_text Cancelled = codes "Cancelled"
+status_text status = (status_line status).text
 
 -- what a cancel is refused by; an operation that is not kept is missing
 abbrev pub cancel_refusal : ℕ → CancelFault → Option Refusal

@@ -45,6 +45,8 @@ entered s task moment = record (claiming s task moment) {
   books = granted_more (share_of s task) s.books;
 }
 
+-- ---- going on
+
 abbrev pub with_task : ℕ → Task → State → State
 with_task number task s = record s { operations = kept.with_work number task s.operations }
 
@@ -59,6 +61,8 @@ one_more_done task rest = record task { calls = rest; done = task.done + 1 }
 
 abbrev pub undone : Task → Task
 undone task = record task { undo = None }
+
+-- ---- ends
 
 abbrev pub with_power : State → List ℕ → List ℕ → Power → State
 with_power s project name power =
