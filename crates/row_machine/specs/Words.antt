@@ -5,7 +5,7 @@ pub use Rattle.std.specs.List.{filter_map, list_any, sum_by}
 pub use Rattle.std.specs.Map.{keys_of, values_of}
 pub use Rattle.std.specs.Option.{option_map_or, option_to_list, option_or}
 pub use Rattle.std.specs.Ordering.{nat_cmp, is_lt}
-pub use Rattle.std.specs.Prelude.{ℕ, ◌==◌, Bool, false, not, ◌&&◌, Result, Ok, Err, ℤ, pos, negsuc, is_some, if◌then◌else◌, true, List, length, Option, Some, None, codes, unwrap_or, filter, fold, [], ◌∷◌, ◌++◌, option_and_then, is_none, map, ◌||◌, find, option_map, nat_lt, slice_get, ◌+◌, min, ◌-◌, ◌^◌}
+pub use Rattle.std.specs.Prelude.{ℕ, Bool, false, not, Result, Ok, Err, ℤ, pos, negsuc, is_some, true, List, length, Option, Some, None, codes, unwrap_or, filter, fold, [], option_and_then, is_none, map, find, option_map, nat_lt, slice_get, min}
 pub use Rattle.std.specs.Result.{result_ok, result_err}
 pub use Rattle.std.specs.Str.{bytes_eq}
 pub use Rattle.config_lists.specs.Changes.{patched, settled}

@@ -1,5 +1,6 @@
 -- The kinds of objects, as a table.
-use Rattle.row_machine.specs.Words.{ℕ, Bool, true, false, List, codes, ObjectKind, ObjectKind as kind, Target, ◌==◌}
+use Rattle.std.specs.Prelude.{◌==◌}
+use Rattle.row_machine.specs.Words.{ℕ, Bool, true, false, List, codes, ObjectKind, ObjectKind as kind, Target}
 
 -- how refusals write the kind, the number that its entries have, whether its objects belong to projects, and how many
 -- rows of it there may be, with those that live operations claim

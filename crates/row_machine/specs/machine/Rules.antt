@@ -1,5 +1,6 @@
 -- The first rule that a command breaks: all rules, in the order in which they are judged.
-use Rattle.row_machine.specs.Words.{ℕ, List, [], ◌∷◌, Option, None, option_and_then, first, Refusal, Row, Command}
+use Rattle.std.specs.Prelude.{◌∷◌}
+use Rattle.row_machine.specs.Words.{ℕ, List, [], Option, None, option_and_then, first, Refusal, Row, Command}
 use Rattle.row_machine.specs.Estate.{State}
 use Rattle.row_machine.specs.Readings.{applied, named_anew}
 use Rattle.row_machine.specs.Doings.{Plan, nothing, changes, starts, plan_of, rows_of_plan, claiming}
