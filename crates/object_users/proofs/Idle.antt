@@ -18,7 +18,7 @@ of-kind of vs k e none = subst (λ other. filter (volume_uses (record of { kind 
 -- no volume uses what is no pool
 pub no-volume-uses : (of : Target) (vs : List Volume)
     → (of.kind ≡ kind.Project) ⊎ ((of.kind ≡ kind.Profile) ⊎ ((of.kind ≡ kind.Network) ⊎ ((of.kind ≡ kind.Volume)
-        ⊎ ((of.kind ≡ kind.Instance) ⊎ ((of.kind ≡ kind.Snapshot) ⊎ (of.kind ≡ kind.Operation))))))
+    ⊎ ((of.kind ≡ kind.Instance) ⊎ ((of.kind ≡ kind.Snapshot) ⊎ (of.kind ≡ kind.Operation))))))
     → filter (volume_uses of) vs ≡ []
 no-volume-uses of vs (inl e) = of-kind of vs kind.Project e (filter-none vs)
 no-volume-uses of vs (inr (inl e)) = of-kind of vs kind.Profile e (filter-none vs)
