@@ -1,5 +1,5 @@
 -- What contracts see of the operations of a draft.
-use Rattle.std.specs.Prelude.{ℕ, ◌+◌, ◌-◌, ◌<◌, ◌^◌, List, [], ◌∷◌, Option, Some, None, IfSome, is_some, length, take, option_and_then, option_map}
+use Rattle.std.specs.Prelude.{ℕ, ◌+◌, ◌-◌, ◌<◌, ◌^◌, List, [], ◌∷◌, ◌++◌, find, Option, Some, None, IfSome, is_some, length, take, option_and_then, option_map}
 use Rattle.host_model.specs.declared.call.HostCall.{HostCall}
 use Rattle.instance_states.specs.Plans.{undo_of}
 use Rattle.operations.specs.declared.operation.Operation.{Operation}
@@ -11,7 +11,11 @@ use Rattle.reservations.specs.declared.books.Hold.{Hold}
 use Rattle.row_drafts.specs.declared.calls.Handing.{Handing}
 use Rattle.row_drafts.specs.declared.calls.Handing.TheVariants as handing
 use Rattle.row_machine.specs.machine.Task.{Task}
+use Rattle.reservations.specs.Holdings.{has_op, granted_more}
 use Rattle.row_machine.specs.machine.State.{State}
+use Rattle.size_values.specs.Amounts.{nothing}
+use Rattle.size_values.specs.declared.amounts.Amounts.{Amounts}
+use Rattle.std.specs.Option.{option_map_or}
 use Rattle.row_machine.specs.machine.Work.{handing_out, one_more_done, undone}
 
 -- how many operations can be entered, and how many shares held, without taking memory; and the greatest operation that ever
@@ -31,6 +35,19 @@ pub record Background : Type 0 where
 -- the state with these operations and shares
 abbrev pub with_background : Background → State → State
 with_background b s = record s { operations = b.operations; held = b.held; books = b.books }
+
+-- ---- shares
+
+-- the share that this operation holds
+abbrev pub share_in : List Hold → ℕ → Amounts
+share_in held op = option_map_or (λ (h : Hold). h.share) (find (has_op op) held) nothing
+
+-- the operation that was entered last holds this share of a project from now on
+abbrev pub holding : List ℕ → Amounts → State → State
+holding project share s = record s {
+  held = s.held ++ record { op = s.operations.next - 1; project = project; share = share } ∷ [];
+  books = granted_more share s.books;
+}
 
 -- ---- claims
 

@@ -31,6 +31,13 @@ pub record Drafted : Type 0 where
 abbrev pub former : Drafted → State
 former d = before_changes d.log d.state
 
+-- memory was taken for one more operation, for taking it back, and for the share that it then holds
+pub record CanClaim (d : Drafted) : Type 0 where
+  pub rows : length d.log + 1 ≤ d.room
+  pub log : 1 ≤ d.log_room
+  pub claim : 1 ≤ d.backing.claim_room
+  pub hold : 1 ≤ d.backing.hold_room
+
 -- the status of a new instance
 abbrev pub stopped : Instance → Standing
 stopped i = record { project = i.project; name = i.name; power = Stopped }

@@ -6,8 +6,7 @@ ghost use Rattle.operations.specs.Kept.{no_operations, entered, has_number, live
 ghost use Rattle.operations.specs.declared.operation.Operation.{Operation as OperationValue};
 ghost use Rattle.plain_lists.specs.Edits.{changed_first, dropped};
 ghost use Rattle.reservations.specs.Holdings.{no_books, has_op, granted_more, converted_more, returned_more};
-ghost use Rattle.reservations.specs.declared.books.Hold.{Hold as HoldValue};
-ghost use Rattle.row_drafts.specs.Background.{before_claim, pending_of, handed, handed_at, HasCount, HasCountAt};
+ghost use Rattle.row_drafts.specs.Background.{before_claim, pending_of, share_in, handed, handed_at, HasCount, HasCountAt};
 ghost use Rattle.row_machine.specs.machine.Task.{Task};
 ghost use Rattle.size_values.specs.Amounts.{part};
 ghost use Rattle.size_values.specs.declared.amounts.Part.{Part};
@@ -15,7 +14,9 @@ ghost use Rattle.size_values.specs.declared.amounts.Part.{Part};
 use crate::calls::{Handing, hand_out};
 use host_model::HostCall;
 use instance_states::may_cancel;
-use operations::{ENDED_LIMIT, OpFault, Operation, Status, drop_oldest, known_place, set_status, take_out};
+use operations::{
+    ENDED_LIMIT, OpFault, Operation, Status, drop_oldest, known_place, set_status, take_out,
+};
 use plain_lists::push_reserved;
 use reservations::{Books, Hold, Ledger};
 use row_machine::Work;
@@ -206,8 +207,7 @@ impl Background {
     pub(crate) fn convert(&mut self, number: u64)
         requires { IsSome (find (has_op number) self.old.held) }
         ensures held { self.new.held ≡ dropped (has_op number) self.old.held }
-        ensures books { IfSome (find (has_op number) self.old.held)
-            (λ (h : HoldValue). self.new.books ≡ converted_more h.share self.old.books) }
+        ensures books { self.new.books ≡ converted_more (share_in self.old.held number) self.old.books }
         ensures operations { self.new.operations ≡ self.old.operations }
         ensures greatest { self.new.backing.greatest ≡ self.old.backing.greatest }
     {
@@ -218,8 +218,7 @@ impl Background {
     pub(crate) fn give_back(&mut self, number: u64)
         requires { IsSome (find (has_op number) self.old.held) }
         ensures held { self.new.held ≡ dropped (has_op number) self.old.held }
-        ensures books { IfSome (find (has_op number) self.old.held)
-            (λ (h : HoldValue). self.new.books ≡ returned_more h.share self.old.books) }
+        ensures books { self.new.books ≡ returned_more (share_in self.old.held number) self.old.books }
         ensures operations { self.new.operations ≡ self.old.operations }
         ensures greatest { self.new.backing.greatest ≡ self.old.backing.greatest }
     {

@@ -12,14 +12,14 @@ pub hand_out-requires-clause-call : goal.hand_out-requires-clause-call
 hand_out-requires-clause-call c =
     let place = c.known_place-place.ensures.place ∙ ap (position (has_number c.args.number)) c.deref.ensures.value in
     let found = find-at (has_number c.args.number) c.args.operations.now.items c.known_place-place.result c.index_mut-operation.result.now place
-        ∙ ap Some (sym c.index_mut-operation.ensures.value) in
+    ∙ ap Some (sym c.index_mut-operation.ensures.value) in
     subst (λ x. IfSome x (λ (o : Operation Task). IsSome (handed c.args.which o.work))) found c.requires.call
 
 pub hand_out-requires-clause-count : goal.hand_out-requires-clause-count
 hand_out-requires-clause-count c =
     let place = c.known_place-place.ensures.place ∙ ap (position (has_number c.args.number)) c.deref.ensures.value in
     let found = find-at (has_number c.args.number) c.args.operations.now.items c.known_place-place.result c.index_mut-operation.result.now place
-        ∙ ap Some (sym c.index_mut-operation.ensures.value) in
+    ∙ ap Some (sym c.index_mut-operation.ensures.value) in
     subst (λ x. IfSome x (λ (o : Operation Task). HasCount c.args.which o.work)) found c.requires.count
 
 pub returns-clause-items : goal.returns-clause-items
