@@ -32,13 +32,14 @@ use Rattle.size_values.specs.declared.memory.Or.{Or}
 use Rattle.rest_paths.specs.Answers.{Gives, mapped, followed}
 use Rattle.rest_bodies.specs.Bodies.{body_of, config_at, devices_at}
 use Rattle.rest_bodies.specs.Drivers.{driver_in, driver_at}
-use Rattle.rest_bodies.specs.Members.{object_in, text_at, given, unless}
+use Rattle.rest_bodies.specs.Members.{text_at, given, unless}
 use Rattle.rest_bodies.specs.Instances.{kind_at, ephemeral_at, image_name, instance_made, instance_origin}
 use Rattle.rest_bodies.specs.Profiles.{count_of, are_texts, is_here, is_among, comes_again, are_distinct, are_names, fits_profiles, text_in, texts_in, profiles_in, profiles_at}
 use Rattle.rest_bodies.specs.Origins.{has_word, asks_for_copy, fits_source, is_copy_source, may_be_text, volume_copied, volume_origin}
 use Rattle.records.specs.Built.{is_built_kind, is_built_state, is_built_origin, is_built_request, is_built_command}
 use Rattle.rest_paths.proofs.Timeouts.{timeout_formed}
 use Rattle.rest_routes.specs.Commands.{needed, object_of, objects_of, one_read, operation_read, operation_at, one_asked, what_read, shape_of, unless_fault, creation_said, change_said, what_said, what_sent, sent_body, what_of, command_built, is_copy, unless_copy, command_of}
+use Rattle.rest_routes.specs.Routed.{is_sound, RoutedIsFormed}
 use Rattle.rest_paths.specs.Paths.{path_of, pool_of, query_of}
 use Rattle.rest_paths.specs.Places.{line_of, verb_offered, has_body, is_get, is_built_on, is_built}
 use Rattle.rest_paths.specs.Queries.{query_said, project_of, recursion_asked, timeout_asked}
@@ -46,7 +47,6 @@ use Rattle.rest_paths.specs.declared.query.Query.{Query}
 use Rattle.rest_bodies.specs.Settings.{is_empty, with_change, changes_after, changes_of, with_setting, settings_after, device_of, devices_after, devices_of}
 use Rattle.rest_bodies.specs.Fields.{fields_of, fault_of, fault_in, first_fault, or_next}
 use Rattle.rest_bodies.specs.declared.fields.Field.TheVariants as field
-use Rattle.rest_bodies.specs.declared.fields.Shape.{Shape}
 use Rattle.rest_bodies.specs.declared.fields.Shape.TheVariants as shape
 use Rattle.rest_paths.specs.declared.places.Place.{Place}
 use Rattle.rest_paths.specs.declared.places.Place.TheVariants as place
@@ -574,11 +574,6 @@ list_passes kind.Instance path recursion = record { formed = refl; built = λ on
 list_passes kind.Snapshot path recursion = record { formed = refl; built = λ on. on }
 list_passes kind.Operation path recursion = record { formed = refl; built = λ on. on }
 
--- a place of a state is that of an object that has one
-abbrev pub is_sound : Place → Bool
-is_sound (place.State kind) = has_state kind
-is_sound other = true
-
 state_passes : (kind : ObjectKind) (verb : Verb) (path : List ℕ) → has_state kind ≡ true → Passes (is_built (place.State kind) verb) (what.State (object_of kind path))
 state_passes kind.Project verb path h = record { formed = refl; built = λ on. (both (is_built_state kind.Project) (is_get verb) on).0 }
 state_passes kind.Instance verb path h = record { formed = refl; built = λ on. (both (is_built_state kind.Instance) (is_get verb) on).0 }
@@ -645,6 +640,14 @@ routed_good : (place : Place) (verb : Verb) (target : List ℕ) (sent : Option D
     → AnswerIsGood (is_built place verb) (unless_copy place verb target sent boot)
 routed_good place verb target sent boot sound =
     if_copy_good _ (is_copy place sent) _ _ (command_built_good place verb target sent boot sound)
+
+-- of an answer that is good, that its command is formed
+only_formed : (on : Bool) (answer : Result Command Refusal) → AnswerIsGood on answer → IfOk answer (λ command. IsTrue (is_formed command))
+only_formed on (Ok command) h = h.formed
+only_formed on (Err refusal) h = tt
+
+pub routed_formed : RoutedIsFormed
+routed_formed place verb target sent boot sound = only_formed _ _ (routed_good place verb target sent boot sound)
 
 -- a place that is built is sound
 built_sound : (place : Place) (verb : Verb) → is_built place verb ≡ true → is_sound place ≡ true
