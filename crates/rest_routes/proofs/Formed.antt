@@ -525,43 +525,57 @@ unfolding what_sent
 sent_passes place verb path None copy sends = tt
 sent_passes place verb path (Some body) copy sends = said_passes place verb path body copy sends
 
--- a kind that is built on a path is built
+-- a kind whose objects a method reads is built
 on_kind : (kind : ObjectKind) (verb : Verb) → is_built (place.One kind) verb ≡ true → is_built_kind kind ≡ true
 on_kind kind verb on = (both (is_built_kind kind) (is_built_on kind verb) on).0
 
-object_passes : (kind : ObjectKind) (verb : Verb) (path : List ℕ) → is_object is_named (object_of kind path) ≡ true
+-- what no kind is built for
+never : (built : Bool) → (built && false) ≡ true → ⊥
+never true h = cc
+never false h = cc
+
+-- of an object that is changed at once
+plain_passes : (kind : ObjectKind) (verb : Verb) (path : List ℕ) → is_object is_named (object_of kind path) ≡ true
+    → is_built_request (what.Get (object_of kind path)) ≡ true → is_built_request (what.Delete (object_of kind path)) ≡ true
     → Passes (is_built (place.One kind) verb) (one_read verb (object_of kind path))
-object_passes kind verb.Delete path h = record { formed = h; built = on_kind kind verb.Delete }
-object_passes kind verb.Get path h = record { formed = h; built = on_kind kind verb.Get }
-object_passes kind verb.Post path h = record { formed = h; built = on_kind kind verb.Post }
-object_passes kind verb.Put path h = record { formed = h; built = on_kind kind verb.Put }
-object_passes kind verb.Patch path h = record { formed = h; built = on_kind kind verb.Patch }
+plain_passes kind verb.Delete path h get delete = record { formed = h; built = λ on. delete }
+plain_passes kind other path h get delete = record { formed = h; built = λ on. get }
+
+instance_passes : (verb : Verb) (path : List ℕ) → Passes (is_built (place.One kind.Instance) verb) (one_read verb (object_of kind.Instance path))
+instance_passes verb.Get path = record { formed = refl; built = on_kind kind.Instance verb.Get }
+instance_passes verb.Post path = record { formed = refl; built = λ on. absurd (never (is_built_kind kind.Instance) on) }
+instance_passes verb.Put path = record { formed = refl; built = λ on. absurd (never (is_built_kind kind.Instance) on) }
+instance_passes verb.Patch path = record { formed = refl; built = λ on. absurd (never (is_built_kind kind.Instance) on) }
+instance_passes verb.Delete path = record { formed = refl; built = λ on. absurd (never (is_built_kind kind.Instance) on) }
+
+snapshot_passes : (verb : Verb) (path : List ℕ) → Passes (is_built (place.One kind.Snapshot) verb) (one_read verb (object_of kind.Snapshot path))
+snapshot_passes verb.Delete path = record { formed = refl; built = on_kind kind.Snapshot verb.Delete }
+snapshot_passes verb.Get path = record { formed = refl; built = on_kind kind.Snapshot verb.Get }
+snapshot_passes verb.Post path = record { formed = refl; built = on_kind kind.Snapshot verb.Post }
+snapshot_passes verb.Put path = record { formed = refl; built = on_kind kind.Snapshot verb.Put }
+snapshot_passes verb.Patch path = record { formed = refl; built = on_kind kind.Snapshot verb.Patch }
 
 -- an operation that is found
 operation_passes : (on : Bool) (asked : ℕ → What) (found : Result ℕ Refusal) → ((op : ℕ) → Passes on (asked op)) → AnswerPasses on (mapped asked found)
 operation_passes on asked (Ok op) h = h op
 operation_passes on asked (Err refusal) h = tt
 
--- Operations are shown where their kind is built.
+-- Operations are shown where their kind is built, and not cancelled yet.
 shown_passes : (verb : Verb) (op : ℕ) → Passes (is_built (place.One kind.Operation) verb) (operation_read verb op)
 shown_passes verb.Get op = record { formed = refl; built = on_kind kind.Operation verb.Get }
-shown_passes verb.Post op = record { formed = refl; built = on_kind kind.Operation verb.Post }
-shown_passes verb.Put op = record { formed = refl; built = on_kind kind.Operation verb.Put }
-shown_passes verb.Patch op = record { formed = refl; built = on_kind kind.Operation verb.Patch }
-shown_passes verb.Delete op = record { formed = refl; built = λ on. not_built (is_built_kind kind.Operation) on }
-  where
-    not_built : (b : Bool) → (b && false) ≡ true → is_built_request (what.Cancel op) ≡ true
-    not_built true h = cc
-    not_built false h = cc
+shown_passes verb.Post op = record { formed = refl; built = λ on. absurd (never (is_built_kind kind.Operation) on) }
+shown_passes verb.Put op = record { formed = refl; built = λ on. absurd (never (is_built_kind kind.Operation) on) }
+shown_passes verb.Patch op = record { formed = refl; built = λ on. absurd (never (is_built_kind kind.Operation) on) }
+shown_passes verb.Delete op = record { formed = refl; built = λ on. absurd (never (is_built_kind kind.Operation) on) }
 
 one_passes : (kind : ObjectKind) (verb : Verb) (path : List ℕ) (boot : ℕ) → AnswerPasses (is_built (place.One kind) verb) (one_asked kind verb path boot)
-one_passes kind.Project verb path boot = object_passes kind.Project verb path refl
-one_passes kind.Profile verb path boot = object_passes kind.Profile verb path refl
-one_passes kind.Network verb path boot = object_passes kind.Network verb path refl
-one_passes kind.Pool verb path boot = object_passes kind.Pool verb path refl
-one_passes kind.Volume verb path boot = object_passes kind.Volume verb path refl
-one_passes kind.Instance verb path boot = object_passes kind.Instance verb path refl
-one_passes kind.Snapshot verb path boot = object_passes kind.Snapshot verb path refl
+one_passes kind.Project verb path boot = plain_passes kind.Project verb path refl refl refl
+one_passes kind.Profile verb path boot = plain_passes kind.Profile verb path refl refl refl
+one_passes kind.Network verb path boot = plain_passes kind.Network verb path refl refl refl
+one_passes kind.Pool verb path boot = plain_passes kind.Pool verb path refl refl refl
+one_passes kind.Volume verb path boot = plain_passes kind.Volume verb path refl refl refl
+one_passes kind.Instance verb path boot = instance_passes verb path
+one_passes kind.Snapshot verb path boot = snapshot_passes verb path
 one_passes kind.Operation verb path boot = operation_passes _ _ (operation_at path boot) (shown_passes verb)
 
 list_passes : (kind : ObjectKind) (path : List ℕ) (recursion : Bool) → Passes (is_built_kind kind) (what.List (objects_of kind path) recursion)
