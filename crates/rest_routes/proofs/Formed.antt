@@ -32,13 +32,14 @@ use Rattle.size_values.specs.declared.memory.Or.{Or}
 use Rattle.rest_paths.specs.Answers.{Gives, mapped, followed}
 use Rattle.rest_bodies.specs.Bodies.{body_of, config_at, devices_at}
 use Rattle.rest_bodies.specs.Drivers.{driver_in, driver_at}
-use Rattle.rest_bodies.specs.Members.{object_in, text_at, given, unless}
+use Rattle.rest_bodies.specs.Members.{text_at, given, unless}
 use Rattle.rest_bodies.specs.Instances.{kind_at, ephemeral_at, image_name, instance_made, instance_origin}
 use Rattle.rest_bodies.specs.Profiles.{count_of, are_texts, is_here, is_among, comes_again, are_distinct, are_names, fits_profiles, text_in, texts_in, profiles_in, profiles_at}
 use Rattle.rest_bodies.specs.Origins.{has_word, asks_for_copy, fits_source, is_copy_source, may_be_text, volume_copied, volume_origin}
 use Rattle.records.specs.Built.{is_built_kind, is_built_state, is_built_origin, is_built_request, is_built_command}
 use Rattle.rest_paths.proofs.Timeouts.{timeout_formed}
 use Rattle.rest_routes.specs.Commands.{needed, object_of, objects_of, one_read, operation_read, operation_at, one_asked, what_read, shape_of, unless_fault, creation_said, change_said, what_said, what_sent, sent_body, what_of, command_built, is_copy, unless_copy, command_of}
+use Rattle.rest_routes.specs.Routed.{is_sound, RoutedIsFormed}
 use Rattle.rest_paths.specs.Paths.{path_of, pool_of, query_of}
 use Rattle.rest_paths.specs.Places.{line_of, verb_offered, has_body, is_get, is_built_on, is_built}
 use Rattle.rest_paths.specs.Queries.{query_said, project_of, recursion_asked, timeout_asked}
@@ -46,7 +47,6 @@ use Rattle.rest_paths.specs.declared.query.Query.{Query}
 use Rattle.rest_bodies.specs.Settings.{is_empty, with_change, changes_after, changes_of, with_setting, settings_after, device_of, devices_after, devices_of}
 use Rattle.rest_bodies.specs.Fields.{fields_of, fault_of, fault_in, first_fault, or_next}
 use Rattle.rest_bodies.specs.declared.fields.Field.TheVariants as field
-use Rattle.rest_bodies.specs.declared.fields.Shape.{Shape}
 use Rattle.rest_bodies.specs.declared.fields.Shape.TheVariants as shape
 use Rattle.rest_paths.specs.declared.places.Place.{Place}
 use Rattle.rest_paths.specs.declared.places.Place.TheVariants as place
@@ -525,43 +525,57 @@ unfolding what_sent
 sent_passes place verb path None copy sends = tt
 sent_passes place verb path (Some body) copy sends = said_passes place verb path body copy sends
 
--- a kind that is built on a path is built
+-- a kind whose objects a method reads is built
 on_kind : (kind : ObjectKind) (verb : Verb) → is_built (place.One kind) verb ≡ true → is_built_kind kind ≡ true
 on_kind kind verb on = (both (is_built_kind kind) (is_built_on kind verb) on).0
 
-object_passes : (kind : ObjectKind) (verb : Verb) (path : List ℕ) → is_object is_named (object_of kind path) ≡ true
+-- what no kind is built for
+never : (built : Bool) → (built && false) ≡ true → ⊥
+never true h = cc
+never false h = cc
+
+-- of an object that is changed at once
+plain_passes : (kind : ObjectKind) (verb : Verb) (path : List ℕ) → is_object is_named (object_of kind path) ≡ true
+    → is_built_request (what.Get (object_of kind path)) ≡ true → is_built_request (what.Delete (object_of kind path)) ≡ true
     → Passes (is_built (place.One kind) verb) (one_read verb (object_of kind path))
-object_passes kind verb.Delete path h = record { formed = h; built = on_kind kind verb.Delete }
-object_passes kind verb.Get path h = record { formed = h; built = on_kind kind verb.Get }
-object_passes kind verb.Post path h = record { formed = h; built = on_kind kind verb.Post }
-object_passes kind verb.Put path h = record { formed = h; built = on_kind kind verb.Put }
-object_passes kind verb.Patch path h = record { formed = h; built = on_kind kind verb.Patch }
+plain_passes kind verb.Delete path h get delete = record { formed = h; built = λ on. delete }
+plain_passes kind other path h get delete = record { formed = h; built = λ on. get }
+
+instance_passes : (verb : Verb) (path : List ℕ) → Passes (is_built (place.One kind.Instance) verb) (one_read verb (object_of kind.Instance path))
+instance_passes verb.Get path = record { formed = refl; built = on_kind kind.Instance verb.Get }
+instance_passes verb.Post path = record { formed = refl; built = λ on. absurd (never (is_built_kind kind.Instance) on) }
+instance_passes verb.Put path = record { formed = refl; built = λ on. absurd (never (is_built_kind kind.Instance) on) }
+instance_passes verb.Patch path = record { formed = refl; built = λ on. absurd (never (is_built_kind kind.Instance) on) }
+instance_passes verb.Delete path = record { formed = refl; built = λ on. absurd (never (is_built_kind kind.Instance) on) }
+
+snapshot_passes : (verb : Verb) (path : List ℕ) → Passes (is_built (place.One kind.Snapshot) verb) (one_read verb (object_of kind.Snapshot path))
+snapshot_passes verb.Delete path = record { formed = refl; built = on_kind kind.Snapshot verb.Delete }
+snapshot_passes verb.Get path = record { formed = refl; built = on_kind kind.Snapshot verb.Get }
+snapshot_passes verb.Post path = record { formed = refl; built = on_kind kind.Snapshot verb.Post }
+snapshot_passes verb.Put path = record { formed = refl; built = on_kind kind.Snapshot verb.Put }
+snapshot_passes verb.Patch path = record { formed = refl; built = on_kind kind.Snapshot verb.Patch }
 
 -- an operation that is found
 operation_passes : (on : Bool) (asked : ℕ → What) (found : Result ℕ Refusal) → ((op : ℕ) → Passes on (asked op)) → AnswerPasses on (mapped asked found)
 operation_passes on asked (Ok op) h = h op
 operation_passes on asked (Err refusal) h = tt
 
--- Operations are shown where their kind is built.
+-- Operations are shown where their kind is built, and not cancelled yet.
 shown_passes : (verb : Verb) (op : ℕ) → Passes (is_built (place.One kind.Operation) verb) (operation_read verb op)
 shown_passes verb.Get op = record { formed = refl; built = on_kind kind.Operation verb.Get }
-shown_passes verb.Post op = record { formed = refl; built = on_kind kind.Operation verb.Post }
-shown_passes verb.Put op = record { formed = refl; built = on_kind kind.Operation verb.Put }
-shown_passes verb.Patch op = record { formed = refl; built = on_kind kind.Operation verb.Patch }
-shown_passes verb.Delete op = record { formed = refl; built = λ on. not_built (is_built_kind kind.Operation) on }
-  where
-    not_built : (b : Bool) → (b && false) ≡ true → is_built_request (what.Cancel op) ≡ true
-    not_built true h = cc
-    not_built false h = cc
+shown_passes verb.Post op = record { formed = refl; built = λ on. absurd (never (is_built_kind kind.Operation) on) }
+shown_passes verb.Put op = record { formed = refl; built = λ on. absurd (never (is_built_kind kind.Operation) on) }
+shown_passes verb.Patch op = record { formed = refl; built = λ on. absurd (never (is_built_kind kind.Operation) on) }
+shown_passes verb.Delete op = record { formed = refl; built = λ on. absurd (never (is_built_kind kind.Operation) on) }
 
 one_passes : (kind : ObjectKind) (verb : Verb) (path : List ℕ) (boot : ℕ) → AnswerPasses (is_built (place.One kind) verb) (one_asked kind verb path boot)
-one_passes kind.Project verb path boot = object_passes kind.Project verb path refl
-one_passes kind.Profile verb path boot = object_passes kind.Profile verb path refl
-one_passes kind.Network verb path boot = object_passes kind.Network verb path refl
-one_passes kind.Pool verb path boot = object_passes kind.Pool verb path refl
-one_passes kind.Volume verb path boot = object_passes kind.Volume verb path refl
-one_passes kind.Instance verb path boot = object_passes kind.Instance verb path refl
-one_passes kind.Snapshot verb path boot = object_passes kind.Snapshot verb path refl
+one_passes kind.Project verb path boot = plain_passes kind.Project verb path refl refl refl
+one_passes kind.Profile verb path boot = plain_passes kind.Profile verb path refl refl refl
+one_passes kind.Network verb path boot = plain_passes kind.Network verb path refl refl refl
+one_passes kind.Pool verb path boot = plain_passes kind.Pool verb path refl refl refl
+one_passes kind.Volume verb path boot = plain_passes kind.Volume verb path refl refl refl
+one_passes kind.Instance verb path boot = instance_passes verb path
+one_passes kind.Snapshot verb path boot = snapshot_passes verb path
 one_passes kind.Operation verb path boot = operation_passes _ _ (operation_at path boot) (shown_passes verb)
 
 list_passes : (kind : ObjectKind) (path : List ℕ) (recursion : Bool) → Passes (is_built_kind kind) (what.List (objects_of kind path) recursion)
@@ -573,11 +587,6 @@ list_passes kind.Volume path recursion = record { formed = refl; built = λ on. 
 list_passes kind.Instance path recursion = record { formed = refl; built = λ on. on }
 list_passes kind.Snapshot path recursion = record { formed = refl; built = λ on. on }
 list_passes kind.Operation path recursion = record { formed = refl; built = λ on. on }
-
--- a place of a state is that of an object that has one
-abbrev pub is_sound : Place → Bool
-is_sound (place.State kind) = has_state kind
-is_sound other = true
 
 state_passes : (kind : ObjectKind) (verb : Verb) (path : List ℕ) → has_state kind ≡ true → Passes (is_built (place.State kind) verb) (what.State (object_of kind path))
 state_passes kind.Project verb path h = record { formed = refl; built = λ on. (both (is_built_state kind.Project) (is_get verb) on).0 }
@@ -645,6 +654,14 @@ routed_good : (place : Place) (verb : Verb) (target : List ℕ) (sent : Option D
     → AnswerIsGood (is_built place verb) (unless_copy place verb target sent boot)
 routed_good place verb target sent boot sound =
     if_copy_good _ (is_copy place sent) _ _ (command_built_good place verb target sent boot sound)
+
+-- of an answer that is good, that its command is formed
+only_formed : (on : Bool) (answer : Result Command Refusal) → AnswerIsGood on answer → IfOk answer (λ command. IsTrue (is_formed command))
+only_formed on (Ok command) h = h.formed
+only_formed on (Err refusal) h = tt
+
+pub routed_formed : RoutedIsFormed
+routed_formed place verb target sent boot sound = only_formed _ _ (routed_good place verb target sent boot sound)
 
 -- a place that is built is sound
 built_sound : (place : Place) (verb : Verb) → is_built place verb ≡ true → is_sound place ≡ true
