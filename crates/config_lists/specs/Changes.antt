@@ -1,5 +1,6 @@
 -- Changes of settings: a list of keys and values like settings, in which a value may be empty.
-use Rattle.std.specs.Prelude.{◌≢◌, ℕ, Bool, not, List, [], ◌∷◌, Option, Some, None, All, filter, if◌then◌else◌, ◌==◌, length}
+use Rattle.std.specs.Prelude.{◌≢◌, ℕ, Bool, not, List, [], ◌∷◌, Option, Some, None, All, filter, if◌then◌else◌, ◌==◌}
+use Rattle.std.specs.Prelude.{length}
 use Rattle.config_lists.specs.Entries.{put, without, KeysRise}
 use Rattle.config_lists.specs.Settings.{Settings}
 

@@ -18,7 +18,8 @@ pub record IsDevices (devices : NamedDevices) : Type 0 where
 
 -- whether a device is a root disk: a disk at `/` with a pool and without a source
 unfoldable pub is_root_disk : Settings → Bool
-is_root_disk disk = has_setting disk (codes "type") (codes "disk") && has_setting disk (codes "path") (codes "/") && is_some (setting disk (codes "pool")) && is_none (setting disk (codes "source"))
+is_root_disk disk = has_setting disk (codes "type") (codes "disk") && has_setting disk (codes "path") (codes "/")
+    && is_some (setting disk (codes "pool")) && is_none (setting disk (codes "source"))
 
 -- the places of the root disks, the first of the list at `place`
 abbrev pub root_places : ℕ → NamedDevices → List ℕ

@@ -38,4 +38,5 @@ pub record IsAt {V : Type 0} (entries : List (List ℕ × V)) (key : List ℕ) (
 -- no entry has the key, which would stand at this place: after each key below it, before each key above it
 pub record IsGap {V : Type 0} (entries : List (List ℕ × V)) (key : List ℕ) (place : ℕ) : Type 0 where
   pub within : place ≤ length entries
-  pub between : IsPartitionPoint (λ e. slice_cmp nat_cmp e.0 key ≡ Less) (λ e. slice_cmp nat_cmp e.0 key ≡ Greater) entries place
+  pub between : IsPartitionPoint (λ e. slice_cmp nat_cmp e.0 key ≡ Less) (λ e. slice_cmp nat_cmp e.0 key
+      ≡ Greater) entries place

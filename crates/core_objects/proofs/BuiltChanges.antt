@@ -61,7 +61,7 @@ module _ (s : State) (project pool instance name : List ℕ) where
   row-changes other plan built each there e = cc
 
 -- the object of a command that passes the rules on names is there
-its-object : (s : State) (project : List ℕ) (w : What) (of : Target) → IsAbout w of → names_broken s (command_of project w) ≡ None → is_there s project of ≡ true
+pub its-object : (s : State) (project : List ℕ) (w : What) (of : Target) → IsAbout w of → names_broken s (command_of project w) ≡ None → is_there s project of ≡ true
 its-object s project w of about free = (it-is_there about (names-right s (command_of project w) free)).1
 
 module _ (s : State) (project : List ℕ) (of : Target) where

@@ -1,3 +1,3 @@
-mod BuiltChanges
-mod FirstRules
-mod ReadSteps
+pub mod BuiltChanges
+pub mod FirstRules
+pub mod ReadSteps

@@ -1,5 +1,5 @@
-//! One command on the objects of the server, from its first rule to its reply: a read is answered, and a change of rows is
-//! judged, committed and made.
+//! One command on the objects of the server, from its first rule to its reply: a read is answered, and a change of rows
+//! is judged, committed and made.
 #![tactic(auto)]
 
 mod objects;

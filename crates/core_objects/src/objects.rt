@@ -105,7 +105,8 @@ pub fn do_object<R: Keeper>(
     requires formed { is_formed command.now ≡ true }
     requires built { is_built_command command.now ≡ true }
     requires moment { moment < MOMENT_LIMIT }
-    ensures { Follows estate.old.state command.now moment estate.new.state estate.new.untold result (R.store keeper.old) (R.store keeper.new) }
+    ensures { Follows estate.old.state command.now moment estate.new.state estate.new.untold result (R.store keeper.old)
+        (R.store keeper.new) }
 {
     if let Err(why) = first_broken(alloc, &estate.view(), command) {
         return refused_reply(why);

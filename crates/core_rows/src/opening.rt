@@ -77,7 +77,7 @@ fn first_estate(alloc: Global, changes: Seq<RowChange>) -> Result<Estate, NoMemo
     ensures state { IfOk result (λ e. e.state ≡ first_state) }
     ensures untold { IfOk result (λ e. e.untold ≡ []) }
 {
-    let mut draft = Draft::new(alloc);
+    let mut draft = Draft::new(alloc)?;
     draft.reserve_for(alloc, &changes)?;
     draft.apply(changes);
     draft.settle();

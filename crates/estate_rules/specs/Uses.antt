@@ -7,7 +7,8 @@ use Rattle.config_lists.specs.Settings.{Settings, has_setting}
 
 -- a nic on this network
 abbrev pub is_nic_on : List ℕ → Settings → Bool
-is_nic_on network device = has_setting device (codes "type") (codes "nic") && has_setting device (codes "network") network
+is_nic_on network device = has_setting device (codes "type") (codes "nic")
+    && has_setting device (codes "network") network
 
 -- a disk in this pool
 abbrev pub is_disk_in : List ℕ → Settings → Bool

@@ -1,5 +1,7 @@
 ghost use Rattle.std.specs.Prelude.{◌≡◌, ◌==◌, not};
-ghost use Rattle.estate_rules.specs.Names.{good_name_of, is_instance_byte, is_instance_name, is_object_byte, is_object_name, is_project_byte, is_project_name, is_word_of, begins_by, ends_by};
+ghost use Rattle.estate_rules.specs.Names.{good_name_of, is_instance_byte, is_instance_name, is_object_byte};
+ghost use Rattle.estate_rules.specs.Names.{is_object_name, is_project_byte, is_project_name, is_word_of, begins_by};
+ghost use Rattle.estate_rules.specs.Names.{ends_by};
 ghost use Rattle.std.specs.Char.{is_ascii_alphanumeric, is_ascii_alphabetic};
 ghost use Rattle.std.specs.List.{list_all};
 

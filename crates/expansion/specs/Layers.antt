@@ -17,7 +17,10 @@ nothing = record { config = []; devices = [] }
 
 -- a layer over what is below it: each of its keys is set, each of its devices stands for the one of its name, whole
 unfoldable pub laid : Expanded → Expanded → Expanded
-laid below layer = record { config = replaced below.config layer.config; devices = replaced below.devices layer.devices }
+laid below layer = record {
+  config = replaced below.config layer.config;
+  devices = replaced below.devices layer.devices;
+}
 
 -- layers, the first at the bottom
 unfoldable pub expanded : List Expanded → Expanded

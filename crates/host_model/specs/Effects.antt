@@ -5,7 +5,8 @@ use Rattle.host_model.specs.declared.place.Place.{Place}
 use Rattle.host_model.specs.declared.root.Spec.{Spec}
 use Rattle.host_model.specs.declared.root.HostRoot.{HostRoot}
 use Rattle.host_model.specs.declared.call.HostCall.{HostCall}
-use Rattle.host_model.specs.declared.call.HostCall.TheVariants.{Clear, MakeRoot, CopyRoot, Start, Stop, Freeze, Thaw, Apply, Rename, Snap, Unsnap, Restore}
+use Rattle.host_model.specs.declared.call.HostCall.TheVariants.{Clear, MakeRoot, CopyRoot, Start, Stop, Freeze, Thaw}
+use Rattle.host_model.specs.declared.call.HostCall.TheVariants.{Apply, Rename, Snap, Unsnap, Restore}
 use Rattle.host_model.specs.Roots.{root_at, with_root, without_root, made, others, snapshot_of, content_of}
 
 -- what a call makes of one root

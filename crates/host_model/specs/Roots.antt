@@ -1,4 +1,5 @@
-use Rattle.std.specs.Prelude.{ℕ, Bool, false, not, ◌&&◌, ◌==◌, List, [], filter, find, length, Option, unwrap_or, if◌then◌else◌}
+use Rattle.std.specs.Prelude.{ℕ, Bool, false, not, ◌&&◌, ◌==◌, List, [], filter, find, length, Option, unwrap_or}
+use Rattle.std.specs.Prelude.{if◌then◌else◌}
 use Rattle.std.specs.Option.{option_map}
 use Rattle.std.specs.Str.{bytes_eq}
 use Rattle.plain_lists.specs.Edits.{replaced, dropped}
@@ -10,7 +11,8 @@ use mathlib.Core.Bool.{beq}
 
 -- whether both are the same place
 abbrev pub same_place : Place → Place → Bool
-same_place a b = beq a.volume b.volume && bytes_eq a.project b.project && bytes_eq a.pool b.pool && bytes_eq a.name b.name
+same_place a b = beq a.volume b.volume && bytes_eq a.project b.project && bytes_eq a.pool b.pool
+    && bytes_eq a.name b.name
 
 -- nothing applied
 abbrev pub no_spec : Spec

@@ -84,7 +84,8 @@ fn copy_content(
     snapshot: &Text,
     to: &Place,
 ) -> Result<(), NoMemory>
-    ensures ok { OnOk result (roots.new.items ≡ with_root (made to.now (content_of from.now snapshot.now roots.old.items)) roots.old.items) }
+    ensures ok { OnOk result (roots.new.items
+        ≡ with_root (made to.now (content_of from.now snapshot.now roots.old.items)) roots.old.items) }
     ensures err { OnErr result (roots.new.items ≡ roots.old.items) }
 {
     let content = content_of(alloc, roots, from, snapshot)?;
@@ -92,7 +93,9 @@ fn copy_content(
 }
 
 fn start(alloc: Global, roots: &mut Vec<HostRoot>, at: &Place, spec: &Spec) -> Result<(), NoMemory>
-    ensures ok { OnOk result (roots.new.items ≡ with_root (with_power power_of.Running (with_spec spec.now (root_at at.now roots.old.items))) roots.old.items) }
+    ensures ok { OnOk result (roots.new.items
+        ≡ with_root
+        (with_power power_of.Running (with_spec spec.now (root_at at.now roots.old.items))) roots.old.items) }
     ensures err { OnErr result (roots.new.items ≡ roots.old.items) }
 {
     let applied = spec.copy()?;
@@ -107,7 +110,8 @@ fn set_power(
     at: &Place,
     power: Power,
 ) -> Result<(), NoMemory>
-    ensures ok { OnOk result (roots.new.items ≡ with_root (with_power power (root_at at.now roots.old.items)) roots.old.items) }
+    ensures ok { OnOk result (roots.new.items
+        ≡ with_root (with_power power (root_at at.now roots.old.items)) roots.old.items) }
     ensures err { OnErr result (roots.new.items ≡ roots.old.items) }
 {
     let mut root = root_at(alloc, roots, at)?;
@@ -116,7 +120,8 @@ fn set_power(
 }
 
 fn apply(alloc: Global, roots: &mut Vec<HostRoot>, at: &Place, spec: &Spec) -> Result<(), NoMemory>
-    ensures ok { OnOk result (roots.new.items ≡ with_root (with_spec spec.now (root_at at.now roots.old.items)) roots.old.items) }
+    ensures ok { OnOk result (roots.new.items
+        ≡ with_root (with_spec spec.now (root_at at.now roots.old.items)) roots.old.items) }
     ensures err { OnErr result (roots.new.items ≡ roots.old.items) }
 {
     let applied = spec.copy()?;
@@ -130,7 +135,8 @@ fn rename(
     from: &Place,
     to: &Place,
 ) -> Result<(), NoMemory>
-    ensures ok { OnOk result (roots.new.items ≡ with_root (renamed to.now (root_at from.now roots.old.items)) (without_root from.now roots.old.items)) }
+    ensures ok { OnOk result (roots.new.items
+        ≡ with_root (renamed to.now (root_at from.now roots.old.items)) (without_root from.now roots.old.items)) }
     ensures err { OnErr result (roots.new.items ≡ roots.old.items) }
 {
     roots.reserve(1)?;
@@ -142,7 +148,8 @@ fn rename(
 }
 
 fn snap(alloc: Global, roots: &mut Vec<HostRoot>, at: &Place, name: &Text) -> Result<(), NoMemory>
-    ensures ok { OnOk result (roots.new.items ≡ with_root (snapped name.now (root_at at.now roots.old.items)) roots.old.items) }
+    ensures ok { OnOk result (roots.new.items
+        ≡ with_root (snapped name.now (root_at at.now roots.old.items)) roots.old.items) }
     ensures err { OnErr result (roots.new.items ≡ roots.old.items) }
 {
     let root = root_at(alloc, roots, at)?;
@@ -151,7 +158,8 @@ fn snap(alloc: Global, roots: &mut Vec<HostRoot>, at: &Place, name: &Text) -> Re
 }
 
 fn unsnap(alloc: Global, roots: &mut Vec<HostRoot>, at: &Place, name: &Text) -> Result<(), NoMemory>
-    ensures ok { OnOk result (roots.new.items ≡ with_root (unsnapped name.now (root_at at.now roots.old.items)) roots.old.items) }
+    ensures ok { OnOk result (roots.new.items
+        ≡ with_root (unsnapped name.now (root_at at.now roots.old.items)) roots.old.items) }
     ensures err { OnErr result (roots.new.items ≡ roots.old.items) }
 {
     let root = root_at(alloc, roots, at)?;
@@ -165,7 +173,8 @@ fn restore(
     at: &Place,
     name: &Text,
 ) -> Result<(), NoMemory>
-    ensures ok { OnOk result (roots.new.items ≡ with_root (restored name.now (root_at at.now roots.old.items)) roots.old.items) }
+    ensures ok { OnOk result (roots.new.items
+        ≡ with_root (restored name.now (root_at at.now roots.old.items)) roots.old.items) }
     ensures err { OnErr result (roots.new.items ≡ roots.old.items) }
 {
     let root = root_at(alloc, roots, at)?;

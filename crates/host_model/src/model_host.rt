@@ -55,7 +55,12 @@ impl Host for ModelHost {
 
     fn call(&mut self, call: &HostCall) -> Result<(), Or<HostFailed>>
         ensures cause { HasCauseOrMemory self.old.calls.failed self.new.calls.failed result }
-        ensures state { self.new ≡ record { roots = if is_ok result then effect_of call.now self.old.roots else self.old.roots; calls = after_call self.old.calls } }
+        ensures state { self.new
+            ≡ record {
+              roots = if is_ok result
+                  then effect_of call.now self.old.roots else self.old.roots;
+              calls = after_call self.old.calls;
+            } }
         ensures fails { has_failed result ≡ is_next_failing self.old.calls }
     {
         if self.calls.next() {

@@ -18,8 +18,8 @@ ReadsNext old new held (got.Malformed fault) = IsMalformed old fault × (new ≡
 ReadsNext old new held got.ReadFault = IsUnfinished held × (new ≡ Some old)
 ReadsNext old new held got.NoMemory = new ≡ Some old
 
--- What was answered of the bytes held, over any source: they and some more bytes, which the source gave, are what is held
--- afterwards, and before it the message that was answered.
+-- What was answered of the bytes held, over any source: they and some more bytes, which the source gave, are what is
+-- held afterwards, and before it the message that was answered.
 abbrev pub KeepsHeld : List ℕ → List ℕ → Got → Type 0
 KeepsHeld old new (got.Request m) = (more : List ℕ) × IsMessage (old ++ more) m new
 KeepsHeld old new got.End = (more : List ℕ) × (new ≡ old ++ more) × IsBlank new

@@ -1,5 +1,6 @@
 -- What a read and a write do to the bytes that a source has left and a sink holds, where they tell them.
-use Rattle.std.specs.Prelude.{◌≡◌, ℕ, ◌+◌, ◌<◌, ◌≤◌, ◌==◌, ◌⊎◌, Bool, true, false, ◌||◌, List, ◌++◌, length, take, min, Option, Result, Ok, Err}
+use Rattle.std.specs.Prelude.{◌≡◌, ℕ, ◌+◌, ◌<◌, ◌≤◌, ◌==◌, ◌⊎◌, Bool, true, false, ◌||◌, List, ◌++◌, length, take, min}
+use Rattle.std.specs.Prelude.{Option, Result, Ok, Err}
 use Rattle.std.specs.Io.KnownBytes.{Appends, Consumes, Keeps}
 use Rattle.size_values.specs.Calls.{Calls, is_next_failing, after_call, last_number}
 
@@ -41,15 +42,18 @@ pub record Paper : Type 0 where
 abbrev pub faults_of : Paper → ℕ
 faults_of p = min (p.calls.failed + p.refused) last_number
 
--- A write to a sink in memory. A listed call fails, and no bytes are taken. Another call takes all of the bytes, or is refused
--- memory, which is counted apart, and takes none.
+-- A write to a sink in memory. A listed call fails, and no bytes are taken. Another call takes all of the bytes, or is
+-- refused memory, which is counted apart, and takes none.
 abbrev pub WritesToPaper : {E : Type 0} → Paper → Paper → Result (Unit {0}) E → List ℕ → Type 0
-WritesToPaper p p' (Ok u) bytes = (is_next_failing p.calls ≡ false) × (p' ≡ record p { held = p.held ++ bytes; calls = after_call p.calls })
+WritesToPaper p p' (Ok u) bytes = (is_next_failing p.calls ≡ false)
+    × (p' ≡ record p { held = p.held ++ bytes; calls = after_call p.calls })
 WritesToPaper p p' (Err e) bytes =
     ((is_next_failing p.calls ≡ true) × (p' ≡ record p { calls = after_call p.calls }))
-    ⊎ ((is_next_failing p.calls ≡ false) × (p' ≡ record p { calls = after_call p.calls; refused = min (p.refused + 1) last_number }))
+    ⊎ ((is_next_failing p.calls ≡ false)
+    × (p' ≡ record p { calls = after_call p.calls; refused = min (p.refused + 1) last_number }))
 
--- A source over a reader: the bytes to come, where the reader tells them, whether the source has ended, and how many reads failed.
+-- A source over a reader: the bytes to come, where the reader tells them, whether the source has ended, and how many
+-- reads failed.
 pub record Reading : Type 0 where
   pub left : Option (List ℕ)
   pub ended : Bool

@@ -1,4 +1,5 @@
-ghost use Rattle.std.specs.Prelude.{◌≡◌, ℕ, ◌+◌, ◌<◌, ◌≤◌, ◌⊎◌, Some, None, true, false, length, take, IfOk, IfErr, OnOk, OnErr, IfSome};
+ghost use Rattle.std.specs.Prelude.{◌≡◌, ℕ, ◌+◌, ◌<◌, ◌≤◌, ◌⊎◌, Some, None, true, false, length, take, IfOk, IfErr};
+ghost use Rattle.std.specs.Prelude.{OnOk, OnErr, IfSome};
 ghost use Rattle.std.specs.Io.KnownBytes.{prepend_known};
 ghost use Rattle.size_values.specs.Causes.{Rose};
 ghost use Rattle.http_heads.specs.Heads.{head_len, head_bytes};
@@ -7,7 +8,8 @@ ghost use Rattle.http_heads.specs.Messages.{IsMessage};
 ghost use Rattle.http_heads.specs.Readings.{Says};
 ghost use Rattle.http_heads.specs.Search.{HasSearched};
 ghost use Rattle.http_front.specs.Reading.{IsUnfinished, KeepsHeld, ReadsNext, OnReadFault, OnEnd};
-ghost use Rattle.http_front.specs.Held.{TakesIn, IsOver, IsHeadAwaited, most_held, Stops, StopsBefore, OnFault, Takes, IsReadStop, read_stop, head_stop, got_of, EndsWith};
+ghost use Rattle.http_front.specs.Held.{TakesIn, IsOver, IsHeadAwaited, most_held, Stops, StopsBefore, OnFault, Takes};
+ghost use Rattle.http_front.specs.Held.{IsReadStop, read_stop, head_stop, got_of, EndsWith};
 
 use crate::buffer::Buffer;
 use crate::source::{Source, SourceFailed};
@@ -96,7 +98,8 @@ pub fn read_request<S: Source>(alloc: Global, buffer: &mut Buffer, source: &mut 
         (λ bytes. ReadsNext bytes (prepend_known buffer.new (S.left source.new)) buffer.new result) }
     ensures held { KeepsHeld buffer.old buffer.new result }
 
-    // Nothing is read where the bytes held begin with a whole message or with a malformed place, and little is read ahead.
+    // Nothing is read where the bytes held begin with a whole message or with a malformed place, and little is read
+    // ahead.
     ensures ahead { (source.new ≡ source.old) ⊎ IsUnfinished buffer.old }
     ensures few { length buffer.new ≤ most_held }
 

@@ -1,6 +1,7 @@
 ghost use Rattle.std.specs.Prelude.{◌≡◌, ℕ, ◌++◌, List, [], Bool, IfOk, IsTrue, OnOk, string_bytes, decimal, length};
 ghost use Rattle.http_front.specs.declared.reply.Printed.{Printed};
-ghost use Rattle.http_front.specs.Replies.{is_reply_code, phrase_of, status_line, length_line, location_line, last_line, head_text, reply_text, no_memory_body, line};
+ghost use Rattle.http_front.specs.Replies.{is_reply_code, phrase_of, status_line, length_line, location_line};
+ghost use Rattle.http_front.specs.Replies.{last_line, head_text, reply_text, no_memory_body, line};
 
 use http::StatusCode;
 use size_values::{NoMemory, Seq, Text};

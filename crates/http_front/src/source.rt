@@ -1,4 +1,5 @@
-ghost use Rattle.std.specs.Prelude.{◌≡◌, ℕ, ◌<◌, ◌≤◌, ◌-◌, Bool, false, List, ◌++◌, length, take, drop, min, Option, IfOk, is_ok, not};
+ghost use Rattle.std.specs.Prelude.{◌≡◌, ℕ, ◌<◌, ◌≤◌, ◌-◌, Bool, false, List, ◌++◌, length, take, drop, min, Option};
+ghost use Rattle.std.specs.Prelude.{IfOk, is_ok, not};
 ghost use Rattle.std.specs.Io.KnownBytes.{IsAtEnd};
 ghost use Rattle.size_values.specs.Causes.{HasCause};
 ghost use Rattle.size_values.specs.Calls.{is_next_failing, after_call, no_calls};

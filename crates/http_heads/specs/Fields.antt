@@ -1,5 +1,6 @@
 -- What the headers of a request say of its body, and whether they end the connection.
-use Rattle.std.specs.Prelude.{ℕ, ◌==◌, Bool, ◌||◌, ◌&&◌, nat_lt, nat_le, if◌then◌else◌, List, [], ◌∷◌, length, map, filter, Result, Ok, Err, codes}
+use Rattle.std.specs.Prelude.{ℕ, ◌==◌, Bool, ◌||◌, ◌&&◌, nat_lt, nat_le, if◌then◌else◌, List, [], ◌∷◌, length, map}
+use Rattle.std.specs.Prelude.{filter, Result, Ok, Err, codes}
 use Rattle.std.specs.List.{list_all, list_any, slice_split}
 use Rattle.std.specs.Char.{is_ascii_digit}
 use Rattle.std.specs.Str.{str_eq_ignore_ascii_case}
@@ -25,7 +26,8 @@ is_length text = nat_lt 0 (length text) && nat_le (length text) 19 && list_all i
 -- the length that a text gives
 unfoldable pub length_in : List ℕ → Result ℕ HeadFault
 length_in text =
-    if is_length text then (if nat_le (digits_value 10 text) max_body then Ok (digits_value 10 text) else Err H4) else Err H3
+    if is_length text
+    then (if nat_le (digits_value 10 text) max_body then Ok (digits_value 10 text) else Err H4) else Err H3
 
 -- the length that the values of Content-Length give: 0 where there is none, and at most one may be there
 abbrev pub length_of : List (List ℕ) → Result ℕ HeadFault
@@ -36,7 +38,8 @@ length_of (text ∷ other ∷ more) = Err H3
 -- the length of the body that the headers give; a Transfer-Encoding is a fault
 unfoldable pub framing : List (List ℕ × List ℕ) → Result ℕ HeadFault
 framing fields =
-    if length (values_of (codes "transfer-encoding") fields) == 0 then length_of (values_of (codes "content-length") fields)
+    if length (values_of (codes "transfer-encoding") fields) == 0
+    then length_of (values_of (codes "content-length") fields)
     else Err H3
 
 -- one of the parts between commas is the word, in any ASCII case and without the blanks and tabs at its ends

@@ -1,5 +1,6 @@
 -- Where a head ends, as a function of the bytes.
-use Rattle.std.specs.Prelude.{ℕ, ◌+◌, suc, Bool, ◌||◌, ◌==◌, if◌then◌else◌, List, [], ◌∷◌, take, drop, Option, Some, None}
+use Rattle.std.specs.Prelude.{ℕ, ◌+◌, suc, Bool, ◌||◌, ◌==◌, if◌then◌else◌, List, [], ◌∷◌, take, drop, Option, Some}
+use Rattle.std.specs.Prelude.{None}
 use Rattle.std.specs.Option.{option_map, option_or}
 use Rattle.http_heads.specs.Limits.{max_head}
 
@@ -21,13 +22,15 @@ line_end (b ∷ c ∷ bytes) = if b == 10 then Some 1 else (if b == 13 then (if 
 -- the length up to and with the first empty line: an LF, and the line end that follows it
 abbrev pub empty_line_end : List ℕ → Option ℕ
 empty_line_end [] = None
-empty_line_end (b ∷ bytes) = option_map suc (option_or (if b == 10 then line_end bytes else None) (empty_line_end bytes))
+empty_line_end (b
+    ∷ bytes) = option_map suc (option_or (if b == 10 then line_end bytes else None) (empty_line_end bytes))
 
 -- the length up to and with the first empty line after the first byte that is neither CR nor LF
 abbrev pub head_end : List ℕ → Option ℕ
 head_end bytes = let blank = blank_len bytes in option_map (λ n. blank + n) (empty_line_end (drop blank bytes))
 
--- the length of the head that a text begins with, the CR and LF bytes before it counted; it lies in the first 16,384 bytes
+-- the length of the head that a text begins with, the CR and LF bytes before it counted; it lies in the first 16,384
+-- bytes
 unfoldable pub head_len : List ℕ → Option ℕ
 head_len bytes = head_end (take max_head bytes)
 

@@ -33,9 +33,11 @@ fn single_value<'a>(
 ) -> Result<Option<&'a [u8]>, HeadFault>
     requires { All (IsHeaderWithin (length bytes.now)) headers.now }
     ensures ok { IfOk result (λ found.
-        values_of name.now (map (header_bytes bytes.now) headers.now) ≡ option_to_list (option_map (λ v. v.now) found)) }
+        values_of name.now (map (header_bytes bytes.now) headers.now)
+        ≡ option_to_list (option_map (λ v. v.now) found)) }
     ensures fault { IfErr result (λ fault. fault ≡ HeadFault.H3) }
-    ensures several { IfErr result (λ fault. 2 ≤ length (values_of name.now (map (header_bytes bytes.now) headers.now))) }
+    ensures several { IfErr result
+        (λ fault. 2 ≤ length (values_of name.now (map (header_bytes bytes.now) headers.now))) }
 {
     let mut found = None;
     for header in headers {

@@ -6,5 +6,5 @@ mod plan;
 mod states;
 
 pub use numbers::SnapshotNumbers;
-pub use plan::{CallName, Plan, plan_of};
+pub use plan::{CallName, Plan, may_cancel, plan_of};
 pub use states::{WrongState, after, is_allowed};

@@ -1,4 +1,4 @@
-ghost use Rattle.std.specs.Prelude.{◌≡◌};
+ghost use Rattle.std.specs.Prelude.{◌≡◌, is_some};
 ghost use Rattle.instance_states.specs.Plans.{calls_in, calls_of, calls_of_action, undo_of};
 
 use size_values::{Action, Deed};
@@ -84,4 +84,11 @@ fn lasting(first: CallName, second: Option<CallName>) -> Plan
         second,
         undo: None,
     }
+}
+
+/// Whether an operation of a deed may be cancelled.
+pub fn may_cancel(deed: Deed) -> bool
+    ensures { result ≡ is_some (undo_of deed) }
+{
+    plan_of(deed).undo.is_some()
 }

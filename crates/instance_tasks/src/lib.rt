@@ -5,4 +5,4 @@ mod making;
 mod pairs;
 mod tasks;
 
-pub use tasks::{instance_creation, may_cancel};
+pub use tasks::instance_creation;

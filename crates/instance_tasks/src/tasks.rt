@@ -1,10 +1,9 @@
 //! What the creation of an instance does in the background, and the row that it claims.
-ghost use Rattle.std.specs.Prelude.{◌≡◌, IfOk, OnOk, ◌++◌, ◌∷◌, [], Some, is_some};
+ghost use Rattle.std.specs.Prelude.{◌≡◌, IfOk, OnOk, ◌++◌, ◌∷◌, [], Some};
 ghost use Rattle.std.specs.Option.{option_copied};
 ghost use Rattle.size_values.specs.declared.kinds.Deed.TheVariants as deed;
 ghost use Rattle.host_model.specs.declared.call.HostCall.TheVariants as call;
 ghost use Rattle.records.specs.declared.rows.Row.TheVariants as row_of;
-ghost use Rattle.instance_states.specs.Plans.{undo_of};
 ghost use Rattle.row_machine.specs.machine.NewRows.{source_instance, source_snapshot};
 ghost use Rattle.row_machine.specs.machine.HostCalls.{place_of, create_calls, copy_calls};
 ghost use Rattle.row_machine.specs.machine.Plans.{instance_target, snapshot_target, copy_from, instance_creation};
@@ -14,19 +13,11 @@ ghost use Rattle.instance_tasks.specs.Planned.{planned};
 use crate::making::{Source, copied_instance, image_of, made_instance};
 use crate::pairs::both;
 use host_model::{HostCall, Place};
-use instance_states::plan_of;
 use records::{Body, Instance, Origin, Row, Snapshot, Target};
 use row_machine::Work;
 use row_readings::{View, instance_named, snapshot_named};
 use size_values::{Deed, NoMemory, ObjectKind, Seq, Text};
 use std::alloc::Global;
-
-/// Whether an operation of a deed may be cancelled.
-pub fn may_cancel(deed: Deed) -> bool
-    ensures { result ≡ is_some (undo_of deed) }
-{
-    plan_of(deed).undo.is_some()
-}
 
 /// Where the root of an instance stands.
 fn place_of(alloc: Global, project: &Text, name: &Text) -> Result<Place, NoMemory>

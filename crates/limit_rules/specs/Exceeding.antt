@@ -23,7 +23,8 @@ use Rattle.limit_rules.specs.Counting.{Counts, counts_in}
 -- one part of what a project uses
 abbrev pub part_over : List Load → List Load → Part → Project → Option Refusal
 part_over before after k p =
-    exceeds p (key_of k) (limit_on k (limits_of p.config)) (sum_by (counted p.name k) before) (sum_by (counted p.name k) after)
+    exceeds p (key_of k) (limit_on k (limits_of p.config)) (sum_by (counted p.name k) before)
+    (sum_by (counted p.name k) after)
 
 -- the first part, and the first project at which it is exceeded
 abbrev pub parts_over : List Load → List Load → List Project → Option Refusal
@@ -32,7 +33,8 @@ parts_over before after projects = first_of (λ k. first_of (part_over before af
 -- its number of networks
 abbrev pub networks_over : List (List ℕ) → List Network → Project → Option Refusal
 networks_over before after p =
-    exceeds p Networks (limits_of p.config).networks (length (filter (λ name. bytes_eq name p.name) before)) (length (filter (λ n. bytes_eq n.project p.name) after))
+    exceeds p Networks (limits_of p.config).networks (length (filter (λ name. bytes_eq name p.name) before))
+    (length (filter (λ n. bytes_eq n.project p.name) after))
 
 -- whether one of the sums is limited to which settings of instances and volumes give the numbers
 abbrev pub limits_sum : Limits → Bool
@@ -56,8 +58,8 @@ abbrev pub sets_limit : RowChange → Bool
 sets_limit (change.Put r) = is_limited_row r
 sets_limit (change.Remove of key) = false
 
--- What was counted serves to judge the limits of a later state: it is what counted in the state before, or no project of the later
--- one has a limit.
+-- What was counted serves to judge the limits of a later state: it is what counted in the state before, or no project
+-- of the later one has a limit.
 abbrev pub Serves : Counts → State → State → Type 0
 Serves counts before after = (counts ≡ counts_in before) ⊎ (is_any_limited after.projects ≡ false)
 

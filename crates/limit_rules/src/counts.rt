@@ -3,7 +3,8 @@ ghost use Rattle.std.specs.Prelude.{◌≡◌, option_and_then};
 ghost use Rattle.plain_lists.specs.Firsts.{first_of};
 ghost use Rattle.size_values.specs.Causes.{Says};
 ghost use Rattle.row_machine.specs.machine.Claims.{claimed_instance, claimed_volume};
-ghost use Rattle.row_machine.specs.machine.LimitRules.{sum_text, uncounted, claim_uncounted, project_uncounted, counts_broken};
+ghost use Rattle.row_machine.specs.machine.LimitRules.{sum_text, uncounted, claim_uncounted, project_uncounted};
+ghost use Rattle.row_machine.specs.machine.LimitRules.{counts_broken};
 ghost use Rattle.limit_rules.specs.Within.{own_instance, own_volume, own_objects};
 
 use crate::parts::limits_sum;
@@ -166,7 +167,8 @@ fn objects_uncounted(alloc: Global, view: &View<'_>, project: &Project) -> Resul
     claims_uncounted(alloc, view, project, view.live)
 }
 
-/// The first instance, volume or claim of a project that is not countable. Where the project limits no sum, none is asked.
+/// The first instance, volume or claim of a project that is not countable. Where the project limits no sum, none is
+/// asked.
 fn project_uncounted(alloc: Global, view: &View<'_>, project: &Project) -> Result<(), Or<Refusal>>
     ensures { Says result (project_uncounted view.now project.now) }
 {

@@ -197,8 +197,8 @@ fn limits_exceed(alloc: Global, before: &Usage, after: &View<'_>) -> Result<(), 
     networks_exceed(alloc, before.networks(), after.networks, after.projects)
 }
 
-/// The first limit that is exceeded, and the first project at which it is. `before` is what counted before the change. Where
-/// no project has a limit after it, nothing is summed.
+/// The first limit that is exceeded, and the first project at which it is. `before` is what counted before the change.
+/// Where no project has a limit after it, nothing is summed.
 pub fn limits_broken(alloc: Global, before: &Usage, after: &View<'_>) -> Result<(), Or<Refusal>>
     ensures counted { (s : State) → before.now ≡ counts_in s → Says result (limits_broken s after.now) }
     ensures serving { (s : State) → Serves before.now s after.now → Says result (limits_broken s after.now) }

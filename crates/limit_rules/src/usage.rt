@@ -14,8 +14,8 @@ use size_values::{Amounts, NoMemory, Text};
 use std::alloc::Global;
 use std::marker::Model;
 
-/// What counts for the limits of projects at one time: instances, volumes and the shares of live operations, each with its
-/// project, and the project of each network. It stays as it is while the rows change.
+/// What counts for the limits of projects at one time: instances, volumes and the shares of live operations, each with
+/// its project, and the project of each network. It stays as it is while the rows change.
 #[derive(Drop)]
 pub struct Usage {
     loads: Vec<Load>,
@@ -60,8 +60,8 @@ pub fn usage_before(alloc: Global, view: &View<'_>) -> Result<Usage, NoMemory>
     Ok(Usage { loads, networks })
 }
 
-/// What counts for limits, taken before these changes are made. Where no project has a limit, before or after them, nothing is
-/// summed: no limit is exceeded then, whatever counted before.
+/// What counts for limits, taken before these changes are made. Where no project has a limit, before or after them,
+/// nothing is summed: no limit is exceeded then, whatever counted before.
 pub fn usage_before_changes(
     alloc: Global,
     view: &View<'_>,

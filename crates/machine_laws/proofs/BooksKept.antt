@@ -22,7 +22,8 @@ use Rattle.records.specs.declared.commands.Command.{Command}
 use Rattle.records.specs.declared.notices.Untold.{Untold}
 use Rattle.row_machine.specs.declared.changes.RowChange.{RowChange}
 use Rattle.row_machine.specs.machine.Task.{Task}
-use Rattle.row_machine.specs.machine.State.{State, Held}
+use Rattle.reservations.specs.declared.books.Hold.{Hold}
+use Rattle.row_machine.specs.machine.State.{State}
 use Rattle.row_machine.specs.machine.Changes.{applied}
 use Rattle.row_machine.specs.machine.Claims.{share_of}
 use Rattle.row_machine.specs.machine.Plans.{changes, starts}
@@ -37,8 +38,8 @@ use Rattle.machine_laws.proofs.BooksSteps.{HasSameWork, applied-same, power-keep
 pub balanced-same : {s t : State} → HasSameWork s t → AreBalanced s → AreBalanced t
 balanced-same {s} {t} same h k =
     ap (λ (b : Books). part k b.granted) same.books ∙ h k
-    ∙ sym (ap (λ (b : Books). part k b.converted + part k b.returned + sum_by (λ (x : Held). part k x.share) t.held) same.books
-    ∙ ap (λ (held : List Held). part k s.books.converted + part k s.books.returned + sum_by (λ (x : Held). part k x.share) held) same.held)
+    ∙ sym (ap (λ (b : Books). part k b.converted + part k b.returned + sum_by (λ (x : Hold). part k x.share) t.held) same.books
+    ∙ ap (λ (held : List Hold). part k s.books.converted + part k s.books.returned + sum_by (λ (x : Hold). part k x.share) held) same.held)
 
 -- nothing has no part
 part-nothing : (k : Part) → part k nothing ≡ 0
@@ -51,19 +52,19 @@ part-nothing Processes = refl
 part-nothing Disk = refl
 
 -- all that is held is what one operation holds and the rest
-pub held-split : (k : Part) (op : ℕ) (held : List Held)
-    → sum_by (λ (h : Held). part k h.share) held
-    ≡ part k (option_map_or (λ (h : Held). h.share) (find (is_held_by op) held) nothing) + sum_by (λ (h : Held). part k h.share) (dropped (is_held_by op) held)
+pub held-split : (k : Part) (op : ℕ) (held : List Hold)
+    → sum_by (λ (h : Hold). part k h.share) held
+    ≡ part k (option_map_or (λ (h : Hold). h.share) (find (is_held_by op) held) nothing) + sum_by (λ (h : Hold). part k h.share) (dropped (is_held_by op) held)
 held-split k op held = at (find (is_held_by op) held) refl where
-  at : (found : Option Held) → find (is_held_by op) held ≡ found
-      → sum_by (λ (h : Held). part k h.share) held
-      ≡ part k (option_map_or (λ (h : Held). h.share) found nothing) + sum_by (λ (h : Held). part k h.share) (dropped (is_held_by op) held)
+  at : (found : Option Hold) → find (is_held_by op) held ≡ found
+      → sum_by (λ (h : Hold). part k h.share) held
+      ≡ part k (option_map_or (λ (h : Hold). h.share) found nothing) + sum_by (λ (h : Hold). part k h.share) (dropped (is_held_by op) held)
   at None is =
       let none = dropped-none (is_held_by op) held (none-any (is_held_by op) held (find-none (is_held_by op) held is)) in
-      let e : sum_by (λ (h : Held). part k h.share) (dropped (is_held_by op) held) ≡ sum_by (λ (h : Held). part k h.share) held =
-      ap (sum_by (λ (h : Held). part k h.share)) none in
+      let e : sum_by (λ (h : Hold). part k h.share) (dropped (is_held_by op) held) ≡ sum_by (λ (h : Hold). part k h.share) held =
+      ap (sum_by (λ (h : Hold). part k h.share)) none in
       omega (arith, e, part-nothing k)
-  at (Some h) is = sum_by-Puts (λ (h : Held). part k h.share) (dropped-Puts (is_held_by op) h held is)
+  at (Some h) is = sum_by-Puts (λ (h : Hold). part k h.share) (dropped-Puts (is_held_by op) h held is)
 
 -- a share that is held becomes its object's, or is returned
 pub balanced-converted : (op : ℕ) (s : State) → AreBalanced s → AreBalanced (converted op s)
@@ -84,7 +85,7 @@ pub balanced-entered : (s : State) (task : Task) (moment : ℕ) → AreBalanced 
 unfolding entered
 balanced-entered s task moment h k =
     let plus = part-plus k s.books.granted (share_of s task) in
-    let more = sum_by-Puts (λ (x : Held). part k x.share) (Puts-push {x = record { op = s.operations.next; project = project_of_task task; share = share_of s task }} s.held) in
+    let more = sum_by-Puts (λ (x : Hold). part k x.share) (Puts-push {x = record { op = s.operations.next; project = project_of_task task; share = share_of s task }} s.held) in
     let before = h k in
     omega arith
 

@@ -12,7 +12,8 @@ use Rattle.records.specs.declared.rows.Row.TheVariants as row
 use Rattle.row_machine.specs.declared.changes.RowChange.{RowChange}
 use Rattle.row_machine.specs.declared.changes.RowChange.TheVariants as change
 use Rattle.row_machine.specs.machine.Task.{Task}
-use Rattle.row_machine.specs.machine.State.{State, Held}
+use Rattle.reservations.specs.declared.books.Hold.{Hold}
+use Rattle.row_machine.specs.machine.State.{State}
 use Rattle.row_machine.specs.machine.Changes.{with_row, without_row, applied}
 use Rattle.row_machine.specs.shown.Notices.{telling, push_notice}
 use Rattle.row_machine.specs.machine.Work.{with_power_after, after_failure}
@@ -33,7 +34,7 @@ pub record HasSameWork (s t : State) : Type 0 where
 
 pub record Work : Type 0 where
   pub operations : Kept Task
-  pub held : List Held
+  pub held : List Hold
   pub books : Books
 
 abbrev pub work_in : State → Work

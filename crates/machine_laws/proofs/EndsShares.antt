@@ -19,7 +19,8 @@ use Rattle.operations.specs.declared.status.Status.TheVariants.{Running, Cancell
 use Rattle.operations.specs.Kept.{Kept, has_number, live_at, kept_at, ends}
 use Rattle.records.specs.declared.notices.Untold.{Untold}
 use Rattle.row_machine.specs.machine.Task.{Task}
-use Rattle.row_machine.specs.machine.State.{State, Held}
+use Rattle.reservations.specs.declared.books.Hold.{Hold}
+use Rattle.row_machine.specs.machine.State.{State}
 use Rattle.row_machine.specs.machine.Changes.{applied}
 use Rattle.row_machine.specs.machine.Claims.{share_of}
 use Rattle.row_machine.specs.shown.Notices.{telling}
@@ -38,15 +39,15 @@ use Rattle.machine_laws.proofs.EndsLive.{found-changed, find-map, kept-ended, li
 share-held : (s : State) (n : ℕ) (o : Operation Task) → s.held ≡ map (held_by s) s.operations.live → live_at s.operations n ≡ Some o
     → held_share s n ≡ share_of s o.work
 share-held s n o held live =
-    ap (λ hs. option_map_or (λ (h : Held). h.share) (find (is_held_by n) hs) nothing) held
-    ∙ ap (λ h. option_map_or (λ (h : Held). h.share) h nothing) (find-map (held_by s) (has_number n) (is_held_by n) s.operations.live (λ x. refl))
-    ∙ ap (λ x. option_map_or (λ (h : Held). h.share) (option_map (held_by s) x) nothing) live
+    ap (λ hs. option_map_or (λ (h : Hold). h.share) (find (is_held_by n) hs) nothing) held
+    ∙ ap (λ h. option_map_or (λ (h : Hold). h.share) h nothing) (find-map (held_by s) (has_number n) (is_held_by n) s.operations.live (λ x. refl))
+    ∙ ap (λ x. option_map_or (λ (h : Hold). h.share) (option_map (held_by s) x) nothing) live
 
 -- ---- ends, where the state before has the same operations, shares and books
 
 module _ (s t : State) (o : Operation Task) (h : IsWhole s) (live : live_at s.operations o.number ≡ Some o) (same : HasSameWork s t) where
   share : held_share t o.number ≡ share_of s o.work
-  share = ap (λ hs. option_map_or (λ (h : Held). h.share) (find (is_held_by o.number) hs) nothing) same.held ∙ share-held s o.number o h.shares live
+  share = ap (λ hs. option_map_or (λ (h : Hold). h.share) (find (is_held_by o.number) hs) nothing) same.held ∙ share-held s o.number o h.shares live
 
   kept : (now : Status) (why : OpFault) (moment : ℕ) → option_map (λ (x : Operation Task). x.status) (kept_at (ends o.number now why moment t.operations) o.number) ≡ Some now
   kept now why moment =

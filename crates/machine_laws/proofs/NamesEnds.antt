@@ -15,7 +15,8 @@ use Rattle.reservations.specs.declared.books.Books.{Books}
 use Rattle.records.specs.declared.notices.Notice.{Notice}
 use Rattle.records.specs.declared.notices.Untold.{Untold}
 use Rattle.row_machine.specs.machine.Task.{Task}
-use Rattle.row_machine.specs.machine.State.{State, Held, Standing}
+use Rattle.reservations.specs.declared.books.Hold.{Hold}
+use Rattle.row_machine.specs.machine.State.{State, Standing}
 use Rattle.row_machine.specs.machine.Rows.{is_standing, standing_names}
 use Rattle.row_machine.specs.machine.Work.{with_power, with_power_after, ended, returned, converted, cancelled, failed}
 use Rattle.row_machine.specs.machine.Deeds.{breaks_instance}
@@ -25,7 +26,7 @@ use Rattle.machine_laws.proofs.NamesLive.{AreNamed-fewer}
 
 -- ---- what names do not speak of
 
-pub AreNamed-aside : (s : State) (held : List Held) (books : Books) (notices : List Notice) (next : ℕ)
+pub AreNamed-aside : (s : State) (held : List Hold) (books : Books) (notices : List Notice) (next : ℕ)
     → AreNamed s → AreNamed (record s { held = held; books = books; notices = notices; next_notice = next })
 AreNamed-aside s held books notices next h = record {
   good = h.good;

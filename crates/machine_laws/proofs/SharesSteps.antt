@@ -7,7 +7,8 @@ use Rattle.plain_lists.specs.Edits.{dropped}
 use Rattle.operations.specs.declared.operation.Operation.{Operation}
 use Rattle.operations.specs.Kept.{Kept, has_number}
 use Rattle.row_machine.specs.machine.Task.{Task}
-use Rattle.row_machine.specs.machine.State.{State, Held}
+use Rattle.reservations.specs.declared.books.Hold.{Hold}
+use Rattle.row_machine.specs.machine.State.{State}
 use Rattle.row_machine.specs.machine.Claims.{share_of, amounts_of_instance}
 use Rattle.row_machine.specs.machine.Work.{project_of_task, is_held_by, entered}
 use Rattle.row_machine.specs.facts.Whole.{held_by}
@@ -18,7 +19,7 @@ abbrev pub AreHeld : State → Type 0
 AreHeld s = s.held ≡ map (held_by s) s.operations.live
 
 -- what is held by a core
-abbrev pub held_in : State → ℕ × Task → Held
+abbrev pub held_in : State → ℕ × Task → Hold
 held_in s c = record { op = c.0; project = project_of_task c.1; share = share_of s c.1 }
 
 -- the share is read off the core

@@ -28,7 +28,8 @@ use Rattle.records.specs.declared.rows.Row.TheVariants as row
 use Rattle.row_machine.specs.declared.changes.RowChange.{RowChange}
 use Rattle.row_machine.specs.declared.changes.RowChange.TheVariants as change
 use Rattle.row_machine.specs.machine.Task.{Task}
-use Rattle.row_machine.specs.machine.State.{State, Held, Standing}
+use Rattle.reservations.specs.declared.books.Hold.{Hold}
+use Rattle.row_machine.specs.machine.State.{State, Standing}
 use Rattle.row_machine.specs.machine.Changes.{applied, with_row, without_row, rows_put}
 use Rattle.row_machine.specs.machine.Claims.{of_live, claimed_instance, claimed_volume, claimed_snapshot}
 use Rattle.row_machine.specs.opening.Records.{rows_of}
@@ -111,7 +112,7 @@ few-entered s task moment roomy small h = record {
 
 -- ---- what sizes do not speak of
 
-few-aside : (s : State) (powers : List Standing) (held : List Held) (books : Books) → AreFew s → AreFew (record s { powers = powers; held = held; books = books })
+few-aside : (s : State) (powers : List Standing) (held : List Hold) (books : Books) → AreFew s → AreFew (record s { powers = powers; held = held; books = books })
 few-aside s powers held books h = record {
   tables = h.tables;
   rows = h.rows;

@@ -4,7 +4,9 @@ ghost use Rattle.std.specs.Option.{option_copied, option_map_or};
 ghost use Rattle.size_values.specs.Causes.{Says};
 ghost use Rattle.row_machine.specs.machine.Asked.{object_of};
 ghost use Rattle.name_rules.specs.Pointed.{target_at};
-ghost use Rattle.row_machine.specs.machine.NameRules.{missing_unless, object_missing, operation_missing, parent_missing, project_missing, snapshot_missing, what_is_missing};
+ghost use Rattle.row_machine.specs.machine.NameRules.{missing_unless, object_missing, operation_missing};
+ghost use Rattle.row_machine.specs.machine.NameRules.{parent_missing, project_missing, snapshot_missing};
+ghost use Rattle.row_machine.specs.machine.NameRules.{what_is_missing};
 ghost use Rattle.row_machine.specs.machine.Kinds.{is_in_project};
 
 use crate::places::{Place, is_there, place_of};

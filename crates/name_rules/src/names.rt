@@ -65,7 +65,8 @@ fn given_name_broken(
     project: &str,
     what: &What,
 ) -> Result<(), Or<Refusal>>
-    ensures { Says result (option_and_then (name_broken view.now project.now) (named_anew view.now project.now what.now)) }
+    ensures { Says result
+        (option_and_then (name_broken view.now project.now) (named_anew view.now project.now what.now)) }
 {
     match what {
         What::Create { of, .. } => new_name_broken(alloc, view, project, place_of(of)),

@@ -40,7 +40,8 @@ fn copied_missing(
     snapshot: &str,
     pool: &str,
 ) -> Result<(), Or<Refusal>>
-    ensures { Says result (source_missing view.now project.now (target_at of.entry) (origin_of.Copy from.now snapshot.now pool.now)) }
+    ensures { Says result
+        (source_missing view.now project.now (target_at of.entry) (origin_of.Copy from.now snapshot.now pool.now)) }
 {
     match of.kind {
         ObjectKind::Volume => object_missing(alloc, view, project, moved(of, pool, from)),

@@ -1,5 +1,5 @@
-//! What a request's body makes of the parts of a row, new or patched, and how many rows of a kind there may be and how large.
-//! The calls that make rows of projects, profiles and instances share it.
+//! What a request's body makes of the parts of a row, new or patched, and how many rows of a kind there may be and how
+//! large. The calls that make rows of projects, profiles and instances share it.
 #![tactic(auto)]
 
 mod caps;

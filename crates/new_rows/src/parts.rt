@@ -1,6 +1,7 @@
 //! The parts of a row that a request's body gives: of a new row, or over those of the row that stands.
 ghost use Rattle.std.specs.Prelude.{◌≡◌, IfOk};
-ghost use Rattle.row_machine.specs.machine.NewRows.{new_description, new_config, new_devices, patched_description, patched_config, patched_devices};
+ghost use Rattle.row_machine.specs.machine.NewRows.{new_description, new_config, new_devices, patched_description};
+ghost use Rattle.row_machine.specs.machine.NewRows.{patched_config, patched_devices};
 
 use config_lists::{Config, Devices};
 use records::Body;

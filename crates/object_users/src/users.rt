@@ -11,7 +11,7 @@ use crate::row_ref::{AnyRow, RowRef};
 use crate::uses::{instance_uses, names_profile, profile_uses, volume_uses};
 use records::Target;
 use row_readings::View;
-use size_values::{NoMemory, Seq, Text};
+use size_values::{NoMemory, ObjectKind, Seq, Text};
 use std::alloc::Global;
 
 /// The instances, networks, volumes and profiles of a project.
@@ -83,7 +83,7 @@ fn add_using_profiles<'x>(
     Ok(())
 }
 
-fn add_using_volumes<'x>(
+fn add_volumes_of<'x>(
     view: &View<'x>,
     of: &Target,
     all: &mut Vec<RowRef<'x>>,
@@ -98,6 +98,27 @@ fn add_using_volumes<'x>(
         }
     }
     Ok(())
+}
+
+/// The volumes of a pool. Nothing else is used by volumes, so for it they are not gone over: a list
+/// of volumes with their users would cost the square of their number.
+fn add_using_volumes<'x>(
+    view: &View<'x>,
+    of: &Target,
+    all: &mut Vec<RowRef<'x>>,
+) -> Result<(), NoMemory>
+    ensures { OnOk result (all.new.items ≡ all.old.items ++ map row.Volume (filter (volume_uses of.now) view.now.volumes)) }
+{
+    match of.kind {
+        ObjectKind::Pool => add_volumes_of(view, of, all),
+        ObjectKind::Project
+        | ObjectKind::Profile
+        | ObjectKind::Network
+        | ObjectKind::Volume
+        | ObjectKind::Instance
+        | ObjectKind::Snapshot
+        | ObjectKind::Operation => Ok(()),
+    }
 }
 
 /// The instances and profiles that name a network, pool or volume, and the volumes of a pool.

@@ -25,17 +25,18 @@ pub fn names_profile(view: &View<'_>, home: &str, profile: &str, row: &Instance)
         && has_name(row.profiles.view(), profile)
 }
 
-/// Whether devices in a project name the object: a network or volume of this home, or a pool.
+/// Whether devices in a project name the object: a network or volume of this home, or a pool. The
+/// devices come first, as they are few, and the home is looked for among all projects.
 fn devices_name(view: &View<'_>, home: &str, of: &Target, project: &str, devices: &Devices) -> bool
     ensures { result ≡ devices_name view.now home.now of.now project.now devices.now }
 {
     let name = of.name.view();
     match of.kind {
-        ObjectKind::Network => network_home(view.projects, project) == home
-            && names_network(devices, name),
+        ObjectKind::Network => names_network(devices, name)
+            && network_home(view.projects, project) == home,
         ObjectKind::Pool => names_pool(devices, name),
-        ObjectKind::Volume => volume_home(view.projects, project) == home
-            && names_volume(devices, of.pool.view(), name),
+        ObjectKind::Volume => names_volume(devices, of.pool.view(), name)
+            && volume_home(view.projects, project) == home,
         ObjectKind::Project
         | ObjectKind::Profile
         | ObjectKind::Instance

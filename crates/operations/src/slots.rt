@@ -1,24 +1,22 @@
 ghost use Rattle.std.specs.Prelude.{◌≡◌, ◌==◌, ◌-◌, ◌<◌, ◌≤◌, ◌++◌, true, false, length, slice_get, vec_capacity, IfOk, IfSome, IsSome, if◌then◌else◌};
 ghost use Rattle.std.specs.Option.{option_copied, option_map, option_map_or};
 ghost use Rattle.std.specs.List.{find, position};
-ghost use Rattle.plain_lists.specs.Edits.{changed_first, dropped};
-ghost use Rattle.plain_lists.specs.Rings.{keep_last};
+ghost use Rattle.plain_lists.specs.Edits.{dropped};
 ghost use Rattle.operations.specs.Statuses.{is_live, is_pending, cancel_of};
 ghost use Rattle.operations.specs.Kept.{no_operations, has_number, live_at, kept_at, live_status, first_pending_of, by_number, enter_answer, after_enter, with_work, moved, ends, cancel_answer, after_cancel};
 ghost use Rattle.operations.specs.Facts.{AreKept};
-ghost use Rattle.operations.specs.Limits.{most_ended};
 ghost use Rattle.size_values.specs.Moments.{moment_limit};
 ghost use Rattle.operations.specs.declared.status.Status.TheVariants as status;
 
 use crate::faults::{CancelFault, EnterFault};
 use crate::limits::{ENDED_LIMIT, LIVE_LIMIT, NUMBER_LIMIT};
+use crate::lists::{drop_oldest, set_status, swap_in, take_out};
 use crate::operation::{OpFault, Operation};
 use crate::status::Status;
 use plain_lists::push_reserved;
 use size_values::NoMemory;
 use std::alloc::Global;
 use std::marker::Model;
-use std::mem;
 
 /// The kept background operations: all live ones, and the last that ended. Contracts see the two lists and the
 /// next number. Only `new` takes memory.
@@ -232,75 +230,6 @@ fn cancel_of(may_cancel: bool, status: Status) -> Result<Status, CancelFault>
         Status::Running => Ok(Status::Cancelling),
         _ => Err(CancelFault::Already),
     }
-}
-
-/// The place of the operation of this number.
-fn place_of<W>(operations: &[Operation<W>], number: u64) -> Option<usize>
-    ensures { result ≡ position (has_number number) operations.now }
-{
-    operations.iter().position(|o| o.number == number)
-}
-
-/// The place of the operation of this number, which is there.
-fn known_place<W>(operations: &[Operation<W>], number: u64) -> usize
-    requires { IsSome (find (has_number number) operations.now) }
-    ensures place { Some result ≡ position (has_number number) operations.now }
-    ensures within { result < length operations.now }
-{
-    match place_of(operations, number) {
-        Some(place) => place,
-        None => unreachable!(),
-    }
-}
-
-/// Puts another work into the operation of this number, and hands the old one out.
-fn swap_in<W>(operations: &mut Vec<Operation<W>>, number: u64, work: W) -> W
-    requires { IsSome (find (has_number number) operations.old.items) }
-    ensures old { option_map (λ (o : Operation W). o.work) (find (has_number number) operations.old.items) ≡ Some result }
-    ensures items { operations.new.items ≡ changed_first (has_number number) (λ (o : Operation W). record o { work = work }) operations.old.items }
-    ensures capacity { vec_capacity operations.new ≡ vec_capacity operations.old }
-{
-    let place = known_place(operations, number);
-    let operation = &mut operations[place];
-    mem::replace(&mut operation.work, work)
-}
-
-/// Gives the operation of this number another status.
-fn set_status<W>(operations: &mut Vec<Operation<W>>, number: u64, status: Status, moment: u64)
-    requires { IsSome (find (has_number number) operations.old.items) }
-    ensures items { operations.new.items ≡
-        changed_first (has_number number) (λ (o : Operation W). record o { status = status; updated = moment }) operations.old.items }
-    ensures capacity { vec_capacity operations.new ≡ vec_capacity operations.old }
-{
-    let place = known_place(operations, number);
-    let operation = &mut operations[place];
-    operation.status = status;
-    operation.updated = moment;
-}
-
-/// Takes the operation of this number out.
-fn take_out<W>(operations: &mut Vec<Operation<W>>, number: u64) -> Operation<W>
-    requires { IsSome (find (has_number number) operations.old.items) }
-    ensures taken { find (has_number number) operations.old.items ≡ Some result }
-    ensures rest { operations.new.items ≡ dropped (has_number number) operations.old.items }
-    ensures capacity { vec_capacity operations.old ≤ vec_capacity operations.new }
-{
-    let place = known_place(operations, number);
-    operations.remove(place)
-}
-
-/// Drops the oldest ended operation where the most are kept, and answers its number.
-fn drop_oldest<W: Drop>(ended: &mut Vec<Operation<W>>) -> Option<u64>
-    requires { length ended.old.items ≤ most_ended }
-    ensures rest { ended.new.items ≡ keep_last (most_ended - 1) ended.old.items }
-    ensures number { result ≡ (if length ended.old.items == most_ended then option_map (λ (o : Operation W). o.number) (slice_get ended.old.items 0) else None) }
-    ensures capacity { vec_capacity ended.old ≤ vec_capacity ended.new }
-{
-    if ended.len() < ENDED_LIMIT {
-        return None;
-    }
-    let oldest = ended.remove(0);
-    Some(oldest.number)
 }
 
 /// Takes a number that is no longer kept out of the index.

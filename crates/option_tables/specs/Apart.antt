@@ -3,11 +3,13 @@ use Rattle.std.specs.Prelude.{ℕ, Bool, true, not, ◌&&◌, ◌||◌, List, []
 use Rattle.std.specs.List.{list_all, starts_with}
 use Rattle.option_tables.specs.declared.form.Form.{Form}
 use Rattle.option_tables.specs.declared.tables.DeviceType.TheVariants as device
-use Rattle.option_tables.specs.Tables.{front_of, has_star, takes, project_lines, network_lines, pool_lines, volume_lines, device_lines}
+use Rattle.option_tables.specs.Tables.{front_of, has_star, takes, project_lines, network_lines, pool_lines}
+use Rattle.option_tables.specs.Tables.{volume_lines, device_lines}
 
 -- whether some key may be taken by both lines
 abbrev pub meet : List ℕ → List ℕ → Bool
-meet a b = if has_star a && has_star b then starts_with nat_eq (front_of a) (front_of b) || starts_with nat_eq (front_of b) (front_of a) else takes a b || takes b a
+meet a b = if has_star a && has_star b then starts_with nat_eq (front_of a) (front_of b)
+    || starts_with nat_eq (front_of b) (front_of a) else takes a b || takes b a
 
 -- no line meets one after it
 abbrev pub are_apart : List (List ℕ) → Bool
@@ -16,4 +18,6 @@ are_apart (line ∷ lines) = list_all (λ other. not (meet line other)) lines &&
 
 -- the tables, but for that of instances, whose lines have a scope
 abbrev pub plain_tables : List (List (List ℕ × Form))
-plain_tables = project_lines ∷ network_lines ∷ pool_lines ∷ volume_lines ∷ device_lines device.Disk ∷ device_lines device.Nic ∷ device_lines device.Gpu ∷ device_lines device.Proxy ∷ device_lines device.Unix ∷ device_lines device.Usb ∷ []
+plain_tables = project_lines ∷ network_lines ∷ pool_lines ∷ volume_lines ∷ device_lines device.Disk
+    ∷ device_lines device.Nic ∷ device_lines device.Gpu ∷ device_lines device.Proxy ∷ device_lines device.Unix
+    ∷ device_lines device.Usb ∷ []

@@ -9,7 +9,8 @@ use Rattle.option_tables.specs.declared.form.Form.{Form}
 use Rattle.option_tables.specs.declared.faults.SettingFault.{SettingFault}
 use Rattle.option_tables.specs.declared.faults.SettingFault.TheVariants as told
 use Rattle.option_tables.specs.declared.faults.DeviceFault.{DeviceFault}
-use Rattle.option_tables.specs.declared.faults.DeviceFault.TheVariants.{BadName, NoType, UnknownType, NicSource, DiskShape}
+use Rattle.option_tables.specs.declared.faults.DeviceFault.TheVariants.{BadName, NoType, UnknownType, NicSource}
+use Rattle.option_tables.specs.declared.faults.DeviceFault.TheVariants.{DiskShape}
 use Rattle.option_tables.specs.declared.faults.KeyFault.{KeyFault}
 use Rattle.option_tables.specs.declared.faults.KeyFault.TheVariants as key
 use Rattle.option_tables.specs.declared.tables.Scope.{Scope}
@@ -29,7 +30,8 @@ fault_at place (Some form) value = option_map (key.Bad place) (value_fault form 
 
 -- the first faulty key by a table
 unfoldable pub keys_fault : Table → Settings → Option KeyFault
-keys_fault table config = first_of (λ (s : ℕ × (List ℕ × List ℕ)). fault_at s.0 (form_of table s.1.0) s.1.1) (enumerate_from 0 config)
+keys_fault table config =
+    first_of (λ (s : ℕ × (List ℕ × List ℕ)). fault_at s.0 (form_of table s.1.0) s.1.1) (enumerate_from 0 config)
 
 -- the first fault of the settings of an instance or profile, project, network, pool or volume
 unfoldable pub instance_fault : Settings → Scope → Option SettingFault
@@ -49,7 +51,8 @@ volume_fault config = option_map setting_fault (keys_fault table.Volume config)
 
 -- a nic has exactly one of `network` and `nictype`
 abbrev pub is_nic_shaped : Settings → Bool
-is_nic_shaped nic = if is_some (setting nic (codes "network")) then is_none (setting nic (codes "nictype")) else is_some (setting nic (codes "nictype"))
+is_nic_shaped nic = if is_some (setting nic (codes "network"))
+    then is_none (setting nic (codes "nictype")) else is_some (setting nic (codes "nictype"))
 
 -- a disk at `/` has a pool and no source, a disk elsewhere has a source
 abbrev pub is_disk_shaped : Settings → Bool
@@ -67,7 +70,8 @@ shape_fault other settings = None
 -- the fault of a device of a type: the first faulty key, then the shape
 abbrev pub typed_fault : Option DeviceType → Settings → Option DeviceFault
 typed_fault None settings = Some UnknownType
-typed_fault (Some kind) settings = option_or (option_map key_fault (keys_fault (table.Device kind) settings)) (shape_fault kind settings)
+typed_fault (Some kind) settings =
+    option_or (option_map key_fault (keys_fault (table.Device kind) settings)) (shape_fault kind settings)
 
 -- the fault of a device whose type has this name, or no name
 abbrev pub named_fault : Option (List ℕ) → Settings → Option DeviceFault
@@ -76,8 +80,11 @@ named_fault (Some name) settings = typed_fault (device_type name) settings
 
 -- the first fault of a device: its name, its type, its keys, its shape
 unfoldable pub device_fault : List ℕ → Settings → Option DeviceFault
-device_fault name settings = if is_device_name name then named_fault (setting settings (codes "type")) settings else Some BadName
+device_fault name settings = if is_device_name name
+    then named_fault (setting settings (codes "type")) settings else Some BadName
 
 -- the first faulty device
 unfoldable pub devices_fault : NamedDevices → Option SettingFault
-devices_fault devices = first_of (λ (d : ℕ × (List ℕ × Settings)). option_map (told.Device d.0) (device_fault d.1.0 d.1.1)) (enumerate_from 0 devices)
+devices_fault devices =
+    first_of (λ (d : ℕ
+    × (List ℕ × Settings)). option_map (told.Device d.0) (device_fault d.1.0 d.1.1)) (enumerate_from 0 devices)

@@ -27,7 +27,8 @@ words_of words.BlockAllow = codes "block" ∷ codes "allow" ∷ []
 words_of words.BlockAllowFull = codes "block" ∷ codes "allow" ∷ codes "full" ∷ []
 words_of words.ManagedBlockAllow = codes "managed" ∷ codes "block" ∷ codes "allow" ∷ []
 words_of words.UnprivilegedIsolatedAllow = codes "unprivileged" ∷ codes "isolated" ∷ codes "allow" ∷ []
-words_of words.NicType = codes "bridged" ∷ codes "macvlan" ∷ codes "p2p" ∷ codes "physical" ∷ codes "routed" ∷ codes "ipvlan" ∷ codes "sriov" ∷ []
+words_of words.NicType = codes "bridged" ∷ codes "macvlan" ∷ codes "p2p" ∷ codes "physical" ∷ codes "routed"
+    ∷ codes "ipvlan" ∷ codes "sriov" ∷ []
 
 -- whether a text is one of these words
 abbrev pub is_word : List (List ℕ) → List ℕ → Bool

@@ -18,7 +18,8 @@ is_device_name name = nat_le 1 (length name) && nat_le (length name) 64 && list_
 
 -- the name of a network: 2 to 15 bytes, the first a letter or a digit
 abbrev pub is_network_name : List ℕ → Bool
-is_network_name name = nat_le 2 (length name) && nat_le (length name) 15 && is_ascii_alphanumeric (slice_index name 0) && list_all is_name_byte name
+is_network_name name = nat_le 2 (length name) && nat_le (length name) 15 && is_ascii_alphanumeric (slice_index name 0)
+    && list_all is_name_byte name
 
 -- names of networks, joined by commas
 abbrev pub are_network_names : List ℕ → Bool
@@ -36,4 +37,5 @@ is_numbered (a ∷ b ∷ back) = a == byte "%" && b == byte "d" && list_all is_n
 
 -- a pattern of names: 3 to 50 bytes, in which one `%d` stands between bytes of names
 abbrev pub is_pattern : List ℕ → Bool
-is_pattern text = nat_le 3 (length text) && nat_le (length text) 50 && may_begin (slice_index text 0) && is_numbered (drop (prefix_len is_name_byte text) text)
+is_pattern text = nat_le 3 (length text) && nat_le (length text) 50 && may_begin (slice_index text 0)
+    && is_numbered (drop (prefix_len is_name_byte text) text)

@@ -1,5 +1,6 @@
 -- The tables, read: which form the values of a key have.
-use Rattle.std.specs.Prelude.{ℕ, ◌-◌, ◌==◌, Bool, true, false, ◌&&◌, List, [], map, length, take, slice_index, Option, Some, None, if◌then◌else◌, find, codes, nat_eq, nat_le, nat_lt}
+use Rattle.std.specs.Prelude.{ℕ, ◌-◌, ◌==◌, Bool, true, false, ◌&&◌, List, [], map, length, take, slice_index, Option}
+use Rattle.std.specs.Prelude.{Some, None, if◌then◌else◌, find, codes, nat_eq, nat_le, nat_lt}
 use Rattle.std.specs.List.{starts_with}
 use Rattle.std.specs.Option.{option_map}
 use Rattle.std.specs.Str.{bytes_eq, byte}
@@ -11,7 +12,8 @@ use Rattle.option_tables.specs.declared.tables.Table.{Table}
 use Rattle.option_tables.specs.declared.tables.Table.TheVariants as table
 use Rattle.option_tables.specs.declared.tables.DeviceType.{DeviceType}
 use Rattle.option_tables.specs.declared.tables.DeviceType.TheVariants as device
-use Rattle.option_tables.specs.declared.tables.TheConstants.{INSTANCE, PROJECT, NETWORK, POOL, VOLUME, DEVICE_TYPES, DISK, NIC, GPU, PROXY, UNIX, USB}
+use Rattle.option_tables.specs.declared.tables.TheConstants.{INSTANCE, PROJECT, NETWORK, POOL, VOLUME, DEVICE_TYPES}
+use Rattle.option_tables.specs.declared.tables.TheConstants.{DISK, NIC, GPU, PROXY, UNIX, USB}
 
 -- the line without its last byte
 abbrev pub front_of : List ℕ → List ℕ
@@ -21,9 +23,11 @@ front_of line = take (length line - 1) line
 abbrev pub has_star : List ℕ → Bool
 has_star line = nat_lt 0 (length line) && slice_index line (length line - 1) == byte "*"
 
--- whether the key of a line stands for a key: it is the same, or it ends in a star and the key is longer and begins alike
+-- whether the key of a line stands for a key: it is the same, or it ends in a star and the key is longer and begins
+-- alike
 abbrev pub takes : List ℕ → List ℕ → Bool
-takes line key = if has_star line then nat_lt (length (front_of line)) (length key) && starts_with nat_eq key (front_of line) else bytes_eq line key
+takes line key = if has_star line then nat_lt (length (front_of line)) (length key)
+    && starts_with nat_eq key (front_of line) else bytes_eq line key
 
 -- whether a check for these instances takes an option for those
 abbrev pub is_for : Scope → Scope → Bool
@@ -37,7 +41,8 @@ form_in lines key = option_map (λ line. line.1) (find (λ line. takes line.0 ke
 
 -- the same of lines for some instances
 abbrev pub scoped_form_in : List (List ℕ × Form × Scope) → Scope → List ℕ → Option Form
-scoped_form_in lines checked key = option_map (λ line. line.1) (find (λ line. is_for checked line.2 && takes line.0 key) lines)
+scoped_form_in lines checked key =
+    option_map (λ line. line.1) (find (λ line. is_for checked line.2 && takes line.0 key) lines)
 
 -- the lines of the tables, with their keys as lists of bytes
 unfoldable pub instance_lines : List (List ℕ × Form × Scope)

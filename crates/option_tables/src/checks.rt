@@ -1,7 +1,8 @@
 ghost use Rattle.std.specs.Prelude.{◌≡◌};
 ghost use Rattle.std.specs.Result.{result_err};
 ghost use Rattle.option_tables.specs.Tables.{form_of};
-ghost use Rattle.option_tables.specs.Checks.{keys_fault, fault_at, instance_fault, project_fault, network_fault, pool_fault, volume_fault};
+ghost use Rattle.option_tables.specs.Checks.{keys_fault, fault_at, instance_fault, project_fault, network_fault};
+ghost use Rattle.option_tables.specs.Checks.{pool_fault, volume_fault};
 
 use crate::faults::{KeyFault, SettingFault};
 use crate::tables::{Scope, Table};

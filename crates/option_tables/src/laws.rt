@@ -8,7 +8,10 @@ ghost use Rattle.option_tables.specs.Apart.{plain_tables};
 
 /// No key is taken by two lines of a table, so the one line that takes a key is its rule.
 pub fn each_line_is_the_rule_of_its_keys()
-    ensures instance { (place : ℕ) (line : List ℕ × Form × Scope) (checked : Scope) (key : List ℕ) → slice_get instance_lines place ≡ Some line → is_for checked line.2 ≡ true → takes line.0 key ≡ true
+    ensures instance { (place : ℕ) (line : List ℕ × Form × Scope) (checked : Scope) (key : List ℕ)
+        → slice_get instance_lines place ≡ Some line → is_for checked line.2 ≡ true → takes line.0 key ≡ true
         → scoped_form_in instance_lines checked key ≡ Some line.1 }
-    ensures others { (lines : List (List ℕ × Form)) → Mem lines plain_tables → (place : ℕ) (line : List ℕ × Form) (key : List ℕ) → slice_get lines place ≡ Some line → takes line.0 key ≡ true → form_in lines key ≡ Some line.1 }
+    ensures others { (lines : List (List ℕ × Form)) → Mem lines plain_tables
+        → (place : ℕ) (line : List ℕ × Form) (key : List ℕ) → slice_get lines place ≡ Some line
+        → takes line.0 key ≡ true → form_in lines key ≡ Some line.1 }
 {}

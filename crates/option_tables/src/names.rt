@@ -1,6 +1,7 @@
 ghost use Rattle.std.specs.Prelude.{◌≡◌, ◌≤◌, length};
 ghost use Rattle.std.specs.List.{list_all, prefix_len};
-ghost use Rattle.option_tables.specs.Names.{is_name_byte, is_device_byte, is_device_name, is_network_name, are_network_names, is_pattern, may_begin, is_numbered};
+ghost use Rattle.option_tables.specs.Names.{is_name_byte, is_device_byte, is_device_name, is_network_name};
+ghost use Rattle.option_tables.specs.Names.{are_network_names, is_pattern, may_begin, is_numbered};
 
 /// Whether a text is the name of a device: 1 to 64 bytes of letters, digits, `-`, `_`, `.`, `:` and `/`.
 pub fn is_device_name(name: &str) -> bool

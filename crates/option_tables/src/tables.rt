@@ -1,5 +1,7 @@
 ghost use Rattle.std.specs.Prelude.{◌≡◌, map};
-ghost use Rattle.option_tables.specs.Tables.{form_of, instance_lines, project_lines, network_lines, pool_lines, volume_lines, device_form, device_lines, device_type, form_in, scoped_form_in, type_in, takes, is_for};
+ghost use Rattle.option_tables.specs.Tables.{form_of, instance_lines, project_lines, network_lines, pool_lines};
+ghost use Rattle.option_tables.specs.Tables.{volume_lines, device_form, device_lines, device_type, form_in};
+ghost use Rattle.option_tables.specs.Tables.{scoped_form_in, type_in, takes, is_for};
 
 use crate::form::{Form, Words};
 

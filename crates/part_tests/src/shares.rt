@@ -3,7 +3,7 @@ ghost use Rattle.size_values.specs.Amounts.{part};
 ghost use Rattle.size_values.specs.declared.amounts.Part.{Part};
 
 use reservations::Ledger;
-use size_values::{Amounts, NoMemory};
+use size_values::{Amounts, NoMemory, Text};
 use std::alloc::Global;
 
 fn share(cpu: u32, disk: u64) -> Amounts
@@ -38,15 +38,15 @@ fn give_back(ledger: &mut Ledger, op: u64) {
 fn three_shares(alloc: Global) -> Result<Ledger, NoMemory> {
     let mut ledger = Ledger::new(alloc);
     ledger.reserve_one()?;
-    ledger.hold(3, 0, share(2, 10));
+    ledger.hold(3, Text::from_text(alloc, "lab")?, share(2, 10));
     ledger.reserve_one()?;
-    ledger.hold(5, 1, share(4, 20));
+    ledger.hold(5, Text::from_text(alloc, "web")?, share(4, 20));
     ledger.reserve_one()?;
-    ledger.hold(9, 0, share(4, 20));
+    ledger.hold(9, Text::from_text(alloc, "lab")?, share(4, 20));
     Ok(ledger)
 }
 
-fn holds(ledger: &Ledger, project: u32, cpu: u128, disk: u128) -> bool {
+fn holds(ledger: &Ledger, project: &str, cpu: u128, disk: u128) -> bool {
     let held = ledger.held(project);
     held.cpu == cpu && held.disk == disk
 }
@@ -54,14 +54,14 @@ fn holds(ledger: &Ledger, project: u32, cpu: u128, disk: u128) -> bool {
 fn are_held(ledger: &Ledger) -> bool {
     ledger.share_of(5) == Some(share(4, 20))
         && ledger.share_of(4) == None
-        && holds(ledger, 0, 6, 30)
-        && holds(ledger, 1, 4, 20)
-        && ledger.held(2) == Amounts::zero()
+        && holds(ledger, "lab", 6, 30)
+        && holds(ledger, "web", 4, 20)
+        && ledger.held("la") == Amounts::zero()
 }
 
 fn are_booked(ledger: &Ledger) -> bool {
     let books = ledger.books();
-    ledger.held(0) == Amounts::zero()
+    ledger.held("lab") == Amounts::zero()
         && ledger.share_of(9) == None
         && books.granted.instances == 3
         && books.granted.cpu == 10

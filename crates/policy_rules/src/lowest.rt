@@ -88,7 +88,8 @@ fn lowest_of_claims(
     project: &Restricted<'_>,
     live: &[Operation<Work>],
 ) -> Result<u8, NoMemory>
-    ensures { IfOk result (λ lowest. HoldBelow lowest (λ n. first_of (λ o. own_claim view.now project.now n o.work) live.now)) }
+    ensures { IfOk result
+        (λ lowest. HoldBelow lowest (λ n. first_of (λ o. own_claim view.now project.now n o.work) live.now)) }
 {
     let mut lowest = u8::MAX;
     for operation in live {

@@ -193,8 +193,9 @@ fn number_forbids(alloc: Global, view: &View<'_>, lowest: u8, number: u8) -> Res
     projects_forbid(alloc, view, number, view.projects)
 }
 
-/// The first rule on policy that is broken, and the first project, profile or instance at which it is. One walk over the
-/// projects finds the number of that rule, and a second one where it is broken: where none is, there is no second walk.
+/// The first rule on policy that is broken, and the first project, profile or instance at which it is. One walk over
+/// the projects finds the number of that rule, and a second one where it is broken: where none is, there is no second
+/// walk.
 #[tactic(auto, unfolding(row_machine::specs::machine::PolicyRules::policy_broken))]
 pub fn policy_broken(alloc: Global, after: &View<'_>) -> Result<(), Or<Refusal>>
     ensures { Says result (policy_broken after.now) }

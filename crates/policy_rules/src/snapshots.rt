@@ -17,7 +17,8 @@ use std::alloc::Global;
 
 /// The policy of a project forbids snapshots.
 fn project_blocks(alloc: Global, view: &View<'_>, name: &str) -> Result<(), Or<Refusal>>
-    ensures { Says result (option_and_then (λ p. if snapshots_forbidden (policy_of p.config) then Some (on_project rule.F8 p.name) else None) (project_named view.now.projects name.now)) }
+    ensures { Says result (option_and_then (λ p. if snapshots_forbidden (policy_of p.config)
+        then Some (on_project rule.F8 p.name) else None) (project_named view.now.projects name.now)) }
 {
     let Some(project) = project_named(view.projects, name) else {
         return Ok(());

@@ -6,7 +6,8 @@ use Rattle.size_values.specs.declared.amounts.Amounts.{Amounts}
 use Rattle.size_values.specs.declared.amounts.Part.{Part}
 use Rattle.size_values.specs.declared.amounts.Part.TheVariants as part_of
 use Rattle.project_limits.specs.declared.admission.LimitKey.{LimitKey}
-use Rattle.project_limits.specs.declared.admission.LimitKey.TheVariants.{Instances, Containers, Machines, Cpu, Memory, Processes, Disk, Networks}
+use Rattle.project_limits.specs.declared.admission.LimitKey.TheVariants.{Instances, Containers, Machines, Cpu, Memory}
+use Rattle.project_limits.specs.declared.admission.LimitKey.TheVariants.{Processes, Disk, Networks}
 use Rattle.project_limits.specs.declared.admission.Over.{Over}
 use Rattle.project_limits.specs.declared.limits.Limits.{Limits}
 
@@ -32,7 +33,8 @@ key_of part_of.Disk = Disk
 
 -- the parts in the order in which their limits are judged
 abbrev pub parts : List Part
-parts = part_of.Instances ∷ part_of.Containers ∷ part_of.Machines ∷ part_of.Cpu ∷ part_of.Memory ∷ part_of.Processes ∷ part_of.Disk ∷ []
+parts = part_of.Instances ∷ part_of.Containers ∷ part_of.Machines ∷ part_of.Cpu ∷ part_of.Memory ∷ part_of.Processes
+    ∷ part_of.Disk ∷ []
 
 -- what is used and what is asked for are together above a set limit
 abbrev pub over : LimitKey → Option ℕ → ℕ → ℕ → Option Over

@@ -27,7 +27,8 @@ uncounted key limit number = if is_some limit && is_none number then Some key el
 
 -- the first sum whose limit is set and for which an instance gives no number
 unfoldable pub first_uncounted : Limits → Kind → Settings → NamedDevices → Option SumKey
-first_uncounted limits kind config devices = first_of (λ key. uncounted key (sum_limit key limits) (counted key kind config devices)) sums
+first_uncounted limits kind config devices =
+    first_of (λ key. uncounted key (sum_limit key limits) (counted key kind config devices)) sums
 
 -- the same of a volume, which counts for the sum of disks alone
 unfoldable pub volume_uncounted : Limits → Settings → Option SumKey

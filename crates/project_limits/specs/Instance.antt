@@ -37,11 +37,14 @@ disk_at devices root.Several = None
 
 -- the processors of an instance, if they are a count
 unfoldable pub cpu_in : Settings → Option ℕ
-cpu_in config = option_and_then (λ text. option_and_then processors (result_ok (cpu_of text))) (setting config (codes "limits.cpu"))
+cpu_in config =
+    option_and_then (λ text. option_and_then processors (result_ok (cpu_of text))) (setting config (codes "limits.cpu"))
 
 -- the bytes of its memory, if they are no percentage
 unfoldable pub memory_in : Settings → Option ℕ
-memory_in config = option_and_then (λ text. option_and_then bytes (result_ok (memory_of text))) (setting config (codes "limits.memory"))
+memory_in config =
+    option_and_then (λ text. option_and_then bytes (result_ok (memory_of text)))
+    (setting config (codes "limits.memory"))
 
 -- the processes of a container; those of a virtual machine are not counted, it has none
 abbrev pub processes_in : Kind → Settings → Option ℕ

@@ -1,5 +1,6 @@
 ghost use Rattle.std.specs.Prelude.{◌≡◌};
-ghost use Rattle.project_limits.specs.Instance.{cpu_in, disk_in, instance_amounts, memory_in, one_if_container, one_if_machine, processes_in, volume_amounts};
+ghost use Rattle.project_limits.specs.Instance.{cpu_in, disk_in, instance_amounts, memory_in, one_if_container};
+ghost use Rattle.project_limits.specs.Instance.{one_if_machine, processes_in, volume_amounts};
 
 use crate::limits::{count_in, size_in};
 use config_lists::{Config, Devices, Root};

@@ -7,7 +7,8 @@ use Rattle.size_values.specs.declared.entry.Entry.{Entry}
 use Rattle.size_values.specs.declared.entry.EntryChange.{EntryChange}
 use Rattle.size_values.specs.declared.entry.EntryChange.TheVariants.{Put, Remove}
 
--- where an entry stands as seen from the place of a kind and key: by its kind, and within the kind by the bytes of its key
+-- where an entry stands as seen from the place of a kind and key: by its kind, and within the kind by the bytes of its
+-- key
 abbrev pub seen_from : ℕ → List ℕ → Entry → Ordering
 seen_from kind key e = ordering_then (nat_cmp e.kind kind) (slice_cmp nat_cmp e.key key)
 

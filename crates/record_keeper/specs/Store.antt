@@ -5,8 +5,8 @@ use Rattle.size_values.specs.declared.entry.Entry.{Entry}
 use Rattle.size_values.specs.declared.entry.EntryChange.{EntryChange}
 use Rattle.record_keeper.specs.Entries.{after_changes}
 
--- What is seen of a keeper at one moment: its entries, where it tells them; how many calls were made so far; and how many of
--- them failed. Both counts stop at 2^64 - 1.
+-- What is seen of a keeper at one moment: its entries, where it tells them; how many calls were made so far; and how
+-- many of them failed. Both counts stop at 2^64 - 1.
 pub record Store : Type 0 where
   pub told : Option (List Entry)
   pub calls : ℕ

@@ -11,11 +11,12 @@ use thiserror::Error;
 #[error("the keeper failed")]
 pub struct KeeperFailed;
 
-/// Keeps entries beyond a run: at most one for each kind and key. Each call of `load` and `commit` is counted. A failure is
-/// answered only where the keeper's count of failures rose in that call, and any other answer leaves that count as it
-/// was. Any call may be out of memory, which is no failure.
+/// Keeps entries beyond a run: at most one for each kind and key. Each call of `load` and `commit` is counted. A
+/// failure is answered only where the keeper's count of failures rose in that call, and any other answer leaves that
+/// count as it was. Any call may be out of memory, which is no failure.
 pub trait Keeper {
-    /// What is seen of the keeper. Its entries are sorted by kind and key, each pair once; None where it doesn't tell them.
+    /// What is seen of the keeper. Its entries are sorted by kind and key, each pair once; None where it doesn't tell
+    /// them.
     ghost store: { Self → Store };
 
     /// The kept entries, sorted by kind and key, each pair once. Whatever it answers, they stay.
@@ -28,7 +29,8 @@ pub trait Keeper {
 
     /// Makes all the changes, in their order, or none of them: where it is refused, the entries stay.
     fn commit(&mut self, changes: &Seq<EntryChange>) -> Result<(), Or<KeeperFailed>>
-        ensures ok { OnOk result ((store self.new).told ≡ option_map (after_changes changes.now) (store self.old).told) }
+        ensures ok { OnOk result ((store self.new).told
+            ≡ option_map (after_changes changes.now) (store self.old).told) }
         ensures err { OnErr result ((store self.new).told ≡ (store self.old).told) }
         ensures calls { (store self.new).calls ≡ called 1 (store self.old).calls }
         ensures failures { CountsFailure (store self.old).failures (store self.new).failures result };

@@ -9,7 +9,8 @@ pub fn changes_by_place()
     ensures put { (kind : ℕ) (key : List ℕ) (e : EntryValue) (es : List EntryValue) →
         entry_at kind key (put_entry e es) ≡ (if is_eq (seen_from kind key e) then Some e else entry_at kind key es) }
     ensures removal { (kind : ℕ) (key : List ℕ) (kind' : ℕ) (key' : List ℕ) (es : List EntryValue) →
-        entry_at kind key (remove_entry kind' key' es) ≡ (if is_place kind key kind' key' then None else entry_at kind key es) }
+        entry_at kind key (remove_entry kind' key' es)
+        ≡ (if is_place kind key kind' key' then None else entry_at kind key es) }
     ensures known { (xs ys : List EntryValue) → IsOrderedEntries xs → IsOrderedEntries ys →
         ((kind : ℕ) (key : List ℕ) → entry_at kind key xs ≡ entry_at kind key ys) → xs ≡ ys }
 {}
@@ -17,5 +18,6 @@ pub fn changes_by_place()
 /// A put and a removal keep the order of the list, and that each kind and key stands there once.
 pub fn order_of_changes()
     ensures put { (e : EntryValue) (es : List EntryValue) → IsOrderedEntries es → IsOrderedEntries (put_entry e es) }
-    ensures removal { (kind : ℕ) (key : List ℕ) (es : List EntryValue) → IsOrderedEntries es → IsOrderedEntries (remove_entry kind key es) }
+    ensures removal { (kind : ℕ) (key : List ℕ) (es : List EntryValue) → IsOrderedEntries es
+        → IsOrderedEntries (remove_entry kind key es) }
 {}

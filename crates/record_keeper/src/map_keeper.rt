@@ -1,4 +1,5 @@
-ghost use Rattle.std.specs.Prelude.{◌≡◌, [], is_ok, if◌then◌else◌, Some, option_map, IfOk, IfSome, OnOk, OnErr, vec_len, vec_capacity, ◌+◌, ◌≤◌};
+ghost use Rattle.std.specs.Prelude.{◌≡◌, [], is_ok, if◌then◌else◌, Some, option_map, IfOk, IfSome, OnOk, OnErr};
+ghost use Rattle.std.specs.Prelude.{vec_len, vec_capacity, ◌+◌, ◌≤◌};
 ghost use Rattle.size_values.specs.CallCounts.{CountsFailure, called};
 ghost use Rattle.size_values.specs.Calls.{no_calls, after_call, is_next_failing, has_failed};
 ghost use Rattle.record_keeper.specs.Entries.{IsOrderedEntries, after_changes, entries_put};
@@ -78,7 +79,13 @@ impl Keeper for MapKeeper {
 
     fn commit(&mut self, changes: &Seq<EntryChange>) -> Result<(), Or<KeeperFailed>>
         ensures failures { CountsFailure self.old.calls.failed self.new.calls.failed result }
-        ensures kept { self.new ≡ record { entries = if is_ok result then after_changes changes.now self.old.entries else self.old.entries; calls = after_call self.old.calls } }
+        ensures kept { self.new
+            ≡ record {
+              entries = if is_ok result
+                  then after_changes changes.now self.old.entries
+                  else self.old.entries;
+              calls = after_call self.old.calls;
+            } }
         ensures fails { has_failed result ≡ is_next_failing self.old.calls }
     {
         if self.calls.next() {

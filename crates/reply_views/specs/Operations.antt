@@ -18,7 +18,8 @@ use Rattle.reply_parts.specs.Objects.{object_of, list_of, whole}
 -- what is told of the call that failed: its number, and the counts of faults before and after it
 abbrev pub fault_data : OpFault → Data
 fault_data fault.None = null
-fault_data (fault.Host call before after) = object_of ((codes "after", whole after) ∷ (codes "before", whole before) ∷ (codes "call", whole call) ∷ [])
+fault_data (fault.Host call before after) = object_of ((codes "after", whole after) ∷ (codes "before", whole before)
+    ∷ (codes "call", whole call) ∷ [])
 fault_data (fault.Keeper before after) = object_of ((codes "after", whole after) ∷ (codes "before", whole before) ∷ [])
 fault_data fault.NoMemory = null
 

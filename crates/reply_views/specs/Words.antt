@@ -3,11 +3,11 @@ use Rattle.std.specs.Prelude.{ℕ, List, [], codes}
 use Rattle.size_values.specs.declared.kinds.Kind.{Kind}
 use Rattle.size_values.specs.declared.kinds.Kind.TheVariants.{Container, Machine}
 use Rattle.size_values.specs.declared.kinds.Power.{Power}
-use Rattle.size_values.specs.declared.kinds.Power.TheVariants as power
 use Rattle.operations.specs.declared.status.Status.{Status}
-use Rattle.operations.specs.declared.status.Status.TheVariants.{Pending, Running, Cancelling, Success, Failure, Cancelled}
+use Rattle.operations.specs.declared.status.Status.TheVariants.{Failure, Cancelled}
 use Rattle.operations.specs.declared.operation.OpFault.{OpFault}
 use Rattle.operations.specs.declared.operation.OpFault.TheVariants as fault
+use Rattle.row_machine.specs.shown.Statuses.{power_line, status_line}
 use Rattle.records.specs.declared.replies.LimitKeyName.{LimitKeyName}
 use Rattle.records.specs.declared.replies.LimitKeyName.TheVariants as limit
 use Rattle.records.specs.declared.rows.Driver.{Driver}
@@ -15,28 +15,15 @@ use Rattle.records.specs.declared.rows.Driver.TheVariants.{Dir, Btrfs, Lvm, Zfs}
 
 -- the number of an operation's status
 abbrev pub status_code : Status → ℕ
-status_code Pending = 105
-status_code Running = 103
-status_code Cancelling = 104
-status_code Success = 200
-status_code Failure = 400
-status_code Cancelled = 401
+status_code status = (status_line status).code
 
 -- the key under which the operations of a status are listed
 abbrev pub status_key : Status → List ℕ
-status_key Pending = codes "pending"
-status_key Running = codes "running"
-status_key Cancelling = codes "cancelling"
-status_key Success = codes "success"
-status_key Failure = codes "failure"
-status_key Cancelled = codes "cancelled"
+status_key status = (status_line status).key
 
 -- the number of an instance's status
 abbrev pub power_code : Power → ℕ
-power_code power.Stopped = 102
-power_code power.Running = 103
-power_code power.Frozen = 110
-power_code power.Error = 112
+power_code power = (power_line power).code
 
 -- what an instance is
 abbrev pub instance_kind : Kind → List ℕ

@@ -3,7 +3,9 @@ ghost use Rattle.std.specs.Prelude.{◌≡◌, IfOk, codes};
 ghost use Rattle.serde_json.specs.Data.{put, string};
 ghost use Rattle.serde_json.specs.View.{view};
 ghost use Rattle.reply_parts.specs.Objects.{members_in};
-ghost use Rattle.reply_views.specs.Views.{server_data, project_data, profile_data, network_data, pool_data, volume_data, instance_data, expiry_text, snapshot_data, power_data, limit_data, line_data, lines_data, usage_data, view_data};
+ghost use Rattle.reply_views.specs.Views.{server_data, project_data, profile_data, network_data, pool_data};
+ghost use Rattle.reply_views.specs.Views.{volume_data, instance_data, expiry_text, snapshot_data, power_data};
+ghost use Rattle.reply_views.specs.Views.{limit_data, line_data, lines_data, usage_data, view_data};
 
 use crate::operation::operation_value;
 use crate::words::{driver_text, instance_kind, limit_name, power_code, power_text};
@@ -148,7 +150,8 @@ fn expiry_text(alloc: Global, expires: u64) -> Result<Text, NoMemory>
 
 /// An object and when a snapshot expires.
 fn with_expiry(alloc: Global, object: Object, expires: u64) -> Result<Object, NoMemory>
-    ensures { IfOk result (λ o. members_in o ≡ put (codes "expires_at") (string (expiry_text expires)) (members_in object)) }
+    ensures { IfOk result (λ o. members_in o
+        ≡ put (codes "expires_at") (string (expiry_text expires)) (members_in object)) }
 {
     let text = expiry_text(alloc, expires)?;
     object.with_text("expires_at", text.view())

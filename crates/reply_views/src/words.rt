@@ -1,7 +1,8 @@
 ghost use Rattle.std.specs.Prelude.{◌≡◌};
 ghost use Rattle.row_machine.specs.machine.TableRules.{status_text};
 ghost use Rattle.row_machine.specs.machine.StandingRules.{power_text};
-ghost use Rattle.reply_views.specs.Words.{status_code, status_key, power_code, instance_kind, driver_text, limit_name, fault_text, error_text};
+ghost use Rattle.reply_views.specs.Words.{status_code, status_key, power_code, instance_kind, driver_text, limit_name};
+ghost use Rattle.reply_views.specs.Words.{fault_text, error_text};
 
 use records::{Driver, LimitKeyName, OpFault, Status};
 use size_values::{Kind, Power};

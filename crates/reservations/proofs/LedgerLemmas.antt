@@ -1,6 +1,6 @@
-use Rattle.std.proofs.Common.{◌≡◌, ℕ, ◌+◌, ◌^◌, ◌<◌, ◌≤◌, Bool, true, false, cond, IsSome, Option, Some, None, [], ◌∷◌, ◌++◌, refl, sym, ◌∙◌, ap, subst, arith}
+use Rattle.std.proofs.Common.{◌≡◌, ℕ, ◌+◌, ◌^◌, ◌<◌, ◌≤◌, Bool, true, false, cond, IsSome, Option, Some, None, List, [], ◌∷◌, ◌++◌, refl, sym, ◌∙◌, ap, subst, arith}
 use Rattle.std.specs.Option.{option_map}
-use Rattle.std.specs.Prelude.{◌==◌}
+use Rattle.std.specs.Str.{bytes_eq}
 use Rattle.std.proofs.lemmas.List.Sums.{sum_by_push}
 use Rattle.plain_lists.specs.Edits.{dropped}
 use Rattle.plain_lists.proofs.Elements.{Each-map, Each-push}
@@ -22,7 +22,7 @@ AreHoldings-same l now held greatest books h =
     (record { balanced = h.balanced; distinct = h.distinct; up_to = h.up_to; limit = h.limit; small = h.small })
 
 -- one more share
-pub AreHoldings-held : (l : Holdings) (op project : ℕ) (share : Amounts) (spare : ℕ) → l.greatest < op → op < 2 ^ 40 → ((k : Part) → part k share < 2 ^ 80)
+pub AreHoldings-held : (l : Holdings) (op : ℕ) (project : List ℕ) (share : Amounts) (spare : ℕ) → l.greatest < op → op < 2 ^ 40 → ((k : Part) → part k share < 2 ^ 80)
     → AreHoldings l
     → AreHoldings (record { held = l.held ++ record { op = op; project = project; share = share } ∷ []; greatest = op; books = granted_more share l.books; spare = spare })
 AreHoldings-held l op project share spare above limit small h =
@@ -79,8 +79,8 @@ pub held-fits : (l : Holdings) → AreHoldings l → (k : Part) → all_part k l
 held-fits l h k = omega (arith, h.balanced k, h.small k, h.limit)
 
 -- a share counts at most itself
-pub counted-le : (k : Part) (project : ℕ) (h : Hold) → counted k project h ≤ part k h.share
-counted-le k project h = at (h.project == project) where
+pub counted-le : (k : Part) (project : List ℕ) (h : Hold) → counted k project h ≤ part k h.share
+counted-le k project h = at (bytes_eq h.project project) where
   at : (b : Bool) → cond b (part k h.share) 0 ≤ part k h.share
   at true = omega arith
   at false = omega arith

@@ -1,6 +1,7 @@
 use Rattle.std.specs.Prelude.{ℕ, ◌==◌, Bool, Option, List, if◌then◌else◌}
 use Rattle.std.specs.List.{find, sum_by}
 use Rattle.std.specs.Option.{option_map}
+use Rattle.std.specs.Str.{bytes_eq}
 use Rattle.size_values.specs.declared.amounts.Amounts.{Amounts}
 use Rattle.size_values.specs.declared.amounts.Part.{Part}
 use Rattle.size_values.specs.Amounts.{nothing, part, plus_of}
@@ -32,11 +33,11 @@ abbrev pub share_at : Holdings → ℕ → Option Amounts
 share_at l op = option_map (λ h. h.share) (hold_at l op)
 
 -- what a share counts for a project: nothing, if it is of another one
-abbrev pub counted : Part → ℕ → Hold → ℕ
-counted k project h = if h.project == project then part k h.share else 0
+abbrev pub counted : Part → List ℕ → Hold → ℕ
+counted k project h = if bytes_eq h.project project then part k h.share else 0
 
 -- one part of what the operations of a project hold
-abbrev pub held_part : Part → ℕ → List Hold → ℕ
+abbrev pub held_part : Part → List ℕ → List Hold → ℕ
 held_part k project holds = sum_by (counted k project) holds
 
 -- one part of all that is held

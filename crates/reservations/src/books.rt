@@ -1,10 +1,10 @@
-use size_values::Amounts;
+use size_values::{Amounts, Text};
 
-/// The share that an operation holds of the limits of a project, which a number stands for.
-#[derive(Clone, Copy, PartialEq, Eq)]
+/// The share that an operation holds of the limits of a project, which is named by its name.
+#[derive(Drop)]
 pub struct Hold {
     pub op: u64,
-    pub project: u32,
+    pub project: Text,
     pub share: Amounts,
 }
 

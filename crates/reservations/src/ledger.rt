@@ -10,7 +10,7 @@ ghost use Rattle.reservations.specs.declared.books.Hold.{Hold as HoldValue};
 
 use crate::books::{Books, Hold};
 use plain_lists::push_reserved;
-use size_values::{Amounts, NoMemory};
+use size_values::{Amounts, NoMemory, Text};
 use std::alloc::Global;
 use std::marker::Model;
 
@@ -67,7 +67,7 @@ impl Ledger {
 
     /// An operation holds this share from now on. Each operation is greater than those before it, so each holds
     /// at most once.
-    pub fn hold(&mut self, op: u64, project: u32, share: Amounts)
+    pub fn hold(&mut self, op: u64, project: Text, share: Amounts)
         requires room { 1 ≤ self.old.spare }
         requires limit { op < 2 ^ 40 }
         requires above { self.old.greatest < op }
@@ -107,9 +107,17 @@ impl Ledger {
         self.books.returned = self.books.returned.plus(&share);
     }
 
+    /// The shares that are held, in the order of their operations.
+    pub fn holds(&self) -> &[Hold]
+        ensures held { result.now ≡ self.now.held }
+        ensures facts { AreHoldings self.now }
+    {
+        &self.holds
+    }
+
     /// What the operations of a project hold together.
-    pub fn held(&self, project: u32) -> Amounts
-        ensures sums { (k : Part) → part k result ≡ held_part k project self.now.held }
+    pub fn held(&self, project: &str) -> Amounts
+        ensures sums { (k : Part) → part k result ≡ held_part k project.now self.now.held }
         ensures facts { AreHoldings self.now }
     {
         held_of(&self.holds, project)
@@ -172,9 +180,9 @@ fn share_in(holds: &[Hold], op: u64) -> Option<Amounts>
 }
 
 /// The sum of the shares of a project.
-fn held_of(holds: &[Hold], project: u32) -> Amounts
+fn held_of(holds: &[Hold], project: &str) -> Amounts
     requires { (k : Part) → all_part k holds.now < 2 ^ 128 }
-    ensures { (k : Part) → part k result ≡ held_part k project holds.now }
+    ensures { (k : Part) → part k result ≡ held_part k project.now holds.now }
 {
     let mut total = Amounts::zero();
     for hold in holds {
@@ -184,11 +192,11 @@ fn held_of(holds: &[Hold], project: u32) -> Amounts
 }
 
 /// The sum with one more share, where it is of the project.
-fn with_hold(total: Amounts, hold: &Hold, project: u32) -> Amounts
+fn with_hold(total: Amounts, hold: &Hold, project: &str) -> Amounts
     requires { (k : Part) → part k total + part k hold.now.share < 2 ^ 128 }
-    ensures { (k : Part) → part k result ≡ part k total + counted k project hold.now }
+    ensures { (k : Part) → part k result ≡ part k total + counted k project.now hold.now }
 {
-    if hold.project == project {
+    if hold.project.view() == project {
         total.plus(&hold.share)
     } else {
         total

@@ -7,8 +7,10 @@ use Rattle.records.specs.declared.commands.Body.{Body}
 use Rattle.records.specs.declared.commands.Origin.{Origin}
 use Rattle.records.specs.declared.commands.Origin.TheVariants as origin
 use Rattle.rest_bodies.specs.Drivers.{driver_at}
+use Rattle.rest_bodies.specs.Instances.{kind_at, ephemeral_at, instance_origin}
 use Rattle.rest_bodies.specs.Members.{given, text_at}
 use Rattle.rest_bodies.specs.Origins.{volume_origin}
+use Rattle.rest_bodies.specs.Profiles.{profiles_at}
 use Rattle.rest_bodies.specs.Settings.{changes_of, devices_of}
 use Rattle.rest_bodies.specs.declared.fields.Shape.{Shape}
 use Rattle.rest_bodies.specs.declared.fields.Shape.TheVariants as shape
@@ -31,10 +33,11 @@ abbrev pub has_config : Shape → Bool
 has_config shape.Rename = false
 has_config other = true
 
--- bodies of profiles have devices, but that of a rename
+-- bodies of profiles and of new instances have devices, but that of a rename
 abbrev pub has_devices : Shape → Bool
 has_devices shape.NewProfile = true
 has_devices shape.ProfileChange = true
+has_devices shape.NewInstance = true
 has_devices other = false
 
 -- bodies of new pools have a driver
@@ -42,9 +45,15 @@ abbrev pub has_driver : Shape → Bool
 has_driver shape.NewPool = true
 has_driver other = false
 
--- new volumes have an origin, in the pool of their path
+-- bodies of new instances say what instances alone have
+abbrev pub is_of_instances : Shape → Bool
+is_of_instances shape.NewInstance = true
+is_of_instances other = false
+
+-- new volumes and instances have an origin, volumes in the pool of their path
 abbrev pub origin_of : Shape → Data → List ℕ → Origin
 origin_of shape.NewVolume body pool = volume_origin body pool
+origin_of shape.NewInstance body pool = instance_origin body
 origin_of other body pool = origin.None
 
 -- what a body says of an object, in the pool of its path
@@ -53,9 +62,9 @@ body_of shape body pool = record {
   description = text_at (codes "description") body;
   config = part_of (has_config shape) (config_at body);
   devices = part_of (has_devices shape) (devices_at body);
-  profiles = None;
-  kind = None;
-  ephemeral = None;
+  profiles = part_of (is_of_instances shape) (profiles_at body);
+  kind = part_of (is_of_instances shape) (kind_at body);
+  ephemeral = part_of (is_of_instances shape) (ephemeral_at body);
   driver = part_of (has_driver shape) (driver_at body);
   origin = origin_of shape body pool;
 }

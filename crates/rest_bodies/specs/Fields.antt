@@ -1,10 +1,12 @@
 -- The fields of bodies: which a request has, in which form and order.
-use Rattle.std.specs.Prelude.{◌≡◌, ℕ, Bool, List, [], ◌∷◌, ◌++◌, Option, Some, None, is_some, if◌then◌else◌, codes}
+use Rattle.std.specs.Prelude.{◌≡◌, ℕ, Bool, List, [], ◌∷◌, ◌++◌, Option, Some, None, is_some, is_none, codes}
 use Rattle.serde_json.specs.Data.{Data}
-use Rattle.serde_json.specs.Find.{as_str}
+use Rattle.serde_json.specs.Find.{as_bool, as_str}
 use Rattle.rest_bodies.specs.Drivers.{driver_in}
-use Rattle.rest_bodies.specs.Members.{given, is_word}
+use Rattle.rest_bodies.specs.Instances.{kind_in, is_false, source_fault}
+use Rattle.rest_bodies.specs.Members.{given, is_word, unless}
 use Rattle.rest_bodies.specs.Origins.{fits_source}
+use Rattle.rest_bodies.specs.Profiles.{fits_profiles}
 use Rattle.rest_bodies.specs.Settings.{fits_settings, fits_devices}
 use Rattle.rest_bodies.specs.declared.fields.Field.{Field}
 use Rattle.rest_bodies.specs.declared.fields.Field.TheVariants as field
@@ -18,6 +20,9 @@ fields_of shape.NewProfile = field.Name ∷ field.Description ∷ field.Config �
 fields_of shape.NewNetwork = field.Name ∷ field.NetworkType ∷ field.Description ∷ field.Config ∷ []
 fields_of shape.NewPool = field.Name ∷ field.Driver ∷ field.Description ∷ field.Config ∷ []
 fields_of shape.NewVolume = field.Name ∷ field.VolumeType ∷ field.Description ∷ field.Config ∷ field.VolumeSource ∷ []
+fields_of shape.NewInstance =
+    field.Name ∷ field.InstanceType ∷ field.InstanceSource ∷ field.Profiles ∷ field.Config ∷ field.Devices
+    ∷ field.Ephemeral ∷ field.Description ∷ field.Start ∷ []
 fields_of shape.Change = field.Description ∷ field.Config ∷ []
 fields_of shape.ProfileChange = field.Description ∷ field.Config ∷ field.Devices ∷ []
 fields_of shape.Rename = field.Name ∷ []
@@ -32,6 +37,11 @@ key_of field.Description = codes "description"
 key_of field.Config = codes "config"
 key_of field.Devices = codes "devices"
 key_of field.VolumeSource = codes "source"
+key_of field.InstanceType = codes "type"
+key_of field.InstanceSource = codes "source"
+key_of field.Profiles = codes "profiles"
+key_of field.Ephemeral = codes "ephemeral"
+key_of field.Start = codes "start"
 
 -- the value has the form of the field
 abbrev pub fits : Field → Data → Bool
@@ -43,21 +53,28 @@ fits field.Description value = is_some (as_str value)
 fits field.Config value = fits_settings value
 fits field.Devices value = fits_devices value
 fits field.VolumeSource value = fits_source value
+fits field.InstanceType value = is_some (kind_in value)
+fits field.InstanceSource value = is_none (source_fault value)
+fits field.Profiles value = fits_profiles value
+fits field.Ephemeral value = is_some (as_bool value)
+fits field.Start value = is_false value
 
--- the key of a field, if it is at fault
-abbrev pub unless : Bool → List ℕ → Option (List ℕ)
-unless fine key = if fine then None else Some key
+-- the fault of a value: the source of an instance tells which of its parts is at fault
+abbrev pub value_fault : Field → Data → Option (List ℕ)
+value_fault field.InstanceSource value = source_fault value
+value_fault other value = unless (fits other value) (key_of other)
 
--- a name and a driver have to be given, and other fields may be absent
+-- a name, a driver and the source of an instance have to be given, and other fields may be absent
 abbrev pub absent_fault : Field → Option (List ℕ)
 absent_fault field.Name = Some (codes "name")
 absent_fault field.Driver = Some (codes "driver")
+absent_fault field.InstanceSource = Some (codes "source")
 absent_fault other = None
 
 -- the fault of a field, by its value if one is given
 abbrev pub fault_in : Field → Option Data → Option (List ℕ)
 fault_in field None = absent_fault field
-fault_in field (Some value) = unless (fits field value) (key_of field)
+fault_in field (Some value) = value_fault field value
 
 -- the key of a field that is at fault in a body
 unfoldable pub fault_of : Field → Data → Option (List ℕ)

@@ -34,6 +34,10 @@ text_at key body = option_and_then as_str (given key body)
 unfoldable pub is_word : List ℕ → Data → Bool
 is_word word value = option_map_or (λ text. bytes_eq text word) (as_str value) false
 
+-- a key, if what it names is at fault
+abbrev pub unless : Bool → List ℕ → Option (List ℕ)
+unless fine key = if fine then None else Some key
+
 -- the name in a body
 abbrev pub name_at : Data → List ℕ
 name_at body = unwrap_or (text_at (codes "name") body) []

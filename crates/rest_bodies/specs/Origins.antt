@@ -21,9 +21,9 @@ has_word word (Some value) = is_word word value
 abbrev pub is_copy_source : Data → Bool
 is_copy_source source = has_word (codes "copy") (given (codes "type") source)
 
--- a body that asks for a copy of a volume
-unfoldable pub copies_volume : Data → Bool
-copies_volume body = option_map_or is_copy_source (given (codes "source") body) false
+-- a body that asks for a copy of an object, whatever else it says
+unfoldable pub asks_for_copy : Data → Bool
+asks_for_copy body = option_map_or is_copy_source (given (codes "source") body) false
 
 -- the form of a volume's source: an object with the type `copy`, the name of a volume, and maybe its pool
 unfoldable pub fits_source : Data → Bool

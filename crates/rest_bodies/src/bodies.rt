@@ -1,19 +1,23 @@
 ghost use Rattle.std.specs.Prelude.{◌≡◌, IfOk, option_map};
 ghost use Rattle.serde_json.specs.View.{view};
-ghost use Rattle.rest_bodies.specs.Bodies.{config_at, devices_at, part_of, has_config, has_devices, has_driver, origin_of, body_of};
+ghost use Rattle.rest_bodies.specs.Bodies.{config_at, devices_at, part_of, has_config, has_devices, has_driver, is_of_instances, origin_of, body_of};
 ghost use Rattle.rest_bodies.specs.Drivers.{driver_at};
 ghost use Rattle.rest_bodies.specs.Fields.{fields_of, first_fault};
+ghost use Rattle.rest_bodies.specs.Instances.{kind_at, ephemeral_at};
 ghost use Rattle.rest_bodies.specs.Members.{text_at};
+ghost use Rattle.rest_bodies.specs.Profiles.{profiles_at};
 
 use crate::drivers::driver_at;
 use crate::fields::{Shape, fields_of, first_fault};
+use crate::instances::{ephemeral_at, instance_origin, kind_at};
 use crate::members::{given, text_at};
 use crate::origins::volume_origin;
+use crate::profiles::profiles_at;
 use crate::settings::{changes_of, devices_of};
 use config_lists::{Changes, Devices};
 use records::{Body, Driver, Origin};
 use serde_json::Value;
-use size_values::NoMemory;
+use size_values::{Kind, NoMemory, Seq, Text};
 use std::alloc::Global;
 
 /// The key of the first field of a body that is at fault, if one is.
@@ -60,6 +64,7 @@ fn has_devices(shape: Shape) -> bool
     match shape {
         Shape::NewProfile => true,
         Shape::ProfileChange => true,
+        Shape::NewInstance => true,
         _ => false,
     }
 }
@@ -101,12 +106,50 @@ fn driver_part(shape: Shape, body: &Value) -> Option<Driver>
     None
 }
 
+/// Whether a body of this shape says what instances alone have.
+fn is_of_instances(shape: Shape) -> bool
+    ensures { result ≡ is_of_instances shape }
+{
+    match shape {
+        Shape::NewInstance => true,
+        _ => false,
+    }
+}
+
+fn profiles_part(alloc: Global, shape: Shape, body: &Value) -> Result<Option<Seq<Text>>, NoMemory>
+    ensures { IfOk result (λ o. o ≡ part_of (is_of_instances shape) (profiles_at (view body.now))) }
+{
+    if is_of_instances(shape) {
+        return profiles_at(alloc, body);
+    }
+    Ok(None)
+}
+
+fn kind_part(shape: Shape, body: &Value) -> Option<Kind>
+    ensures { result ≡ part_of (is_of_instances shape) (kind_at (view body.now)) }
+{
+    if is_of_instances(shape) {
+        return kind_at(body);
+    }
+    None
+}
+
+fn ephemeral_part(shape: Shape, body: &Value) -> Option<bool>
+    ensures { result ≡ part_of (is_of_instances shape) (ephemeral_at (view body.now)) }
+{
+    if is_of_instances(shape) {
+        return ephemeral_at(body);
+    }
+    None
+}
+
 /// What the object of a body is made from.
 fn origin_of(alloc: Global, shape: Shape, body: &Value, pool: &str) -> Result<Origin, NoMemory>
     ensures { IfOk result (λ o. o ≡ origin_of shape (view body.now) pool.now) }
 {
     match shape {
         Shape::NewVolume => volume_origin(alloc, body, pool),
+        Shape::NewInstance => instance_origin(alloc, body),
         _ => Ok(Origin::None),
     }
 }
@@ -120,9 +163,9 @@ pub fn body_of(alloc: Global, shape: Shape, body: &Value, pool: &str) -> Result<
         description: text_at(alloc, "description", body)?,
         config: config_part(alloc, shape, body)?,
         devices: devices_part(alloc, shape, body)?,
-        profiles: None,
-        kind: None,
-        ephemeral: None,
+        profiles: profiles_part(alloc, shape, body)?,
+        kind: kind_part(shape, body),
+        ephemeral: ephemeral_part(shape, body),
         driver: driver_part(shape, body),
         origin: origin_of(alloc, shape, body, pool)?,
     })

@@ -5,13 +5,15 @@
 mod bodies;
 mod drivers;
 mod fields;
+mod instances;
 mod laws;
 mod members;
 mod origins;
+mod profiles;
 mod settings;
 
 pub use bodies::{body_of, judge_fields};
 pub use fields::{Field, Shape};
 pub use laws::names_first_bad;
 pub use members::{given, name_at, object_in};
-pub use origins::{copies_volume, volume_origin};
+pub use origins::{asks_for_copy, volume_origin};

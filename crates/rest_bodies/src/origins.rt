@@ -1,6 +1,6 @@
 ghost use Rattle.std.specs.Prelude.{◌≡◌, IfOk, Some, option_map};
 ghost use Rattle.serde_json.specs.View.{view};
-ghost use Rattle.rest_bodies.specs.Origins.{may_be_text, has_word, is_copy_source, copies_volume, fits_source, source_pool, volume_copied, volume_origin};
+ghost use Rattle.rest_bodies.specs.Origins.{may_be_text, has_word, is_copy_source, asks_for_copy, fits_source, source_pool, volume_copied, volume_origin};
 
 use crate::members::{given, is_word, name_at, str_at};
 use records::Origin;
@@ -17,7 +17,7 @@ fn may_be_text(field: Option<&Value>) -> bool
     }
 }
 
-fn has_word(word: &str, field: Option<&Value>) -> bool
+pub(crate) fn has_word(word: &str, field: Option<&Value>) -> bool
     ensures { result ≡ has_word word.now (option_map (λ m. view m.now) field.entry) }
 {
     match field {
@@ -33,10 +33,10 @@ fn is_copy_source(source: &Value) -> bool
     has_word("copy", given("type", source))
 }
 
-/// Whether the body of a new volume asks for a copy.
-#[tactic(auto, unfolding(crate::specs::Origins::copies_volume))]
-pub fn copies_volume(body: &Value) -> bool
-    ensures { result ≡ copies_volume (view body.now) }
+/// Whether a body asks for a copy of an object, whatever else it says.
+#[tactic(auto, unfolding(crate::specs::Origins::asks_for_copy))]
+pub fn asks_for_copy(body: &Value) -> bool
+    ensures { result ≡ asks_for_copy (view body.now) }
 {
     match given("source", body) {
         Some(source) => is_copy_source(source),

@@ -2,3 +2,4 @@ pub mod Matching
 pub mod Names
 pub mod Rows
 pub mod Taken
+pub mod Timeouts

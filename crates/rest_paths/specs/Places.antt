@@ -8,6 +8,8 @@ use Rattle.matchit.specs.Rows.{RowsOf}
 use Rattle.matchit.specs.Seek.{first}
 use Rattle.matchit.specs.declared.error.InsertError.{InsertError}
 use Rattle.records.specs.Built.{is_built_kind, is_built_state}
+use Rattle.size_values.specs.declared.kinds.ObjectKind.{ObjectKind}
+use Rattle.size_values.specs.declared.kinds.ObjectKind.TheVariants as kind
 use Rattle.rest_paths.specs.declared.places.TheConstants.{ROUTES}
 use Rattle.rest_paths.specs.declared.places.Line.{Line}
 use Rattle.rest_paths.specs.declared.places.Methods.{Methods}
@@ -96,12 +98,23 @@ verb_offered line method = option_and_then (if_offered line.offers) (verb_of met
 
 -- ---- what is built yet
 
+-- a method that asks for what there is, and changes nothing
+abbrev pub is_get : Verb → Bool
+is_get verb.Get = true
+is_get other = false
+
+-- Instances and operations are shown, and not changed yet.
+abbrev pub is_built_on : ObjectKind → Verb → Bool
+is_built_on kind.Instance verb = is_get verb
+is_built_on kind.Operation verb = is_get verb
+is_built_on other verb = true
+
 -- a request that is built yet, as far as its path and its method tell
-abbrev pub is_built : Place → Bool
-is_built place.Root = true
-is_built place.Server = true
-is_built (place.List kind) = is_built_kind kind
-is_built (place.One kind) = is_built_kind kind
-is_built (place.State kind) = is_built_state kind
-is_built place.Wait = false
-is_built place.Events = true
+abbrev pub is_built : Place → Verb → Bool
+is_built place.Root verb = true
+is_built place.Server verb = true
+is_built (place.List kind) verb = is_built_kind kind
+is_built (place.One kind) verb = is_built_kind kind && is_built_on kind verb
+is_built (place.State kind) verb = is_built_state kind && is_get verb
+is_built place.Wait verb = is_built_kind kind.Operation
+is_built place.Events verb = true

@@ -1,10 +1,12 @@
 -- What the query of a target says.
-use Rattle.std.specs.Prelude.{ℕ, ◌==◌, ◌&&◌, ◌||◌, nat_lt, Bool, true, false, not, List, [], ◌∷◌, length, slice_index, Option, Some, None, Result, Ok, ok_or, option_map, unwrap_or, is_some, is_ok, if◌then◌else◌, codes}
+use Rattle.std.specs.Prelude.{ℕ, ◌==◌, ◌&&◌, ◌||◌, ℤ, pos, negsuc, nat_lt, Bool, true, false, not, List, [], ◌∷◌, length, slice_index, Option, Some, None, Result, Ok, ok_or, option_map, unwrap_or, is_some, if◌then◌else◌, codes}
 use Rattle.std.specs.List.{list_all, slice_split}
+use Rattle.std.specs.Result.{result_ok}
 use Rattle.std.specs.Str.{bytes_eq}
 use Rattle.std.specs.Str.Lossy.{utf8_lossy}
 use Rattle.form_urlencoded.specs.Form.{raw_pairs, decode}
 use Rattle.size_values.specs.Count.{count_of}
+use Rattle.records.specs.Forms.{longest_wait}
 use Rattle.records.specs.declared.refusals.Rule.TheVariants as rule
 use Rattle.records.specs.declared.refusals.Refusal.{Refusal}
 use Rattle.rest_paths.specs.Answers.{followed}
@@ -27,9 +29,13 @@ recursion_of value =
 unfoldable pub has_leading_zero : List ℕ → Bool
 has_leading_zero value = nat_lt 1 (length value) && slice_index value 0 == 48
 
--- -1 for no end, or seconds from 0 to 1000000 in decimal, with neither a sign nor leading zeros
-unfoldable pub is_timeout : List ℕ → Bool
-is_timeout value = bytes_eq value (codes "-1") || (not (has_leading_zero value) && is_ok (count_of value 0 1000000))
+-- seconds in decimal, with neither a sign nor leading zeros, and not too many
+unfoldable pub seconds_of : List ℕ → Option ℕ
+seconds_of value = if has_leading_zero value then None else result_ok (count_of value 0 longest_wait)
+
+-- the time to wait: -1 for no end, or seconds
+unfoldable pub timeout_of : List ℕ → Option ℤ
+timeout_of value = if bytes_eq value (codes "-1") then Some (negsuc 0) else option_map pos (seconds_of value)
 
 -- one of the two types of events
 unfoldable pub is_type : List ℕ → Bool
@@ -41,13 +47,13 @@ are_types value = list_all is_type (slice_split (λ byte. byte == 44) value)
 
 -- a query that says nothing
 abbrev pub no_query : Query
-no_query = record { project = None; flags = record { recursion = None; has_timeout = false; has_types = false } }
+no_query = record { project = None; flags = record { recursion = None; timeout = None; has_types = false } }
 
 -- The flags after one more pair, or none if the pair is bad. The first of equal keys counts, and other keys say nothing.
 unfoldable pub flags_after : Flags → List ℕ → List ℕ → Option Flags
 flags_after flags key value =
     if bytes_eq key (codes "recursion") && not (is_some flags.recursion) then option_map (λ (r : Bool). record flags { recursion = Some r }) (recursion_of value)
-    else (if bytes_eq key (codes "timeout") && not flags.has_timeout then (if is_timeout value then Some (record flags { has_timeout = true }) else None)
+    else (if bytes_eq key (codes "timeout") && not (is_some flags.timeout) then option_map (λ (t : ℤ). record flags { timeout = Some t }) (timeout_of value)
     else (if bytes_eq key (codes "type") && not flags.has_types then (if are_types value then Some (record flags { has_types = true }) else None)
     else (if bytes_eq key (codes "all-projects") || bytes_eq key (codes "filter") then None
     else Some flags)))
@@ -78,3 +84,7 @@ project_of query = unwrap_or query.project (codes "default")
 -- whether objects are listed, and not their links alone
 abbrev pub recursion_asked : Query → Bool
 recursion_asked query = unwrap_or query.flags.recursion false
+
+-- the time to wait for an operation, which has no end where the query says nothing
+abbrev pub timeout_asked : Query → ℤ
+timeout_asked query = unwrap_or query.flags.timeout (negsuc 0)

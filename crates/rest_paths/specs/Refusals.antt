@@ -1,6 +1,7 @@
 -- Refusals of requests by their form: a rule, and the key that it tells.
-use Rattle.std.specs.Prelude.{ℕ, List, []}
+use Rattle.std.specs.Prelude.{ℕ, List, [], codes}
 use Rattle.records.specs.declared.refusals.Rule.{Rule}
+use Rattle.records.specs.declared.refusals.Rule.TheVariants as rule
 use Rattle.records.specs.declared.refusals.Kept.{Kept}
 use Rattle.records.specs.declared.refusals.Refusal.{Refusal}
 
@@ -15,3 +16,7 @@ on_key rule key = record { rule = rule; kept = record untold { key = key } }
 -- the rule alone
 abbrev pub plainly : Rule → Refusal
 plainly rule = record { rule = rule; kept = untold }
+
+-- no operation has this id
+abbrev pub no_operation : List ℕ → Refusal
+no_operation id = record { rule = rule.N2; kept = record untold { kind = codes "operation"; name = id } }

@@ -1,5 +1,5 @@
 ghost use Rattle.std.specs.Prelude.{◌≡◌};
-ghost use Rattle.rest_paths.specs.Places.{verb_of, has_body, is_offered, verb_offered, is_built};
+ghost use Rattle.rest_paths.specs.Places.{verb_of, has_body, is_offered, verb_offered, is_get, is_built_on, is_built};
 
 use records::{is_built_kind, is_built_state};
 use size_values::ObjectKind;
@@ -234,17 +234,37 @@ pub fn verb_offered(line: Line, method: &str) -> Option<Verb>
     }
 }
 
-/// Whether requests of this path are built yet.
-pub fn is_built(place: Place) -> bool
-    ensures { result ≡ is_built place }
+fn is_get(verb: Verb) -> bool
+    ensures { result ≡ is_get verb }
+{
+    match verb {
+        Verb::Get => true,
+        _ => false,
+    }
+}
+
+/// Whether a method is built for one object of a kind. Instances and operations are shown, and not changed yet.
+fn is_built_on(kind: ObjectKind, verb: Verb) -> bool
+    ensures { result ≡ is_built_on kind verb }
+{
+    match kind {
+        ObjectKind::Instance => is_get(verb),
+        ObjectKind::Operation => is_get(verb),
+        _ => true,
+    }
+}
+
+/// Whether requests of this path and method are built yet.
+pub fn is_built(place: Place, verb: Verb) -> bool
+    ensures { result ≡ is_built place verb }
 {
     match place {
         Place::Root => true,
         Place::Server => true,
         Place::List(kind) => is_built_kind(kind),
-        Place::One(kind) => is_built_kind(kind),
-        Place::State(kind) => is_built_state(kind),
-        Place::Wait => false,
+        Place::One(kind) => is_built_kind(kind) && is_built_on(kind, verb),
+        Place::State(kind) => is_built_state(kind) && is_get(verb),
+        Place::Wait => is_built_kind(ObjectKind::Operation),
         Place::Events => true,
     }
 }

@@ -1,6 +1,7 @@
-ghost use Rattle.std.specs.Prelude.{◌≡◌, IfOk};
+ghost use Rattle.std.specs.Prelude.{◌≡◌, ◌≤◌, IfOk, IfSome};
+ghost use Rattle.records.specs.Forms.{longest_wait};
 ghost use Rattle.rest_paths.specs.Answers.{Gives};
-ghost use Rattle.rest_paths.specs.Queries.{recursion_of, has_leading_zero, is_timeout, is_type, are_types, no_query, flags_after, project_after, query_after, query_said, project_of, recursion_asked};
+ghost use Rattle.rest_paths.specs.Queries.{recursion_of, has_leading_zero, seconds_of, timeout_of, is_type, are_types, no_query, flags_after, project_after, query_after, query_said, project_of, recursion_asked, timeout_asked};
 
 use crate::refusals::refused;
 use form_urlencoded::parse;
@@ -8,12 +9,12 @@ use records::{Refusal, Rule};
 use size_values::{NoMemory, Or, Text, read_count};
 use std::alloc::Global;
 
-/// What a query says besides the project: whether objects are listed and not their links alone, and that a `timeout` and
-/// a `type` were there.
+/// What a query says besides the project: whether objects are listed and not their links alone, how many seconds to wait
+/// for an operation, with -1 for no end, and that a `type` was there.
 #[derive(Clone, Copy)]
 pub struct Flags {
     pub recursion: Option<bool>,
-    pub has_timeout: bool,
+    pub timeout: Option<i64>,
     pub has_types: bool,
 }
 
@@ -45,12 +46,33 @@ fn has_leading_zero(value: &str) -> bool
     value.len() > 1 && value.as_bytes()[0] == b'0'
 }
 
-/// Whether a text is `-1` or seconds from 0 to 1000000 without leading zeros.
-#[tactic(auto, unfolding(crate::specs::Queries::is_timeout))]
-fn is_timeout(value: &str) -> bool
-    ensures { result ≡ is_timeout value.now }
+/// Seconds from 0 to 1000000 without leading zeros.
+#[tactic(auto, unfolding(crate::specs::Queries::seconds_of), using(crate::proofs::Timeouts::count_within))]
+fn seconds_of(value: &str) -> Option<u64>
+    ensures is { result ≡ seconds_of value.now }
+    ensures within { IfSome result (λ n. n ≤ longest_wait) }
 {
-    value == "-1" || (!has_leading_zero(value) && read_count(value, 0, 1_000_000).is_ok())
+    if has_leading_zero(value) {
+        return None;
+    }
+    match read_count(value, 0, 1_000_000) {
+        Ok(seconds) => Some(seconds),
+        Err(_) => None,
+    }
+}
+
+/// The time to wait that a text says: seconds, or `-1` for no end.
+#[tactic(auto, unfolding(crate::specs::Queries::timeout_of))]
+fn timeout_of(value: &str) -> Option<i64>
+    ensures { result ≡ timeout_of value.now }
+{
+    if value == "-1" {
+        return Some(-1);
+    }
+    match seconds_of(value) {
+        Some(seconds) => Some(seconds as i64),
+        None => None,
+    }
 }
 
 #[tactic(auto, unfolding(crate::specs::Queries::is_type))]
@@ -75,28 +97,28 @@ fn flags_after(flags: Flags, key: &str, value: &str) -> Option<Flags>
 {
     let Flags {
         recursion,
-        has_timeout,
+        timeout,
         has_types,
     } = flags;
     if key == "recursion" && recursion.is_none() {
         return match recursion_of(value) {
             Some(objects) => Some(Flags {
                 recursion: Some(objects),
-                has_timeout,
+                timeout,
                 has_types,
             }),
             None => None,
         };
     }
-    if key == "timeout" && !has_timeout {
-        if !is_timeout(value) {
-            return None;
-        }
-        return Some(Flags {
-            recursion,
-            has_timeout: true,
-            has_types,
-        });
+    if key == "timeout" && timeout.is_none() {
+        return match timeout_of(value) {
+            Some(time) => Some(Flags {
+                recursion,
+                timeout: Some(time),
+                has_types,
+            }),
+            None => None,
+        };
     }
     if key == "type" && !has_types {
         if !are_types(value.as_bytes()) {
@@ -104,7 +126,7 @@ fn flags_after(flags: Flags, key: &str, value: &str) -> Option<Flags>
         }
         return Some(Flags {
             recursion,
-            has_timeout,
+            timeout,
             has_types: true,
         });
     }
@@ -153,7 +175,7 @@ pub fn query_said(alloc: Global, text: &str) -> Result<Query, Or<Refusal>>
         project: None,
         flags: Flags {
             recursion: None,
-            has_timeout: false,
+            timeout: None,
             has_types: false,
         },
     };
@@ -181,5 +203,15 @@ pub fn recursion_asked(query: &Query) -> bool
     match query.flags.recursion {
         Some(objects) => objects,
         None => false,
+    }
+}
+
+/// How many seconds to wait for an operation, or -1 for no end, which is also where nothing is said.
+pub fn timeout_asked(query: &Query) -> i64
+    ensures { result ≡ timeout_asked query.now }
+{
+    match query.flags.timeout {
+        Some(time) => time,
+        None => -1,
     }
 }

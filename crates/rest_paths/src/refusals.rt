@@ -1,6 +1,6 @@
 ghost use Rattle.std.specs.Prelude.{◌≡◌, IfOk};
 ghost use Rattle.rest_paths.specs.Answers.{IsRefused};
-ghost use Rattle.rest_paths.specs.Refusals.{untold, on_key, plainly};
+ghost use Rattle.rest_paths.specs.Refusals.{untold, on_key, plainly, no_operation};
 
 use records::{Kept, Refusal, Rule};
 use size_values::{NoMemory, Or, Text};
@@ -37,4 +37,33 @@ pub fn plainly(alloc: Global, rule: Rule) -> Or<Refusal>
     ensures { IsRefused result (plainly rule) }
 {
     refused(alloc, rule, "")
+}
+
+fn kept_of_operation(alloc: Global, id: &str) -> Result<Kept, NoMemory>
+    ensures { IfOk result (λ k. k ≡ (no_operation id.now).kept) }
+{
+    let name = Text::from_text(alloc, id)?;
+    Ok(Kept {
+        kind: Text::from_text(alloc, "operation")?,
+        project: Text::new(alloc),
+        name,
+        key: Text::new(alloc),
+        number: 0,
+        used: 0,
+        asked: 0,
+        limit: 0,
+    })
+}
+
+/// The refusal of an id that no operation has.
+pub fn no_operation(alloc: Global, id: &str) -> Or<Refusal>
+    ensures { IsRefused result (no_operation id.now) }
+{
+    match kept_of_operation(alloc, id) {
+        Ok(kept) => Or::Why(Refusal {
+            rule: Rule::N2,
+            kept,
+        }),
+        Err(_) => Or::NoMemory,
+    }
 }

@@ -58,7 +58,8 @@ operations_data boot operations = list_of (map (operation_data boot) operations)
 -- operations put by status into an object
 abbrev pub put_operations : ℕ → List (Status × List OpView) → Members → Members
 put_operations boot [] ms = ms
-put_operations boot (group ∷ groups) ms = put_operations boot groups (put (status_key group.0) (operations_data boot group.1) ms)
+put_operations boot (group
+    ∷ groups) ms = put_operations boot groups (put (status_key group.0) (operations_data boot group.1) ms)
 
 -- operations by status
 unfoldable pub whole_by_status : ℕ → List (Status × List OpView) → Data

@@ -6,7 +6,9 @@ ghost use Rattle.serde_json.specs.View.{view};
 ghost use Rattle.serde_json.specs.Written.{has_float, compact_text};
 ghost use Rattle.reply_parts.specs.Objects.{list_of};
 ghost use Rattle.reply_views.specs.Views.{view_data};
-ghost use Rattle.rest_replies.specs.Replies.{success_data, started_data, links_data, by_status, operations_data, whole_by_status, no_memory_refusal, reply_data, reply_code, reply_location, printed_of};
+ghost use Rattle.rest_replies.specs.Replies.{success_data, started_data, links_data, by_status, operations_data};
+ghost use Rattle.rest_replies.specs.Replies.{whole_by_status, no_memory_refusal, reply_data, reply_code};
+ghost use Rattle.rest_replies.specs.Replies.{reply_location, printed_of};
 
 use crate::refusals::{refusal_value, rule_code};
 use http_front::Printed;

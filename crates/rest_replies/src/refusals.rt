@@ -3,7 +3,8 @@ ghost use Rattle.std.specs.Prelude.{◌≡◌, IfOk, IsTrue, decimal};
 ghost use Rattle.http_front.specs.Replies.{is_reply_code};
 ghost use Rattle.serde_json.specs.Data.{string};
 ghost use Rattle.serde_json.specs.View.{view};
-ghost use Rattle.rest_replies.specs.Refusals.{rule_name, rule_text, rule_code, kept_parts, part_key, part_data, kept_data, refusal_data};
+ghost use Rattle.rest_replies.specs.Refusals.{rule_name, rule_text, rule_code, kept_parts, part_key, part_data};
+ghost use Rattle.rest_replies.specs.Refusals.{kept_data, refusal_data};
 
 use records::{Kept, Refusal, Rule};
 use reply_parts::Object;
@@ -24,7 +25,8 @@ pub(crate) enum Part {
     Used,
 }
 
-/// What the table says of a rule: its name, the HTTP status code, what went wrong, for a person, and what is told with it.
+/// What the table says of a rule: its name, the HTTP status code, what went wrong, for a person, and what is told with
+/// it.
 #[derive(Clone, Copy)]
 struct RuleLine {
     name: &'static str,

@@ -2,15 +2,17 @@ ghost use Rattle.std.specs.Prelude.{◌≡◌, IfOk, option_map};
 ghost use Rattle.serde_json.specs.View.{view};
 ghost use Rattle.rest_bodies.specs.Members.{name_at};
 ghost use Rattle.rest_paths.specs.Answers.{Gives};
-ghost use Rattle.rest_routes.specs.Commands.{named, object_of, objects_of, one_read, what_read, creation_shape, change_shape, shape_of, creation_said, change_said, what_said, what_sent, sent_body, what_of, command_built, sends_copy, is_copy, unless_copy, command_of};
+ghost use Rattle.rest_routes.specs.Commands.{named, object_of, objects_of, one_read, operation_read, operation_at, one_asked, what_read, creation_shape, change_shape, shape_of, creation_said, change_said, what_said, what_sent, sent_body, what_of, command_built, sends_copy, is_copy, unless_copy, command_of};
 
 use http_heads::Request;
 use records::{Command, Refusal, Rule, Target, What};
-use rest_bodies::{Shape, body_of, copies_volume, judge_fields, name_at, object_in};
+use rest_bodies::{Shape, asks_for_copy, body_of, judge_fields, name_at, object_in};
 use rest_paths::{
-    PathTable, Place, Verb, has_body, is_built, name_of, path_of, plainly, pool_of, project_of,
-    query_of, query_said, recursion_asked, refused, verb_offered,
+    PathTable, Place, Query, Verb, has_body, is_built, name_of, no_operation, path_of, plainly,
+    pool_of, project_of, query_of, query_said, recursion_asked, refused, timeout_asked,
+    verb_offered,
 };
+use rest_replies::number_of;
 use serde_json::Value;
 use size_values::{NoMemory, ObjectKind, Or, Text};
 use std::alloc::Global;
@@ -52,28 +54,68 @@ fn one_read(verb: Verb, of: Target) -> What
     }
 }
 
+fn operation_read(verb: Verb, op: u64) -> What
+    ensures { result ≡ operation_read verb op }
+{
+    match verb {
+        Verb::Delete => What::Cancel { op },
+        _ => What::GetOp { op },
+    }
+}
+
+/// The number of the operation that a path names by an id of this boot.
+fn operation_at(alloc: Global, path: &str, boot: u64) -> Result<u64, Or<Refusal>>
+    ensures { Gives result (operation_at path.now boot) }
+{
+    let id = name_of(ObjectKind::Operation, path);
+    match number_of(id, boot) {
+        Some(op) => Ok(op),
+        None => Err(no_operation(alloc, id)),
+    }
+}
+
+/// What GET and DELETE ask of one object.
+fn one_asked(
+    alloc: Global,
+    kind: ObjectKind,
+    verb: Verb,
+    path: &str,
+    boot: u64,
+) -> Result<What, Or<Refusal>>
+    ensures { Gives result (one_asked kind verb path.now boot) }
+{
+    match kind {
+        ObjectKind::Operation => Ok(operation_read(verb, operation_at(alloc, path, boot)?)),
+        _ => Ok(one_read(verb, object_of(alloc, kind, path)?)),
+    }
+}
+
 /// What GET and DELETE ask for.
 fn what_read(
     alloc: Global,
     place: Place,
     verb: Verb,
     path: &str,
-    recursion: bool,
+    query: &Query,
+    boot: u64,
 ) -> Result<What, Or<Refusal>>
-    ensures { Gives result (what_read place verb path.now recursion) }
+    ensures { Gives result (what_read place verb path.now query.now boot) }
 {
     match place {
         Place::Root => Ok(What::Root),
         Place::Server => Ok(What::Server),
         Place::List(kind) => Ok(What::List {
             of: objects_of(alloc, kind, path)?,
-            recursion,
+            recursion: recursion_asked(query),
         }),
-        Place::One(kind) => Ok(one_read(verb, object_of(alloc, kind, path)?)),
+        Place::One(kind) => one_asked(alloc, kind, verb, path, boot),
         Place::State(kind) => Ok(What::State {
             of: object_of(alloc, kind, path)?,
         }),
-        Place::Wait => Err(plainly(alloc, Rule::A0)),
+        Place::Wait => Ok(What::Wait {
+            op: operation_at(alloc, path, boot)?,
+            timeout: timeout_asked(query),
+        }),
         Place::Events => Err(plainly(alloc, Rule::A6)),
     }
 }
@@ -87,6 +129,7 @@ fn creation_shape(kind: ObjectKind) -> Option<Shape>
         ObjectKind::Network => Some(Shape::NewNetwork),
         ObjectKind::Pool => Some(Shape::NewPool),
         ObjectKind::Volume => Some(Shape::NewVolume),
+        ObjectKind::Instance => Some(Shape::NewInstance),
         _ => None,
     }
 }
@@ -96,8 +139,9 @@ fn change_shape(kind: ObjectKind, verb: Verb) -> Option<Shape>
 {
     if let Verb::Post = verb {
         return match kind {
-            ObjectKind::Pool => None,
-            _ => Some(Shape::Rename),
+            ObjectKind::Project | ObjectKind::Profile | ObjectKind::Network | ObjectKind::Volume =>
+                Some(Shape::Rename),
+            _ => None,
         };
     }
     match kind {
@@ -221,15 +265,16 @@ fn what_of(
     place: Place,
     verb: Verb,
     path: &str,
-    recursion: bool,
+    query: &Query,
+    boot: u64,
     sent: &Option<Value>,
 ) -> Result<What, Or<Refusal>>
-    ensures { Gives result (what_of place verb path.now recursion (option_map view sent.now)) }
+    ensures { Gives result (what_of place verb path.now query.now boot (option_map view sent.now)) }
 {
     if has_body(verb) {
         return what_sent(alloc, place, verb, path, sent);
     }
-    what_read(alloc, place, verb, path, recursion)
+    what_read(alloc, place, verb, path, query, boot)
 }
 
 /// The command of a request that is built.
@@ -240,12 +285,13 @@ fn command_built(
     verb: Verb,
     target: &str,
     sent: &Option<Value>,
+    boot: u64,
 ) -> Result<Command, Or<Refusal>>
-    ensures { Gives result (command_built place verb target.now (option_map view sent.now)) }
+    ensures { Gives result (command_built place verb target.now (option_map view sent.now) boot) }
 {
     let query = query_said(alloc, query_of(target))?;
     let path = path_of(target);
-    let what = what_of(alloc, place, verb, path, recursion_asked(&query), sent)?;
+    let what = what_of(alloc, place, verb, path, &query, boot, sent)?;
     match project_of(alloc, query) {
         Ok(project) => Ok(Command { project, what }),
         Err(NoMemory) => {
@@ -255,22 +301,23 @@ fn command_built(
     }
 }
 
-/// Whether a body asks for a copy of a volume.
+/// Whether a body asks for a copy.
 fn sends_copy(sent: &Option<Value>) -> bool
     ensures { result ≡ sends_copy (option_map view sent.now) }
 {
     match sent {
-        Some(body) => copies_volume(body),
+        Some(body) => asks_for_copy(body),
         None => false,
     }
 }
 
-/// Whether a body makes a volume as a copy, which is not built yet.
+/// Whether a body makes a volume or an instance as a copy, which is not built yet.
 fn is_copy(place: Place, sent: &Option<Value>) -> bool
     ensures { result ≡ is_copy place (option_map view sent.now) }
 {
     match place {
         Place::List(ObjectKind::Volume) => sends_copy(sent),
+        Place::List(ObjectKind::Instance) => sends_copy(sent),
         _ => false,
     }
 }
@@ -282,13 +329,14 @@ fn unless_copy(
     verb: Verb,
     target: &str,
     sent: &Option<Value>,
+    boot: u64,
 ) -> Result<Command, Or<Refusal>>
-    ensures { Gives result (unless_copy place verb target.now (option_map view sent.now)) }
+    ensures { Gives result (unless_copy place verb target.now (option_map view sent.now) boot) }
 {
     if is_copy(place, sent) {
         return Err(plainly(alloc, Rule::A0));
     }
-    command_built(alloc, place, verb, target, sent)
+    command_built(alloc, place, verb, target, sent, boot)
 }
 
 /// The command that a request asks for, by the table of paths.
@@ -301,7 +349,6 @@ pub(crate) fn command_of(
 ) -> Result<Command, Or<Refusal>>
     ensures { Gives result (command_of request.now boot) }
 {
-    let _ = boot;
     let target = request.target.view();
     let Some(line) = table.line_of(path_of(target)) else {
         return Err(plainly(alloc, Rule::A1));
@@ -309,9 +356,9 @@ pub(crate) fn command_of(
     let Some(verb) = verb_offered(line, request.method.view()) else {
         return Err(plainly(alloc, Rule::A2));
     };
-    if !is_built(line.place) {
+    if !is_built(line.place, verb) {
         return Err(plainly(alloc, Rule::A0));
     }
     let sent = sent_body(alloc, verb, request.body.view())?;
-    unless_copy(alloc, line.place, verb, target, &sent)
+    unless_copy(alloc, line.place, verb, target, &sent, boot)
 }

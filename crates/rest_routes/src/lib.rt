@@ -4,8 +4,10 @@
 #![tactic(auto)]
 
 mod commands;
+mod laws;
 mod router;
 
+pub use laws::what_is_routed_is_formed;
 pub use rest_bodies::names_first_bad;
 pub use rest_replies::{id_text, number_of, print, print_notice};
 pub use router::Router;

@@ -22,17 +22,19 @@ use Rattle.rest_service.specs.Exchanges.{exchange, carried_out, request_changes,
 use Rattle.rest_service.specs.declared.answers.Answered.{Answered}
 use Rattle.rest_service.specs.declared.answers.Answered.TheVariants as written
 
--- The keeper had no entries, and has those of the first rows now, after one load and one commit; or the opening was refused.
+-- The keeper had no entries, and has those of the first rows now, after one load and one commit; or the opening was
+-- refused.
 abbrev pub Opens : Result State OpenFault → Store → Store → Type 0
-Opens (Ok s) store store' = (s ≡ first_state) × IfSome store.told (λ entries. entries ≡ []) × (store' ≡ opened_store store)
+Opens (Ok s) store store' = (s ≡ first_state) × IfSome store.told (λ entries. entries ≡ [])
+    × (store' ≡ opened_store store)
 Opens (Err fault) store store' = Refuses fault store store'
 
 -- the bytes of the reply that takes no memory
 abbrev pub no_memory_text : Bool → List ℕ
 no_memory_text last = reply_text (record { code = 500; body = no_memory_body; location = []; last = last })
 
--- What is to be written is the text of the reply, unless memory for it was refused. The reply that tells of memory refused takes
--- none, and is always written.
+-- What is to be written is the text of the reply, unless memory for it was refused. The reply that tells of memory
+-- refused takes none, and is always written.
 abbrev pub HasText : Answered → Reply → Bool → Type 0
 HasText (written.Printed bytes) r last = bytes ≡ printed r last
 HasText written.NoMemory r last = no_memory_text last ≡ printed r last
@@ -46,7 +48,8 @@ pub record AsksAt (moment : Option ℕ) (told told' : Readings) : Type 0 where
 -- One request was carried out, its command at the moment that the clock gave, with an outcome that the keeper's count
 -- bears out; its changes went to the store, and these notices are left untold. Entries that were the records of the
 -- rows are so afterwards.
-pub record Replies (s s' : State) (untold : List Untold) (store store' : Store) (told told' : Readings) (request : Request) (r : Reply) : Type 0 where
+pub record Replies (s s' : State) (untold : List Untold) (store store' : Store) (told told' : Readings)
+    (request : Request) (r : Reply) : Type 0 where
   pub moment : Option ℕ
   pub outcome : Outcome
   pub clock : AsksAt moment told told'
@@ -58,7 +61,8 @@ pub record Replies (s s' : State) (untold : List Untold) (store store' : Store) 
 -- One request was answered: it came to a reply and to the rows and the store afterwards, its command at the moment
 -- that the clock gave, with an outcome that the keeper's count bears out, and what is to be written is that reply.
 -- Entries that were the records of the rows are so afterwards.
-pub record Answers (s s' : State) (store store' : Store) (told told' : Readings) (request : Request) (result : Answered) : Type 0 where
+pub record Answers (s s' : State) (store store' : Store) (told told' : Readings) (request : Request)
+    (result : Answered) : Type 0 where
   pub moment : Option ℕ
   pub outcome : Outcome
   pub reply : Reply

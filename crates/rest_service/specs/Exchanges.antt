@@ -67,7 +67,8 @@ unheard s = record s { notices = []; next_notice = 1 }
 -- What a request comes to: its answer, and the state after it. None where the outcome is not possible with it.
 unfoldable pub served : State → Request → Option ℕ → Outcome → Option After
 served s request moment outcome =
-    option_map (λ after. and_then after.answer (unheard after.state)) (carried_out s moment outcome (command_of request 0))
+    option_map (λ after. and_then after.answer (unheard after.state))
+    (carried_out s moment outcome (command_of request 0))
 
 -- the changes of rows that a request is to commit: those of the command that was asked, and none where no command was
 abbrev pub asked_changes : State → Option ℕ → Result Command Refusal → List RowChange
@@ -80,17 +81,18 @@ request_changes s request moment = asked_changes s moment (command_of request 0)
 
 -- ---- one after the other
 
--- One request comes to its reply, and from one state and store to the next: its changes go to the store in one call, and
--- without changes the keeper is not called.
+-- One request comes to its reply, and from one state and store to the next: its changes go to the store in one call,
+-- and without changes the keeper is not called.
 pub record Leads (s : State) (store : Store) (e : Exchange) (s' : State) (store' : Store) : Type 0 where
   pub comes : served s e.request e.moment e.outcome ≡ Some (and_then (answered e.reply) s')
   pub stored : Stores (request_changes s e.request e.moment) e.outcome store store'
 
--- Exchanges lead from one state and store to another: each request comes to its reply, and to the state and the store in which
--- the next one is taken.
+-- Exchanges lead from one state and store to another: each request comes to its reply, and to the state and the store
+-- in which the next one is taken.
 abbrev pub LeadTo : State → Store → List Exchange → State → Store → Type 0
 LeadTo s store [] s' store' = (s ≡ s') × (store ≡ store')
-LeadTo s store (e ∷ more) s' store' = (next : State) × (kept : Store) × Leads s store e next kept × LeadTo next kept more s' store'
+LeadTo s store (e ∷ more) s' store' = (next : State) × (kept : Store) × Leads s store e next kept
+    × LeadTo next kept more s' store'
 
 -- the moments at which commands were asked, in their order: one for each command
 abbrev pub moments_of : List Exchange → List ℕ

@@ -1,5 +1,6 @@
 -- What a policy forbids: the lines of the table that are in force, and the first setting or device that one is against.
-use Rattle.std.specs.Prelude.{ℕ, ◌==◌, Bool, true, false, not, ◌&&◌, List, [], ◌∷◌, ◌++◌, map, length, Option, Some, None, if◌then◌else◌, find, is_none, codes, nat_le}
+use Rattle.std.specs.Prelude.{ℕ, ◌==◌, Bool, true, false, not, ◌&&◌, List, [], ◌∷◌, ◌++◌, map, length, Option, Some}
+use Rattle.std.specs.Prelude.{None, if◌then◌else◌, find, is_none, codes, nat_le}
 use Rattle.std.specs.List.{list_any, enumerate_from, slice_split}
 use Rattle.std.specs.Map.{values_of}
 use Rattle.std.specs.Option.{option_map, option_or}
@@ -54,11 +55,15 @@ demands NotTrue = true
 
 -- the rule that a setting breaks by the lines
 abbrev pub setting_rule_in : List SettingLine → Restrictions → Subject → List ℕ → List ℕ → Option ℕ
-setting_rule_in lines policy subject key value = option_map (λ line. line.0) (find (λ line. is_in_force policy subject line && takes line.4 key && is_against line.5 value) lines)
+setting_rule_in lines policy subject key value =
+    option_map (λ line. line.0) (find (λ line. is_in_force policy subject line && takes line.4 key
+    && is_against line.5 value) lines)
 
 -- the rule that demands a key which is not set
 abbrev pub missing_rule_in : List SettingLine → Restrictions → Subject → Settings → Option ℕ
-missing_rule_in lines policy subject config = option_map (λ line. line.0) (find (λ line. is_in_force policy subject line && demands line.5 && is_none (setting config line.4)) lines)
+missing_rule_in lines policy subject config =
+    option_map (λ line. line.0) (find (λ line. is_in_force policy subject line && demands line.5
+    && is_none (setting config line.4)) lines)
 
 -- whether a device is one of those that are meant
 abbrev pub is_meant : Which → Settings → Bool
@@ -79,11 +84,14 @@ is_outside (Some list) (Some network) = not (is_listed list network)
 
 -- the rule that a device breaks by the lines
 abbrev pub device_rule_in : List DeviceLine → Restrictions → Settings → Option ℕ
-device_rule_in lines policy device = option_map (λ line. line.0) (find (λ line. is_word (word_in policy line.1) line.2 && has_setting device (codes "type") line.3 && is_meant line.4 device) lines)
+device_rule_in lines policy device =
+    option_map (λ line. line.0) (find (λ line. is_word (word_in policy line.1) line.2
+    && has_setting device (codes "type") line.3 && is_meant line.4 device) lines)
 
 -- the rule on networks
 abbrev pub network_rule : Restrictions → Settings → Option ℕ
-network_rule policy device = if has_setting device (codes "type") (codes "nic") && is_outside policy.access (setting device (codes "network")) then Some 7 else None
+network_rule policy device = if has_setting device (codes "type") (codes "nic")
+    && is_outside policy.access (setting device (codes "network")) then Some 7 else None
 
 -- the rule that a device breaks
 unfoldable pub device_rule : Restrictions → Settings → Option ℕ
@@ -110,7 +118,8 @@ lowest (f ∷ fs) = earlier f (lowest fs)
 
 -- what settings break, each at its place
 unfoldable pub broken_settings : Restrictions → Subject → Settings → List (Option Forbidden)
-broken_settings policy subject config = map (λ (s : ℕ × (List ℕ × List ℕ)). at s.0 (setting_rule policy subject s.1.0 s.1.1)) (enumerate_from 0 config)
+broken_settings policy subject config =
+    map (λ (s : ℕ × (List ℕ × List ℕ)). at s.0 (setting_rule policy subject s.1.0 s.1.1)) (enumerate_from 0 config)
 
 -- a demanded key that is not set, after all settings
 unfoldable pub missing_setting : Restrictions → Subject → Settings → Option Forbidden
@@ -118,12 +127,15 @@ missing_setting policy subject config = at (length config) (missing_rule_in sett
 
 -- what devices break, each at its place
 unfoldable pub broken_devices : Restrictions → NamedDevices → List (Option Forbidden)
-broken_devices policy devices = map (λ (d : ℕ × Settings). at d.0 (device_rule policy d.1)) (enumerate_from 0 (values_of devices))
+broken_devices policy devices =
+    map (λ (d : ℕ × Settings). at d.0 (device_rule policy d.1)) (enumerate_from 0 (values_of devices))
 
 -- the first thing that a policy forbids: of the lowest rule, and of those the first
 unfoldable pub first_forbidden : Restrictions → Subject → Settings → NamedDevices → Option Forbidden
 first_forbidden policy subject config devices =
-    if policy.restricted then lowest (broken_settings policy subject config ++ missing_setting policy subject config ∷ broken_devices policy devices) else None
+    if policy.restricted
+    then lowest (broken_settings policy subject config
+    ++ missing_setting policy subject config ∷ broken_devices policy devices) else None
 
 -- whether a policy forbids snapshots
 unfoldable pub snapshots_forbidden : Restrictions → Bool

@@ -1,5 +1,6 @@
 -- The words of restrictions, truths, and which subjects a line judges.
-use Rattle.std.specs.Prelude.{ℕ, ◌==◌, Bool, true, false, List, [], ◌∷◌, Option, Ok, Err, Result, find, codes, unwrap_or}
+use Rattle.std.specs.Prelude.{ℕ, ◌==◌, Bool, true, false, List, [], ◌∷◌, Option, Ok, Err, Result, find, codes}
+use Rattle.std.specs.Prelude.{unwrap_or}
 use Rattle.std.specs.Option.{option_map, option_and_then}
 use Rattle.std.specs.Str.{bytes_eq}
 use Rattle.size_values.specs.declared.fault.ValueFault.{ValueFault}
@@ -14,7 +15,8 @@ use Rattle.restrictions.specs.declared.rows.Judged.TheVariants as judged
 
 -- the words with their texts
 abbrev pub words : List (List ℕ × Word)
-words = (codes "block", Block) ∷ (codes "allow", Allow) ∷ (codes "managed", Managed) ∷ (codes "unprivileged", Unprivileged) ∷ (codes "isolated", Isolated) ∷ (codes "full", Full) ∷ []
+words = (codes "block", Block) ∷ (codes "allow", Allow) ∷ (codes "managed", Managed)
+    ∷ (codes "unprivileged", Unprivileged) ∷ (codes "isolated", Isolated) ∷ (codes "full", Full) ∷ []
 
 -- the word of a text
 unfoldable pub word_named : List ℕ → Option Word

@@ -122,7 +122,15 @@ fn setting_rule_in(
     key: &str,
     value: &str,
 ) -> Option<u8>
-    ensures { result ≡ setting_rule_in (map (λ line. (line.0, line.1, line.2, line.3, line.4.now, line.5)) lines.now) (seen policy.now) subject key.now value.now }
+    ensures { result
+        ≡ setting_rule_in (map (λ line. (
+          line.0,
+          line.1,
+          line.2,
+          line.3,
+          line.4.now,
+          line.5,
+        )) lines.now) (seen policy.now) subject key.now value.now }
 {
     for line in lines {
         if is_in_force(policy, subject, line)
@@ -142,7 +150,15 @@ fn missing_rule_in(
     subject: Subject,
     config: &Config,
 ) -> Option<u8>
-    ensures { result ≡ missing_rule_in (map (λ line. (line.0, line.1, line.2, line.3, line.4.now, line.5)) lines.now) (seen policy.now) subject config.now }
+    ensures { result
+        ≡ missing_rule_in (map (λ line. (
+          line.0,
+          line.1,
+          line.2,
+          line.3,
+          line.4.now,
+          line.5,
+        )) lines.now) (seen policy.now) subject config.now }
 {
     for line in lines {
         if is_in_force(policy, subject, line) && line.5.demands() && config.get(line.4).is_none() {
@@ -153,7 +169,15 @@ fn missing_rule_in(
 }
 
 fn is_in_force(policy: &Policy, subject: Subject, line: &SettingLine) -> bool
-    ensures { result ≡ is_in_force (seen policy.now) subject (line.now.0, line.now.1, line.now.2, line.now.3, line.now.4.now, line.now.5) }
+    ensures { result
+        ≡ is_in_force (seen policy.now) subject (
+          line.now.0,
+          line.now.1,
+          line.now.2,
+          line.now.3,
+          line.now.4.now,
+          line.now.5,
+        ) }
 {
     line.1.judges(subject) && policy.word(line.2).is(line.3)
 }
@@ -170,7 +194,14 @@ fn device_rule(policy: &Policy, device: &Device) -> Option<u8>
 }
 
 fn device_rule_in(lines: &[DeviceLine], policy: &Policy, device: &Device) -> Option<u8>
-    ensures { result ≡ device_rule_in (map (λ line. (line.0, line.1, line.2, line.3.now, line.4)) lines.now) (seen policy.now) device.now }
+    ensures { result
+        ≡ device_rule_in (map (λ line. (
+          line.0,
+          line.1,
+          line.2,
+          line.3.now,
+          line.4,
+        )) lines.now) (seen policy.now) device.now }
 {
     for line in lines {
         if policy.word(line.1).is(line.2) && device.has("type", line.3) && line.4.is_meant(device) {

@@ -19,8 +19,41 @@ use Rattle.records.specs.declared.rows.Row.TheVariants as row
 use Rattle.row_parts.specs.declared.unreadable.Unreadable.{Unreadable}
 use Rattle.row_codec.specs.declared.damage.Damaged.{Damaged}
 use Rattle.row_codec.specs.declared.damage.Damaged.TheVariants as damaged
-unfoldable pub use Rattle.row_parts.specs.Reading.{count_at, number_at, moment_at, code_at, text_at, items_at, list_at, filled_at, next_at, next_filled_at, setting_at, device_at, shape_at}
-pub use Rattle.row_parts.specs.Reading.{◌>>=◌, Fails, Gives, IsRead, Read, stops_at, truth_of, instance_kind_of, driver_of, meant_at, last_of, added, is_next, IsLast, is_empty, settings_at, devices_at, texts_at}
+unfoldable pub use Rattle.row_parts.specs.Reading.{
+  count_at,
+  number_at,
+  moment_at,
+  code_at,
+  text_at,
+  items_at,
+  list_at,
+  filled_at,
+  next_at,
+  next_filled_at,
+  setting_at,
+  device_at,
+  shape_at,
+}
+pub use Rattle.row_parts.specs.Reading.{
+  ◌>>=◌,
+  Fails,
+  Gives,
+  IsRead,
+  Read,
+  stops_at,
+  truth_of,
+  instance_kind_of,
+  driver_of,
+  meant_at,
+  last_of,
+  added,
+  is_next,
+  IsLast,
+  is_empty,
+  settings_at,
+  devices_at,
+  texts_at,
+}
 
 -- ---- bodies: the names are those of the key
 
@@ -80,9 +113,17 @@ volume_in project pool name body = do
   config ← settings_at description.1
   created ← moment_at config.1
   end ← ended created.1
-  Ok (record { project = project; pool = pool; name = name; description = description.0; config = config.0; created = created.0 })
+  Ok (record {
+    project = project;
+    pool = pool;
+    name = name;
+    description = description.0;
+    config = config.0;
+    created = created.0;
+  })
 
--- the body of an instance: kind, whether ephemeral, description, origin, the moment of creation, profiles, settings and devices
+-- the body of an instance: kind, whether ephemeral, description, origin, the moment of creation, profiles, settings and
+-- devices
 unfoldable pub instance_in : List ℕ → List ℕ → List ℕ → Result Instance Unreadable
 instance_in project name body = do
   rest ← version_at body
@@ -149,17 +190,23 @@ two_names_in first second key =
     else Err damaged.Key
 
 -- three names with slashes between, all good
-unfoldable pub three_names_in : ObjectKind → ObjectKind → ObjectKind → List ℕ → Result (List ℕ × List ℕ × List ℕ) Damaged
+unfoldable pub three_names_in : ObjectKind → ObjectKind → ObjectKind → List ℕ
+    → Result (List ℕ × List ℕ × List ℕ) Damaged
 three_names_in first second third key =
     if good_name_of first (before_first is_slash key)
-    then (two_names_in second third (after_first is_slash key) >>= λ names. Ok (before_first is_slash key, names.0, names.1))
+    then (two_names_in second third (after_first is_slash key) >>= λ names. Ok (
+      before_first is_slash key,
+      names.0,
+      names.1,
+    ))
     else Err damaged.Key
 
 -- ---- entries, by their keys and bodies
 
 -- a project, whose name is the key
 unfoldable pub project_of : List ℕ → List ℕ → Result Project Damaged
-project_of key body = if good_name_of kind.Project key then placed (length body) (project_in key body) else Err damaged.Key
+project_of key body = if good_name_of kind.Project key
+    then placed (length body) (project_in key body) else Err damaged.Key
 
 -- a profile, whose key is PROJECT/NAME
 unfoldable pub profile_of : List ℕ → List ℕ → Result Profile Damaged

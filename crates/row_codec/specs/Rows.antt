@@ -8,7 +8,16 @@ use Rattle.estate_rules.specs.Names.{good_name_of}
 use Rattle.records.specs.declared.rows.Row.{Row}
 use Rattle.records.specs.declared.rows.Row.TheVariants as row
 use Rattle.row_codec.specs.Spelling.{entry_of}
-pub use Rattle.row_parts.specs.Parts.{IsMoment, IsShort, AreShortTexts, AreShortSettings, AreShortDevices, AreUtf8, AreTypedSettings, AreTypedDevices}
+pub use Rattle.row_parts.specs.Parts.{
+  IsMoment,
+  IsShort,
+  AreShortTexts,
+  AreShortSettings,
+  AreShortDevices,
+  AreUtf8,
+  AreTypedSettings,
+  AreTypedDevices,
+}
 
 -- ---- its key
 
@@ -24,7 +33,8 @@ HasGoodKey (row.Network r) = IsGood kind.Project r.project × IsGood kind.Networ
 HasGoodKey (row.Pool r) = IsGood kind.Pool r.name
 HasGoodKey (row.Volume r) = IsGood kind.Project r.project × IsGood kind.Pool r.pool × IsGood kind.Volume r.name
 HasGoodKey (row.Instance r) = IsGood kind.Project r.project × IsGood kind.Instance r.name
-HasGoodKey (row.Snapshot r) = IsGood kind.Project r.project × IsGood kind.Instance r.instance × IsGood kind.Snapshot r.name
+HasGoodKey (row.Snapshot r) = IsGood kind.Project r.project × IsGood kind.Instance r.instance
+    × IsGood kind.Snapshot r.name
 
 -- ---- its moments
 
@@ -48,7 +58,8 @@ HasShortParts (row.Network r) = IsShort r.description × AreShortSettings r.conf
 HasShortParts (row.Pool r) = IsShort r.description × AreShortSettings r.config
 HasShortParts (row.Volume r) = IsShort r.description × AreShortSettings r.config
 HasShortParts (row.Instance r) =
-    IsShort r.description × IsShort r.origin × AreShortTexts r.profiles × AreShortSettings r.config × AreShortDevices r.devices
+    IsShort r.description × IsShort r.origin × AreShortTexts r.profiles × AreShortSettings r.config
+    × AreShortDevices r.devices
 HasShortParts (row.Snapshot r) = AreShortTexts r.profiles × AreShortSettings r.config × AreShortDevices r.devices
 
 -- ---- what each row of the program has by its type

@@ -11,7 +11,16 @@ use Rattle.records.specs.declared.rows.Snapshot.{Snapshot}
 use Rattle.records.specs.declared.rows.Row.{Row}
 use Rattle.records.specs.declared.rows.Row.TheVariants as row
 unfoldable pub use Rattle.row_parts.specs.Spelling.{text_bytes, number_bytes, list_bytes}
-pub use Rattle.row_parts.specs.Spelling.{truth_byte, kind_byte, driver_byte, setting_bytes, settings_bytes, device_bytes, devices_bytes, texts_bytes}
+pub use Rattle.row_parts.specs.Spelling.{
+  truth_byte,
+  kind_byte,
+  driver_byte,
+  setting_bytes,
+  settings_bytes,
+  device_bytes,
+  devices_bytes,
+  texts_bytes,
+}
 
 -- ---- bodies: the version, and the parts
 
@@ -35,7 +44,8 @@ pool_bytes r = (1 ∷ driver_byte r.driver ∷ text_bytes r.description) ++ sett
 abbrev pub volume_bytes : Volume → List ℕ
 volume_bytes r = (1 ∷ text_bytes r.description) ++ settings_bytes r.config ++ number_bytes r.created
 
--- the body of an instance: kind, whether ephemeral, description, origin, the moment of creation, profiles, settings and devices
+-- the body of an instance: kind, whether ephemeral, description, origin, the moment of creation, profiles, settings and
+-- devices
 abbrev pub instance_bytes : Instance → List ℕ
 instance_bytes r =
     (1 ∷ kind_byte r.kind ∷ truth_byte r.ephemeral ∷ text_bytes r.description)

@@ -1,6 +1,7 @@
 //! Bodies of rows, read from their first byte to their last. Texts stay borrowed from the bytes until all is read.
 ghost use Rattle.std.specs.Prelude.{◌≡◌, Ok, Err, IfOk, IfErr};
-ghost use Rattle.row_codec.specs.Reading.{Gives, Fails, IsRead, version_at, ended, project_in, profile_in, network_in, pool_in, volume_in, instance_in, snapshot_in};
+ghost use Rattle.row_codec.specs.Reading.{Gives, Fails, IsRead, version_at, ended, project_in, profile_in, network_in};
+ghost use Rattle.row_codec.specs.Reading.{pool_in, volume_in, instance_in, snapshot_in};
 
 use records::{Instance, Network, Pool, Profile, Project, Snapshot, Volume};
 use row_parts::{

@@ -20,7 +20,8 @@ pub fn each_row_is_spelled()
 
 /// No spelling of a body is a prefix of another one of the same kind.
 pub fn no_spelling_goes_on()
-    ensures { (r s : Row) (a b : Entry) (more : List ℕ) → Spells r a → Spells s b → a.kind ≡ b.kind → b.body ≡ a.body ++ more → more ≡ [] }
+    ensures { (r s : Row) (a b : Entry) (more : List ℕ) → Spells r a → Spells s b → a.kind ≡ b.kind
+        → b.body ≡ a.body ++ more → more ≡ [] }
 {}
 
 /// An entry of a spelling is read as its row, and one that has a damage spells no row.

@@ -2,7 +2,8 @@
 ghost use Rattle.std.specs.Prelude.{◌≡◌, length, IfOk, IfErr};
 ghost use Rattle.records.specs.declared.rows.Row.{Row};
 ghost use Rattle.row_codec.specs.Rows.{Spells};
-ghost use Rattle.row_codec.specs.Reading.{Gives, project_of, profile_of, network_of, pool_of, volume_of, instance_of, snapshot_of, row_at, row_of, damage_of};
+ghost use Rattle.row_codec.specs.Reading.{Gives, project_of, profile_of, network_of, pool_of, volume_of, instance_of};
+ghost use Rattle.row_codec.specs.Reading.{snapshot_of, row_at, row_of, damage_of};
 
 use crate::body_rows::{
     instance_in, network_in, pool_in, profile_in, project_in, snapshot_in, volume_in,

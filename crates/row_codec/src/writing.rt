@@ -3,7 +3,9 @@ ghost use Rattle.std.specs.Prelude.{◌≡◌, ◌++◌, IfOk, OnOk};
 ghost use Rattle.records.specs.declared.rows.Row.{Row};
 ghost use Rattle.records.specs.declared.rows.Row.TheVariants as row;
 ghost use Rattle.row_codec.specs.Rows.{HasGoodKey, HasMoments, HasShortParts, HasTypedParts, Spells};
-ghost use Rattle.row_codec.specs.Spelling.{project_bytes, profile_bytes, network_bytes, pool_bytes, volume_bytes, instance_bytes, snapshot_bytes, body_of, kind_of, key_of, two_names, three_names};
+ghost use Rattle.row_codec.specs.Spelling.{project_bytes, profile_bytes, network_bytes, pool_bytes, volume_bytes};
+ghost use Rattle.row_codec.specs.Spelling.{instance_bytes, snapshot_bytes, body_of, kind_of, key_of, two_names};
+ghost use Rattle.row_codec.specs.Spelling.{three_names};
 
 use records::{Instance, Network, Pool, Profile, Project, Row, Snapshot, Volume};
 use row_parts::{

@@ -1,5 +1,9 @@
+mod Backgrounds
 mod Backs
 mod Fitting
+mod Handed
+mod HeldAside
 mod Logs
 mod Orders
 mod Rooms
+mod Settled

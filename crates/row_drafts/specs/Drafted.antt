@@ -6,26 +6,37 @@ use Rattle.records.specs.declared.rows.Row.TheVariants as row
 use Rattle.row_machine.specs.declared.changes.RowChange.{RowChange}
 use Rattle.row_machine.specs.declared.changes.RowChange.TheVariants as change
 use Rattle.row_machine.specs.machine.State.{State, Standing}
+use Rattle.row_drafts.specs.Background.{Backing}
 use Rattle.row_drafts.specs.declared.lists.Undone.{Undone}
 use Rattle.row_drafts.specs.Steps.{before_changes}
 
--- the state with the rows of all kinds, and how many rows of each kind can be put in without taking memory
+-- the state with the rows of all kinds and the operations, how many rows of each kind can be put in without taking memory, and
+-- what there is memory for beside the operations
 pub record Listed : Type 0 where
   pub state : State
   pub room : ℕ
+  pub backing : Backing
 
 -- The state; what takes back the changes that are not settled yet; how many rows of each kind and how many changes there is
--- memory for; and the statuses that are kept ready for new instances.
+-- memory for; the statuses that are kept ready for new instances; and what there is memory for beside the operations.
 pub record Drafted : Type 0 where
   pub state : State
   pub log : List Undone
   pub room : ℕ
   pub log_room : ℕ
   pub spares : List Standing
+  pub backing : Backing
 
 -- the state before the changes that are not settled yet
 abbrev pub former : Drafted → State
 former d = before_changes d.log d.state
+
+-- memory was taken for one more operation, for taking it back, and for the share that it then holds
+pub record CanClaim (d : Drafted) : Type 0 where
+  pub rows : length d.log + 1 ≤ d.room
+  pub log : 1 ≤ d.log_room
+  pub claim : 1 ≤ d.backing.claim_room
+  pub hold : 1 ≤ d.backing.hold_room
 
 -- the status of a new instance
 abbrev pub stopped : Instance → Standing

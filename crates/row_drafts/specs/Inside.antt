@@ -3,12 +3,13 @@ use Rattle.std.specs.Prelude.{◌≤◌, ◌-◌, length, min, vec_len, vec_capa
 use Rattle.row_machine.specs.machine.State.{State, empty_state}
 use Rattle.row_drafts.specs.declared.lists.Lists.TheInside.{Inside as ListsInside}
 use Rattle.row_drafts.specs.declared.draft.Draft.TheInside.{Inside as DraftInside}
+use Rattle.row_drafts.specs.Background.{with_background}
 use Rattle.row_drafts.specs.Drafted.{Listed, Drafted}
 use Rattle.row_drafts.specs.Steps.{FitChanges}
 
--- the state with these rows, statuses and operations
+-- the state with these rows, statuses, operations and shares
 abbrev pub state_in : ListsInside → State
-state_in l = record empty_state {
+state_in l = with_background l.background (record empty_state {
   projects = l.projects.items;
   profiles = l.profiles.items;
   networks = l.networks.items;
@@ -17,10 +18,9 @@ state_in l = record empty_state {
   instances = l.instances.items;
   snapshots = l.snapshots.items;
   powers = l.powers.items;
-  operations = record { live = l.live.items; ended = l.ended.items; next = l.next };
-}
+})
 
--- the rows, and the least room that a kind of them has
+-- the rows and operations, and the least room that a kind of rows has
 abbrev pub listed : ListsInside → Listed
 listed l = record {
   state = state_in l;
@@ -33,6 +33,7 @@ listed l = record {
       (min (vec_capacity l.instances - vec_len l.instances)
       (min (vec_capacity l.snapshots - vec_len l.snapshots)
       (vec_capacity l.powers - vec_len l.powers)))))));
+  backing = l.background.backing;
 }
 
 -- the rows with the log of their changes
@@ -43,6 +44,7 @@ drafted d = record {
   room = d.lists.room;
   log_room = vec_capacity d.log - vec_len d.log;
   spares = d.spares.items;
+  backing = d.lists.backing;
 }
 
 -- the log can be taken back, and there is room for it

@@ -2,6 +2,7 @@
 use Rattle.std.specs.Prelude.{◌<◌, ◌≤◌, List, [], ◌∷◌, length, set}
 use Rattle.std.specs.List.{insert, remove}
 use Rattle.row_machine.specs.machine.State.{State}
+use Rattle.row_drafts.specs.Background.{before_claim}
 use Rattle.row_drafts.specs.declared.edits.Step.{Step}
 use Rattle.row_drafts.specs.declared.edits.Step.TheVariants as step
 use Rattle.row_drafts.specs.declared.lists.Undone.{Undone}
@@ -34,6 +35,7 @@ before_change (undone.Pool p) s = record s { pools = before_step p s.pools }
 before_change (undone.Volume p) s = record s { volumes = before_step p s.volumes }
 before_change (undone.Instance p power) s = record s { instances = before_step p s.instances; powers = before_step power s.powers }
 before_change (undone.Snapshot p) s = record s { snapshots = before_step p s.snapshots }
+before_change undone.Claimed s = record s { operations = before_claim s.operations }
 before_change undone.Nothing s = s
 
 -- each place of a change is one of its list
@@ -45,6 +47,7 @@ FitsChange (undone.Pool p) s = FitsStep p s.pools
 FitsChange (undone.Volume p) s = FitsStep p s.volumes
 FitsChange (undone.Instance p power) s = FitsStep p s.instances × FitsStep power s.powers
 FitsChange (undone.Snapshot p) s = FitsStep p s.snapshots
+FitsChange undone.Claimed s = Unit {0}
 FitsChange undone.Nothing s = Unit {0}
 
 -- the state as it was before all these changes, of which the last was made last

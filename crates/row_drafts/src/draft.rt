@@ -1,15 +1,27 @@
-ghost use Rattle.std.specs.Prelude.{◌≡◌, ◌+◌, ◌*◌, ◌-◌, ◌≤◌, ◌∷◌, ◌++◌, [], length, take, drop, IfOk, OnOk};
+ghost use Rattle.std.specs.Prelude.{◌≡◌, ◌+◌, ◌*◌, ◌-◌, ◌^◌, ◌<◌, ◌≤◌, ◌∷◌, ◌++◌, [], Some, IsSome, length, take, drop, find, IfOk, OnOk};
+ghost use Rattle.host_model.specs.declared.call.HostCall.{HostCall as HostCallValue};
+ghost use Rattle.operations.specs.Kept.{live_at};
+ghost use Rattle.operations.specs.declared.operation.Operation.{Operation as OperationValue};
 ghost use Rattle.row_machine.specs.declared.changes.RowChange.TheVariants as change_of;
 ghost use Rattle.row_machine.specs.machine.Changes.{changed, applied};
 ghost use Rattle.row_machine.specs.machine.State.{empty_state};
-ghost use Rattle.row_drafts.specs.Drafted.{former, stopped, spares_for, spares_of, IsReady};
+ghost use Rattle.row_machine.specs.machine.Task.{Task};
+ghost use Rattle.row_machine.specs.machine.Work.{claiming, moved, with_task, with_power, ended, is_held_by, converted, returned};
+ghost use Rattle.row_drafts.specs.Background.{holding, handed_at, HasCountAt};
+ghost use Rattle.row_drafts.specs.Drafted.{former, stopped, spares_for, spares_of, IsReady, CanClaim};
+ghost use Rattle.row_drafts.specs.declared.calls.Handing.TheVariants as handing;
+ghost use Rattle.size_values.specs.Amounts.{part};
+ghost use Rattle.size_values.specs.declared.amounts.Part.{Part};
 
+use crate::calls::Handing;
 use crate::lists::{Lists, Undone};
+use host_model::HostCall;
+use operations::{OpFault, Status};
 use plain_lists::push_reserved;
 use records::{Instance, Row};
-use row_machine::RowChange;
+use row_machine::{RowChange, Work};
 use row_readings::{InstancePower, View};
-use size_values::{NoMemory, Power, Seq};
+use size_values::{Amounts, NoMemory, Power, Seq, Text};
 use std::alloc::Global;
 use std::marker::Model;
 
@@ -81,16 +93,18 @@ fn spares_of(alloc: Global, changes: &Seq<RowChange>) -> Result<Vec<InstancePowe
 }
 
 impl Draft {
-    /// No rows.
-    pub fn new(alloc: Global) -> Draft
-        ensures state { result.state ≡ empty_state }
-        ensures log { result.log ≡ [] }
+    /// No rows and no operations, with room for operations that end.
+    pub fn new(alloc: Global) -> Result<Draft, NoMemory>
+        ensures state { IfOk result (λ d. d.state ≡ empty_state) }
+        ensures log { IfOk result (λ d. d.log ≡ []) }
+        ensures greatest { IfOk result (λ d. d.backing.greatest ≡ 0) }
     {
-        Draft {
-            lists: Lists::new(alloc),
+        let lists = Lists::new(alloc)?;
+        Ok(Draft {
+            lists,
             log: Vec::new(alloc),
             spares: Vec::new(alloc),
-        }
+        })
     }
 
     /// The rows, to be read.
@@ -106,6 +120,7 @@ impl Draft {
         ensures ready { OnOk result (IsReady self.new changes.now) }
         ensures state { self.new.state ≡ self.old.state }
         ensures log { self.new.log ≡ [] }
+        ensures backing { self.new.backing ≡ self.old.backing }
     {
         let Some(count) = changes.len().checked_mul(2) else {
             return Err(NoMemory);
@@ -126,6 +141,7 @@ impl Draft {
         ensures room { self.old.room ≤ self.new.room + 1 }
         ensures log { self.old.log_room ≤ self.new.log_room + 1 }
         ensures spares { self.new.spares ≡ drop (length (spares_for change)) self.old.spares }
+        ensures backing { self.new.backing ≡ self.old.backing }
     {
         let undone = self.lists.change(change, &mut self.spares);
         push_reserved(&mut self.log, undone);
@@ -136,6 +152,7 @@ impl Draft {
         requires ready { IsReady self.old changes }
         ensures state { self.new.state ≡ applied self.old.state changes }
         ensures former { former self.new ≡ former self.old }
+        ensures backing { self.new.backing ≡ self.old.backing }
     {
         let mut changes = changes;
         for _place in 0..changes.len() {
@@ -150,6 +167,7 @@ impl Draft {
     pub fn settle(&mut self)
         ensures state { self.new.state ≡ self.old.state }
         ensures log { self.new.log ≡ [] }
+        ensures backing { self.new.backing ≡ self.old.backing }
     {
         self.log.clear();
     }
@@ -157,6 +175,7 @@ impl Draft {
     fn take_last_back(&mut self)
         ensures former { former self.new ≡ former self.old }
         ensures made { length self.new.log ≡ length self.old.log - 1 }
+        ensures greatest { self.new.backing.greatest ≡ self.old.backing.greatest }
     {
         match self.log.pop() {
             Some(undone) => self.lists.take_back(undone),
@@ -168,9 +187,153 @@ impl Draft {
     pub fn take_back(&mut self)
         ensures state { self.new.state ≡ former self.old }
         ensures log { self.new.log ≡ [] }
+        ensures greatest { self.new.backing.greatest ≡ self.old.backing.greatest }
     {
         for _place in 0..self.log.len() {
             self.take_last_back();
         }
+    }
+
+    /// Takes memory for one more operation, for its share, and for taking it back.
+    pub fn reserve_operation(&mut self) -> Result<(), NoMemory>
+        requires settled { self.old.log ≡ [] }
+        ensures ready { OnOk result (CanClaim self.new) }
+        ensures state { self.new.state ≡ self.old.state }
+        ensures log { self.new.log ≡ [] }
+        ensures greatest { self.new.backing.greatest ≡ self.old.backing.greatest }
+    {
+        self.lists.reserve_operation()?;
+        self.log.reserve(1)?;
+        Ok(())
+    }
+
+    /// Enters an operation with the next number, which is answered. It is taken back as every other change is. It takes no
+    /// memory.
+    pub fn claim(&mut self, work: Work, moment: u64) -> u64
+        requires ready { CanClaim self.old }
+        requires number { self.old.state.operations.next ≤ 2 ^ 40 }
+        ensures state { self.new.state ≡ claiming self.old.state work moment }
+        ensures former { former self.new ≡ former self.old }
+        ensures number { result ≡ self.old.state.operations.next }
+        ensures hold_room { self.new.backing.hold_room ≡ self.old.backing.hold_room }
+        ensures greatest { self.new.backing.greatest ≡ self.old.backing.greatest }
+    {
+        push_reserved(&mut self.log, Undone::Claimed);
+        self.lists.claim(work, moment)
+    }
+
+    /// The operation that was entered last holds this share of a project from now on. It takes no memory.
+    pub fn hold(&mut self, project: Text, share: Amounts)
+        requires room { 1 ≤ self.old.backing.hold_room }
+        requires limit { self.old.state.operations.next - 1 < 2 ^ 40 }
+        requires above { self.old.backing.greatest < self.old.state.operations.next - 1 }
+        requires small { (k : Part) → part k share < 2 ^ 80 }
+        ensures state { self.new.state ≡ holding project share self.old.state }
+        ensures log { self.new.log ≡ self.old.log }
+        ensures greatest { self.new.backing.greatest ≡ self.old.state.operations.next - 1 }
+    {
+        self.lists.hold(project, share);
+    }
+
+    /// A live operation takes another status, since this moment. It takes no memory.
+    #[tactic(auto, using(crate::proofs::Settled::settled_is))]
+    pub fn set_status(&mut self, number: u64, status: Status, moment: u64)
+        requires settled { self.old.log ≡ [] }
+        requires live { IsSome (live_at self.old.state.operations number) }
+        ensures state { self.new.state ≡ moved number status moment self.old.state }
+        ensures log { self.new.log ≡ [] }
+        ensures greatest { self.new.backing.greatest ≡ self.old.backing.greatest }
+    {
+        self.lists.set_status(number, status, moment);
+    }
+
+    /// A live operation hands out its first call that is left. It takes no memory.
+    #[tactic(auto, using(crate::proofs::Settled::settled_is))]
+    pub fn hand_out(&mut self, number: u64) -> HostCall
+        requires settled { self.old.log ≡ [] }
+        requires call { IsSome (handed_at handing.First self.old.state.operations number) }
+        ensures state { (call : HostCallValue) (task : Task) → handed_at handing.First self.old.state.operations number ≡ Some (call, task) →
+            (result ≡ call) × (self.new.state ≡ with_task number task self.old.state) }
+        ensures log { self.new.log ≡ [] }
+        ensures greatest { self.new.backing.greatest ≡ self.old.backing.greatest }
+    {
+        self.lists.hand_out(number, Handing::First)
+    }
+
+    /// One more call of a live operation was done, and it hands out the next one. It takes no memory.
+    #[tactic(auto, using(crate::proofs::Settled::settled_is))]
+    pub fn hand_out_next(&mut self, number: u64) -> HostCall
+        requires settled { self.old.log ≡ [] }
+        requires call { IsSome (handed_at handing.Next self.old.state.operations number) }
+        requires count { HasCountAt handing.Next self.old.state.operations number }
+        ensures state { (call : HostCallValue) (task : Task) → handed_at handing.Next self.old.state.operations number ≡ Some (call, task) →
+            (result ≡ call) × (self.new.state ≡ with_task number task self.old.state) }
+        ensures log { self.new.log ≡ [] }
+        ensures greatest { self.new.backing.greatest ≡ self.old.backing.greatest }
+    {
+        self.lists.hand_out(number, Handing::Next)
+    }
+
+    /// A live operation hands out the call that takes its deed back. It takes no memory.
+    #[tactic(auto, using(crate::proofs::Settled::settled_is))]
+    pub fn hand_out_undo(&mut self, number: u64) -> HostCall
+        requires settled { self.old.log ≡ [] }
+        requires call { IsSome (handed_at handing.Undo self.old.state.operations number) }
+        ensures state { (call : HostCallValue) (task : Task) → handed_at handing.Undo self.old.state.operations number ≡ Some (call, task) →
+            (result ≡ call) × (self.new.state ≡ with_task number task self.old.state) }
+        ensures log { self.new.log ≡ [] }
+        ensures greatest { self.new.backing.greatest ≡ self.old.backing.greatest }
+    {
+        self.lists.hand_out(number, Handing::Undo)
+    }
+
+    /// The instance that a live operation is about has this status from now on, where it has one. It takes no memory.
+    #[tactic(auto, using(crate::proofs::Settled::settled_is))]
+    pub fn set_power_of(&mut self, number: u64, power: Power)
+        requires settled { self.old.log ≡ [] }
+        requires live { IsSome (live_at self.old.state.operations number) }
+        ensures state { (o : OperationValue Task) → live_at self.old.state.operations number ≡ Some o →
+            self.new.state ≡ with_power self.old.state o.work.project o.work.target.name power }
+        ensures log { self.new.log ≡ [] }
+        ensures greatest { self.new.backing.greatest ≡ self.old.backing.greatest }
+    {
+        self.lists.set_power_of(number, power);
+    }
+
+    /// A live operation ends, at this moment; the oldest of those that ended goes where there would be too many. It takes no
+    /// memory.
+    #[tactic(auto, using(crate::proofs::Settled::settled_is))]
+    pub fn end(&mut self, number: u64, status: Status, fault: OpFault, moment: u64)
+        requires settled { self.old.log ≡ [] }
+        requires live { IsSome (live_at self.old.state.operations number) }
+        ensures state { self.new.state ≡ ended number status fault moment self.old.state }
+        ensures log { self.new.log ≡ [] }
+        ensures greatest { self.new.backing.greatest ≡ self.old.backing.greatest }
+    {
+        self.lists.end(number, status, fault, moment);
+    }
+
+    /// The share of an operation that succeeded becomes its object's. It takes no memory.
+    #[tactic(auto, using(crate::proofs::Settled::settled_is))]
+    pub fn convert(&mut self, number: u64)
+        requires settled { self.old.log ≡ [] }
+        requires held { IsSome (find (is_held_by number) self.old.state.held) }
+        ensures state { self.new.state ≡ converted number self.old.state }
+        ensures log { self.new.log ≡ [] }
+        ensures greatest { self.new.backing.greatest ≡ self.old.backing.greatest }
+    {
+        self.lists.convert(number);
+    }
+
+    /// The share of an operation that failed or was cancelled goes back whole. It takes no memory.
+    #[tactic(auto, using(crate::proofs::Settled::settled_is))]
+    pub fn give_back(&mut self, number: u64)
+        requires settled { self.old.log ≡ [] }
+        requires held { IsSome (find (is_held_by number) self.old.state.held) }
+        ensures state { self.new.state ≡ returned number self.old.state }
+        ensures log { self.new.log ≡ [] }
+        ensures greatest { self.new.backing.greatest ≡ self.old.backing.greatest }
+    {
+        self.lists.give_back(number);
     }
 }

@@ -2,10 +2,13 @@
 //! taken back to what they were before the changes.
 #![tactic(auto)]
 
+mod background;
+mod calls;
 mod draft;
 mod edits;
 mod keys;
 mod lists;
 mod placed;
 
+pub use calls::Handing;
 pub use draft::Draft;

@@ -1,23 +1,37 @@
-ghost use Rattle.std.specs.Prelude.{◌≡◌, ◌+◌, ◌≤◌, ◌∷◌, [], length, take, drop, if◌then◌else◌, OnOk};
-ghost use Rattle.std.specs.List.{list_any};
+ghost use Rattle.std.specs.Prelude.{◌≡◌, ◌+◌, ◌-◌, ◌^◌, ◌<◌, ◌≤◌, ◌∷◌, [], Some, IsSome, length, take, drop, find, if◌then◌else◌, OnOk, IfOk};
+ghost use Rattle.std.specs.List.{list_any, position};
+ghost use Rattle.host_model.specs.declared.call.HostCall.{HostCall as HostCallValue};
+ghost use Rattle.operations.specs.Kept.{live_at};
+ghost use Rattle.operations.specs.declared.operation.Operation.{Operation as OperationValue};
+ghost use Rattle.plain_lists.specs.Edits.{changed_first};
 ghost use Rattle.records.specs.declared.rows.Row.TheVariants as row_of;
 ghost use Rattle.row_machine.specs.declared.changes.RowChange.TheVariants as change_of;
 ghost use Rattle.row_machine.specs.machine.Rows.{is_standing, with_standing};
 ghost use Rattle.row_machine.specs.machine.Changes.{with_row, without_row, changed};
-ghost use Rattle.row_machine.specs.machine.State.{empty_state};
+ghost use Rattle.row_machine.specs.machine.State.{Standing, empty_state};
+ghost use Rattle.row_machine.specs.machine.Task.{Task};
+ghost use Rattle.row_machine.specs.machine.Work.{claiming, moved, with_task, with_power, ended, is_held_by, converted, returned};
+ghost use Rattle.row_drafts.specs.Background.{holding, handed_at, HasCountAt};
+ghost use Rattle.row_drafts.specs.declared.lists.Undone.TheVariants as undone_of;
+ghost use Rattle.size_values.specs.Amounts.{part};
+ghost use Rattle.size_values.specs.declared.amounts.Part.{Part};
 ghost use Rattle.row_drafts.specs.Drafted.{spares_for, stopped};
 ghost use Rattle.row_drafts.specs.Steps.{before_change, before_step, FitsChange, FitsStep};
 
+use crate::background::Background;
+use crate::calls::Handing;
 use crate::edits::{Step, put, put_new, remove, take_back};
-use operations::Operation;
+use host_model::HostCall;
+use operations::{OpFault, Status};
 use records::{Instance, Network, Pool, Profile, Project, Row, Snapshot, Volume};
 use row_machine::{RowChange, Work};
 use row_readings::{InstancePower, View};
-use size_values::{NoMemory, ObjectKind};
+use size_values::{Amounts, NoMemory, ObjectKind, Power, Text};
 use std::alloc::Global;
 use std::marker::Model;
 
-/// What takes one change back: what it did to the list of its kind, and for an instance to the statuses too.
+/// What takes one change back: what it did to the list of its kind, and for an instance to the statuses too; or that an operation
+/// was entered.
 #[derive(Drop)]
 pub(crate) enum Undone {
     Project(Step<Project>),
@@ -27,6 +41,7 @@ pub(crate) enum Undone {
     Volume(Step<Volume>),
     Instance(Step<Instance>, Step<InstancePower>),
     Snapshot(Step<Snapshot>),
+    Claimed,
     Nothing,
 }
 
@@ -42,9 +57,7 @@ pub(crate) struct Lists {
     instances: Vec<Instance>,
     snapshots: Vec<Snapshot>,
     powers: Vec<InstancePower>,
-    live: Vec<Operation<Work>>,
-    ended: Vec<Operation<Work>>,
-    next: u64,
+    background: Background,
 }
 
 impl Model for Lists {
@@ -59,10 +72,12 @@ impl Model for Lists {
 
 impl Lists {
     /// No rows and no operations.
-    pub(crate) fn new(alloc: Global) -> Lists
-        ensures { result.state ≡ empty_state }
+    pub(crate) fn new(alloc: Global) -> Result<Lists, NoMemory>
+        ensures state { IfOk result (λ l. l.state ≡ empty_state) }
+        ensures greatest { IfOk result (λ l. l.backing.greatest ≡ 0) }
     {
-        Lists {
+        let background = Background::new(alloc)?;
+        Ok(Lists {
             projects: Vec::new(alloc),
             profiles: Vec::new(alloc),
             networks: Vec::new(alloc),
@@ -71,10 +86,8 @@ impl Lists {
             instances: Vec::new(alloc),
             snapshots: Vec::new(alloc),
             powers: Vec::new(alloc),
-            live: Vec::new(alloc),
-            ended: Vec::new(alloc),
-            next: 1,
-        }
+            background,
+        })
     }
 
     /// All of it, to be read.
@@ -90,9 +103,11 @@ impl Lists {
             instances: &self.instances,
             snapshots: &self.snapshots,
             powers: &self.powers,
-            live: &self.live,
-            ended: &self.ended,
-            next: self.next,
+            live: self.background.live(),
+            ended: self.background.ended(),
+            next: self.background.next(),
+            held: self.background.holds(),
+            books: self.background.books(),
         }
     }
 
@@ -100,6 +115,7 @@ impl Lists {
     pub(crate) fn reserve(&mut self, count: usize) -> Result<(), NoMemory>
         ensures room { OnOk result (count ≤ self.new.room) }
         ensures state { self.new.state ≡ self.old.state }
+        ensures backing { self.new.backing ≡ self.old.backing }
     {
         self.projects.reserve(count)?;
         self.profiles.reserve(count)?;
@@ -119,6 +135,7 @@ impl Lists {
         ensures room { self.old.room ≤ self.new.room + 1 }
         ensures back { before_change result self.new.state ≡ self.old.state }
         ensures fits { FitsChange result self.new.state }
+        ensures backing { self.new.backing ≡ self.old.backing }
     {
         let power = put_new(&mut self.powers, power);
         let row = put(&mut self.instances, row);
@@ -134,6 +151,7 @@ impl Lists {
         ensures spares { spares.new.items ≡ drop (length (spares_for (change_of.Put row))) spares.old.items }
         ensures back { before_change result self.new.state ≡ self.old.state }
         ensures fits { FitsChange result self.new.state }
+        ensures backing { self.new.backing ≡ self.old.backing }
     {
         match row {
             Row::Project(row) => Undone::Project(put(&mut self.projects, row)),
@@ -152,6 +170,7 @@ impl Lists {
         ensures room { self.old.room ≤ self.new.room + 1 }
         ensures back { before_change result self.new.state ≡ self.old.state }
         ensures fits { FitsChange result self.new.state }
+        ensures backing { self.new.backing ≡ self.old.backing }
     {
         match kind {
             ObjectKind::Project => Undone::Project(remove(&mut self.projects, key)),
@@ -178,6 +197,7 @@ impl Lists {
         ensures spares { spares.new.items ≡ drop (length (spares_for change)) spares.old.items }
         ensures back { before_change result self.new.state ≡ self.old.state }
         ensures fits { FitsChange result self.new.state }
+        ensures backing { self.new.backing ≡ self.old.backing }
     {
         match change {
             RowChange::Put(row) => self.put(row, spares),
@@ -191,6 +211,7 @@ impl Lists {
         requires fits { FitsChange undone self.old.state }
         ensures state { self.new.state ≡ before_change undone self.old.state }
         ensures room { self.old.room ≤ self.new.room + 1 }
+        ensures greatest { self.new.backing.greatest ≡ self.old.backing.greatest }
     {
         match undone {
             Undone::Project(step) => take_back(&mut self.projects, step),
@@ -203,7 +224,125 @@ impl Lists {
                 take_back(&mut self.powers, power);
             }
             Undone::Snapshot(step) => take_back(&mut self.snapshots, step),
+            Undone::Claimed => self.background.take_claim_back(),
             Undone::Nothing => {}
         }
+    }
+
+    /// Takes memory for one more operation, its share, and for taking it back.
+    pub(crate) fn reserve_operation(&mut self) -> Result<(), NoMemory>
+        ensures room { OnOk result (1 ≤ self.new.room) }
+        ensures claim_room { OnOk result (1 ≤ self.new.backing.claim_room) }
+        ensures hold_room { OnOk result (1 ≤ self.new.backing.hold_room) }
+        ensures state { self.new.state ≡ self.old.state }
+        ensures greatest { self.new.backing.greatest ≡ self.old.backing.greatest }
+    {
+        self.reserve(1)?;
+        self.background.reserve()
+    }
+
+    /// Enters an operation. It takes no memory.
+    pub(crate) fn claim(&mut self, work: Work, moment: u64) -> u64
+        requires room { 1 ≤ self.old.backing.claim_room }
+        requires number { self.old.state.operations.next ≤ 2 ^ 40 }
+        ensures state { self.new.state ≡ claiming self.old.state work moment }
+        ensures back { before_change undone_of.Claimed self.new.state ≡ self.old.state }
+        ensures number { result ≡ self.old.state.operations.next }
+        ensures room { self.new.room ≡ self.old.room }
+        ensures hold_room { self.new.backing.hold_room ≡ self.old.backing.hold_room }
+        ensures greatest { self.new.backing.greatest ≡ self.old.backing.greatest }
+    {
+        self.background.claim(work, moment)
+    }
+
+    /// The operation that was entered last holds a share from now on. It takes no memory.
+    pub(crate) fn hold(&mut self, project: Text, share: Amounts)
+        requires room { 1 ≤ self.old.backing.hold_room }
+        requires limit { self.old.state.operations.next - 1 < 2 ^ 40 }
+        requires above { self.old.backing.greatest < self.old.state.operations.next - 1 }
+        requires small { (k : Part) → part k share < 2 ^ 80 }
+        ensures state { self.new.state ≡ holding project share self.old.state }
+        ensures room { self.new.room ≡ self.old.room }
+        ensures greatest { self.new.backing.greatest ≡ self.old.state.operations.next - 1 }
+    {
+        self.background.hold(project, share);
+    }
+
+    /// A live operation takes another status.
+    pub(crate) fn set_status(&mut self, number: u64, status: Status, moment: u64)
+        requires { IsSome (live_at self.old.state.operations number) }
+        ensures state { self.new.state ≡ moved number status moment self.old.state }
+        ensures greatest { self.new.backing.greatest ≡ self.old.backing.greatest }
+    {
+        self.background.set_status(number, status, moment);
+    }
+
+    /// A live operation hands out a call, which it has.
+    pub(crate) fn hand_out(&mut self, number: u64, which: Handing) -> HostCall
+        requires call { IsSome (handed_at which self.old.state.operations number) }
+        requires count { HasCountAt which self.old.state.operations number }
+        ensures state { (call : HostCallValue) (task : Task) → handed_at which self.old.state.operations number ≡ Some (call, task) →
+            (result ≡ call) × (self.new.state ≡ with_task number task self.old.state) }
+        ensures greatest { self.new.backing.greatest ≡ self.old.backing.greatest }
+    {
+        self.background.hand_out(number, which)
+    }
+
+    /// The instance that a live operation is about has this status from now on.
+    pub(crate) fn set_power_of(&mut self, number: u64, power: Power)
+        requires { IsSome (live_at self.old.state.operations number) }
+        ensures state { (o : OperationValue Task) → live_at self.old.state.operations number ≡ Some o →
+            self.new.state ≡ with_power self.old.state o.work.project o.work.target.name power }
+        ensures greatest { self.new.backing.greatest ≡ self.old.backing.greatest }
+    {
+        let work = &self.background.at(number).work;
+        set_power(&mut self.powers, &work.project, &work.target.name, power);
+    }
+
+    /// A live operation ends.
+    pub(crate) fn end(&mut self, number: u64, status: Status, fault: OpFault, moment: u64)
+        requires { IsSome (live_at self.old.state.operations number) }
+        ensures state { self.new.state ≡ ended number status fault moment self.old.state }
+        ensures greatest { self.new.backing.greatest ≡ self.old.backing.greatest }
+    {
+        self.background.end(number, status, fault, moment);
+    }
+
+    /// The share of an operation becomes its object's.
+    pub(crate) fn convert(&mut self, number: u64)
+        requires { IsSome (find (is_held_by number) self.old.state.held) }
+        ensures state { self.new.state ≡ converted number self.old.state }
+        ensures greatest { self.new.backing.greatest ≡ self.old.backing.greatest }
+    {
+        self.background.convert(number);
+    }
+
+    /// The share of an operation goes back whole.
+    pub(crate) fn give_back(&mut self, number: u64)
+        requires { IsSome (find (is_held_by number) self.old.state.held) }
+        ensures state { self.new.state ≡ returned number self.old.state }
+        ensures greatest { self.new.backing.greatest ≡ self.old.backing.greatest }
+    {
+        self.background.give_back(number);
+    }
+}
+
+/// The place of the status of an instance.
+fn place_of_power(powers: &[InstancePower], project: &Text, name: &Text) -> Option<usize>
+    ensures { result ≡ position (is_standing project.now name.now) powers.now }
+{
+    powers
+        .iter()
+        .position(|power| power.project.is(project) && power.name.is(name))
+}
+
+/// The instance of a project and name has this status from now on, where it has one.
+fn set_power(powers: &mut Vec<InstancePower>, project: &Text, name: &Text, power: Power)
+    ensures { powers.new.items ≡
+        changed_first (is_standing project.now name.now) (λ (p : Standing). record p { power = power }) powers.old.items }
+{
+    match place_of_power(powers, project, name) {
+        Some(place) => powers[place].power = power,
+        None => {}
     }
 }

@@ -31,7 +31,7 @@ use Rattle.std.specs.Prelude.{◌<◌, ◌+◌, is_some}
 use Rattle.size_values.specs.Amounts.{nothing, part}
 use Rattle.size_values.specs.declared.amounts.Amounts.{Amounts}
 use Rattle.size_values.specs.declared.moment.TheConstants.{MOMENT_LIMIT}
-use Rattle.row_machine.specs.machine.State.{Held}
+use Rattle.reservations.specs.declared.books.Hold.{Hold}
 use Rattle.row_machine.specs.machine.Rows.{pool_named}
 use Rattle.std.specs.Prelude.{map}
 use Rattle.row_machine.specs.facts.Whole.{instance_there, held_by}
@@ -523,7 +523,7 @@ unfolding
     object_protected object_used project_occupied profile_held standing_broken step cancel_broken entry_broken
     tables_broken loads usage_of networks_of used_by usage_view read entered succeeded failed cancelled
 balanced = by_part where
-  by_part : (k : Part) → part k busy.books.granted ≡ part k busy.books.converted + part k busy.books.returned + sum_by (λ (h : Held). part k h.share) busy.held
+  by_part : (k : Part) → part k busy.books.granted ≡ part k busy.books.converted + part k busy.books.returned + sum_by (λ (h : Hold). part k h.share) busy.held
   by_part Instances = refl
   by_part Containers = refl
   by_part Machines = refl
@@ -557,7 +557,7 @@ shares = as-held ∙ sym as-stands where
   one : Amounts
   one = record { instances = 1; containers = 1; machines = 0; cpu = 0; memory = 0; processes = 0; disk = 1073741824 }
 
-  held-now : List Held
+  held-now : List Hold
   held-now =
       record { op = 3; project = default_name; share = one }
       ∷ record { op = 4; project = default_name; share = one }

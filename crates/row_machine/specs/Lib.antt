@@ -1,4 +1,7 @@
 pub mod Words
+pub mod Estate
+pub mod Readings
+pub mod Doings
 pub mod machine
 pub mod shown
 pub mod opening

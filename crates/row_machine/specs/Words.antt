@@ -1,12 +1,21 @@
--- The words that the machine is written in, besides those of the standard library: those of the crates below.
+-- The words that the machine is written in: those of the standard library, and those of the crates below.
+pub use Rattle.std.specs.Cmp.Lexicographic.{slice_cmp}
+pub use Rattle.std.specs.Fmt.{decimal}
+pub use Rattle.std.specs.List.{filter_map, list_any, sum_by}
+pub use Rattle.std.specs.Map.{keys_of, values_of}
+pub use Rattle.std.specs.Option.{option_map_or, option_to_list, option_or}
+pub use Rattle.std.specs.Ordering.{nat_cmp, is_lt}
+pub use Rattle.std.specs.Prelude.{ℕ, Bool, false, not, Result, Ok, Err, ℤ, pos, negsuc, is_some, true, List, length, Option, Some, None, codes, unwrap_or, filter, fold, [], option_and_then, is_none, map, find, option_map, nat_lt, slice_get, min}
+pub use Rattle.std.specs.Result.{result_ok, result_err}
+pub use Rattle.std.specs.Str.{bytes_eq}
 pub use Rattle.config_lists.specs.Changes.{patched, settled}
 pub use Rattle.config_lists.specs.Devices.{NamedDevices, root_of}
-pub use Rattle.config_lists.specs.Entries.{put}
+pub use Rattle.config_lists.specs.Entries.{put, replaced as put_each}
 pub use Rattle.config_lists.specs.Settings.{Settings, has_setting, setting}
 pub use Rattle.config_lists.specs.declared.root.Root.{Root}
 pub use Rattle.estate_rules.specs.Names.{good_name_of}
 pub use Rattle.estate_rules.specs.Uses.{names_network, names_pool, names_volume}
-pub use Rattle.expansion.specs.Layers.{expanded}
+pub use Rattle.expansion.specs.Layers.{expanded, nothing as no_layer}
 pub use Rattle.expansion.specs.declared.expanded.Expanded.{Expanded}
 pub use Rattle.host_model.specs.declared.call.HostCall.{HostCall}
 pub use Rattle.host_model.specs.declared.call.HostCall.TheVariants.{Clear, CopyRoot, Freeze, MakeRoot, Start, Stop, Thaw}
@@ -24,17 +33,18 @@ pub use Rattle.operations.specs.declared.faults.CancelFault.{CancelFault}
 pub use Rattle.operations.specs.declared.faults.EnterFault.{EnterFault}
 pub use Rattle.operations.specs.declared.faults.EnterFault.TheVariants.{Full, Spent}
 pub use Rattle.operations.specs.declared.operation.OpFault.{OpFault}
+pub use Rattle.operations.specs.declared.operation.Operation.{Operation}
 pub use Rattle.operations.specs.declared.status.Status.{Status}
 pub use Rattle.operations.specs.declared.status.Status.TheVariants.{Cancelled, Cancelling, Failure, Pending, Success}
 pub use Rattle.option_tables.specs.Checks.{devices_fault, instance_fault, network_fault, pool_fault, project_fault, volume_fault}
 pub use Rattle.option_tables.specs.declared.faults.DeviceFault.{DeviceFault}
 pub use Rattle.option_tables.specs.declared.faults.SettingFault.{SettingFault}
 pub use Rattle.option_tables.specs.declared.tables.Scope.{Scope}
-pub use Rattle.plain_lists.specs.Edits.{changed_first, dropped, inserted}
+pub use Rattle.plain_lists.specs.Edits.{changed_first, dropped, inserted, replaced}
 pub use Rattle.plain_lists.specs.Firsts.{first, first_of}
 pub use Rattle.plain_lists.specs.Members.{Distinct, Each, Mem}
 pub use Rattle.plain_lists.specs.Rings.{ring_push}
-pub use Rattle.project_limits.specs.Admission.{limit_on, over, parts}
+pub use Rattle.project_limits.specs.Admission.{limit_on, over, parts, key_of as key_of_part}
 pub use Rattle.project_limits.specs.Countable.{first_uncounted, volume_uncounted}
 pub use Rattle.project_limits.specs.Instance.{instance_amounts, volume_amounts}
 pub use Rattle.project_limits.specs.Limits.{limits_of}
@@ -53,6 +63,7 @@ pub use Rattle.records.specs.declared.notices.Life.{Life}
 pub use Rattle.records.specs.declared.notices.Notice.{Notice}
 pub use Rattle.records.specs.declared.notices.Told.{Told}
 pub use Rattle.records.specs.declared.notices.Untold.{Untold}
+pub use Rattle.records.specs.declared.refusals.Kept.{Kept}
 pub use Rattle.records.specs.declared.refusals.Refusal.{Refusal}
 pub use Rattle.records.specs.declared.refusals.Rule.{Rule}
 pub use Rattle.records.specs.declared.replies.LimitKeyName.{LimitKeyName}
@@ -60,7 +71,15 @@ pub use Rattle.records.specs.declared.replies.OpView.{OpView}
 pub use Rattle.records.specs.declared.replies.Reply.{Reply}
 pub use Rattle.records.specs.declared.replies.UsageLine.{UsageLine}
 pub use Rattle.records.specs.declared.replies.View.{View}
+pub use Rattle.records.specs.declared.rows.Driver.{Driver}
+pub use Rattle.records.specs.declared.rows.Instance.{Instance}
+pub use Rattle.records.specs.declared.rows.Network.{Network}
+pub use Rattle.records.specs.declared.rows.Pool.{Pool}
+pub use Rattle.records.specs.declared.rows.Profile.{Profile}
+pub use Rattle.records.specs.declared.rows.Project.{Project}
 pub use Rattle.records.specs.declared.rows.Row.{Row}
+pub use Rattle.records.specs.declared.rows.Snapshot.{Snapshot}
+pub use Rattle.records.specs.declared.rows.Volume.{Volume}
 pub use Rattle.reservations.specs.Holdings.{converted_more, granted_more, no_books, returned_more}
 pub use Rattle.reservations.specs.declared.books.Books.{Books}
 pub use Rattle.restrictions.specs.Forbids.{demands, first_forbidden, setting_lines, snapshots_forbidden}
@@ -69,9 +88,12 @@ pub use Rattle.restrictions.specs.Words.{is_true}
 pub use Rattle.restrictions.specs.declared.forbidden.Forbidden.{Forbidden}
 pub use Rattle.restrictions.specs.declared.rows.Subject.{Subject}
 pub use Rattle.row_codec.specs.Rows.{HasGoodKey, HasMoments}
-pub use Rattle.row_codec.specs.Spelling.{body_of, entry_of, two_names}
+pub use Rattle.row_codec.specs.Spelling.{body_of, entry_of, two_names, key_of}
 pub use Rattle.row_codec.specs.declared.damage.Damaged.{Damaged}
-pub use Rattle.size_values.specs.Amounts.{amount_above, excess_of, part}
+pub use Rattle.row_machine.specs.declared.changes.RowChange.{RowChange}
+pub use Rattle.row_machine.specs.declared.events.Answer.{Answer}
+pub use Rattle.row_machine.specs.declared.events.Event.{Event}
+pub use Rattle.size_values.specs.Amounts.{amount_above, excess_of, part, nothing as no_amounts}
 pub use Rattle.size_values.specs.Fault.{fault_number}
 pub use Rattle.size_values.specs.Truth.{truth_of}
 pub use Rattle.size_values.specs.declared.amounts.Amounts.{Amounts}

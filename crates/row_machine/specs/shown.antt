@@ -1,3 +1,4 @@
+pub mod Statuses
 pub mod Links
 pub mod Notices
 pub mod Views

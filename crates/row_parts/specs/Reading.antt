@@ -1,5 +1,6 @@
 -- Parts of a row read from the front of bytes: the part and the bytes after it, or the place that cannot be read.
-use Rattle.std.specs.Prelude.{◌≡◌, ℕ, zero, suc, ◌==◌, ◌&&◌, nat_lt, nat_le, Bool, true, false, List, [], ◌∷◌, ◌++◌, length, take, drop, Option, Some, None, Result, Ok, Err, if◌then◌else◌}
+use Rattle.std.specs.Prelude.{◌≡◌, ℕ, zero, suc, ◌==◌, ◌&&◌, nat_lt, nat_le, Bool, true, false, List, [], ◌∷◌, ◌++◌}
+use Rattle.std.specs.Prelude.{length, take, drop, Option, Some, None, Result, Ok, Err, if◌then◌else◌}
 use Rattle.std.specs.Cmp.Lexicographic.{slice_cmp}
 use Rattle.std.specs.Int.{w32, w64, from_be_bytes}
 use Rattle.std.specs.Ordering.{nat_cmp, is_lt}
@@ -38,7 +39,8 @@ abbrev pub IsRead : {X Y E : Type 0} → (X → Y) → Result X E → Result Y E
 IsRead view (Ok x) read = read ≡ Ok (view x)
 IsRead view (Err e) read = read ≡ Err e
 
--- A part that is read, and the bytes after it. A part that cannot be read is named by the bytes that are left where it begins.
+-- A part that is read, and the bytes after it. A part that cannot be read is named by the bytes that are left where it
+-- begins.
 abbrev pub Read : Type 0 → Type 0
 Read A = Result (A × List ℕ) Unreadable
 
@@ -54,7 +56,8 @@ count_at bytes = if nat_lt (length bytes) 4 then stops_at bytes else Ok (from_be
 
 -- a number: eight bytes, highest first
 unfoldable pub number_at : List ℕ → Read ℕ
-number_at bytes = if nat_lt (length bytes) 8 then stops_at bytes else Ok (from_be_bytes w64 (take 8 bytes), drop 8 bytes)
+number_at bytes = if nat_lt (length bytes) 8
+    then stops_at bytes else Ok (from_be_bytes w64 (take 8 bytes), drop 8 bytes)
 
 -- a number that is a moment
 unfoldable pub moment_at : List ℕ → Read ℕ
@@ -68,7 +71,8 @@ truth_of byte = if byte == 0 then Some false else (if byte == 1 then Some true e
 
 -- the same as the kind of an instance
 abbrev pub instance_kind_of : ℕ → Option Kind
-instance_kind_of byte = if byte == 0 then Some container.Container else (if byte == 1 then Some container.Machine else None)
+instance_kind_of byte = if byte == 0
+    then Some container.Container else (if byte == 1 then Some container.Machine else None)
 
 -- the same as the driver of a pool
 abbrev pub driver_of : ℕ → Option Driver
@@ -93,7 +97,8 @@ code_at meaning (byte ∷ rest) = meant_at (meaning byte) rest (byte ∷ rest)
 unfoldable pub text_at : List ℕ → Read (List ℕ)
 text_at bytes = do
   len ← count_at bytes
-  if nat_le len.0 (length len.1) && is_utf8 (take len.0 len.1) then Ok (take len.0 len.1, drop len.0 len.1) else stops_at bytes
+  if nat_le len.0 (length len.1)
+      && is_utf8 (take len.0 len.1) then Ok (take len.0 len.1, drop len.0 len.1) else stops_at bytes
 
 -- ---- lists
 

@@ -1,7 +1,9 @@
 //! Lists of texts, settings and devices, read from the front of bytes.
 ghost use Rattle.std.specs.Prelude.{◌≡◌, ◌≢◌, [], IfOk};
 ghost use Rattle.config_lists.specs.Entries.{KeysRise};
-ghost use Rattle.row_parts.specs.Reading.{Gives, IsRead, IsLast, last_of, added, is_next, next_at, next_filled_at, filled_at, text_at, items_at, texts_at, setting_at, settings_at, device_at, devices_at, shape_at};
+ghost use Rattle.row_parts.specs.Reading.{Gives, IsRead, IsLast, last_of, added, is_next, next_at, next_filled_at};
+ghost use Rattle.row_parts.specs.Reading.{filled_at, text_at, items_at, texts_at, setting_at, settings_at, device_at};
+ghost use Rattle.row_parts.specs.Reading.{devices_at, shape_at};
 
 use crate::parts::{Shape, count_at, stops_at, str_at, text_at};
 use crate::unreadable::Unreadable;
@@ -76,7 +78,10 @@ fn value_at(bytes: &[u8]) -> Result<(&str, &[u8]), Unreadable>
 
 #[tactic(auto, using(crate::proofs::Rising::put_behind), unfolding(crate::specs::Reading::setting_at))]
 fn add_setting<'b>(config: &mut Config, bytes: &'b [u8]) -> Result<&'b [u8], Or<Unreadable>>
-    ensures { Gives (λ rest. (config.new, rest.now)) result (added config.old (setting_at (last_of config.old) bytes.now)) }
+    ensures { Gives (λ rest. (
+      config.new,
+      rest.now,
+    )) result (added config.old (setting_at (last_of config.old) bytes.now)) }
 {
     let (key, rest) = key_at(config, bytes)?;
     let (value, rest) = value_at(rest)?;
@@ -131,7 +136,10 @@ fn add_device<'b>(
     devices: &mut Devices,
     bytes: &'b [u8],
 ) -> Result<&'b [u8], Or<Unreadable>>
-    ensures { Gives (λ rest. (devices.new, rest.now)) result (added devices.old (device_at (last_of devices.old) bytes.now)) }
+    ensures { Gives (λ rest. (
+      devices.new,
+      rest.now,
+    )) result (added devices.old (device_at (last_of devices.old) bytes.now)) }
 {
     let (name, rest) = name_at(devices, bytes)?;
     let (config, rest) = settings_at(alloc, rest)?;

@@ -1,6 +1,7 @@
 //! Numbers, codes and texts, read from the front of bytes: each reader gives the part and the bytes after it.
 ghost use Rattle.std.specs.Prelude.{◌≡◌, List, length};
-ghost use Rattle.row_parts.specs.Reading.{Gives, IsRead, count_at, number_at, moment_at, code_at, truth_of, instance_kind_of, driver_of, text_at};
+ghost use Rattle.row_parts.specs.Reading.{Gives, IsRead, count_at, number_at, moment_at, code_at, truth_of};
+ghost use Rattle.row_parts.specs.Reading.{instance_kind_of, driver_of, text_at};
 
 use crate::unreadable::Unreadable;
 use config_lists::{Config, Devices};

@@ -1,8 +1,10 @@
 //! Parts of rows, written at the end of bytes.
 ghost use Rattle.std.specs.Prelude.{◌≡◌, ◌++◌, OnOk};
 ghost use Rattle.std.specs.Str.{IsUtf8};
-ghost use Rattle.row_parts.specs.Parts.{IsShort, AreShortTexts, AreShortSettings, AreShortDevices, AreUtf8, AreTypedSettings, AreTypedDevices};
-ghost use Rattle.row_parts.specs.Spelling.{text_bytes, number_bytes, texts_bytes, settings_bytes, devices_bytes, truth_byte, kind_byte, driver_byte};
+ghost use Rattle.row_parts.specs.Parts.{IsShort, AreShortTexts, AreShortSettings, AreShortDevices, AreUtf8};
+ghost use Rattle.row_parts.specs.Parts.{AreTypedSettings, AreTypedDevices};
+ghost use Rattle.row_parts.specs.Spelling.{text_bytes, number_bytes, texts_bytes, settings_bytes, devices_bytes};
+ghost use Rattle.row_parts.specs.Spelling.{truth_byte, kind_byte, driver_byte};
 
 use config_lists::{Config, Devices};
 use records::Driver;

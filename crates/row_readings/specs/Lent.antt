@@ -2,7 +2,7 @@
 use Rattle.row_machine.specs.machine.State.{State, empty_state}
 use Rattle.row_readings.specs.declared.view.View.TheInside.{Inside}
 
--- the state with these rows, statuses and operations
+-- the state with these rows, statuses, operations and shares
 abbrev pub state_in : Inside → State
 state_in v = record empty_state {
   projects = v.projects.now;
@@ -14,4 +14,6 @@ state_in v = record empty_state {
   snapshots = v.snapshots.now;
   powers = v.powers.now;
   operations = record { live = v.live.now; ended = v.ended.now; next = v.next };
+  held = v.held.now;
+  books = v.books;
 }

@@ -1,5 +1,6 @@
 use operations::Operation;
 use records::{Instance, Network, Pool, Profile, Project, Snapshot, Volume};
+use reservations::{Books, Hold};
 use row_machine::Work;
 use size_values::{Power, Text};
 use std::marker::Model;
@@ -22,8 +23,8 @@ impl Model for InstancePower {
 
 /// The rows of each kind, in the order of project, pool or instance, and name, the status of each instance, and the kept
 /// operations: those that live in the order of their numbers, those that ended in the order of their ends, and the
-/// number of the next one. All of it is lent. Contracts see the state of the row machine with these rows, statuses and
-/// operations, in which nothing else was told or granted yet.
+/// number of the next one; and the shares that live operations hold, and the books. The lists are lent. Contracts see the
+/// state of the row machine with these rows, statuses, operations and shares, in which nothing was told yet.
 #[derive(Drop)]
 pub struct View<'a> {
     pub projects: &'a [Project],
@@ -37,6 +38,8 @@ pub struct View<'a> {
     pub live: &'a [Operation<Work>],
     pub ended: &'a [Operation<Work>],
     pub next: u64,
+    pub held: &'a [Hold],
+    pub books: Books,
 }
 
 impl<'a> Model for View<'a> {

@@ -1,7 +1,8 @@
 //! The sizes of bodies of version 1, part by part. A sum stops at the greatest number of eight bytes.
 ghost use Rattle.std.specs.Prelude.{◌≡◌, ◌+◌, ℕ, length};
 ghost use Rattle.row_codec.specs.Spelling.{text_bytes, texts_bytes, settings_bytes, devices_bytes, body_of};
-ghost use Rattle.row_codec.specs.Spelling.{project_bytes, profile_bytes, network_bytes, pool_bytes, volume_bytes, instance_bytes, snapshot_bytes};
+ghost use Rattle.row_codec.specs.Spelling.{project_bytes, profile_bytes, network_bytes, pool_bytes, volume_bytes};
+ghost use Rattle.row_codec.specs.Spelling.{instance_bytes, snapshot_bytes};
 ghost use Rattle.row_sizes.specs.Sizes.{capped};
 
 use config_lists::{Config, Devices};

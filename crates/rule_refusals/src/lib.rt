@@ -1,5 +1,5 @@
-//! The refusals of the rules of the row machine: what each tells, and those of settings and devices against the tables of
-//! options.
+//! The refusals of the rules of the row machine: what each tells, and those of settings and devices against the tables
+//! of options.
 #![tactic(auto)]
 
 mod refusals;

@@ -1,7 +1,8 @@
 //! Refusals: a rule with what it tells.
 ghost use Rattle.std.specs.Prelude.{◌≡◌, IfOk};
 ghost use Rattle.row_machine.specs.machine.Kinds.{kind_text};
-ghost use Rattle.row_machine.specs.machine.Refusals.{untold, on_name, on_number, on_object, on_held, on_project, on_key_of};
+ghost use Rattle.row_machine.specs.machine.Refusals.{untold, on_name, on_number, on_object, on_held, on_project};
+ghost use Rattle.row_machine.specs.machine.Refusals.{on_key_of};
 
 use records::{Kept, Refusal, Rule};
 use size_values::{NoMemory, ObjectKind, Text};
@@ -156,7 +157,8 @@ pub fn on_kind(
     kind: ObjectKind,
     number: u64,
 ) -> Result<Refusal, NoMemory>
-    ensures { IfOk result (λ r. r ≡ record { rule = rule; kept = record untold { kind = kind_text kind; number = number } }) }
+    ensures { IfOk result (λ r. r
+        ≡ record { rule = rule; kept = record untold { kind = kind_text kind; number = number } }) }
 {
     let kind = Text::from_text(alloc, kind_text(kind))?;
     let kept = Kept {

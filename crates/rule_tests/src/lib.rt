@@ -11,3 +11,5 @@ mod parts;
 mod places;
 #[cfg(test)]
 mod readings;
+#[cfg(test)]
+mod tables;

@@ -4,9 +4,10 @@ ghost use Rattle.std.specs.Prelude.{◌≡◌, IfOk};
 use config_lists::{Config, Devices};
 use operations::Operation;
 use records::{Instance, Network, Pool, Profile, Project, Snapshot, Volume};
+use reservations::{Books, Hold};
 use row_machine::Work;
 use row_readings::{InstancePower, View};
-use size_values::{NoMemory, Text};
+use size_values::{Amounts, NoMemory, Text};
 use std::alloc::Global;
 
 /// Both values, where there was memory for both. Neither is then alive where the other one is missing.
@@ -19,6 +20,14 @@ pub(crate) fn both<A: Drop, B: Drop>(
     let first = first?;
     let second = second?;
     Ok((first, second))
+}
+
+fn no_books() -> Books {
+    Books {
+        granted: Amounts::zero(),
+        converted: Amounts::zero(),
+        returned: Amounts::zero(),
+    }
 }
 
 /// The rows and operations of a server, which lend a view.
@@ -35,6 +44,8 @@ pub(crate) struct Rows {
     pub(crate) live: Vec<Operation<Work>>,
     pub(crate) ended: Vec<Operation<Work>>,
     pub(crate) next: u64,
+    pub(crate) held: Vec<Hold>,
+    pub(crate) books: Books,
 }
 
 impl Rows {
@@ -52,6 +63,8 @@ impl Rows {
             live: Vec::new(alloc),
             ended: Vec::new(alloc),
             next: 2,
+            held: Vec::new(alloc),
+            books: no_books(),
         }
     }
 
@@ -68,6 +81,8 @@ impl Rows {
             live: &self.live,
             ended: &self.ended,
             next: self.next,
+            held: &self.held,
+            books: self.books,
         }
     }
 

@@ -53,8 +53,8 @@ start_fault fault.KeeperFailed = start.KeeperFailed
 start_fault fault.HasEntries = start.HasEntries
 start_fault fault.NoMemory = start.NoMemory
 
--- A session from this world on, with the outside seen so at its end, and rows that nobody sees. What is still to come is what its
--- buffer holds, at most one head, one body and one piece, and what the source has left.
+-- A session from this world on, with the outside seen so at its end, and rows that nobody sees. What is still to come
+-- is what its buffer holds, at most one head, one body and one piece, and what the source has left.
 pub record SessionFrom (w : World) (after : Outside) (ends : SessionEnd) : Type 0 where
   pub held : List ℕ
   pub few : length held ≤ most_held
@@ -74,11 +74,14 @@ pub record Ran (words : List (List ℕ)) (before after : Outside) (status : ℕ)
   pub opened : Opened (seen_with words before) (seen_with words after) status
   pub unread : IsUnread (now_of words) before.clock after.clock
 
--- Why there was no session. Words that are not read leave the keeper as it was, and a refused opening does what it may do to it.
+-- Why there was no session. Words that are not read leave the keeper as it was, and a refused opening does what it may
+-- do to it.
 abbrev pub HasCauseToRefuse : StartFault → List (List ℕ) → Store → Store → Type 0
 HasCauseToRefuse start.Words words keeper keeper' = (are_read words ≡ false) × (keeper' ≡ keeper)
-HasCauseToRefuse start.KeeperFailed words keeper keeper' = (are_read words ≡ true) × Refuses fault.KeeperFailed keeper keeper'
-HasCauseToRefuse start.HasEntries words keeper keeper' = (are_read words ≡ true) × Refuses fault.HasEntries keeper keeper'
+HasCauseToRefuse start.KeeperFailed words keeper keeper' = (are_read words ≡ true)
+    × Refuses fault.KeeperFailed keeper keeper'
+HasCauseToRefuse start.HasEntries words keeper keeper' = (are_read words ≡ true)
+    × Refuses fault.HasEntries keeper keeper'
 HasCauseToRefuse start.NoMemory words keeper keeper' = (are_read words ≡ true) × Refuses fault.NoMemory keeper keeper'
 
 -- The run had no session. No call of the source, of the sink or of the clock was made.

@@ -1,5 +1,6 @@
 -- A session: it serves requests, and then it stops for one reason.
-use Rattle.std.specs.Prelude.{◌≡◌, ◌≢◌, ◌<◌, ◌≤◌, ◌⊎◌, ℕ, List, [], ◌∷◌, Bool, true, false, length, take, IfSome, Result, Ok, Err, ◌+◌, ◌==◌, if◌then◌else◌}
+use Rattle.std.specs.Prelude.{◌≡◌, ◌≢◌, ◌<◌, ◌≤◌, ◌⊎◌, ℕ, List, [], ◌∷◌, Bool, true, false, length, take, IfSome}
+use Rattle.std.specs.Prelude.{Result, Ok, Err, ◌+◌, ◌==◌, if◌then◌else◌}
 use Rattle.std.specs.Io.KnownBytes.{Appends}
 use Rattle.size_values.specs.Causes.{Rose}
 use Rattle.http_heads.specs.declared.request.HeadFault.{HeadFault}
@@ -22,9 +23,9 @@ use Rattle.serial_run.specs.Worlds.{Outlet, World, input}
 
 -- ---- what one turn does to its parts
 
--- One call of `read_request` between two worlds answered this of the bytes to come and of the bytes held. The source was read only
--- where the bytes held began with no whole message and no malformed place, and afterwards at most one head, one body and one piece
--- is held.
+-- One call of `read_request` between two worlds answered this of the bytes to come and of the bytes held. The source
+-- was read only where the bytes held began with no whole message and no malformed place, and afterwards at most one
+-- head, one body and one piece is held.
 pub record Asks (w w' : World) (answer : Got) : Type 0 where
   pub next : IfSome (input w) (λ bytes. ReadsNext bytes (input w') w'.held answer)
   pub held : KeepsHeld w.held w'.held answer
@@ -68,17 +69,19 @@ pub record Serves (w w' : World) (e : Exchange) : Type 0 where
 
 -- ---- stops
 
--- What stands next where a session stops before another request was answered whole, and what was done of it: nothing after the
--- end of the input and at a failed read; its reply at a malformed place; a part of a reply where a write failed; and where memory was
--- refused, nothing is written, after a request was carried out or before.
+-- What stands next where a session stops before another request was answered whole, and what was done of it: nothing
+-- after the end of the input and at a failed read; its reply at a malformed place; a part of a reply where a write
+-- failed; and where memory was refused, nothing is written, after a request was carried out or before.
 abbrev pub Stops : SessionEnd → World → World → Type 0
 Stops end.Ended w w' = Asks w w' got.End × KeepsRows w w' × (w'.sink ≡ w.sink)
 Stops end.Cut w w' = (count : ℕ) × Asks w w' (got.Cut count) × KeepsRows w w' × (w'.sink ≡ w.sink)
-Stops (end.Malformed fault) w w' = Asks w w' (got.Malformed fault) × KeepsRows w w' × Takes w.sink w'.sink (malformed_text fault)
+Stops (end.Malformed fault) w w' = Asks w w' (got.Malformed fault) × KeepsRows w w'
+    × Takes w.sink w'.sink (malformed_text fault)
 Stops end.ReadFault w w' = Asks w w' got.ReadFault × KeepsRows w w' × (w'.sink ≡ w.sink)
 Stops end.WriteFault w w' =
     ((e : Exchange) × CarriesOut w w' e × BreaksOff w.sink w'.sink (printed e.reply e.request.last))
-    ⊎ ((fault : HeadFault) × Asks w w' (got.Malformed fault) × KeepsRows w w' × BreaksOff w.sink w'.sink (malformed_text fault))
+    ⊎ ((fault : HeadFault) × Asks w w' (got.Malformed fault) × KeepsRows w w'
+    × BreaksOff w.sink w'.sink (malformed_text fault))
 Stops end.Spent w w' = w' ≡ w
 Stops end.NoMemory w w' =
     (Asks w w' got.NoMemory × KeepsRows w w' × (w'.sink ≡ w.sink))
@@ -119,7 +122,8 @@ CountsAt end.ReadFault n = n < most_requests
 CountsAt end.WriteFault n = n < most_requests
 CountsAt end.NoMemory n = n < most_requests
 
--- After a final request a session stops as Ended, or as Spent where it is the one that fills the number, and does nothing more.
+-- After a final request a session stops as Ended, or as Spent where it is the one that fills the number, and does
+-- nothing more.
 abbrev pub StopsBehindFinal : SessionEnd → Type 0
 StopsBehindFinal end.Ended = Unit {0}
 StopsBehindFinal end.Spent = Unit {0}
@@ -129,14 +133,15 @@ StopsBehindFinal end.ReadFault = ⊥
 StopsBehindFinal end.WriteFault = ⊥
 StopsBehindFinal end.NoMemory = ⊥
 
--- A session from w to w': the requests that it answered whole, the world after them, and how it stopped there. Either none
--- of them was the last on its connection, or the final one alone was.
+-- A session from w to w': the requests that it answered whole, the world after them, and how it stopped there. Either
+-- none of them was the last on its connection, or the final one alone was.
 pub record Session (w w' : World) (ends : SessionEnd) : Type 0 where
   pub exchanges : List Exchange
   pub behind : World
   pub serves : ServesAll w exchanges behind
   pub counted : CountsAt ends (length exchanges)
-  pub stops : (AllGoOn exchanges × Stops ends behind w') ⊎ (OnlyFinalEnds exchanges × StopsBehindFinal ends × (w' ≡ behind))
+  pub stops : (AllGoOn exchanges × Stops ends behind w')
+      ⊎ (OnlyFinalEnds exchanges × StopsBehindFinal ends × (w' ≡ behind))
 
 -- ---- the parts of a turn, one by one
 
@@ -162,8 +167,8 @@ IsUnprinted (written.Printed bytes) = ⊥
 IsUnprinted written.NoMemory = ⊥
 IsUnprinted written.Unprinted = Unit {0}
 
--- An answer was written whole and the turn goes on as its request says, or some first bytes of it and the write failed; or
--- nothing was, since memory for it was refused.
+-- An answer was written whole and the turn goes on as its request says, or some first bytes of it and the write failed;
+-- or nothing was, since memory for it was refused.
 abbrev pub WritesAnswer : Turn → Answered → Bool → Outlet → Outlet → Type 0
 WritesAnswer turn.GoOn a last sink sink' = (last ≡ false) × ¬ IsUnprinted a × Takes sink sink' (text_for a last)
 WritesAnswer turn.Final a last sink sink' = (last ≡ true) × ¬ IsUnprinted a × Takes sink sink' (text_for a last)
@@ -171,7 +176,8 @@ WritesAnswer (turn.Stop end.WriteFault) a last sink sink' = ¬ IsUnprinted a × 
 WritesAnswer (turn.Stop end.NoMemory) a last sink sink' = IsUnprinted a × (sink' ≡ sink)
 WritesAnswer (turn.Stop other) a last sink sink' = ⊥
 
--- A malformed place was answered by its rule, or of that reply some first bytes were written, or memory was refused before it.
+-- A malformed place was answered by its rule, or of that reply some first bytes were written, or memory was refused
+-- before it.
 abbrev pub RefusesPlace : HeadFault → SessionEnd → Outlet → Outlet → Type 0
 RefusesPlace fault (end.Malformed other) sink sink' = (other ≡ fault) × Takes sink sink' (malformed_text fault)
 RefusesPlace fault end.WriteFault sink sink' = BreaksOff sink sink' (malformed_text fault)
@@ -181,6 +187,7 @@ RefusesPlace fault end.Cut sink sink' = ⊥
 RefusesPlace fault end.ReadFault sink sink' = ⊥
 RefusesPlace fault end.Spent sink sink' = ⊥
 
--- Where a session stops after a final request, with this many requests answered before it: the number may be full with it.
+-- Where a session stops after a final request, with this many requests answered before it: the number may be full with
+-- it.
 abbrev pub end_behind : ℕ → SessionEnd
 end_behind done = if done + 1 == most_requests then end.Spent else end.Ended

@@ -1,5 +1,7 @@
--- What a run comes to, told of its whole input: the requests that are answered, the exit status, and what the outside sees.
-use Rattle.std.specs.Prelude.{◌≡◌, ◌<◌, ◌++◌, ◌==◌, ℕ, List, [], ◌∷◌, Bool, length, map, take, Option, option_map, if◌then◌else◌}
+-- What a run comes to, told of its whole input: the requests that are answered, the exit status, and what the outside
+-- sees.
+use Rattle.std.specs.Prelude.{◌≡◌, ◌<◌, ◌++◌, ◌==◌, ℕ, List, [], ◌∷◌, Bool, length, map, take, Option, option_map}
+use Rattle.std.specs.Prelude.{if◌then◌else◌}
 use Rattle.std.specs.List.{All, list_any}
 use Rattle.std.specs.Io.KnownBytes.{Appends}
 use Rattle.http_front.specs.Clocks.{Readings, Reads}
@@ -42,8 +44,8 @@ end_at ended = record { status = 0; text = [] }
 end_at (cut held) = record { status = 2; text = [] }
 end_at (malformed fault) = record { status = 3; text = malformed_text fault }
 
--- The end of a run that has answered these requests of an input that ends so: the most requests that a session may answer go
--- before a last request, and that goes before the end of the input.
+-- The end of a run that has answered these requests of an input that ends so: the most requests that a session may
+-- answer go before a last request, and that goes before the end of the input.
 abbrev pub end_behind_all : List Request → Ending → End
 end_behind_all requests ending =
     if length requests == most_requests then record { status = 10; text = [] }
@@ -60,7 +62,8 @@ end_due messages ending = end_behind_all (answered messages) ending
 -- command that was asked, and all before the year 10000; the exit status is the one that is due, the sink took the
 -- replies in their order, the keeper has the records of that state, and its count rose at least once for each request
 -- in which it failed.
-pub record RunsText (messages : List Request) (ending : Ending) (status : ℕ) (held held' : Option (List ℕ)) (clock clock' : Readings) (keeper keeper' : Store) : Type 0 where
+pub record RunsText (messages : List Request) (ending : Ending) (status : ℕ) (held held' : Option (List ℕ))
+    (clock clock' : Readings) (keeper keeper' : Store) : Type 0 where
   pub exchanges : List Exchange
   pub state : State
   pub requests_are : requests_of exchanges ≡ answered messages
@@ -72,7 +75,7 @@ pub record RunsText (messages : List Request) (ending : Ending) (status : ℕ) (
   pub kept : keeper'.told ≡ option_map (λ _. records_of state) keeper.told
   pub failed : RoseBy (failures_in exchanges) keeper.failures keeper'.failures
 
--- whether an exit status is that of a fault of the outside, of words that are not read, of entries that are there already, or of
--- refused memory
+-- whether an exit status is that of a fault of the outside, of words that are not read, of entries that are there
+-- already, or of refused memory
 abbrev pub is_fault : ℕ → Bool
 is_fault status = list_any (λ s. s == status) (4 ∷ 5 ∷ 6 ∷ 8 ∷ 9 ∷ 13 ∷ [])

@@ -1,5 +1,6 @@
 -- The words of the command line: the word `run`, and its options after it.
-use Rattle.std.specs.Prelude.{ℕ, ◌-◌, ◌==◌, Bool, true, false, not, ◌&&◌, if◌then◌else◌, List, [], ◌∷◌, Option, Some, None, is_some, codes}
+use Rattle.std.specs.Prelude.{ℕ, ◌-◌, ◌==◌, Bool, true, false, not, ◌&&◌, if◌then◌else◌, List, [], ◌∷◌, Option, Some}
+use Rattle.std.specs.Prelude.{None, is_some, codes}
 use Rattle.std.specs.List.{before_first, after_first, list_any}
 use Rattle.std.specs.Option.{option_and_then, option_flatten}
 use Rattle.std.specs.Result.{result_ok}

@@ -5,8 +5,8 @@ use Rattle.http_front.specs.Clocks.{Readings}
 use Rattle.record_keeper.specs.Store.{Store}
 use Rattle.row_machine.specs.machine.State.{State}
 
--- What is seen of a source at one moment: the bytes that it has left, where it tells them; whether it has ended; and how many
--- reads failed.
+-- What is seen of a source at one moment: the bytes that it has left, where it tells them; whether it has ended; and
+-- how many reads failed.
 pub record Inlet : Type 0 where
   pub left : Option (List ℕ)
   pub ended : Bool

@@ -1,4 +1,5 @@
-ghost use Rattle.std.specs.Prelude.{◌≡◌, ◌≢◌, ◌<◌, ◌⊎◌, ◌↔◌, List, [], true, false, length, Some, IfSome, map, string_bytes};
+ghost use Rattle.std.specs.Prelude.{◌≡◌, ◌≢◌, ◌<◌, ◌⊎◌, ◌↔◌, List, [], true, false, length, Some, IfSome, map};
+ghost use Rattle.std.specs.Prelude.{string_bytes};
 ghost use Rattle.size_values.specs.Causes.{Rose};
 ghost use Rattle.http_heads.specs.Messages.{Ending, ended, Splits};
 ghost use Rattle.http_heads.specs.declared.request.Request.{Request};
@@ -82,8 +83,11 @@ fn session<S: Source, K: Sink, R: Keeper, C: Clock>(
 ) -> SessionEnd
     requires { buffer ≡ [] }
     ensures { SessionFrom
-        (world [] (outside (inlet S.left S.ended S.failures source.old) (outlet K.held K.failures sink.old) (R.store keeper.old) (C.readings clock.old)) service)
-        (outside (inlet S.left S.ended S.failures source.new) (outlet K.held K.failures sink.new) (R.store keeper.new) (C.readings clock.new)) result }
+        (world []
+        (outside (inlet S.left S.ended S.failures source.old) (outlet K.held K.failures sink.old)
+        (R.store keeper.old) (C.readings clock.old)) service)
+        (outside (inlet S.left S.ended S.failures source.new) (outlet K.held K.failures sink.new) (R.store keeper.new)
+        (C.readings clock.new)) result }
 {
     serve(
         alloc,
@@ -105,8 +109,10 @@ fn run_over<S: Source, K: Sink, R: Keeper, C: Clock>(
     clock: &mut C,
 ) -> (u8, R)
     ensures { RunsOver
-        (outside (inlet S.left S.ended S.failures source.old) (outlet K.held K.failures sink.old) (R.store keeper) (C.readings clock.old))
-        (outside (inlet S.left S.ended S.failures source.new) (outlet K.held K.failures sink.new) (R.store result.1) (C.readings clock.new)) result.0 }
+        (outside (inlet S.left S.ended S.failures source.old) (outlet K.held K.failures sink.old) (R.store keeper)
+        (C.readings clock.old))
+        (outside (inlet S.left S.ended S.failures source.new) (outlet K.held K.failures sink.new) (R.store result.1)
+        (C.readings clock.new)) result.0 }
 {
     let Ok(buffer) = Buffer::new(alloc) else {
         return (StartFault::NoMemory.status(), keeper);
@@ -130,8 +136,10 @@ fn run<S: Source, K: Sink, R: Keeper, C: Clock>(
     clock: &mut C,
 ) -> (u8, R)
     ensures { Runs (map (λ w. string_bytes w) words.now)
-        (outside (inlet S.left S.ended S.failures source.old) (outlet K.held K.failures sink.old) (R.store keeper) (C.readings clock.old))
-        (outside (inlet S.left S.ended S.failures source.new) (outlet K.held K.failures sink.new) (R.store result.1) (C.readings clock.new)) result.0 }
+        (outside (inlet S.left S.ended S.failures source.old) (outlet K.held K.failures sink.old) (R.store keeper)
+        (C.readings clock.old))
+        (outside (inlet S.left S.ended S.failures source.new) (outlet K.held K.failures sink.new) (R.store result.1)
+        (C.readings clock.new)) result.0 }
 {
     let Some(setup) = setup_of(words) else {
         return (StartFault::Words.status(), keeper);
@@ -154,19 +162,25 @@ pub fn run_main<S: Source, K: Sink, R: Keeper, C: Clock>(
 ) -> (u8, R)
     // There was a session, or there was none.
     ensures done { Runs (map (λ w. string_bytes w) words.now)
-        (outside (inlet S.left S.ended S.failures source.old) (outlet K.held K.failures sink.old) (R.store keeper) (C.readings clock.old))
-        (outside (inlet S.left S.ended S.failures source.new) (outlet K.held K.failures sink.new) (R.store result.1) (C.readings clock.new)) result.0 }
+        (outside (inlet S.left S.ended S.failures source.old) (outlet K.held K.failures sink.old) (R.store keeper)
+        (C.readings clock.old))
+        (outside (inlet S.left S.ended S.failures source.new) (outlet K.held K.failures sink.new) (R.store result.1)
+        (C.readings clock.new)) result.0 }
 
     // Over a source that tells its bytes: a fault, or what these bytes ask.
-    ensures text { IfSome (S.left source.old) (λ text. (messages : List Request) (ending : Ending) → Splits text messages ending →
+    ensures text { IfSome (S.left source.old) (λ text. (messages : List Request) (ending : Ending)
+        → Splits text messages ending →
         (is_fault result.0 ≡ true) ⊎ RunsText messages ending result.0 (K.held sink.old) (K.held sink.new)
         (clock_of (now_of (map (λ w. string_bytes w) words.now)) (C.readings clock.old))
-        (clock_of (now_of (map (λ w. string_bytes w) words.now)) (C.readings clock.new)) (R.store keeper) (R.store result.1)) }
+        (clock_of (now_of (map (λ w. string_bytes w) words.now)) (C.readings clock.new)) (R.store keeper)
+        (R.store result.1)) }
 
     // Whole messages and no fault: all of them are answered, or memory was refused.
-    ensures complete { IfSome (S.left source.old) (λ text. (messages : List Request) → Splits text messages ended → length messages < most_requests →
+    ensures complete { IfSome (S.left source.old) (λ text. (messages : List Request) → Splits text messages ended
+        → length messages < most_requests →
         are_read (map (λ w. string_bytes w) words.now) ≡ true → (R.store keeper).told ≡ Some [] →
-        ¬ (Rose (S.failures source.old) (S.failures source.new)) → ¬ (Rose (K.failures sink.old) (K.failures sink.new)) → ¬ (Rose (R.store keeper).failures (R.store result.1).failures) →
+        ¬ (Rose (S.failures source.old) (S.failures source.new)) → ¬ (Rose (K.failures sink.old) (K.failures sink.new))
+        → ¬ (Rose (R.store keeper).failures (R.store result.1).failures) →
         (result.0 ≡ 0) ⊎ (result.0 ≡ 9)) }
 
     ensures cut { result.0 ≡ 2 → S.ended source.new ≡ true }
@@ -178,8 +192,10 @@ pub fn run_main<S: Source, K: Sink, R: Keeper, C: Clock>(
     ensures still { IfSome (now_of (map (λ w. string_bytes w) words.now))
         (λ _. C.readings clock.new ≡ C.readings clock.old) }
     ensures has_entries { result.0 ≡ 13 → IfSome (R.store keeper).told (λ entries. entries ≢ []) }
-    ensures entries { IfSome (R.store keeper).told (λ entries. entries ≢ [] → are_read (map (λ w. string_bytes w) words.now) ≡ true →
-        ¬ (Rose (R.store keeper).failures (R.store result.1).failures) → (K.held sink.new ≡ K.held sink.old) × ((result.0 ≡ 13) ⊎ (result.0 ≡ 9))) }
+    ensures entries { IfSome (R.store keeper).told (λ entries. entries ≢ []
+        → are_read (map (λ w. string_bytes w) words.now) ≡ true →
+        ¬ (Rose (R.store keeper).failures (R.store result.1).failures)
+        → (K.held sink.new ≡ K.held sink.old) × ((result.0 ≡ 13) ⊎ (result.0 ≡ 9))) }
 {
     run(alloc, words, source, sink, keeper, clock)
 }

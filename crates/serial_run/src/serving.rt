@@ -33,8 +33,12 @@ pub(crate) fn serve<S: Source, K: Sink, R: Keeper, C: Clock>(
     service: &mut Service,
 ) -> SessionEnd
     ensures { Session
-        (world buffer.old (outside (inlet S.left S.ended S.failures source.old) (outlet K.held K.failures sink.old) (R.store keeper.old) (C.readings clock.old)) service.old)
-        (world buffer.new (outside (inlet S.left S.ended S.failures source.new) (outlet K.held K.failures sink.new) (R.store keeper.new) (C.readings clock.new)) service.new)
+        (world buffer.old
+        (outside (inlet S.left S.ended S.failures source.old) (outlet K.held K.failures sink.old)
+        (R.store keeper.old) (C.readings clock.old)) service.old)
+        (world buffer.new
+        (outside (inlet S.left S.ended S.failures source.new) (outlet K.held K.failures sink.new)
+        (R.store keeper.new) (C.readings clock.new)) service.new)
         result }
 {
     for done in 0..MOST_REQUESTS {

@@ -23,7 +23,8 @@ fn turn_after(written: Result<(), SinkFailed>, last: bool) -> Turn
 
 /// Writes what a request is answered. Where memory for its reply was refused, nothing is written and the session stops.
 fn write_answer<K: Sink>(sink: &mut K, answered: &Answered, last: bool) -> Turn
-    ensures { WritesAnswer result answered.now last (outlet K.held K.failures sink.old) (outlet K.held K.failures sink.new) }
+    ensures { WritesAnswer result answered.now last (outlet K.held K.failures sink.old)
+        (outlet K.held K.failures sink.new) }
 {
     match answered {
         Answered::Printed(bytes) => turn_after(sink.write(bytes.view()), last),
@@ -56,8 +57,12 @@ pub(crate) fn turn<S: Source, K: Sink, R: Keeper, C: Clock>(
     service: &mut Service,
 ) -> Turn
     ensures { Turns result
-        (world buffer.old (outside (inlet S.left S.ended S.failures source.old) (outlet K.held K.failures sink.old) (R.store keeper.old) (C.readings clock.old)) service.old)
-        (world buffer.new (outside (inlet S.left S.ended S.failures source.new) (outlet K.held K.failures sink.new) (R.store keeper.new) (C.readings clock.new)) service.new) }
+        (world buffer.old
+        (outside (inlet S.left S.ended S.failures source.old) (outlet K.held K.failures sink.old)
+        (R.store keeper.old) (C.readings clock.old)) service.old)
+        (world buffer.new
+        (outside (inlet S.left S.ended S.failures source.new) (outlet K.held K.failures sink.new)
+        (R.store keeper.new) (C.readings clock.new)) service.new) }
 {
     match read_request(alloc, buffer, source) {
         Got::Request(request) => {

@@ -1,7 +1,9 @@
-ghost use Rattle.std.specs.Prelude.{◌≡◌, ◌<◌, true, false, [], ◌∷◌, length, map, option_map, IfSome, IfNone, string_bytes, is_some};
+ghost use Rattle.std.specs.Prelude.{◌≡◌, ◌<◌, true, false, [], ◌∷◌, length, map, option_map, IfSome, IfNone};
+ghost use Rattle.std.specs.Prelude.{string_bytes, is_some};
 ghost use Rattle.std.specs.List.{after_first, before_first, list_any};
 ghost use Rattle.size_values.specs.Moments.{moment_limit};
-ghost use Rattle.serial_run.specs.Words.{are_options, is_equals_sign, is_given, is_taken, moment_said, options_in, run_options, setup_of, value_given};
+ghost use Rattle.serial_run.specs.Words.{are_options, is_equals_sign, is_given, is_taken, moment_said, options_in};
+ghost use Rattle.serial_run.specs.Words.{run_options, setup_of, value_given};
 
 use size_values::{MOMENT_LIMIT, read_count};
 

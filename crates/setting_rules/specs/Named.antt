@@ -31,4 +31,5 @@ where_claimed s r task = option_and_then (where_named s r) (claimed_instance tas
 
 -- instances, then claims
 abbrev pub all_named : State → Profile → Option Refusal
-all_named s r = first (first_of (where_named s r) s.instances ∷ first_of (λ o. where_claimed s r o.work) s.operations.live ∷ [])
+all_named s r = first (first_of (where_named s r) s.instances
+    ∷ first_of (λ o. where_claimed s r o.work) s.operations.live ∷ [])

@@ -1,8 +1,10 @@
-//! Settings and devices by themselves: what the tables of options refuse, V1 to V3, and what devices name and is missing, V5.
+//! Settings and devices by themselves: what the tables of options refuse, V1 to V3, and what devices name and is
+//! missing, V5.
 ghost use Rattle.std.specs.Prelude.{[]};
 ghost use Rattle.std.specs.Result.{result_err};
 ghost use Rattle.size_values.specs.Causes.{Says};
-ghost use Rattle.row_machine.specs.machine.SettingRules.{tables_break, network_missing, pool_missing, volume_missing, disk_misses, device_misses, devices_miss};
+ghost use Rattle.row_machine.specs.machine.SettingRules.{tables_break, network_missing, pool_missing, volume_missing};
+ghost use Rattle.row_machine.specs.machine.SettingRules.{disk_misses, device_misses, devices_miss};
 
 use config_lists::{Config, Device, Devices};
 use option_tables::SettingFault;

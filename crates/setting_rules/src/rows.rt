@@ -103,7 +103,8 @@ pub fn settings_broken(
     changes_break(alloc, after, changes)
 }
 
-/// The first rule on settings that the claimed row of a new operation breaks, by the rows and claims as they stand with it.
+/// The first rule on settings that the claimed row of a new operation breaks, by the rows and claims as they stand with
+/// it.
 #[tactic(auto, unfolding(row_machine::specs::machine::SettingRules::settings_broken))]
 pub fn claim_settings_broken(
     alloc: Global,

@@ -1,4 +1,5 @@
-use Rattle.std.specs.Prelude.{ℕ, ◌+◌, ◌*◌, Bool, ◌==◌, ◌&&◌, ◌||◌, if◌then◌else◌, List, [], ◌∷◌, length, slice_index, fold, count_by, Result, nat_lt}
+use Rattle.std.specs.Prelude.{ℕ, ◌+◌, ◌*◌, Bool, ◌==◌, ◌&&◌, ◌||◌, if◌then◌else◌, List, [], ◌∷◌, length, slice_index}
+use Rattle.std.specs.Prelude.{fold, count_by, Result, nat_lt}
 use Rattle.std.specs.Option.{option_map}
 use Rattle.std.specs.List.{list_any, before_first, after_first, slice_split}
 use Rattle.std.specs.Char.{is_ascii_digit}
@@ -16,7 +17,8 @@ is_slash b = b == byte "/"
 
 -- a digit may stand anywhere; a dot after a digit, three times at most
 abbrev pub may_follow_in_address : List ℕ → ℕ → Bool
-may_follow_in_address front b = is_ascii_digit b || (is_dot b && is_ascii_digit (last_byte front) && nat_lt (count_by is_dot front) 3)
+may_follow_in_address front b = is_ascii_digit b
+    || (is_dot b && is_ascii_digit (last_byte front) && nat_lt (count_by is_dot front) 3)
 
 -- an address has three dots and ends with a digit
 abbrev pub is_whole_address : List ℕ → Bool

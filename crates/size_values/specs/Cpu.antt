@@ -22,7 +22,8 @@ is_dash b = b == byte "-"
 abbrev pub may_follow_in_set : List ℕ → ℕ → Bool
 may_follow_in_set front b =
     is_ascii_digit b
-    || (is_ascii_digit (last_byte front) && (is_comma b || (is_dash b && not (is_dash (last_byte (filter (λ c. not (is_ascii_digit c)) front))))))
+    || (is_ascii_digit (last_byte front)
+    && (is_comma b || (is_dash b && not (is_dash (last_byte (filter (λ c. not (is_ascii_digit c)) front))))))
 
 -- a set ends with a digit
 abbrev pub is_whole_set : List ℕ → Bool
@@ -30,7 +31,8 @@ is_whole_set text = is_ascii_digit (last_byte text)
 
 -- a part of a set falls: it is a range, and its second number is below its first
 abbrev pub falls : List ℕ → Bool
-falls part = list_any is_dash part && nat_lt (digits_value 10 (after_first is_dash part)) (digits_value 10 (before_first is_dash part))
+falls part = list_any is_dash part
+    && nat_lt (digits_value 10 (after_first is_dash part)) (digits_value 10 (before_first is_dash part))
 
 -- What a text that is not digits alone gives, or the first fault: numbers and rising ranges joined by commas.
 unfoldable pub set_of : List ℕ → Result Cpu ValueFault
@@ -45,4 +47,5 @@ set_of text =
 
 -- The CPU setting that a text gives, or the first fault: digits alone are a count, any other text is a set.
 unfoldable pub cpu_of : List ℕ → Result Cpu ValueFault
-cpu_of text = if list_all is_ascii_digit text then result_map_both Count (λ e. e) (count_of text 1 1000000) else set_of text
+cpu_of text = if list_all is_ascii_digit text
+    then result_map_both Count (λ e. e) (count_of text 1 1000000) else set_of text

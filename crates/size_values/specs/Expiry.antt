@@ -1,4 +1,5 @@
-use Rattle.std.specs.Prelude.{ℕ, Bool, not, ◌==◌, ◌&&◌, ◌||◌, List, [], ◌∷◌, length, unwrap_or, Result, find, codes, count_by, nat_lt}
+use Rattle.std.specs.Prelude.{ℕ, Bool, not, ◌==◌, ◌&&◌, ◌||◌, List, [], ◌∷◌, length, unwrap_or, Result, find, codes}
+use Rattle.std.specs.Prelude.{count_by, nat_lt}
 use Rattle.std.specs.Option.{option_map}
 use Rattle.std.specs.List.{list_any, take_while, slice_split}
 use Rattle.std.specs.Char.{is_ascii_digit}
@@ -40,7 +41,8 @@ has_letter letter part = last_byte part == letter
 
 -- the number of the part with the letter, or 0 where there is none
 abbrev pub amount_of : ℕ → List (List ℕ) → ℕ
-amount_of letter parts = unwrap_or (option_map (λ part. digits_value 10 (digits_of_part part)) (find (has_letter letter) parts)) 0
+amount_of letter parts =
+    unwrap_or (option_map (λ part. digits_value 10 (digits_of_part part)) (find (has_letter letter) parts)) 0
 
 -- the number of each unit
 abbrev pub amounts_in : List (List ℕ) → Expiry

@@ -1,5 +1,6 @@
 -- Words for the contracts with which an expiry is read part by part.
-use Rattle.std.specs.Prelude.{ℕ, ◌≡◌, ◌+◌, ◌<◌, ◌⊎◌, ◌==◌, true, false, not, ◌&&◌, ◌||◌, if◌then◌else◌, List, drop, slice_index, Option, Some, None, nat_le}
+use Rattle.std.specs.Prelude.{ℕ, ◌≡◌, ◌+◌, ◌<◌, ◌⊎◌, ◌==◌, true, false, not, ◌&&◌, ◌||◌, if◌then◌else◌, List, drop}
+use Rattle.std.specs.Prelude.{slice_index, Option, Some, None, nat_le}
 use Rattle.std.specs.Str.{byte}
 use Rattle.size_values.specs.Number.{number_at}
 use Rattle.size_values.specs.Expiry.{is_unit, is_space}
@@ -65,4 +66,5 @@ pub record FollowsSpace (text : List ℕ) (at : ℕ) (part : Part) : Type 0 wher
 -- no space stands at the place, or no part after it
 abbrev pub MissesSpace : List ℕ → ℕ → ℕ → Type 0
 MissesSpace text at place =
-    ((place ≡ at) × (is_space (slice_index text at) ≡ false)) ⊎ ((is_space (slice_index text at) ≡ true) × MissesPart text (at + 1) place)
+    ((place ≡ at) × (is_space (slice_index text at) ≡ false))
+    ⊎ ((is_space (slice_index text at) ≡ true) × MissesPart text (at + 1) place)

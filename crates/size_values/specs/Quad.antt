@@ -1,10 +1,12 @@
 -- Words for the contracts with which an address is read number by number.
-use Rattle.std.specs.Prelude.{ℕ, ◌≡◌, ◌+◌, ◌*◌, ◌<◌, ◌≤◌, ◌⊎◌, ◌==◌, true, false, if◌then◌else◌, List, length, take, drop, slice_index, take_while, Option, Some, None}
+use Rattle.std.specs.Prelude.{ℕ, ◌≡◌, ◌+◌, ◌*◌, ◌<◌, ◌≤◌, ◌⊎◌, ◌==◌, true, false, if◌then◌else◌, List, length, take}
+use Rattle.std.specs.Prelude.{drop, slice_index, take_while, Option, Some, None}
 use Rattle.std.specs.List.{prefix_len}
 use Rattle.std.specs.Char.{is_ascii_digit}
 use Rattle.std.specs.Str.Parse.{digits_value}
 use Rattle.size_values.specs.Form.{StandsTo}
-use Rattle.size_values.specs.Address.{is_unfit, may_follow_in_address, is_whole_address, is_address_unfit, address_value}
+use Rattle.size_values.specs.Address.{is_unfit, may_follow_in_address, is_whole_address, is_address_unfit}
+use Rattle.size_values.specs.Address.{address_value}
 use Rattle.size_values.specs.declared.address.SmallNumber.{SmallNumber}
 use Rattle.size_values.specs.declared.address.Quad.{Quad}
 
@@ -33,14 +35,16 @@ pub record Follows (separator least most : ℕ) (text : List ℕ) (at : ℕ) (nu
 pub record Misses (separator : ℕ) (text : List ℕ) (at place : ℕ) : Type 0 where
   pub within : place ≤ length text
   pub misses : ((place ≡ at) × ((slice_index text at == separator) ≡ false))
-      ⊎ ((place ≡ at + 1) × ((slice_index text at == separator) ≡ true) × (prefix_len is_ascii_digit (drop place text) ≡ 0))
+      ⊎ ((place ≡ at + 1) × ((slice_index text at == separator) ≡ true)
+      × (prefix_len is_ascii_digit (drop place text) ≡ 0))
 
 -- an address stands at the front, and no digit follows it
 pub record IsQuad (text : List ℕ) (quad : Quad) : Type 0 where
   pub stands : StandsTo may_follow_in_address text quad.end
   pub whole : is_whole_address (take quad.end text) ≡ true
   pub ends : is_ascii_digit (slice_index text quad.end) ≡ false
-  pub address : quad.address ≡ (if is_address_unfit (take quad.end text) then None else Some (address_value (take quad.end text)))
+  pub address : quad.address
+      ≡ (if is_address_unfit (take quad.end text) then None else Some (address_value (take quad.end text)))
 
 -- the text leaves the form of an address at the place
 pub record IsAstray (text : List ℕ) (place : ℕ) : Type 0 where

@@ -1,5 +1,6 @@
 -- What every reader has in common: faults in their order, the form of a text, and decimal numbers.
-use Rattle.std.specs.Prelude.{ℕ, ◌-◌, ◌^◌, Bool, not, ◌||◌, if◌then◌else◌, List, [], ◌∷◌, length, take, slice_index, Option, Some, None, Result, Ok, Err, nat_lt, nat_le}
+use Rattle.std.specs.Prelude.{ℕ, ◌-◌, ◌^◌, Bool, not, ◌||◌, if◌then◌else◌, List, [], ◌∷◌, length, take, slice_index}
+use Rattle.std.specs.Prelude.{Option, Some, None, Result, Ok, Err, nat_lt, nat_le}
 use Rattle.std.specs.List.{prefix_len, enumerate_from}
 use Rattle.std.specs.Str.Parse.{digits_value}
 use Rattle.size_values.specs.declared.fault.ValueFault.{ValueFault}

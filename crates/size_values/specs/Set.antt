@@ -1,5 +1,6 @@
 -- Words for the contracts with which a CPU set is read number by number.
-use Rattle.std.specs.Prelude.{ℕ, ◌≡◌, ◌+◌, ◌^◌, ◌<◌, ◌⊎◌, Bool, true, false, not, ◌&&◌, ◌||◌, List, drop, slice_index, nat_lt, nat_le}
+use Rattle.std.specs.Prelude.{ℕ, ◌≡◌, ◌+◌, ◌^◌, ◌<◌, ◌⊎◌, Bool, true, false, not, ◌&&◌, ◌||◌, List, drop, slice_index}
+use Rattle.std.specs.Prelude.{nat_lt, nat_le}
 use Rattle.size_values.specs.Cpu.{is_comma, is_dash}
 use Rattle.size_values.specs.Number.{number_at}
 use Rattle.size_values.specs.declared.cpu.SetFront.{SetFront}
@@ -7,7 +8,8 @@ use Rattle.size_values.specs.declared.number.Number.{Number}
 
 -- the sign at the end of the front may stand there
 abbrev pub is_sign : List ℕ → SetFront → Bool
-is_sign text front = is_comma (slice_index text front.end) || (is_dash (slice_index text front.end) && not front.in_range)
+is_sign text front = is_comma (slice_index text front.end)
+    || (is_dash (slice_index text front.end) && not front.in_range)
 
 abbrev pub is_number_large : Number → Bool
 is_number_large number = nat_lt 20 number.len || nat_le (2 ^ 63) number.value

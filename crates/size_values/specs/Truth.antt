@@ -1,4 +1,5 @@
-use Rattle.std.specs.Prelude.{ℕ, ◌==◌, Bool, true, false, List, [], ◌∷◌, length, Option, Result, is_none, unwrap_or, find, codes}
+use Rattle.std.specs.Prelude.{ℕ, ◌==◌, Bool, true, false, List, [], ◌∷◌, length, Option, Result, is_none, unwrap_or}
+use Rattle.std.specs.Prelude.{find, codes}
 use Rattle.std.specs.Option.{option_map}
 use Rattle.std.specs.Str.{str_eq_ignore_ascii_case}
 use Rattle.size_values.specs.Reading.{reading, fault_if}

@@ -32,8 +32,8 @@ pub struct SetFront {
     pub unfit: bool,
 }
 
-/// Reads a CPU setting: digits alone are a count from 1 to 1,000,000; any other text is a set, of numbers up to 1,000,000
-/// and of rising ranges such as `0-3`, joined by commas.
+/// Reads a CPU setting: digits alone are a count from 1 to 1,000,000; any other text is a set, of numbers up to
+/// 1,000,000 and of rising ranges such as `0-3`, joined by commas.
 pub fn read_cpu(text: &str) -> Result<Cpu, ValueFault>
     ensures { result ≡ cpu_of text.now }
 {

@@ -1,6 +1,7 @@
 ghost use Rattle.std.specs.Prelude.{◌≡◌, ◌<◌, ◌≤◌, IfOk, IfErr, IfSome, IfNone, false, length, option_and_then};
 ghost use Rattle.size_values.specs.Expiry.{expiry_of, is_unit};
-ghost use Rattle.size_values.specs.ExpiryParts.{letter_of, amount_in, with_amount, with_part, IsPartAt, MissesPart, FollowsSpace, MissesSpace};
+ghost use Rattle.size_values.specs.ExpiryParts.{letter_of, amount_in, with_amount, with_part, IsPartAt, MissesPart};
+ghost use Rattle.size_values.specs.ExpiryParts.{FollowsSpace, MissesSpace};
 
 use crate::fault::{Stray, ValueFault};
 use crate::number::Number;

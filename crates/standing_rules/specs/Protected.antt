@@ -30,4 +30,7 @@ instance_protected s c name = is_deletion c.what && protects_itself s c.project 
 
 -- B4 of an object, with the link of its first user
 abbrev pub on_user : Target → List ℕ → Refusal
-on_user of link = record { rule = rule.B4; kept = record untold { key = link; kind = kind_text of.kind; name = of.name } }
+on_user of link = record {
+  rule = rule.B4;
+  kept = record untold { key = link; kind = kind_text of.kind; name = of.name };
+}

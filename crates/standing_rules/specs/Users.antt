@@ -12,7 +12,8 @@ use Rattle.records.specs.declared.commands.Target.{Target}
 use Rattle.row_machine.specs.machine.Task.{Task}
 use Rattle.row_machine.specs.machine.State.{State}
 use Rattle.row_machine.specs.machine.Claims.{project_of_row}
-use Rattle.row_machine.specs.machine.Holders.{claim_uses, instance_uses, names_profile, profile_uses, user_link, volume_uses, work_link}
+use Rattle.row_machine.specs.machine.Holders.{claim_uses, instance_uses, names_profile, profile_uses, user_link}
+use Rattle.row_machine.specs.machine.Holders.{volume_uses, work_link}
 
 -- a profile that names the object
 abbrev pub profile_link : State → List ℕ → Target → Profile → Option (List ℕ)
@@ -39,7 +40,8 @@ naming_link s home profile r = user_link (names_profile s home profile r) (row.I
 
 -- the first profile of a project that names the object
 abbrev pub first_profile_link : State → List ℕ → Target → List ℕ → List Profile → Option (List ℕ)
-first_profile_link s home of project rows = first_of (profile_link s home of) (filter (λ r. bytes_eq r.project project) rows)
+first_profile_link s home of project rows =
+    first_of (profile_link s home of) (filter (λ r. bytes_eq r.project project) rows)
 
 -- the same of one profile
 abbrev pub profile_link_in : State → List ℕ → Target → List ℕ → Profile → Option (List ℕ)
@@ -47,7 +49,8 @@ profile_link_in s home of project r = if bytes_eq r.project project then profile
 
 -- the first instance of a project that names the object
 abbrev pub first_instance_link : State → List ℕ → Target → List ℕ → List Instance → Option (List ℕ)
-first_instance_link s home of project rows = first_of (instance_link s home of) (filter (λ r. bytes_eq r.project project) rows)
+first_instance_link s home of project rows =
+    first_of (instance_link s home of) (filter (λ r. bytes_eq r.project project) rows)
 
 -- the same of one instance
 abbrev pub instance_link_in : State → List ℕ → Target → List ℕ → Instance → Option (List ℕ)

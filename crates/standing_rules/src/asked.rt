@@ -2,7 +2,8 @@
 ghost use Rattle.std.specs.Prelude.{◌≡◌};
 ghost use Rattle.std.specs.Option.{option_copied};
 ghost use Rattle.size_values.specs.declared.kinds.ObjectKind.TheVariants as kind_of;
-ghost use Rattle.row_machine.specs.machine.Asked.{copied_from, instance_changed, instance_in, instance_made_from, is_parting};
+ghost use Rattle.row_machine.specs.machine.Asked.{copied_from, instance_changed, instance_in, instance_made_from};
+ghost use Rattle.row_machine.specs.machine.Asked.{is_parting};
 ghost use Rattle.row_machine.specs.machine.StandingRules.{is_deletion, object_changed};
 
 use records::{Body, Origin, Target, What};

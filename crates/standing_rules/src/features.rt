@@ -3,7 +3,8 @@ ghost use Rattle.std.specs.Prelude.{◌≡◌, IfOk};
 ghost use Rattle.std.specs.List.{list_any};
 ghost use Rattle.records.specs.declared.commands.What.TheVariants as what_of;
 ghost use Rattle.row_machine.specs.machine.NewRows.{patched_project, put_project};
-ghost use Rattle.row_machine.specs.machine.StandingRules.{asks_for_features, changes_features, feature_changes, feature_keys};
+ghost use Rattle.row_machine.specs.machine.StandingRules.{asks_for_features, changes_features, feature_changes};
+ghost use Rattle.row_machine.specs.machine.StandingRules.{feature_keys};
 
 use config_lists::Config;
 use new_rows::{new_config, patched_config};

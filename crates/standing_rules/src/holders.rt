@@ -17,7 +17,8 @@ use size_values::{ObjectKind, Or};
 use std::alloc::Global;
 
 fn may_name(view: &View<'_>, home: &str, profile: &str, row: Option<&Instance>) -> bool
-    ensures { result ≡ list_any (names_profile view.now home.now profile.now) (option_to_list (option_copied row.entry)) }
+    ensures { result
+        ≡ list_any (names_profile view.now home.now profile.now) (option_to_list (option_copied row.entry)) }
 {
     match row {
         Some(row) => names_profile(view, home, profile, row),

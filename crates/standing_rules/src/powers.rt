@@ -4,7 +4,8 @@ ghost use Rattle.std.specs.Option.{option_map};
 ghost use Rattle.size_values.specs.Causes.{Says};
 ghost use Rattle.records.specs.declared.commands.Body.{Body as BodyValue};
 ghost use Rattle.records.specs.declared.commands.What.TheVariants as what_of;
-ghost use Rattle.row_machine.specs.machine.StandingRules.{deed_asked, in_wrong_state, power_of, power_text, wrong_state};
+ghost use Rattle.row_machine.specs.machine.StandingRules.{deed_asked, in_wrong_state, power_of, power_text};
+ghost use Rattle.row_machine.specs.machine.StandingRules.{wrong_state};
 ghost use Rattle.standing_rules.specs.Deeds.{deed_of};
 
 use instance_states::is_allowed;

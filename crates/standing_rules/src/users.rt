@@ -1,5 +1,5 @@
-//! The first user of a profile, a network, a storage pool or a volume. These functions answer `Ok` where there is none, and
-//! else the link of the first one as the reason why the object may not go.
+//! The first user of a profile, a network, a storage pool or a volume. These functions answer `Ok` where there is none,
+//! and else the link of the first one as the reason why the object may not go.
 ghost use Rattle.std.specs.Prelude.{◌≡◌, IfOk, Some, None, [], false, if◌then◌else◌};
 ghost use Rattle.std.specs.Option.{option_map_or};
 ghost use Rattle.std.specs.Str.{bytes_eq};
@@ -8,7 +8,8 @@ ghost use Rattle.size_values.specs.Causes.{Says};
 ghost use Rattle.row_machine.specs.machine.Claims.{project_of_row};
 ghost use Rattle.row_machine.specs.machine.Holders.{first_user_of, profile_user, user_in};
 ghost use Rattle.row_machine.specs.shown.Links.{link_of};
-ghost use Rattle.standing_rules.specs.Users.{claim_link, first_instance_link, first_profile_link, first_volume_link, instance_link_in, naming_link, profile_link_in, volume_link_in};
+ghost use Rattle.standing_rules.specs.Users.{claim_link, first_instance_link, first_profile_link, first_volume_link};
+ghost use Rattle.standing_rules.specs.Users.{instance_link_in, naming_link, profile_link_in, volume_link_in};
 
 use crate::uses::claim_uses;
 use object_links::link_of;
@@ -28,7 +29,8 @@ fn link_in(
     pool: &str,
     name: &str,
 ) -> Result<Text, NoMemory>
-    ensures { IfOk result (λ t. t ≡ link_of project.now (record { kind = kind; pool = pool.now; instance = []; name = name.now })) }
+    ensures { IfOk result (λ t. t
+        ≡ link_of project.now (record { kind = kind; pool = pool.now; instance = []; name = name.now })) }
 {
     let pool = Text::from_text(alloc, pool)?;
     let name = Text::from_text(alloc, name)?;
@@ -52,7 +54,9 @@ fn unless_user(
     pool: &str,
     name: &str,
 ) -> Result<(), Or<Text>>
-    ensures { Says result (if uses then Some (link_of project.now (record { kind = kind; pool = pool.now; instance = []; name = name.now })) else None) }
+    ensures { Says result (if uses
+        then Some (link_of project.now (record { kind = kind; pool = pool.now; instance = []; name = name.now }))
+        else None) }
 {
     if !uses {
         return Ok(());

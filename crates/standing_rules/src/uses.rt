@@ -56,7 +56,8 @@ fn may_use(
     of: &Target,
     row: Option<&Instance>,
 ) -> Result<bool, NoMemory>
-    ensures { IfOk result (λ b. b ≡ list_any (instance_uses view.now home.now of.now) (option_to_list (option_copied row.entry))) }
+    ensures { IfOk result (λ b. b
+        ≡ list_any (instance_uses view.now home.now of.now) (option_to_list (option_copied row.entry))) }
 {
     match row {
         Some(row) => instance_uses(alloc, view, home, of, row),

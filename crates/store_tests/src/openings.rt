@@ -193,13 +193,21 @@ fn tells(alloc: Global) -> bool {
 
 /// Whether a draft stays where nothing is changed, and where a change is taken back.
 fn drafts(alloc: Global) -> bool {
-    let mut draft = Draft::new(alloc);
+    let Ok(mut draft) = Draft::new(alloc) else {
+        return false;
+    };
     let same = stays(alloc, &mut draft);
-    let mut fresh = Draft::new(alloc);
-    let back = is_taken_back(alloc, &mut fresh);
     drop(draft);
-    drop(fresh);
-    same && back
+    same && takes_back(alloc)
+}
+
+fn takes_back(alloc: Global) -> bool {
+    let Ok(mut draft) = Draft::new(alloc) else {
+        return false;
+    };
+    let back = is_taken_back(alloc, &mut draft);
+    drop(draft);
+    back
 }
 
 /// Whether the profile `default` of a project is made without devices.

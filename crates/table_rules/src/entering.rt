@@ -60,7 +60,8 @@ fn cancel_fault(may_cancel: bool, status: Status) -> Option<CancelFault>
 
 /// The rule, an operation and its status.
 fn on_ended(alloc: Global, number: u64, status: Status) -> Result<Refusal, NoMemory>
-    ensures { IfOk result (λ r. r ≡ record { rule = rule.O1; kept = record untold { key = status_text status; number = number } }) }
+    ensures { IfOk result (λ r. r
+        ≡ record { rule = rule.O1; kept = record untold { key = status_text status; number = number } }) }
 {
     let key = Text::from_text(alloc, status_text(status))?;
     let kept = Kept {
@@ -96,7 +97,8 @@ fn number_cannot_be_cancelled(
     view: &View<'_>,
     number: u64,
 ) -> Result<(), Or<Refusal>>
-    ensures { Says result (option_and_then (cancel_refusal number) (result_err (cancel_answer (kept_at view.now.operations number)))) }
+    ensures { Says result
+        (option_and_then (cancel_refusal number) (result_err (cancel_answer (kept_at view.now.operations number)))) }
 {
     let Some(operation) = kept_at(view, number) else {
         return Ok(());

@@ -23,7 +23,8 @@ processes_by x = 100 * (1 + x / 2 ^ 54 % 10)
 
 -- a request with a body
 abbrev pub request : List ℕ → List ℕ → List ℕ
-request line body = line ++ codes " HTTP/1.1\r\nHost: localhost\r\nContent-Length: " ++ decimal (length body) ++ codes "\r\n\r\n" ++ body
+request line body = line ++ codes " HTTP/1.1\r\nHost: localhost\r\nContent-Length: " ++ decimal (length body)
+    ++ codes "\r\n\r\n" ++ body
 
 -- a pool
 abbrev pub pool_body : List ℕ
@@ -31,7 +32,8 @@ pool_body = codes "{\"driver\":\"dir\",\"name\":\"pool0\"}"
 
 -- a restricted project with limits, of which that on instances is reached first
 abbrev pub project_body : List ℕ
-project_body = codes "{\"config\":{\"limits.cpu\":\"1000\",\"limits.disk\":\"1TiB\",\"limits.instances\":\"32\",\"limits.memory\":\"1TiB\",\"limits.processes\":\"100000\",\"restricted\":\"true\"},\"name\":\"lab\"}"
+project_body =
+    codes "{\"config\":{\"limits.cpu\":\"1000\",\"limits.disk\":\"1TiB\",\"limits.instances\":\"32\",\"limits.memory\":\"1TiB\",\"limits.processes\":\"100000\",\"restricted\":\"true\"},\"name\":\"lab\"}"
 
 -- a root disk for its instances
 abbrev pub profile_body : List ℕ

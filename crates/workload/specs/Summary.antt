@@ -1,4 +1,6 @@
-use Rattle.std.specs.Prelude.{ℕ, zero, suc, ◌==◌, ◌&&◌, nat_eq, nat_le, nat_lt, if◌then◌else◌, Option, Some, None, option_map, option_and_then, List, [], ◌∷◌, ◌++◌, length, drop, take_while, count_by, codes, decimal}
+use Rattle.std.specs.Prelude.{ℕ, zero, suc, ◌==◌, ◌&&◌, nat_eq, nat_le, nat_lt, if◌then◌else◌, Option, Some, None}
+use Rattle.std.specs.Prelude.{option_map, option_and_then, List, [], ◌∷◌, ◌++◌, length, drop, take_while, count_by}
+use Rattle.std.specs.Prelude.{codes, decimal}
 use Rattle.std.specs.List.{starts_with, flat_map, range_with_len}
 use Rattle.std.specs.Option.{option_map_or}
 use Rattle.std.specs.Char.{is_ascii_digit}
@@ -37,7 +39,9 @@ with_body rest code len = if nat_le len (length rest) then Some (code, drop len 
 -- The first reply of a text, if it is whole: its code, and the bytes after it. A head ends with the first empty line.
 abbrev pub first_reply : List ℕ → Option (ℕ × List ℕ)
 first_reply bytes =
-    option_and_then (λ parts. option_and_then (λ code. option_and_then (with_body parts.1 code) (length_in parts.0)) (code_in parts.0))
+    option_and_then
+    (λ parts. option_and_then (λ code. option_and_then (with_body parts.1 code) (length_in parts.0))
+    (code_in parts.0))
     (parted (codes "\r\n\r\n") bytes)
 
 -- the codes of the first replies, at most so many, up to the first bytes that are no whole reply
@@ -57,7 +61,8 @@ code_line all code =
 
 -- the number of replies, and then the number of each code that occurs, rising; each line ends with LF
 unfoldable pub summary_by : List ℕ → List ℕ
-summary_by all = codes "requests " ++ decimal (length all) ++ codes "\n" ++ flat_map (code_line all) (range_with_len 100 900)
+summary_by all = codes "requests " ++ decimal (length all) ++ codes "\n"
+    ++ flat_map (code_line all) (range_with_len 100 900)
 
 abbrev pub summary : List ℕ → List ℕ
 summary replies = summary_by (codes_of replies)

@@ -16,7 +16,8 @@ struct Reply {
 
 /// The first place at which the mark stands.
 fn find(text: &[u8], mark: &[u8]) -> Option<usize>
-    ensures parts { option_map (λ i. (take i text.now, drop (i + length mark.now) text.now)) result ≡ parted mark.now text.now }
+    ensures parts { option_map (λ i. (take i text.now, drop (i + length mark.now) text.now)) result
+        ≡ parted mark.now text.now }
     ensures within { IfSome result (λ i. i + length mark.now ≤ length text.now) }
 {
     for place in 0..text.len() {

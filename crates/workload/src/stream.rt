@@ -1,5 +1,6 @@
 ghost use Rattle.std.specs.Prelude.{◌≡◌, ◌++◌, ◌≤◌, ◌<◌, ◌^◌, IfOk, string_bytes, length};
-ghost use Rattle.workload.specs.Stream.{cpu_by, creation, following, instance_body, memory_by, opening, pool_body, processes_by, profile_body, project_body, request, stream_of};
+ghost use Rattle.workload.specs.Stream.{cpu_by, creation, following, instance_body, memory_by, opening, pool_body};
+ghost use Rattle.workload.specs.Stream.{processes_by, profile_body, project_body, request, stream_of};
 
 use size_values::{NoMemory, Seq};
 use std::alloc::Global;

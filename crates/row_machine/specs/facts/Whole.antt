@@ -1,7 +1,6 @@
 -- What is true of the state at all times: ten facts, each kept by every step.
-use Rattle.std.specs.Prelude.{◌≡◌, ◌≢◌, ℕ, ◌+◌, ◌<◌, ◌≤◌, ◌^◌, Bool, true, false, List, [], ◌∷◌, ◌++◌, map, length, Option, Some, None, is_some, is_none, IfSome, if◌then◌else◌, codes, filter, drop, option_map}
+use Rattle.std.specs.Prelude.{◌≡◌, ◌≢◌, ℕ, ◌+◌, ◌<◌, ◌≤◌, ◌^◌, true, List, [], ◌∷◌, ◌++◌, map, length, Option, Some, None, is_some, IfSome, if◌then◌else◌, codes, filter, drop, option_map}
 use Rattle.std.specs.List.{sum_by}
-use Rattle.std.specs.Option.{option_map_or}
 use Rattle.row_machine.specs.Words.{Each, Distinct, part, Part, Deed, ObjectKind, calls_of, undo_of, name_of, limit_on, limits_of, Status, AreKept, are_profiles, Target, Notice, Row, HasGoodKey, HasMoments}
 use Rattle.row_machine.specs.Words.deed
 use Rattle.row_machine.specs.Words.kind
@@ -11,7 +10,8 @@ use Rattle.operations.specs.declared.operation.Operation.{Operation}
 use Rattle.records.specs.declared.rows.Project.{Project}
 use Rattle.records.specs.declared.rows.Instance.{Instance}
 use Rattle.row_machine.specs.machine.Task.{Task}
-use Rattle.row_machine.specs.machine.State.{State, Held}
+use Rattle.reservations.specs.declared.books.Hold.{Hold}
+use Rattle.row_machine.specs.machine.State.{State}
 use Rattle.row_machine.specs.machine.Rows.{default_name, project_named, profile_named, pool_named, instance_named, texts_before, project_names, profile_names, network_names, pool_names, volume_names, instance_names, snapshot_names, standing_names}
 use Rattle.row_machine.specs.machine.Homes.{is_on}
 use Rattle.row_machine.specs.machine.Expansions.{expanded_of}
@@ -164,7 +164,7 @@ pub record IsUnderWay (o : Operation Task) : Type 0 where
 -- ---- 7: shares
 
 -- the share of an operation by the rows as they stand
-abbrev pub held_by : State → Operation Task → Held
+abbrev pub held_by : State → Operation Task → Hold
 held_by s o = record { op = o.number; project = project_of_task o.work; share = share_of s o.work }
 
 -- ---- 8: limits and policy

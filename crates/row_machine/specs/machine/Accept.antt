@@ -1,26 +1,14 @@
 -- What an accepted command makes of the state, and what it is answered.
-use Rattle.std.specs.Prelude.{ℕ, ◌==◌, Bool, false, not, ◌&&◌, Result, Ok, Err, ℤ, pos, negsuc, is_some, if◌then◌else◌}
-use Rattle.std.specs.Option.{option_map_or}
-use Rattle.row_machine.specs.Words.{Status, CancelFault, kept_at, live_at, cancel_answer, Command, What, Reply}
-use Rattle.row_machine.specs.Words.status
-use Rattle.row_machine.specs.Words.what
-use Rattle.row_machine.specs.Words.reply
-use Rattle.row_machine.specs.declared.events.Answer.{Answer}
-use Rattle.row_machine.specs.declared.events.Answer.TheVariants as answer
-use Rattle.row_machine.specs.machine.Task.{Task}
-use Rattle.row_machine.specs.machine.State.{State}
-use Rattle.row_machine.specs.machine.Changes.{applied}
-use Rattle.row_machine.specs.machine.Plans.{Plan, nothing, changes, starts, plan_of}
-use Rattle.row_machine.specs.machine.Work.{entered, moved, cancelled}
-use Rattle.row_machine.specs.shown.Notices.{telling, change_notices, operation_notice, view_of}
-use Rattle.row_machine.specs.shown.Views.{read}
+use Rattle.std.specs.Prelude.{◌==◌, ◌&&◌, if◌then◌else◌}
+use Rattle.row_machine.specs.Words.{ℕ, Bool, false, not, Result, Ok, Err, ℤ, pos, negsuc, is_some, option_map_or, Status, CancelFault, kept_at, live_at, cancel_answer, Command, What, Reply, Status as status, What as what, Reply as reply, Answer, Answer as answer}
+use Rattle.row_machine.specs.Estate.{Task, State}
+use Rattle.row_machine.specs.Readings.{applied}
+use Rattle.row_machine.specs.Doings.{Plan, nothing, changes, starts, plan_of, entered, moved, cancelled, telling, change_notices, operation_notice, view_of, read}
 
--- an answer, and the state after it
 pub record After : Type 0 where
   pub answer : Answer
   pub state : State
 
--- this answer, and this state
 abbrev pub and_then : Answer → State → After
 and_then a s = record { answer = a; state = s }
 
@@ -28,19 +16,15 @@ and_then a s = record { answer = a; state = s }
 abbrev pub told : State → ℕ → ℕ → State
 told s number moment = telling (operation_notice s number moment) s
 
--- ---- a background operation
-
--- the operation of this number as it has just begun
 abbrev pub started : State → ℕ → Reply
 started s number = option_map_or (λ o. reply.Started (view_of o)) (kept_at s.operations number) reply.Empty
 
 -- it is entered under the next number, and shown as it waits
 abbrev pub begun : State → Task → ℕ → After
-begun s task moment = and_then (answer.Reply (started after s.operations.next)) (told after s.operations.next moment) where
-  after : State
-  after = entered s task moment
-
--- ---- a cancel
+begun s task moment =
+    and_then (answer.Reply (started after s.operations.next)) (told after s.operations.next moment) where
+      after : State
+      after = entered s task moment
 
 -- one that waits is cancelled at once, one that runs becomes Cancelling
 abbrev pub after_cancel : State → ℕ → ℕ → Result Status CancelFault → State
@@ -48,21 +32,19 @@ after_cancel s number moment (Err why) = s
 after_cancel s number moment (Ok status.Cancelled) = told (cancelled s number moment) number moment
 after_cancel s number moment (Ok now) = told (moved number now moment s) number moment
 
--- a cancel is answered by nothing, and changes the operation
 abbrev pub cancel : State → ℕ → ℕ → After
-cancel s number moment = and_then (answer.Reply reply.Empty) (after_cancel s number moment (cancel_answer (kept_at s.operations number)))
-
--- ---- a read
-
--- whether a number of seconds is none
-abbrev pub is_zero : ℤ → Bool
-is_zero (pos n) = n == 0
-is_zero (negsuc n) = false
+cancel s number moment =
+    and_then (answer.Reply reply.Empty) (after_cancel s number moment (cancel_answer (kept_at s.operations number)))
 
 -- a wait for a live operation holds, unless its timeout is 0
 abbrev pub wait_or_read : State → Command → What → Answer
 wait_or_read s c (what.Wait op timeout) =
-    if is_some (live_at s.operations op) && not (is_zero timeout) then answer.Hold op else answer.Reply (read s c.project c.what)
+    if is_some (live_at s.operations op) && not (is_zero timeout)
+    then answer.Hold op
+    else answer.Reply (read s c.project c.what) where
+      is_zero : ℤ → Bool
+      is_zero (pos n) = n == 0
+      is_zero (negsuc n) = false
 wait_or_read s c other = answer.Reply (read s c.project c.what)
 
 -- a command that changes no row and begins nothing
@@ -70,12 +52,10 @@ abbrev pub cancel_or_read : State → Command → ℕ → What → After
 cancel_or_read s c moment (what.Cancel op) = cancel s op moment
 cancel_or_read s c moment other = and_then (wait_or_read s c other) s
 
--- ---- all commands
-
--- what a plan makes of the state
 abbrev pub carried_out : State → Command → ℕ → Plan → After
 carried_out s c moment nothing = cancel_or_read s c moment c.what
-carried_out s c moment (changes cs) = and_then (answer.Reply reply.Empty) (telling (change_notices s c moment) (applied s cs))
+carried_out s c moment (changes cs) =
+    and_then (answer.Reply reply.Empty) (telling (change_notices s c moment) (applied s cs))
 carried_out s c moment (starts task) = begun s task moment
 
 -- what a command that breaks no rule makes of the state, and what it is answered

@@ -1,21 +1,10 @@
 -- What a command speaks of: its object, the name that it gives, the instance that it would change or copy from.
-use Rattle.std.specs.Prelude.{ℕ, ◌==◌, Bool, true, false, List, length, Option, Some, None, if◌then◌else◌, codes, unwrap_or, filter, fold}
-use Rattle.std.specs.Option.{option_map_or}
-use Rattle.std.specs.Str.{bytes_eq}
-use Rattle.row_machine.specs.Words.{ObjectKind, setting, unseen, seen, next_name, Target, Origin, Body, What}
-use Rattle.row_machine.specs.Words.kind
-use Rattle.row_machine.specs.Words.origin
-use Rattle.row_machine.specs.Words.what
-use Rattle.records.specs.declared.rows.Instance.{Instance}
-use Rattle.records.specs.declared.rows.Snapshot.{Snapshot}
-use Rattle.row_machine.specs.machine.State.{State}
-use Rattle.row_machine.specs.machine.Rows.{instance_named}
-use Rattle.row_machine.specs.machine.Expansions.{expanded_of}
+use Rattle.std.specs.Prelude.{◌==◌, if◌then◌else◌}
+use Rattle.row_machine.specs.Words.{ℕ, Bool, true, false, List, length, Option, Some, None, codes, unwrap_or, filter, fold, option_map_or, bytes_eq, ObjectKind, setting, unseen, seen, next_name, Target, Origin, Body, What, ObjectKind as kind, Origin as origin, What as what, Instance, Snapshot}
+use Rattle.row_machine.specs.Estate.{State, instance_named, expanded_of, is_of_kind}
 
 -- the object that a command speaks of, or the objects of a list
 abbrev pub object_of : What → Option Target
-object_of what.Root = None
-object_of what.Server = None
 object_of (what.List of recursion) = Some of
 object_of (what.Get of) = Some of
 object_of (what.State of) = Some of
@@ -26,30 +15,19 @@ object_of (what.Move of to) = Some of
 object_of (what.Delete of) = Some of
 object_of (what.Act of action) = Some of
 object_of (what.Restore of snapshot) = Some of
-object_of (what.GetOp op) = None
-object_of (what.Cancel op) = None
-object_of (what.Wait op timeout) = None
+object_of other = None
 
--- the operation that a command speaks of
-abbrev pub operation_of : What → Option ℕ
-operation_of (what.GetOp op) = Some op
-operation_of (what.Cancel op) = Some op
-operation_of (what.Wait op timeout) = Some op
-operation_of other = None
-
--- ---- the name of a new snapshot
-
--- the pattern of an instance's snapshot names, by its expanded settings
-abbrev pub pattern_of : State → Instance → List ℕ
-pattern_of s i = unwrap_or (setting (expanded_of s.projects s.profiles i).config (codes "snapshots.pattern")) (codes "snap%d")
-
--- the snapshots of an instance
 abbrev pub snapshots_of : State → List ℕ → List ℕ → List Snapshot
-snapshots_of s project instance = filter (λ r. if bytes_eq r.project project then bytes_eq r.instance instance else false) s.snapshots
+snapshots_of s project instance =
+    filter (λ r. if bytes_eq r.project project then bytes_eq r.instance instance else false) s.snapshots
 
 -- the next name of the pattern after those of the instance's snapshots
 abbrev pub next_snapshot : State → Instance → List ℕ
-next_snapshot s i = next_name (fold (λ numbers r. seen r.name numbers) (unseen (pattern_of s i)) (snapshots_of s i.project i.name))
+next_snapshot s i =
+    next_name (fold (λ numbers r. seen r.name numbers) (unseen pattern) (snapshots_of s i.project i.name)) where
+      pattern : List ℕ
+      pattern =
+          unwrap_or (setting (expanded_of s.projects s.profiles i).config (codes "snapshots.pattern")) (codes "snap%d")
 
 -- a new snapshot without a name gets the next one
 abbrev pub with_name : State → List ℕ → Target → Target
@@ -58,18 +36,12 @@ with_name s project of =
     then option_map_or (λ i. record of { name = next_snapshot s i }) (instance_named s.instances project of.instance) of
     else of
 
--- ---- what is new, and what is changed
-
 -- the object under the name that a creation or a rename gives it
 abbrev pub named_anew : State → List ℕ → What → Option Target
-named_anew s project (what.Create of body) = Some (named of.kind) where
-  named : ObjectKind → Target
-  named kind.Snapshot = with_name s project of
-  named other = of
+named_anew s project (what.Create of body) = Some (if is_of_kind kind.Snapshot of then with_name s project of else of)
 named_anew s project (what.Move of to) = Some (record of { name = to })
 named_anew s project other = None
 
--- the instance that a body copies from
 abbrev pub copied_from : ObjectKind → Origin → Option (List ℕ)
 copied_from kind.Instance (origin.Copy from snapshot pool) = Some from
 copied_from kind other = None
@@ -99,14 +71,6 @@ instance_changed (what.Delete of) = instance_in of
 instance_changed (what.Act of action) = Some of.name
 instance_changed (what.Restore of snapshot) = Some of.name
 instance_changed other = None
-
--- whether a command changes, renames or deletes the object of its path
-abbrev pub is_change : What → Bool
-is_change (what.Put of body) = true
-is_change (what.Patch of body) = true
-is_change (what.Move of to) = true
-is_change (what.Delete of) = true
-is_change other = false
 
 -- whether a command renames or deletes the object of its path
 abbrev pub is_parting : What → Bool

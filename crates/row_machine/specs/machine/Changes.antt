@@ -1,18 +1,9 @@
 -- Changes of rows: what the state is after each change of a list.
-use Rattle.std.specs.Prelude.{ℕ, Bool, List, [], ◌∷◌, Option, Some, None, if◌then◌else◌}
-use Rattle.std.specs.List.{filter_map, list_any}
-use Rattle.std.specs.Str.{bytes_eq}
-use Rattle.row_machine.specs.Words.{dropped, ObjectKind, Stopped, Row, two_names}
-use Rattle.row_machine.specs.Words.kind
-use Rattle.row_machine.specs.Words.row
-use Rattle.records.specs.declared.rows.Instance.{Instance}
-use Rattle.row_codec.specs.Spelling.{key_of}
-use Rattle.row_machine.specs.declared.changes.RowChange.{RowChange}
-use Rattle.row_machine.specs.declared.changes.RowChange.TheVariants as change
-use Rattle.row_machine.specs.machine.State.{State, Standing}
-use Rattle.row_machine.specs.machine.Rows.{with_project, with_profile, with_network, with_pool, with_volume, with_instance, with_snapshot, with_standing, is_standing}
+use Rattle.std.specs.Prelude.{◌∷◌, if◌then◌else◌}
+use Rattle.row_machine.specs.Words.{ℕ, Bool, List, [], Option, Some, None, filter_map, list_any, bytes_eq, dropped, ObjectKind, Stopped, Row, two_names, ObjectKind as kind, Row as row, Instance, key_of, RowChange, RowChange as change}
+use Rattle.row_machine.specs.Estate.{State, Standing, with_project, with_profile, with_network, with_pool, with_volume, with_instance, with_snapshot, with_standing, is_standing}
+use Rattle.row_machine.specs.shown.Links.{target_of}
 
--- whether a row has this key
 abbrev pub has_key : List ℕ → Row → Bool
 has_key key r = bytes_eq (key_of r) key
 
@@ -22,7 +13,6 @@ standing_with i powers =
     if list_any (is_standing i.project i.name) powers then powers
     else with_standing (record { project = i.project; name = i.name; power = Stopped }) powers
 
--- after a row was put
 abbrev pub with_row : Row → State → State
 with_row (row.Project r) s = record s { projects = with_project r s.projects }
 with_row (row.Profile r) s = record s { profiles = with_profile r s.profiles }
@@ -32,7 +22,6 @@ with_row (row.Volume r) s = record s { volumes = with_volume r s.volumes }
 with_row (row.Instance r) s = record s { instances = with_instance r s.instances; powers = standing_with r s.powers }
 with_row (row.Snapshot r) s = record s { snapshots = with_snapshot r s.snapshots }
 
--- after the row of this kind and key was removed
 abbrev pub without_row : ObjectKind → List ℕ → State → State
 without_row kind.Project key s = record s { projects = dropped (λ r. has_key key (row.Project r)) s.projects }
 without_row kind.Profile key s = record s { profiles = dropped (λ r. has_key key (row.Profile r)) s.profiles }
@@ -46,29 +35,17 @@ without_row kind.Instance key s = record s {
 without_row kind.Snapshot key s = record s { snapshots = dropped (λ r. has_key key (row.Snapshot r)) s.snapshots }
 without_row kind.Operation key s = s
 
--- after one change
 abbrev pub changed : State → RowChange → State
 changed s (change.Put r) = with_row r s
 changed s (change.Remove of key) = without_row of key s
 
--- after all changes, in their order
 abbrev pub applied : State → List RowChange → State
 applied s [] = s
 applied s (c ∷ cs) = applied (changed s c) cs
 
--- the change that removes a row
 abbrev pub removal : Row → RowChange
-removal r = change.Remove (kind_of_row r) (key_of r) where
-  kind_of_row : Row → ObjectKind
-  kind_of_row (row.Project x) = kind.Project
-  kind_of_row (row.Profile x) = kind.Profile
-  kind_of_row (row.Network x) = kind.Network
-  kind_of_row (row.Pool x) = kind.Pool
-  kind_of_row (row.Volume x) = kind.Volume
-  kind_of_row (row.Instance x) = kind.Instance
-  kind_of_row (row.Snapshot x) = kind.Snapshot
+removal r = change.Remove (target_of r).kind (key_of r)
 
--- the rows that changes put, in their order
 abbrev pub rows_put : List RowChange → List Row
 rows_put cs = filter_map put_in cs where
   put_in : RowChange → Option Row

@@ -1,36 +1,21 @@
 -- What live operations claim: the rows that they would put, and the shares of limits that they hold for them.
-use Rattle.std.specs.Prelude.{ℕ, List, [], ◌++◌, Option, Some, None, if◌then◌else◌, option_and_then}
-use Rattle.std.specs.List.{filter_map}
-use Rattle.std.specs.Option.{option_map_or}
-use Rattle.std.specs.Str.{bytes_eq}
-use Rattle.row_machine.specs.Words.{excess_of, Amounts, Expanded, instance_amounts, volume_amounts, Row}
-use Rattle.row_machine.specs.Words.row
-use Rattle.size_values.specs.Amounts.{nothing}
-use Rattle.records.specs.declared.rows.Volume.{Volume}
-use Rattle.records.specs.declared.rows.Instance.{Instance}
-use Rattle.records.specs.declared.rows.Snapshot.{Snapshot}
-use Rattle.row_machine.specs.machine.Task.{Task}
-use Rattle.row_machine.specs.machine.State.{State}
-use Rattle.row_machine.specs.machine.Rows.{instance_named}
-use Rattle.row_machine.specs.machine.Expansions.{expanded_of}
+use Rattle.std.specs.Prelude.{◌++◌, if◌then◌else◌}
+use Rattle.row_machine.specs.Words.{ℕ, List, [], Option, Some, None, option_and_then, filter_map, option_map_or, bytes_eq, excess_of, Amounts, Expanded, instance_amounts, volume_amounts, Row, Row as row, no_amounts, Volume, Instance, Snapshot}
+use Rattle.row_machine.specs.Estate.{Task, State, instance_named, expanded_of}
 
--- ---- claimed rows by kind
-
--- the instance that an operation would put
+-- the instance, the volume or the snapshot that an operation would put
 abbrev pub claimed_instance : Task → Option Instance
 claimed_instance task = option_and_then instance_in task.claim where
   instance_in : Row → Option Instance
   instance_in (row.Instance i) = Some i
   instance_in other = None
 
--- the volume that an operation would put
 abbrev pub claimed_volume : Task → Option Volume
 claimed_volume task = option_and_then volume_in task.claim where
   volume_in : Row → Option Volume
   volume_in (row.Volume v) = Some v
   volume_in other = None
 
--- the snapshot that an operation would put
 abbrev pub claimed_snapshot : Task → Option Snapshot
 claimed_snapshot task = option_and_then snapshot_in task.claim where
   snapshot_in : Row → Option Snapshot
@@ -41,23 +26,18 @@ claimed_snapshot task = option_and_then snapshot_in task.claim where
 abbrev pub of_live : {X : Type 0} → (Task → Option X) → State → List X
 of_live read s = filter_map (λ o. read o.work) s.operations.live
 
--- each instance that there is or would be
+-- each instance or volume that there is or would be
 unfoldable pub judged_instances : State → List Instance
 judged_instances s = s.instances ++ of_live claimed_instance s
 
--- each volume that there is or would be
 unfoldable pub judged_volumes : State → List Volume
 judged_volumes s = s.volumes ++ of_live claimed_volume s
 
--- ---- amounts and shares
-
--- what an instance counts for
 unfoldable pub amounts_of_instance : State → Instance → Amounts
 amounts_of_instance s i = amounts (expanded_of s.projects s.profiles i) where
   amounts : Expanded → Amounts
   amounts e = instance_amounts i.kind e.config e.devices
 
--- what a volume counts for
 abbrev pub amounts_of_volume : Volume → Amounts
 amounts_of_volume v = volume_amounts v.config
 
@@ -65,7 +45,7 @@ amounts_of_volume v = volume_amounts v.config
 abbrev pub amounts_of : State → Row → Amounts
 amounts_of s (row.Instance i) = amounts_of_instance s i
 amounts_of s (row.Volume v) = amounts_of_volume v
-amounts_of s other = nothing
+amounts_of s other = no_amounts
 
 -- the project that a row belongs to; a pool belongs to none, and a project to itself
 abbrev pub project_of_row : Row → List ℕ
@@ -77,16 +57,17 @@ project_of_row (row.Volume r) = r.project
 project_of_row (row.Instance r) = r.project
 project_of_row (row.Snapshot r) = r.project
 
--- the instance that the claimed row replaces, as it now stands
 abbrev pub replaced_instance : State → Task → Option Instance
 replaced_instance s task = option_and_then (λ names. instance_named s.instances names.0 names.1) task.replaces
 
--- a claim's share where its row is there: what the row counts for, above what the replaced instance of its own project does
+-- what a claimed row counts for, above what the replaced instance does if that is of the same project
 abbrev pub share_over : State → Row → Option Instance → Amounts
 share_over s new None = amounts_of s new
 share_over s new (Some old) =
-    if bytes_eq old.project (project_of_row new) then excess_of (amounts_of s new) (amounts_of_instance s old) else amounts_of s new
+    if bytes_eq old.project (project_of_row new)
+    then excess_of (amounts_of s new) (amounts_of_instance s old)
+    else amounts_of s new
 
 -- The share of an operation by the rows as they stand: what its claimed row adds to the usage of that row's project.
 unfoldable pub share_of : State → Task → Amounts
-share_of s task = option_map_or (λ new. share_over s new (replaced_instance s task)) task.claim nothing
+share_of s task = option_map_or (λ new. share_over s new (replaced_instance s task)) task.claim no_amounts

@@ -1,13 +1,11 @@
 -- The deeds of background operations, as a table.
-use Rattle.std.specs.Prelude.{Bool, true, false, Option, Some, None, is_none}
-use Rattle.std.specs.Option.{option_map_or}
-use Rattle.row_machine.specs.Words.{Deed, ObjectKind, Target}
-use Rattle.row_machine.specs.Words.deed
-use Rattle.row_machine.specs.Words.kind
+use Rattle.std.specs.Prelude.{◌||◌}
+use Rattle.row_machine.specs.Words.{Bool, true, false, Option, Some, None, is_none, option_map_or, Deed, ObjectKind, Target, Deed as deed, ObjectKind as kind}
+use Rattle.row_machine.specs.machine.Kinds.{is_of_kind}
 
--- the kind of object that a deed is about, and whether that object is there before it; the kind of row that it would put, if
--- any; whether this row takes the place of the target's, and under its name; and whether a failure leaves the instance in an
--- unknown state, since its change was begun on the host
+-- The kind of object that a deed is about, and whether that object is there before it; the kind of row that it would
+-- put, if any; whether this row takes the place of the target's, and under its name; and whether a failure leaves the
+-- instance in an unknown state, since its change was begun on the host.
 pub record DeedLine : Type 0 where
   pub target : ObjectKind
   pub is_there : Bool
@@ -16,21 +14,22 @@ pub record DeedLine : Type 0 where
   pub keeps_name : Bool
   pub breaks : Bool
 
--- a deed that makes a new row
 abbrev pub makes : ObjectKind → Bool → DeedLine
-makes kind is_there = record { target = kind; is_there = is_there; claims = Some kind; replaces = false; keeps_name = false; breaks = false }
+makes kind is_there = record {
+  target = kind;
+  is_there = is_there;
+  claims = Some kind;
+  replaces = false;
+  keeps_name = false;
+  breaks = false;
+}
 
--- a deed that replaces the row of an instance
 abbrev pub replaces : Bool → DeedLine
-replaces keeps_name =
-    record { target = kind.Instance; is_there = true; claims = Some kind.Instance; replaces = true; keeps_name = keeps_name; breaks = true }
+replaces keeps_name = record (makes kind.Instance true) { replaces = true; keeps_name = keeps_name; breaks = true }
 
--- a deed that puts no row
 abbrev pub puts_none : ObjectKind → Bool → DeedLine
-puts_none kind breaks =
-    record { target = kind; is_there = true; claims = None; replaces = false; keeps_name = false; breaks = breaks }
+puts_none kind breaks = record (makes kind true) { claims = None; breaks = breaks }
 
--- The table.
 abbrev pub deed_line : Deed → DeedLine
 deed_line deed.Create = makes kind.Instance false
 deed_line deed.Copy = makes kind.Instance false
@@ -43,7 +42,6 @@ deed_line deed.Snap = makes kind.Snapshot true
 deed_line deed.Unsnap = puts_none kind.Snapshot false
 deed_line deed.CopyVolume = makes kind.Volume false
 
--- the kind of object that a deed is about
 abbrev pub target_kind : Deed → ObjectKind
 target_kind deed = (deed_line deed).target
 
@@ -51,11 +49,9 @@ target_kind deed = (deed_line deed).target
 abbrev pub has_target : Deed → Bool
 has_target deed = (deed_line deed).is_there
 
--- what a deed claims: nothing, a volume, a snapshot or an instance
 abbrev pub claim_kind : Deed → Option ObjectKind
 claim_kind deed = (deed_line deed).claims
 
--- whether a claimed row takes the place of the target's
 abbrev pub replaces_target : Deed → Bool
 replaces_target deed = (deed_line deed).replaces
 
@@ -63,23 +59,12 @@ replaces_target deed = (deed_line deed).replaces
 abbrev pub keeps_name : Deed → Bool
 keeps_name deed = (deed_line deed).keeps_name
 
--- whether a failure leaves the instance in an unknown state
 abbrev pub breaks_instance : Deed → Bool
 breaks_instance deed = (deed_line deed).breaks
 
--- whether an object is an instance or a snapshot
-abbrev pub is_instance_or_snapshot : ObjectKind → Bool
-is_instance_or_snapshot kind.Instance = true
-is_instance_or_snapshot kind.Snapshot = true
-is_instance_or_snapshot other = false
-
--- whether an object is a volume
-abbrev pub is_volume_kind : ObjectKind → Bool
-is_volume_kind kind.Volume = true
-is_volume_kind other = false
-
 -- a copy has an instance or a snapshot as its source, a volume copy a volume, and no other deed has a source
 abbrev pub has_source : Deed → Option Target → Bool
-has_source deed.Copy source = option_map_or (λ of. is_instance_or_snapshot of.kind) source false
-has_source deed.CopyVolume source = option_map_or (λ of. is_volume_kind of.kind) source false
+has_source deed.Copy source =
+    option_map_or (λ of. is_of_kind kind.Instance of || is_of_kind kind.Snapshot of) source false
+has_source deed.CopyVolume source = option_map_or (is_of_kind kind.Volume) source false
 has_source other source = is_none source

@@ -1,20 +1,14 @@
 -- What an instance has: its profiles in their order, and then its own settings and devices.
-use Rattle.std.specs.Prelude.{ℕ, List, [], ◌∷◌, ◌++◌, map, Option, Some, None}
-use Rattle.row_machine.specs.Words.{Expanded, expanded}
-use Rattle.row_machine.specs.Words.kind
-use Rattle.expansion.specs.Layers.{nothing}
-use Rattle.records.specs.declared.rows.Project.{Project}
-use Rattle.records.specs.declared.rows.Profile.{Profile}
-use Rattle.records.specs.declared.rows.Instance.{Instance}
+use Rattle.std.specs.Prelude.{◌∷◌, ◌++◌}
+use Rattle.row_machine.specs.Words.{ℕ, List, [], map, Option, Some, None, Expanded, expanded, ObjectKind as kind, no_layer, Project, Profile, Instance}
 use Rattle.row_machine.specs.machine.Rows.{profile_named}
 use Rattle.row_machine.specs.machine.Homes.{home_of}
 
 -- the layer of a profile; a profile that is missing counts as one without settings
 abbrev pub layer_of : Option Profile → Expanded
-layer_of None = nothing
+layer_of None = no_layer
 layer_of (Some r) = record { config = r.config; devices = r.devices }
 
--- what an instance has itself
 abbrev pub own_layer : Instance → Expanded
 own_layer i = record { config = i.config; devices = i.devices }
 
@@ -25,4 +19,5 @@ layers_by profile i = map (λ name. layer_of (profile name)) i.profiles ++ own_l
 -- The settings and devices of an instance: of each key the value in the last layer that has the key, of each name the
 -- device in the last layer that has the name, whole.
 unfoldable pub expanded_of : List Project → List Profile → Instance → Expanded
-expanded_of projects profiles i = expanded (layers_by (profile_named profiles (home_of projects i.project kind.Profile)) i)
+expanded_of projects profiles i =
+    expanded (layers_by (profile_named profiles (home_of projects i.project kind.Profile)) i)

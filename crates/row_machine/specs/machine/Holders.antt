@@ -1,24 +1,10 @@
 -- Who holds what: the operation that keeps an instance busy, the one that holds a profile, and the first user of a
 -- profile, network, pool or volume.
-use Rattle.std.specs.Prelude.{ℕ, Bool, false, ◌&&◌, ◌||◌, List, [], ◌∷◌, ◌++◌, filter, find, Option, Some, None, if◌then◌else◌}
-use Rattle.std.specs.List.{list_any}
-use Rattle.std.specs.Option.{option_map_or, option_to_list}
-use Rattle.std.specs.Str.{bytes_eq}
-use Rattle.row_machine.specs.Words.{first, first_of, ObjectKind, NamedDevices, names_network, names_pool, names_volume, Row, Target}
-use Rattle.row_machine.specs.Words.kind
-use Rattle.row_machine.specs.Words.row
-use Rattle.operations.specs.declared.operation.Operation.{Operation}
-use Rattle.records.specs.declared.rows.Profile.{Profile}
-use Rattle.records.specs.declared.rows.Volume.{Volume}
-use Rattle.records.specs.declared.rows.Instance.{Instance}
-use Rattle.row_machine.specs.machine.Task.{Task}
-use Rattle.row_machine.specs.machine.State.{State}
-use Rattle.row_machine.specs.machine.Homes.{home_of}
-use Rattle.row_machine.specs.machine.Expansions.{expanded_of}
+use Rattle.std.specs.Prelude.{◌&&◌, ◌||◌, ◌∷◌, ◌++◌, if◌then◌else◌}
+use Rattle.row_machine.specs.Words.{ℕ, Bool, false, List, [], filter, find, Option, Some, None, list_any, option_map_or, option_to_list, bytes_eq, first, first_of, ObjectKind, NamedDevices, names_network, names_pool, names_volume, Row, Target, ObjectKind as kind, Row as row, Operation, Profile, Volume, Instance}
+use Rattle.row_machine.specs.Estate.{Task, State, home_of, expanded_of, is_of_kind}
 use Rattle.row_machine.specs.machine.Claims.{claimed_instance, claimed_volume, replaced_instance, project_of_row}
 use Rattle.row_machine.specs.shown.Links.{link_of, target_of}
-
--- ---- busy instances
 
 -- an operation's target or source is this instance, or a snapshot of it
 abbrev pub is_about : List ℕ → Target → Bool
@@ -28,18 +14,14 @@ is_about instance of = about of.kind where
   about kind.Snapshot = bytes_eq of.instance instance
   about other = false
 
--- an operation keeps the instance of this project and name busy
 abbrev pub keeps_busy : List ℕ → List ℕ → Task → Bool
 keeps_busy project instance task =
-    bytes_eq task.project project && (is_about instance task.target || option_map_or (is_about instance) task.source false)
+    bytes_eq task.project project
+    && (is_about instance task.target || option_map_or (is_about instance) task.source false)
 
--- the live operation that keeps an instance busy
 unfoldable pub busy_with : State → List ℕ → List ℕ → Option (Operation Task)
 busy_with s project instance = find (λ o. keeps_busy project instance o.work) s.operations.live
 
--- ---- held profiles
-
--- an instance names the profile of this home and name
 abbrev pub names_profile : State → List ℕ → List ℕ → Instance → Bool
 names_profile s home profile i =
     bytes_eq (home_of s.projects i.project kind.Profile) home && list_any (λ name. bytes_eq name profile) i.profiles
@@ -51,8 +33,6 @@ claim_rows s task = option_to_list (claimed_instance task) ++ option_to_list (re
 -- the lowest-numbered live operation whose claim names the profile
 unfoldable pub holder_of : State → List ℕ → List ℕ → Option (Operation Task)
 holder_of s home profile = find (λ o. list_any (names_profile s home profile) (claim_rows s o.work)) s.operations.live
-
--- ---- users of networks, pools and volumes
 
 -- Devices in a project name the object: a network or volume of this home, or a pool.
 abbrev pub devices_name : State → List ℕ → Target → List ℕ → NamedDevices → Bool
@@ -71,12 +51,8 @@ profile_uses s home of r = devices_name s home of r.project r.devices
 abbrev pub instance_uses : State → List ℕ → Target → Instance → Bool
 instance_uses s home of i = devices_name s home of i.project (expanded_of s.projects s.profiles i).devices
 
--- a volume names the pool that it stands in
 abbrev pub volume_uses : Target → Volume → Bool
-volume_uses of v = uses of.kind where
-  uses : ObjectKind → Bool
-  uses kind.Pool = bytes_eq v.pool of.name
-  uses other = false
+volume_uses of v = is_of_kind kind.Pool of && bytes_eq v.pool of.name
 
 -- the volume that a copy is made from names its pool and itself
 abbrev pub source_uses : List ℕ → Target → List ℕ → Target → Bool
@@ -93,13 +69,9 @@ claim_uses s home of task =
     || option_map_or (volume_uses of) (claimed_volume task) false
     || option_map_or (source_uses home of task.project) task.source false
 
--- ---- first users
-
--- the link of a row that uses the object
 abbrev pub user_link : Bool → Row → Option (List ℕ)
 user_link uses r = if uses then Some (link_of (project_of_row r) (target_of r)) else None
 
--- the link of an operation's target
 abbrev pub work_link : Task → List ℕ
 work_link task = link_of task.project task.target
 
@@ -107,15 +79,19 @@ work_link task = link_of task.project task.target
 abbrev pub user_in : State → List ℕ → Target → List ℕ → Option (List ℕ)
 user_in s home of project =
     first
-    (first_of (λ r. user_link (profile_uses s home of r) (row.Profile r)) (filter (λ r. bytes_eq r.project project) s.profiles)
-    ∷ first_of (λ r. user_link (instance_uses s home of r) (row.Instance r)) (filter (λ r. bytes_eq r.project project) s.instances)
+    (first_of (λ r. user_link (profile_uses s home of r) (row.Profile r))
+    (filter (λ r. bytes_eq r.project project) s.profiles)
+    ∷ first_of (λ r. user_link (instance_uses s home of r) (row.Instance r))
+    (filter (λ r. bytes_eq r.project project) s.instances)
     ∷ first_of (λ r. user_link (volume_uses of r) (row.Volume r)) (filter (λ r. bytes_eq r.project project) s.volumes)
-    ∷ first_of (λ o. if claims_in o.work && claim_uses s home of o.work then Some (work_link o.work) else None) s.operations.live
+    ∷ first_of (λ o. work_user o.work) s.operations.live
     ∷ []) where
       claims_in : Task → Bool
       claims_in task = option_map_or (λ new. bytes_eq (project_of_row new) project) task.claim false
 
--- the link of the first instance that names a profile
+      work_user : Task → Option (List ℕ)
+      work_user task = if claims_in task && claim_uses s home of task then Some (work_link task) else None
+
 abbrev pub profile_user : State → List ℕ → List ℕ → Option (List ℕ)
 profile_user s home profile = first_of (λ i. user_link (names_profile s home profile i) (row.Instance i)) s.instances
 

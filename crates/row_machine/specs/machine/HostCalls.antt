@@ -1,25 +1,19 @@
 -- The calls on the host that each operation makes, fixed when it begins.
-use Rattle.std.specs.Prelude.{ℕ, Bool, true, false, List, [], ◌∷◌}
-use Rattle.row_machine.specs.Words.{Action, Expanded, Place, Spec, HostCall, Clear, MakeRoot, CopyRoot, Start, Stop, Freeze, Thaw}
-use Rattle.row_machine.specs.Words.action
+use Rattle.std.specs.Prelude.{◌∷◌}
+use Rattle.row_machine.specs.Words.{ℕ, Bool, true, false, List, [], Action, Expanded, Place, Spec, HostCall, Clear, MakeRoot, CopyRoot, Start, Stop, Freeze, Thaw, Action as action}
 
--- where the root of an instance stands
 abbrev pub place_of : List ℕ → List ℕ → Place
 place_of project name = record { volume = false; project = project; pool = []; name = name }
 
--- where the root of a volume stands
 abbrev pub volume_place : List ℕ → List ℕ → List ℕ → Place
 volume_place project pool name = record { volume = true; project = project; pool = pool; name = name }
 
--- what the host is told of an instance: what it has
 abbrev pub spec_of : Expanded → Spec
 spec_of e = record { config = e.config; devices = e.devices }
 
--- a new root of an image, or an empty one
 abbrev pub create_calls : Place → List ℕ → List HostCall
 create_calls at image = Clear at ∷ MakeRoot at image ∷ []
 
--- a new root with the content of another one, or of its snapshot
 abbrev pub copy_calls : Place → List ℕ → Place → List HostCall
 copy_calls from snapshot to = Clear to ∷ CopyRoot from snapshot to ∷ []
 

@@ -1,17 +1,15 @@
 -- The kinds of objects, as a table.
-use Rattle.std.specs.Prelude.{ℕ, Bool, true, false, List, codes}
-use Rattle.row_machine.specs.Words.{ObjectKind}
-use Rattle.row_machine.specs.Words.kind
+use Rattle.std.specs.Prelude.{◌==◌}
+use Rattle.row_machine.specs.Words.{ℕ, Bool, true, false, List, codes, ObjectKind, ObjectKind as kind, Target}
 
--- how refusals write the kind, the number that its entries have, whether its objects belong to projects, and how many rows of
--- it there may be, with those that live operations claim
+-- how refusals write the kind, the number that its entries have, whether its objects belong to projects, and how many
+-- rows of it there may be, with those that live operations claim
 pub record KindLine : Type 0 where
   pub text : List ℕ
   pub number : ℕ
   pub in_project : Bool
   pub cap : ℕ
 
--- a line of the table
 abbrev pub kind_of_object : List ℕ → ℕ → Bool → ℕ → KindLine
 kind_of_object text number in_project cap = record { text = text; number = number; in_project = in_project; cap = cap }
 
@@ -26,11 +24,9 @@ kind_line kind.Instance = kind_of_object (codes "instance") 6 true 65536
 kind_line kind.Snapshot = kind_of_object (codes "snapshot") 7 true 65536
 kind_line kind.Operation = kind_of_object (codes "operation") 0 true 0
 
--- how refusals write a kind
 abbrev pub kind_text : ObjectKind → List ℕ
 kind_text kind = (kind_line kind).text
 
--- the number of a kind, as its entries have it
 abbrev pub kind_number : ObjectKind → ℕ
 kind_number kind = (kind_line kind).number
 
@@ -38,6 +34,8 @@ kind_number kind = (kind_line kind).number
 abbrev pub is_in_project : ObjectKind → Bool
 is_in_project kind = (kind_line kind).in_project
 
--- how many rows of a kind there may be, with those that live operations claim
 abbrev pub cap_of : ObjectKind → ℕ
 cap_of kind = (kind_line kind).cap
+
+abbrev pub is_of_kind : ObjectKind → Target → Bool
+is_of_kind kind of = kind_number of.kind == kind_number kind

@@ -1,51 +1,56 @@
 -- Rules on limits: L0 to L8. Each project's usage, with what live operations claim, stands within its limits.
-use Rattle.std.specs.Prelude.{ℕ, List, [], ◌∷◌, filter, Option, codes, option_map}
-use Rattle.std.specs.Option.{option_to_list}
-use Rattle.std.specs.Str.{bytes_eq}
-use Rattle.row_machine.specs.Words.{first, first_of, amount_above, Part, LimitKey, Instances, Containers, Machines, Cpu, Memory, Processes, Disk, Networks, Over, SumKey, over, limit_on, parts, first_uncounted, volume_uncounted, limits_of, Rule, Refusal}
-use Rattle.row_machine.specs.Words.rule
-use Rattle.project_limits.specs.declared.sums.SumKey.TheVariants as sum
-use Rattle.project_limits.specs.Admission.{key_of}
-use Rattle.records.specs.declared.rows.Project.{Project}
-use Rattle.records.specs.declared.rows.Volume.{Volume}
-use Rattle.records.specs.declared.rows.Instance.{Instance}
-use Rattle.row_machine.specs.machine.Task.{Task}
-use Rattle.row_machine.specs.machine.State.{State}
-use Rattle.row_machine.specs.machine.Expansions.{expanded_of}
-use Rattle.row_machine.specs.machine.Claims.{claimed_instance, claimed_volume}
-use Rattle.row_machine.specs.machine.Usage.{used, networks_of}
-use Rattle.row_machine.specs.machine.Refusals.{untold, on_key_of}
+use Rattle.std.specs.Prelude.{◌∷◌}
+use Rattle.row_machine.specs.Words.{Expanded, ℕ, List, [], filter, Option, codes, option_map, option_to_list, bytes_eq, first, first_of, amount_above, Part, LimitKey, Instances, Containers, Machines, Cpu, Memory, Processes, Disk, Networks, Over, SumKey, over, limit_on, parts, first_uncounted, volume_uncounted, limits_of, Rule, Refusal, Rule as rule, SumKey as sum, key_of_part, Project, Volume, Instance}
+use Rattle.row_machine.specs.Estate.{Task, State, expanded_of, untold, on_key_of}
+use Rattle.row_machine.specs.Readings.{claimed_instance, claimed_volume, used, networks_of}
 
--- ---- L0: a limited sum to which a setting gives no number
+-- the rule by which a limit refuses, and its key
+pub record LimitLine : Type 0 where
+  pub rule : Rule
+  pub key : List ℕ
 
--- the key of a limited sum
+-- The table.
+abbrev pub limit_line : LimitKey → LimitLine
+limit_line Instances = record { rule = rule.L1; key = codes "limits.instances" }
+limit_line Containers = record { rule = rule.L2; key = codes "limits.containers" }
+limit_line Machines = record { rule = rule.L3; key = codes "limits.virtual-machines" }
+limit_line Cpu = record { rule = rule.L4; key = codes "limits.cpu" }
+limit_line Memory = record { rule = rule.L5; key = codes "limits.memory" }
+limit_line Processes = record { rule = rule.L6; key = codes "limits.processes" }
+limit_line Disk = record { rule = rule.L7; key = codes "limits.disk" }
+limit_line Networks = record { rule = rule.L8; key = codes "limits.networks" }
+
+abbrev pub limit_rule : LimitKey → Rule
+limit_rule key = (limit_line key).rule
+
+abbrev pub limit_text : LimitKey → List ℕ
+limit_text key = (limit_line key).key
+
 abbrev pub sum_text : SumKey → List ℕ
-sum_text sum.Cpu = codes "limits.cpu"
-sum_text sum.Memory = codes "limits.memory"
-sum_text sum.Processes = codes "limits.processes"
-sum_text sum.Disk = codes "limits.disk"
+sum_text sum.Cpu = limit_text Cpu
+sum_text sum.Memory = limit_text Memory
+sum_text sum.Processes = limit_text Processes
+sum_text sum.Disk = limit_text Disk
 
--- an object of this name gives no number for this sum
 abbrev pub uncounted : Project → List ℕ → Option SumKey → Option Refusal
 uncounted p name key = option_map (λ k. on_key_of rule.L0 (sum_text k) name p.name) key
 
--- an instance, by what it has
 unfoldable pub instance_uncounted : State → Project → Instance → Option Refusal
 instance_uncounted s p i =
-    uncounted p i.name (first_uncounted (limits_of p.config) i.kind (expanded_of s.projects s.profiles i).config (expanded_of s.projects s.profiles i).devices)
+    uncounted p i.name (first_uncounted (limits_of p.config) i.kind expanded.config expanded.devices) where
+      expanded : Expanded
+      expanded = expanded_of s.projects s.profiles i
 
--- a volume, by its own settings
 unfoldable pub volume_uncounts : Project → Volume → Option Refusal
 volume_uncounts p v = uncounted p v.name (volume_uncounted (limits_of p.config) v.config)
 
--- a claim, by the row that it would put
 abbrev pub claim_uncounted : State → Project → Task → Option Refusal
 claim_uncounted s p task = first
-    (first_of (instance_uncounted s p) (filter (λ i. bytes_eq i.project p.name) (option_to_list (claimed_instance task)))
+    (first_of (instance_uncounted s p)
+    (filter (λ i. bytes_eq i.project p.name) (option_to_list (claimed_instance task)))
     ∷ first_of (volume_uncounts p) (filter (λ v. bytes_eq v.project p.name) (option_to_list (claimed_volume task)))
     ∷ [])
 
--- the first instance, volume or claim of a project that is not countable
 abbrev pub project_uncounted : State → Project → Option Refusal
 project_uncounted s p = first
     (first_of (instance_uncounted s p) (filter (λ i. bytes_eq i.project p.name) s.instances)
@@ -53,35 +58,10 @@ project_uncounted s p = first
     ∷ first_of (λ o. claim_uncounted s p o.work) s.operations.live
     ∷ [])
 
--- the first project, and there the first object, that is not countable
+-- L0: a setting gives no number for a limited sum, at the first project and there its first object.
 unfoldable pub counts_broken : State → Option Refusal
 counts_broken s = first_of (project_uncounted s) s.projects
 
--- ---- L1 to L8: a limit is exceeded
-
--- the rule of each limit
-abbrev pub limit_rule : LimitKey → Rule
-limit_rule Instances = rule.L1
-limit_rule Containers = rule.L2
-limit_rule Machines = rule.L3
-limit_rule Cpu = rule.L4
-limit_rule Memory = rule.L5
-limit_rule Processes = rule.L6
-limit_rule Disk = rule.L7
-limit_rule Networks = rule.L8
-
--- the key of each limit
-abbrev pub limit_text : LimitKey → List ℕ
-limit_text Instances = codes "limits.instances"
-limit_text Containers = codes "limits.containers"
-limit_text Machines = codes "limits.virtual-machines"
-limit_text Cpu = codes "limits.cpu"
-limit_text Memory = codes "limits.memory"
-limit_text Processes = codes "limits.processes"
-limit_text Disk = codes "limits.disk"
-limit_text Networks = codes "limits.networks"
-
--- a refusal by a limit of this project
 abbrev pub over_refusal : Project → Over → Refusal
 over_refusal p o = record {
   rule = limit_rule o.key;
@@ -92,15 +72,16 @@ over_refusal p o = record {
 abbrev pub exceeds : Project → LimitKey → Option ℕ → ℕ → ℕ → Option Refusal
 exceeds p key limit before after = option_map (over_refusal p) (over key limit before (amount_above after before))
 
--- one part of the usage of a project, before and after a change
 unfoldable pub part_exceeds : State → State → Part → Project → Option Refusal
-part_exceeds s after k p = exceeds p (key_of k) (limit_on k (limits_of p.config)) (used s p.name k) (used after p.name k)
+part_exceeds s after k p =
+    exceeds p (key_of_part k) (limit_on k (limits_of p.config)) (used s p.name k) (used after p.name k)
 
--- its number of networks
 unfoldable pub networks_exceed : State → State → Project → Option Refusal
-networks_exceed s after p = exceeds p Networks (limits_of p.config).networks (networks_of s p.name) (networks_of after p.name)
+networks_exceed s after p =
+    exceeds p Networks (limits_of p.config).networks (networks_of s p.name) (networks_of after p.name)
 
--- The first limit that is exceeded, and the first project at which it is. The limits are those after the change.
+-- L1 to L8: the first limit that is exceeded, and the first project at which it is. The limits are those after the
+-- change.
 unfoldable pub limits_broken : State → State → Option Refusal
 limits_broken s after = first
     (first_of (λ k. first_of (part_exceeds s after k) after.projects) parts

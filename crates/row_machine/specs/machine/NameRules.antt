@@ -1,35 +1,17 @@
 -- Rules on names: N1 to N5.
-use Rattle.std.specs.Prelude.{ℕ, ◌==◌, Bool, true, false, ◌&&◌, List, [], ◌∷◌, length, find, Option, Some, None, is_some, is_none, if◌then◌else◌, option_and_then, option_map}
-use Rattle.std.specs.Fmt.{decimal}
-use Rattle.std.specs.Option.{option_map_or}
-use Rattle.std.specs.Str.{bytes_eq}
-use Rattle.row_machine.specs.Words.{first, ObjectKind, good_name_of, kept_at, Refusal, Target, Origin, Command, What}
-use Rattle.row_machine.specs.Words.kind
-use Rattle.row_machine.specs.Words.rule
-use Rattle.row_machine.specs.Words.origin
-use Rattle.row_machine.specs.Words.what
-use Rattle.row_machine.specs.machine.Kinds.{kind_number, is_in_project}
-use Rattle.row_machine.specs.machine.Task.{Task}
-use Rattle.row_machine.specs.machine.State.{State}
-use Rattle.row_machine.specs.machine.Rows.{project_named, profile_named, network_named, pool_named, volume_named, instance_named, snapshot_named}
-use Rattle.row_machine.specs.machine.Homes.{home_of}
-use Rattle.row_machine.specs.machine.Claims.{project_of_row}
-use Rattle.row_machine.specs.shown.Links.{target_of}
-use Rattle.row_machine.specs.machine.Refusals.{on_project, on_object, on_held}
-use Rattle.row_machine.specs.machine.Asked.{object_of, named_anew}
+use Rattle.std.specs.Prelude.{◌==◌, ◌&&◌, ◌∷◌, if◌then◌else◌}
+use Rattle.row_machine.specs.Words.{ℕ, Bool, false, List, [], length, find, Option, Some, None, is_some, is_none, option_and_then, option_map, decimal, option_map_or, bytes_eq, first, ObjectKind, good_name_of, kept_at, Refusal, Target, Origin, Command, What, ObjectKind as kind, Rule as rule, Origin as origin, What as what}
+use Rattle.row_machine.specs.Estate.{kind_number, is_in_project, Task, State, project_named, profile_named, network_named, pool_named, volume_named, instance_named, snapshot_named, home_of, on_project, on_object, on_held}
+use Rattle.row_machine.specs.Readings.{project_of_row, target_of, object_of}
 
--- ---- N1: the project is missing
-
--- N1, of a command on what belongs to a project
+-- N1: the project is missing, of a command on what belongs to a project.
 unfoldable pub project_missing : State → Command → Option Refusal
 project_missing s c =
-    if option_map_or (λ of. is_in_project of.kind) (object_of c.what) false && is_none (project_named s.projects c.project)
+    if option_map_or (λ of. is_in_project of.kind) (object_of c.what) false
+    && is_none (project_named s.projects c.project)
     then Some (on_project rule.N1 c.project)
     else None
 
--- ---- N2: an object is missing
-
--- whether the object that is asked for in a project is there, in its home
 abbrev pub is_there : State → List ℕ → Target → Bool
 is_there s project of = there of.kind where
   there : ObjectKind → Bool
@@ -42,7 +24,6 @@ is_there s project of = there of.kind where
   there kind.Snapshot = is_some (snapshot_named s.snapshots project of.instance of.name)
   there kind.Operation = false
 
--- N2 of this object, unless it is there
 abbrev pub missing_unless : Bool → ObjectKind → List ℕ → Option Refusal
 missing_unless there kind name = if there then None else Some (on_object rule.N2 kind name)
 
@@ -51,23 +32,23 @@ abbrev pub parent_missing : State → List ℕ → Target → Option Refusal
 parent_missing s project of = missing of.kind where
   missing : ObjectKind → Option Refusal
   missing kind.Volume = missing_unless (is_some (pool_named s.pools of.pool)) kind.Pool of.pool
-  missing kind.Snapshot = missing_unless (is_some (instance_named s.instances project of.instance)) kind.Instance of.instance
+  missing kind.Snapshot =
+      missing_unless (is_some (instance_named s.instances project of.instance)) kind.Instance of.instance
   missing other = None
 
 -- the object of a path, after what it stands in
 abbrev pub object_missing : State → List ℕ → Target → Option Refusal
-object_missing s project of = first (parent_missing s project of ∷ missing_unless (is_there s project of) of.kind of.name ∷ [])
+object_missing s project of =
+    first (parent_missing s project of ∷ missing_unless (is_there s project of) of.kind of.name ∷ [])
 
--- the volume that a volume is copied from, in the pool that the command names; the route fills it in where a body names none
+-- the volume that a volume is copied from; where a body names no pool, the route fills it in
 abbrev pub volume_source : Target → List ℕ → List ℕ → Target
 volume_source of from pool = record of { name = from; pool = pool }
 
--- the snapshot of an instance
 abbrev pub snapshot_missing : State → List ℕ → List ℕ → List ℕ → Option Refusal
 snapshot_missing s project instance snapshot =
     missing_unless (is_some (snapshot_named s.snapshots project instance snapshot)) kind.Snapshot snapshot
 
--- what a new object is copied from
 abbrev pub source_missing : State → List ℕ → Target → Origin → Option Refusal
 source_missing s project of origin.None = None
 source_missing s project of (origin.Image alias) = None
@@ -83,43 +64,36 @@ source_missing s project of (origin.Copy from snapshot pool) = missing of.kind w
 abbrev pub operation_missing : State → ℕ → Option Refusal
 operation_missing s number = missing_unless (is_some (kept_at s.operations number)) kind.Operation (decimal number)
 
--- the first object that a command needs and that is missing
+-- N2: the first object that a command needs and that is missing.
 unfoldable pub what_is_missing : State → List ℕ → What → Option Refusal
-what_is_missing s project what.Root = None
-what_is_missing s project what.Server = None
 what_is_missing s project (what.List of recursion) = parent_missing s project of
-what_is_missing s project (what.Get of) = object_missing s project of
-what_is_missing s project (what.State of) = object_missing s project of
-what_is_missing s project (what.Create of body) = first (parent_missing s project of ∷ source_missing s project of body.origin ∷ [])
-what_is_missing s project (what.Put of body) = object_missing s project of
-what_is_missing s project (what.Patch of body) = object_missing s project of
-what_is_missing s project (what.Move of to) = object_missing s project of
-what_is_missing s project (what.Delete of) = object_missing s project of
-what_is_missing s project (what.Act of action) = object_missing s project of
-what_is_missing s project (what.Restore of snapshot) = first (object_missing s project of ∷ snapshot_missing s project of.name snapshot ∷ [])
+what_is_missing s project (what.Create of body) =
+    first (parent_missing s project of ∷ source_missing s project of body.origin ∷ [])
+what_is_missing s project (what.Restore of snapshot) =
+    first (object_missing s project of ∷ snapshot_missing s project of.name snapshot ∷ [])
 what_is_missing s project (what.GetOp op) = operation_missing s op
 what_is_missing s project (what.Cancel op) = operation_missing s op
 what_is_missing s project (what.Wait op timeout) = operation_missing s op
+what_is_missing s project other = option_and_then (object_missing s project) (object_of other)
 
--- ---- N3 to N5: the new name is malformed, a row's, or a live claim's
-
--- N3 of this name
+-- N3: the new name is malformed.
 abbrev pub malformed : Target → Option Refusal
 malformed of = if good_name_of of.kind of.name then None else Some (on_object rule.N3 of.kind of.name)
 
--- N4 of this name
+-- N4: an object has the new name.
 abbrev pub taken : State → List ℕ → Target → Option Refusal
 taken s project of = if is_there s project of then Some (on_object rule.N4 of.kind of.name) else None
 
--- whether both are of one kind, and have one name in one pool or instance
 abbrev pub same_target : Target → Target → Bool
-same_target a b = kind_number a.kind == kind_number b.kind && bytes_eq a.pool b.pool && bytes_eq a.instance b.instance && bytes_eq a.name b.name
+same_target a b =
+    kind_number a.kind == kind_number b.kind && bytes_eq a.pool b.pool
+    && bytes_eq a.instance b.instance && bytes_eq a.name b.name
 
--- an operation claims the object of this home
 abbrev pub claims_object : List ℕ → Target → Task → Bool
-claims_object home of task = option_map_or (λ new. bytes_eq (project_of_row new) home && same_target (target_of new) of) task.claim false
+claims_object home of task =
+    option_map_or (λ new. bytes_eq (project_of_row new) home && same_target (target_of new) of) task.claim false
 
--- N5 of this name, with the operation that holds it
+-- N5: a live operation claims the new name.
 abbrev pub held : State → List ℕ → Target → Option Refusal
 held s project of =
     option_map (λ o. on_held rule.N5 of.kind of.name o.number)

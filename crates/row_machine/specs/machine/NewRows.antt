@@ -1,22 +1,10 @@
 -- The rows that commands make: of a creation, a PUT, a PATCH, a rename, a restore and a snapshot.
-use Rattle.std.specs.Prelude.{ℕ, false, List, [], ◌∷◌, is_none, if◌then◌else◌, codes, unwrap_or, fold}
-use Rattle.std.specs.Option.{option_map_or}
-use Rattle.row_machine.specs.Words.{Kind, Container, Settings, setting, settled, patched, put, NamedDevices, Target, Origin, Body}
-use Rattle.row_machine.specs.Words.driver
-use Rattle.row_machine.specs.Words.origin
-use Rattle.config_lists.specs.Entries.{replaced}
-use Rattle.records.specs.declared.rows.Project.{Project}
-use Rattle.records.specs.declared.rows.Profile.{Profile}
-use Rattle.records.specs.declared.rows.Network.{Network}
-use Rattle.records.specs.declared.rows.Pool.{Pool}
-use Rattle.records.specs.declared.rows.Volume.{Volume}
-use Rattle.records.specs.declared.rows.Instance.{Instance}
-use Rattle.records.specs.declared.rows.Snapshot.{Snapshot}
-use Rattle.row_machine.specs.machine.Rows.{default_name}
+use Rattle.std.specs.Prelude.{◌∷◌, if◌then◌else◌}
+use Rattle.row_machine.specs.Words.{ℕ, false, List, [], is_none, codes, unwrap_or, fold, option_map_or, Kind, Container, Settings, setting, settled, patched, put, NamedDevices, Target, Origin, Body, Driver as driver, Origin as origin, put_each, Project, Profile, Network, Pool, Volume, Instance, Snapshot}
+use Rattle.row_machine.specs.Estate.{default_name}
 
 -- ---- parts of a body; a creation and a PUT take an absent part as empty, a PATCH leaves it
 
--- the description, or none
 abbrev pub new_description : Body → List ℕ
 new_description body = unwrap_or body.description []
 
@@ -24,23 +12,17 @@ new_description body = unwrap_or body.description []
 abbrev pub new_config : Body → Settings
 new_config body = option_map_or settled body.config []
 
--- the devices, or none
 abbrev pub new_devices : Body → NamedDevices
 new_devices body = unwrap_or body.devices []
 
--- the description, or the old one
 abbrev pub patched_description : List ℕ → Body → List ℕ
 patched_description old body = unwrap_or body.description old
 
--- the old settings, with each change made
 abbrev pub patched_config : Settings → Body → Settings
 patched_config old body = option_map_or (patched old) body.config old
 
--- the named devices are replaced whole
 abbrev pub patched_devices : NamedDevices → Body → NamedDevices
-patched_devices old body = option_map_or (replaced old) body.devices old
-
--- ---- creations
+patched_devices old body = option_map_or (put_each old) body.devices old
 
 -- a feature that a new project does not name is on
 abbrev pub feature_on : Settings → List ℕ → Settings
@@ -49,31 +31,41 @@ feature_on config key = if is_none (setting config key) then put config key (cod
 -- all features but that of networks
 abbrev pub with_features : Settings → Settings
 with_features config =
-    fold feature_on config (codes "features.profiles" ∷ codes "features.storage.volumes" ∷ codes "features.images" ∷ codes "features.storage.buckets" ∷ [])
+    fold feature_on config
+    (codes "features.profiles"
+    ∷ codes "features.storage.volumes"
+    ∷ codes "features.images"
+    ∷ codes "features.storage.buckets"
+    ∷ [])
 
--- a project as it is created
 abbrev pub made_project : List ℕ → Body → Project
-made_project name body = record { name = name; description = new_description body; config = with_features (new_config body) }
+made_project name body =
+    record { name = name; description = new_description body; config = with_features (new_config body) }
 
--- a profile as it is created
 abbrev pub made_profile : List ℕ → List ℕ → Body → Profile
-made_profile project name body =
-    record { project = project; name = name; description = new_description body; config = new_config body; devices = new_devices body }
+made_profile project name body = record {
+  project = project;
+  name = name;
+  description = new_description body;
+  config = new_config body;
+  devices = new_devices body;
+}
 
--- the profile `default` of a project, without settings
 abbrev pub default_profile : List ℕ → Profile
 default_profile project = record { project = project; name = default_name; description = []; config = []; devices = [] }
 
--- a network as it is created
 abbrev pub made_network : List ℕ → List ℕ → Body → Network
-made_network project name body = record { project = project; name = name; description = new_description body; config = new_config body }
+made_network project name body =
+    record { project = project; name = name; description = new_description body; config = new_config body }
 
--- a pool as it is created
 abbrev pub made_pool : List ℕ → Body → Pool
-made_pool name body =
-    record { name = name; driver = unwrap_or body.driver driver.Dir; description = new_description body; config = new_config body }
+made_pool name body = record {
+  name = name;
+  driver = unwrap_or body.driver driver.Dir;
+  description = new_description body;
+  config = new_config body;
+}
 
--- a volume as it is created
 abbrev pub made_volume : List ℕ → Target → Body → ℕ → Volume
 made_volume project of body moment = record {
   project = project;
@@ -86,9 +78,9 @@ made_volume project of body moment = record {
 
 -- a copy has the settings of its source, patched
 abbrev pub copied_volume : List ℕ → Target → Body → ℕ → Volume → Volume
-copied_volume project of body moment source = record (made_volume project of body moment) { config = patched_config source.config body }
+copied_volume project of body moment source =
+    record (made_volume project of body moment) { config = patched_config source.config body }
 
--- the alias or fingerprint of an image
 abbrev pub image_of : Origin → List ℕ
 image_of (origin.Image alias) = alias
 image_of other = []
@@ -108,18 +100,15 @@ made_instance project name body moment = record {
   devices = new_devices body;
 }
 
--- what a copy takes from an instance or from its snapshot
 pub record Source : Type 0 where
   pub kind : Kind
   pub profiles : List (List ℕ)
   pub config : Settings
   pub devices : NamedDevices
 
--- a copy of an instance takes what it has itself
 abbrev pub source_instance : Instance → Source
 source_instance i = record { kind = i.kind; profiles = i.profiles; config = i.config; devices = i.devices }
 
--- a copy of a snapshot takes what that keeps
 abbrev pub source_snapshot : Instance → Snapshot → Source
 source_snapshot i r = record { kind = i.kind; profiles = r.profiles; config = r.config; devices = r.devices }
 
@@ -133,7 +122,6 @@ copied_instance project name body moment source = record (made_instance project 
   devices = patched_devices source.devices body;
 }
 
--- a snapshot keeps the profiles, settings and devices that its instance has
 abbrev pub made_snapshot : Instance → List ℕ → ℕ → Snapshot
 made_snapshot i name moment = record {
   project = i.project;
@@ -146,29 +134,24 @@ made_snapshot i name moment = record {
   devices = i.devices;
 }
 
--- ---- changes of rows that stand
+-- ---- PUT: what the body leaves out is empty
 
--- a project after a PUT
 abbrev pub put_project : Project → Body → Project
 put_project r body = record r { description = new_description body; config = new_config body }
 
--- a profile after a PUT
 abbrev pub put_profile : Profile → Body → Profile
-put_profile r body = record r { description = new_description body; config = new_config body; devices = new_devices body }
+put_profile r body =
+    record r { description = new_description body; config = new_config body; devices = new_devices body }
 
--- a network after a PUT
 abbrev pub put_network : Network → Body → Network
 put_network r body = record r { description = new_description body; config = new_config body }
 
--- a pool after a PUT
 abbrev pub put_pool : Pool → Body → Pool
 put_pool r body = record r { description = new_description body; config = new_config body }
 
--- a volume after a PUT
 abbrev pub put_volume : Volume → Body → Volume
 put_volume r body = record r { description = new_description body; config = new_config body }
 
--- an instance after a PUT
 abbrev pub put_instance : Instance → Body → Instance
 put_instance i body = record i {
   description = new_description body;
@@ -178,11 +161,12 @@ put_instance i body = record i {
   devices = new_devices body;
 }
 
--- a project after a PATCH
-abbrev pub patched_project : Project → Body → Project
-patched_project r body = record r { description = patched_description r.description body; config = patched_config r.config body }
+-- ---- PATCH: what the body leaves out stays
 
--- a profile after a PATCH
+abbrev pub patched_project : Project → Body → Project
+patched_project r body =
+    record r { description = patched_description r.description body; config = patched_config r.config body }
+
 abbrev pub patched_profile : Profile → Body → Profile
 patched_profile r body = record r {
   description = patched_description r.description body;
@@ -190,19 +174,18 @@ patched_profile r body = record r {
   devices = patched_devices r.devices body;
 }
 
--- a network after a PATCH
 abbrev pub patched_network : Network → Body → Network
-patched_network r body = record r { description = patched_description r.description body; config = patched_config r.config body }
+patched_network r body =
+    record r { description = patched_description r.description body; config = patched_config r.config body }
 
--- a pool after a PATCH
 abbrev pub patched_pool : Pool → Body → Pool
-patched_pool r body = record r { description = patched_description r.description body; config = patched_config r.config body }
+patched_pool r body =
+    record r { description = patched_description r.description body; config = patched_config r.config body }
 
--- a volume after a PATCH
 abbrev pub patched_volume : Volume → Body → Volume
-patched_volume r body = record r { description = patched_description r.description body; config = patched_config r.config body }
+patched_volume r body =
+    record r { description = patched_description r.description body; config = patched_config r.config body }
 
--- an instance after a PATCH
 abbrev pub patched_instance : Instance → Body → Instance
 patched_instance i body = record i {
   description = patched_description i.description body;
@@ -212,6 +195,5 @@ patched_instance i body = record i {
   devices = patched_devices i.devices body;
 }
 
--- settings, devices and profiles are the snapshot's
 abbrev pub restored_instance : Instance → Snapshot → Instance
 restored_instance i r = record i { profiles = r.profiles; config = r.config; devices = r.devices }

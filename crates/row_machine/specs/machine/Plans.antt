@@ -1,50 +1,24 @@
 -- What each command makes of the state: nothing, changes of rows at once, or a background operation.
-use Rattle.std.specs.Prelude.{ℕ, ◌==◌, Bool, true, false, List, [], ◌∷◌, ◌++◌, map, length, Option, Some, None, if◌then◌else◌, codes, option_map}
-use Rattle.std.specs.Option.{option_map_or, option_to_list}
-use Rattle.row_machine.specs.Words.{Action, Deed, ObjectKind, Place, HostCall, Row, Target, Origin, Body, Command, What}
-use Rattle.row_machine.specs.Words.deed
-use Rattle.row_machine.specs.Words.kind
-use Rattle.row_machine.specs.Words.row
-use Rattle.row_machine.specs.Words.origin
-use Rattle.row_machine.specs.Words.what
-use Rattle.host_model.specs.declared.call.HostCall.TheVariants as call
-use Rattle.records.specs.declared.rows.Project.{Project}
-use Rattle.records.specs.declared.rows.Profile.{Profile}
-use Rattle.records.specs.declared.rows.Volume.{Volume}
-use Rattle.records.specs.declared.rows.Instance.{Instance}
-use Rattle.records.specs.declared.rows.Snapshot.{Snapshot}
-use Rattle.row_machine.specs.declared.changes.RowChange.{RowChange}
-use Rattle.row_machine.specs.declared.changes.RowChange.TheVariants as change
-use Rattle.row_machine.specs.machine.Task.{Task}
-use Rattle.row_machine.specs.machine.State.{State}
-use Rattle.row_machine.specs.machine.Rows.{default_name, project_named, profile_named, network_named, pool_named, volume_named, instance_named, snapshot_named}
-use Rattle.row_machine.specs.machine.Homes.{home_of, is_on}
-use Rattle.row_machine.specs.machine.Expansions.{expanded_of}
-use Rattle.row_machine.specs.machine.Changes.{removal, rows_put}
-use Rattle.row_machine.specs.machine.Asked.{with_name}
+use Rattle.std.specs.Prelude.{◌==◌, ◌∷◌, ◌++◌, if◌then◌else◌}
+use Rattle.row_machine.specs.Words.{ℕ, Bool, true, false, List, [], map, length, Option, Some, None, codes, option_map, option_map_or, option_to_list, ObjectKind, Row, Target, Origin, Body, Command, What, ObjectKind as kind, Row as row, Origin as origin, What as what, Project, Profile, Instance, Snapshot, RowChange, RowChange as change}
+use Rattle.row_machine.specs.Estate.{Task, State, default_name, project_named, profile_named, network_named, pool_named, volume_named, instance_named, snapshot_named, home_of, is_on}
+use Rattle.row_machine.specs.Readings.{removal, rows_put, with_name}
 use Rattle.row_machine.specs.machine.NameRules.{volume_source}
-use Rattle.row_machine.specs.machine.HostCalls.{place_of, volume_place, spec_of, create_calls, copy_calls, act_calls}
 use Rattle.row_machine.specs.machine.Tasks.{creation, copy, volume_copy, snapshot_creation, update, restoring, renaming, deletion, snapshot_deletion, acting}
 use Rattle.row_machine.specs.machine.NewRows as new
 
--- what a command makes of the state
 pub data Plan : Type 0 where
   nothing : Plan
   changes : List RowChange → Plan
   starts : Task → Plan
 
--- the plan for an object that is there
 abbrev pub if_there : {X : Type 0} → (X → Plan) → Option X → Plan
 if_there plan None = nothing
 if_there plan (Some x) = plan x
 
--- ---- changes of rows at once
-
--- all these rows are put
 abbrev pub put_all : List Row → List RowChange
 put_all rows = map change.Put rows
 
--- a row under another name
 abbrev pub moved_row : Row → Row → List RowChange
 moved_row old new = removal old ∷ change.Put new ∷ []
 
@@ -55,39 +29,35 @@ project_creation r =
     then put_all (row.Project r ∷ row.Profile (new.default_profile r.name) ∷ [])
     else put_all (row.Project r ∷ [])
 
--- A changed project. Where its profiles are turned off its profile `default` goes, where they are turned on there is one.
+-- where its profiles are turned off its profile `default` goes, where they are turned on there is one
 abbrev pub project_change : Project → Project → List RowChange
-project_change old r = change.Put (row.Project r) ∷ by_profiles (is_on old.config (codes "features.profiles")) (is_on r.config (codes "features.profiles")) where
-  by_profiles : Bool → Bool → List RowChange
-  by_profiles true false = removal (row.Profile (new.default_profile r.name)) ∷ []
-  by_profiles false true = change.Put (row.Profile (new.default_profile r.name)) ∷ []
-  by_profiles was is_so = []
+project_change old r =
+    change.Put (row.Project r) ∷ by_profiles (has_profiles old) (has_profiles r) where
+      has_profiles : Project → Bool
+      has_profiles x = is_on x.config (codes "features.profiles")
 
--- the profile `default` of a project's own
+      by_profiles : Bool → Bool → List RowChange
+      by_profiles true false = removal (row.Profile (new.default_profile r.name)) ∷ []
+      by_profiles false true = change.Put (row.Profile (new.default_profile r.name)) ∷ []
+      by_profiles was is_so = []
+
 abbrev pub own_profile : State → Project → Option Profile
 own_profile s r = profile_named s.profiles r.name default_name
 
--- a project under another name, and its profile `default` with it
 abbrev pub project_rename : State → List ℕ → Project → List RowChange
 project_rename s to r =
     moved_row (row.Project r) (row.Project (record r { name = to }))
     ++ option_map_or (λ p. moved_row (row.Profile p) (row.Profile (record p { project = to }))) (own_profile s r) []
 
--- a project without what belongs to it: its profile `default`
 abbrev pub project_deletion : State → Project → List RowChange
 project_deletion s r = map removal (row.Project r ∷ map row.Profile (option_to_list (own_profile s r)))
 
--- ---- by command
-
--- an instance, by its name
 abbrev pub instance_target : List ℕ → Target
 instance_target name = record { kind = kind.Instance; pool = []; instance = []; name = name }
 
--- a snapshot, by its instance and its name
 abbrev pub snapshot_target : List ℕ → List ℕ → Target
 snapshot_target instance name = record { kind = kind.Snapshot; pool = []; instance = instance; name = name }
 
--- a copy from an instance, or from its snapshot where one is named
 abbrev pub copy_from : State → List ℕ → Target → Body → ℕ → List ℕ → List ℕ → Plan
 copy_from s project of body moment from snapshot = if_there by_instance (instance_named s.instances project from) where
   by_snapshot : Instance → Snapshot → Plan
@@ -100,20 +70,19 @@ copy_from s project of body moment from snapshot = if_there by_instance (instanc
 
 -- a new instance: a copy, or from nothing or an image
 abbrev pub instance_creation : State → List ℕ → Target → Body → ℕ → Origin → Plan
-instance_creation s project of body moment (origin.Copy from snapshot pool) = copy_from s project of body moment from snapshot
+instance_creation s project of body moment (origin.Copy from snapshot pool) =
+    copy_from s project of body moment from snapshot
 instance_creation s project of body moment other = starts (creation project of body moment)
-
--- a copy from a volume of the same home
-abbrev pub volume_copy_from : State → List ℕ → Target → Body → ℕ → Target → Plan
-volume_copy_from s home of body moment from =
-    if_there (λ v. starts (volume_copy home of body moment from v)) (volume_named s.volumes home from.pool from.name)
 
 -- a new volume: a copy in the background, or at once
 abbrev pub volume_creation : State → List ℕ → Target → Body → ℕ → Origin → Plan
-volume_creation s home of body moment (origin.Copy from snapshot pool) = volume_copy_from s home of body moment (volume_source of from pool)
+volume_creation s home of body moment (origin.Copy from snapshot pool) =
+    if_there (λ v. starts (volume_copy home of body moment source v))
+    (volume_named s.volumes home source.pool source.name) where
+      source : Target
+      source = volume_source of from pool
 volume_creation s home of body moment other = changes (put_all (row.Volume (new.made_volume home of body moment) ∷ []))
 
--- a creation, by the kind of the object
 abbrev pub plan_create : State → List ℕ → Target → Body → ℕ → Plan
 plan_create s project of body moment = plan of.kind where
   home : ObjectKind → List ℕ
@@ -126,7 +95,9 @@ plan_create s project of body moment = plan of.kind where
   plan kind.Pool = changes (put_all (row.Pool (new.made_pool of.name body) ∷ []))
   plan kind.Volume = volume_creation s (home kind.Volume) of body moment body.origin
   plan kind.Instance = instance_creation s project of body moment body.origin
-  plan kind.Snapshot = if_there (λ i. starts (snapshot_creation project (with_name s project of) moment i)) (instance_named s.instances project of.instance)
+  plan kind.Snapshot =
+      if_there (λ i. starts (snapshot_creation project (with_name s project of) moment i))
+      (instance_named s.instances project of.instance)
   plan kind.Operation = nothing
 
 -- the row that the object of a path is, in its home
@@ -134,10 +105,13 @@ abbrev pub row_of : State → List ℕ → Target → Option Row
 row_of s project of = found of.kind where
   found : ObjectKind → Option Row
   found kind.Project = option_map row.Project (project_named s.projects of.name)
-  found kind.Profile = option_map row.Profile (profile_named s.profiles (home_of s.projects project kind.Profile) of.name)
-  found kind.Network = option_map row.Network (network_named s.networks (home_of s.projects project kind.Network) of.name)
+  found kind.Profile =
+      option_map row.Profile (profile_named s.profiles (home_of s.projects project kind.Profile) of.name)
+  found kind.Network =
+      option_map row.Network (network_named s.networks (home_of s.projects project kind.Network) of.name)
   found kind.Pool = option_map row.Pool (pool_named s.pools of.name)
-  found kind.Volume = option_map row.Volume (volume_named s.volumes (home_of s.projects project kind.Volume) of.pool of.name)
+  found kind.Volume =
+      option_map row.Volume (volume_named s.volumes (home_of s.projects project kind.Volume) of.pool of.name)
   found kind.Instance = option_map row.Instance (instance_named s.instances project of.name)
   found kind.Snapshot = option_map row.Snapshot (snapshot_named s.snapshots project of.instance of.name)
   found kind.Operation = None
@@ -179,9 +153,9 @@ plan_delete s project of (row.Instance i) = starts (deletion project of)
 plan_delete s project of (row.Snapshot r) = starts (snapshot_deletion project of)
 plan_delete s project of other = changes (removal other ∷ [])
 
--- an instance is taken back to the named snapshot
 abbrev pub plan_restore : State → List ℕ → Target → List ℕ → Instance → Plan
-plan_restore s project of snapshot i = if_there (λ r. starts (restoring project of i r)) (snapshot_named s.snapshots project of.name snapshot)
+plan_restore s project of snapshot i =
+    if_there (λ r. starts (restoring project of i r)) (snapshot_named s.snapshots project of.name snapshot)
 
 -- What a command makes of the state, where no rule is broken. Reads, cancels and waits change no row and begin nothing.
 unfoldable pub plan_of : State → Command → ℕ → Plan
@@ -192,8 +166,10 @@ plan_of s c moment = plan c.what where
   plan (what.Patch of body) = if_there (plan_patch body) (row_of s c.project of)
   plan (what.Move of to) = if_there (plan_move s c.project of to) (row_of s c.project of)
   plan (what.Delete of) = if_there (plan_delete s c.project of) (row_of s c.project of)
-  plan (what.Act of action) = if_there (λ i. starts (acting s c.project of action i)) (instance_named s.instances c.project of.name)
-  plan (what.Restore of snapshot) = if_there (plan_restore s c.project of snapshot) (instance_named s.instances c.project of.name)
+  plan (what.Act of action) =
+      if_there (λ i. starts (acting s c.project of action i)) (instance_named s.instances c.project of.name)
+  plan (what.Restore of snapshot) =
+      if_there (plan_restore s c.project of snapshot) (instance_named s.instances c.project of.name)
   plan other = nothing
 
 -- the rows that a plan puts, now or at its success

@@ -1,26 +1,11 @@
 -- Rules on policy: F1 to F8. What a restricted project forbids of its profiles, its instances, and those that live
 -- operations would put.
-use Rattle.std.specs.Prelude.{ℕ, ◌==◌, nat_lt, List, [], ◌∷◌, filter, find, length, Option, Some, None, if◌then◌else◌, option_and_then}
-use Rattle.std.specs.Map.{keys_of}
-use Rattle.std.specs.Option.{option_map_or}
-use Rattle.std.specs.Str.{bytes_eq}
-use Rattle.row_machine.specs.Words.{first, first_of, Kind, ObjectKind, Settings, NamedDevices, Expanded, Forbidden, Subject, policy_of, demands, setting_lines, first_forbidden, snapshots_forbidden, Rule, Refusal, Command, What}
-use Rattle.row_machine.specs.Words.kind
-use Rattle.row_machine.specs.Words.rule
-use Rattle.row_machine.specs.Words.what
-use Rattle.size_values.specs.declared.kinds.Kind.TheVariants as kind_of
-use Rattle.restrictions.specs.declared.rows.Subject.TheVariants as subject
-use Rattle.records.specs.declared.rows.Project.{Project}
-use Rattle.records.specs.declared.rows.Profile.{Profile}
-use Rattle.records.specs.declared.rows.Instance.{Instance}
-use Rattle.row_machine.specs.machine.State.{State}
-use Rattle.row_machine.specs.machine.Rows.{project_named}
-use Rattle.row_machine.specs.machine.Expansions.{expanded_of}
-use Rattle.row_machine.specs.machine.Claims.{judged_instances}
-use Rattle.row_machine.specs.machine.Refusals.{on_project, on_key_of}
+use Rattle.std.specs.Prelude.{◌==◌, ◌∷◌, if◌then◌else◌}
+use Rattle.row_machine.specs.Words.{ℕ, nat_lt, List, [], filter, find, length, Option, Some, None, option_and_then, keys_of, option_map_or, bytes_eq, first, first_of, Kind, Settings, NamedDevices, Expanded, Forbidden, Subject, policy_of, demands, setting_lines, first_forbidden, snapshots_forbidden, Rule, Refusal, Command, What, ObjectKind as kind, Rule as rule, What as what, Kind as kind_of, Subject as subject, Project, Profile, Instance}
+use Rattle.row_machine.specs.Estate.{State, project_named, expanded_of, on_project, on_key_of, is_of_kind}
+use Rattle.row_machine.specs.Readings.{judged_instances}
 use Rattle.row_machine.specs.machine.SettingRules.{text_at}
 
--- the rule of this number, from F1 on
 abbrev pub policy_rule : ℕ → Rule
 policy_rule n =
     if n == 1 then rule.F1
@@ -31,7 +16,6 @@ policy_rule n =
     else (if n == 6 then rule.F6
     else rule.F7)))))
 
--- whom the lines of a policy judge in an instance of this kind
 abbrev pub subject_of : Kind → Subject
 subject_of kind_of.Container = subject.Container
 subject_of kind_of.Machine = subject.Machine
@@ -51,14 +35,13 @@ forbidden_key config devices f =
 abbrev pub forbids : Project → ℕ → Subject → List ℕ → Settings → NamedDevices → Option Refusal
 forbids p number judged name config devices =
     option_and_then
-    (λ f. if f.rule == number then Some (on_key_of (policy_rule number) (forbidden_key config devices f) name p.name) else None)
+    (λ f. if f.rule == number then Some (on_key_of (policy_rule number) (forbidden_key config devices f) name p.name)
+    else None)
     (first_forbidden (policy_of p.config) judged config devices)
 
--- a profile is judged by its own settings
 unfoldable pub forbids_profile : Project → ℕ → Profile → Option Refusal
 forbids_profile p number r = forbids p number subject.Profile r.name r.config r.devices
 
--- an instance is judged by what it has
 unfoldable pub forbids_instance : State → Project → ℕ → Instance → Option Refusal
 forbids_instance s p number i = forbids p number (subject_of i.kind) i.name expanded.config expanded.devices where
   expanded : Expanded
@@ -71,20 +54,17 @@ project_forbids s number p = first
     ∷ first_of (forbids_instance s p number) (filter (λ i. bytes_eq i.project p.name) (judged_instances s))
     ∷ [])
 
--- the first rule that is broken, and the first project, profile or instance at which it is
+-- F1 to F7: the first rule that is broken, and the first project, profile or instance at which it is.
 unfoldable pub policy_broken : State → Option Refusal
 policy_broken s = first_of (λ number. first_of (project_forbids s number) s.projects) (1 ∷ 2 ∷ 3 ∷ 4 ∷ 5 ∷ 6 ∷ 7 ∷ [])
 
--- F8: a snapshot is made where the policy of the project blocks it
+-- F8: a snapshot is made where the policy of the project blocks it.
 unfoldable pub snapshot_blocked : State → Command → Option Refusal
 snapshot_blocked s c = blocked c.what where
-  in_project : Option Refusal
-  in_project = option_and_then (λ p. if snapshots_forbidden (policy_of p.config) then Some (on_project rule.F8 p.name) else None) (project_named s.projects c.project)
-
-  of_kind : ObjectKind → Option Refusal
-  of_kind kind.Snapshot = in_project
-  of_kind other = None
+  by : Project → Option Refusal
+  by p = if snapshots_forbidden (policy_of p.config) then Some (on_project rule.F8 p.name) else None
 
   blocked : What → Option Refusal
-  blocked (what.Create of body) = of_kind of.kind
+  blocked (what.Create of body) =
+      if is_of_kind kind.Snapshot of then option_and_then by (project_named s.projects c.project) else None
   blocked other = None

@@ -1,37 +1,30 @@
 -- Refusals: a rule with what it tells.
-use Rattle.std.specs.Prelude.{ℕ, List, []}
-use Rattle.row_machine.specs.Words.{Rule, Refusal, ObjectKind}
-use Rattle.records.specs.declared.refusals.Kept.{Kept}
+use Rattle.row_machine.specs.Words.{ℕ, List, [], Rule, Refusal, ObjectKind, Kept}
 use Rattle.row_machine.specs.machine.Kinds.{kind_text}
 
 -- nothing is told
 abbrev pub untold : Kept
 untold = record { kind = []; project = []; name = []; key = []; number = 0; used = 0; asked = 0; limit = 0 }
 
--- the rule alone
 abbrev pub plainly : Rule → Refusal
 plainly rule = record { rule = rule; kept = untold }
 
--- the rule and a name
 abbrev pub on_name : Rule → List ℕ → Refusal
 on_name rule name = record { rule = rule; kept = record untold { name = name } }
 
--- the rule and a number
 abbrev pub on_number : Rule → ℕ → Refusal
 on_number rule number = record { rule = rule; kept = record untold { number = number } }
 
--- the rule, and an object by its kind and name
 abbrev pub on_object : Rule → ObjectKind → List ℕ → Refusal
 on_object rule kind name = record { rule = rule; kept = record untold { kind = kind_text kind; name = name } }
 
--- the rule, and an object and an operation that holds it
 abbrev pub on_held : Rule → ObjectKind → List ℕ → ℕ → Refusal
-on_held rule kind name number = record { rule = rule; kept = record untold { kind = kind_text kind; name = name; number = number } }
+on_held rule kind name number =
+    record { rule = rule; kept = record untold { kind = kind_text kind; name = name; number = number } }
 
--- the rule, and a project
 abbrev pub on_project : Rule → List ℕ → Refusal
 on_project rule project = record { rule = rule; kept = record untold { project = project } }
 
--- the rule, and a key of an object of a project
 abbrev pub on_key_of : Rule → List ℕ → List ℕ → List ℕ → Refusal
-on_key_of rule key name project = record { rule = rule; kept = record untold { key = key; name = name; project = project } }
+on_key_of rule key name project =
+    record { rule = rule; kept = record untold { key = key; name = name; project = project } }

@@ -1,11 +1,9 @@
 -- The first rule that a command breaks: all rules, in the order in which they are judged.
-use Rattle.std.specs.Prelude.{ℕ, List, [], ◌∷◌, Option, None, option_and_then}
-use Rattle.row_machine.specs.Words.{first, Refusal, Row, Command}
-use Rattle.row_machine.specs.machine.State.{State}
-use Rattle.row_machine.specs.machine.Changes.{applied}
-use Rattle.row_machine.specs.machine.Asked.{named_anew}
-use Rattle.row_machine.specs.machine.Plans.{Plan, nothing, changes, starts, plan_of, rows_of_plan}
-use Rattle.row_machine.specs.machine.Work.{claiming}
+use Rattle.std.specs.Prelude.{◌∷◌}
+use Rattle.row_machine.specs.Words.{ℕ, List, [], Option, None, option_and_then, first, Refusal, Row, Command}
+use Rattle.row_machine.specs.Estate.{State}
+use Rattle.row_machine.specs.Readings.{applied, named_anew}
+use Rattle.row_machine.specs.Doings.{Plan, nothing, changes, starts, plan_of, rows_of_plan, claiming}
 use Rattle.row_machine.specs.machine.NameRules.{project_missing, what_is_missing, name_broken}
 use Rattle.row_machine.specs.machine.StandingRules.{instance_busy, wrong_state, object_protected, object_used, project_occupied, profile_held}
 use Rattle.row_machine.specs.machine.SettingRules.{settings_broken}
@@ -13,7 +11,8 @@ use Rattle.row_machine.specs.machine.PolicyRules.{policy_broken, snapshot_blocke
 use Rattle.row_machine.specs.machine.LimitRules.{counts_broken, limits_broken}
 use Rattle.row_machine.specs.machine.TableRules.{cancel_broken, entry_broken, tables_broken}
 
--- Rules on names: the project is missing (N1), another object is (N2), or the new name is malformed, taken or held (N3 to N5).
+-- Rules on names: the project is missing (N1), another object is (N2), or the new name is malformed, taken or held
+-- (N3 to N5).
 unfoldable pub names_broken : State → Command → Option Refusal
 names_broken s c = first
     (project_missing s c
@@ -21,8 +20,8 @@ names_broken s c = first
     ∷ option_and_then (name_broken s c.project) (named_anew s c.project c.what)
     ∷ [])
 
--- Rules on what stands in the way: the instance is busy (B1) or in the wrong state (B2), the object is protected (B3) or in
--- use (B4), the project is not empty (B5), or an operation holds the profile (B6).
+-- Rules on what stands in the way: the instance is busy (B1) or in the wrong state (B2), the object is protected (B3)
+-- or in use (B4), the project is not empty (B5), or an operation holds the profile (B6).
 unfoldable pub standing_broken : State → Command → Option Refusal
 standing_broken s c = first
     (instance_busy s c
@@ -39,8 +38,8 @@ after s nothing moment = s
 after s (changes cs) moment = applied s cs
 after s (starts task) moment = claiming s task moment
 
--- Settings (V1 to V5), policy (F1 to F7, and F8 of a new snapshot) and limits (L0, then L1 to L8) are judged over the state
--- after the change, by one definition for all commands.
+-- Settings (V1 to V5), policy (F1 to F7, and F8 of a new snapshot) and limits (L0, then L1 to L8) are judged over the
+-- state after the change, by one definition for all commands.
 abbrev pub after_broken : State → Command → State → List Row → Option Refusal
 after_broken s c later rows = first
     (settings_broken later rows
@@ -56,7 +55,7 @@ number_broken s nothing = None
 number_broken s (changes cs) = None
 number_broken s (starts task) = entry_broken s
 
--- What a plan breaks: of a cancel O1 to O3; of a change the rules on the state after it, on numbers, and on tables (C1, C2).
+-- What a plan breaks: of a cancel O1 to O3; of a change the rules on the state after it, on numbers, and on tables.
 abbrev pub plan_broken : State → Command → Plan → ℕ → Option Refusal
 plan_broken s c nothing moment = cancel_broken s c.what
 plan_broken s c plan moment = first

@@ -1,12 +1,7 @@
 -- Runs: steps one after the other, with their answers and the operations that ended.
-use Rattle.std.specs.Prelude.{ℕ, List, [], ◌∷◌, ◌++◌, Option, Some, None, find, is_none, if◌then◌else◌, option_map, option_and_then}
-use Rattle.std.specs.List.{filter_map}
-use Rattle.row_machine.specs.Words.{Status, has_number, live_at}
-use Rattle.operations.specs.declared.operation.Operation.{Operation}
-use Rattle.row_machine.specs.declared.events.Event.{Event}
-use Rattle.row_machine.specs.declared.events.Answer.{Answer}
-use Rattle.row_machine.specs.machine.Task.{Task}
-use Rattle.row_machine.specs.machine.State.{State}
+use Rattle.std.specs.Prelude.{◌∷◌, ◌++◌, if◌then◌else◌}
+use Rattle.row_machine.specs.Words.{ℕ, List, [], Option, Some, None, find, is_none, option_map, option_and_then, filter_map, Status, has_number, live_at, Operation, Event, Answer}
+use Rattle.row_machine.specs.Estate.{Task, State}
 use Rattle.row_machine.specs.machine.Accept.{After}
 use Rattle.row_machine.specs.machine.Step.{Outcome, step}
 
@@ -17,17 +12,14 @@ end_of later o =
     then option_map (λ e. (e.number, e.status)) (find (has_number o.number) later.operations.ended)
     else None
 
--- the operations that are live in one state and have ended in the next
 abbrev pub ends_between : State → State → List (ℕ × Status)
 ends_between s later = filter_map (end_of later) s.operations.live
 
--- what a run gives: the answers, the ends, and the last state
 pub record Ran : Type 0 where
   pub answers : List Answer
   pub ends : List (ℕ × Status)
   pub state : State
 
--- a run that begins with this step
 abbrev pub behind : State → After → Ran → Ran
 behind s first rest = record {
   answers = first.answer ∷ rest.answers;

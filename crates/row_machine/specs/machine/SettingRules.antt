@@ -1,37 +1,16 @@
 -- Rules on settings: V1 to V5, of the rows that a command would put.
-use Rattle.std.specs.Prelude.{ℕ, Bool, true, false, List, [], ◌∷◌, filter, find, Option, Some, None, is_none, if◌then◌else◌, codes, option_and_then, slice_get, unwrap_or, option_map}
-use Rattle.std.specs.Map.{keys_of, values_of}
-use Rattle.std.specs.Option.{option_or}
-use Rattle.row_machine.specs.Words.{first, first_of, fault_number, Kind, Container, Machine, Settings, setting, has_setting, NamedDevices, root_of, Root, Scope, SettingFault, DeviceFault, instance_fault, project_fault, network_fault, pool_fault, volume_fault, devices_fault, Refusal, Row}
-use Rattle.row_machine.specs.Words.kind
-use Rattle.row_machine.specs.Words.scope
-use Rattle.row_machine.specs.Words.rule
-use Rattle.row_machine.specs.Words.row
-use Rattle.config_lists.specs.declared.root.Root.TheVariants as root
-use Rattle.option_tables.specs.declared.faults.SettingFault.TheVariants as fault
-use Rattle.option_tables.specs.declared.faults.DeviceFault.TheVariants as device
-use Rattle.records.specs.declared.rows.Project.{Project}
-use Rattle.records.specs.declared.rows.Profile.{Profile}
-use Rattle.records.specs.declared.rows.Instance.{Instance}
-use Rattle.row_machine.specs.machine.State.{State}
-use Rattle.row_machine.specs.machine.Rows.{default_name, profile_named, network_named, pool_named, volume_named}
-use Rattle.row_machine.specs.machine.Homes.{home_of}
-use Rattle.row_machine.specs.machine.Expansions.{expanded_of}
-use Rattle.row_machine.specs.machine.Claims.{judged_instances}
-use Rattle.row_machine.specs.machine.Holders.{names_profile}
-use Rattle.row_machine.specs.machine.Refusals.{untold, on_name, on_object}
+use Rattle.std.specs.Prelude.{◌∷◌, if◌then◌else◌}
+use Rattle.row_machine.specs.Words.{ℕ, Bool, true, false, List, [], filter, find, Option, Some, None, is_none, codes, option_and_then, slice_get, unwrap_or, option_map, keys_of, values_of, option_or, first, first_of, fault_number, Kind, Container, Machine, Settings, setting, has_setting, NamedDevices, root_of, Root, Scope, SettingFault, DeviceFault, instance_fault, project_fault, network_fault, pool_fault, volume_fault, devices_fault, Refusal, Row, ObjectKind as kind, Scope as scope, Rule as rule, Row as row, Root as root, SettingFault as fault, DeviceFault as device, Project, Profile, Instance}
+use Rattle.row_machine.specs.Estate.{State, default_name, profile_named, network_named, pool_named, volume_named, home_of, expanded_of, untold, on_name, on_object}
+use Rattle.row_machine.specs.Readings.{judged_instances, names_profile}
 
--- the key, the name or the device at a place
 abbrev pub text_at : List (List ℕ) → ℕ → List ℕ
 text_at texts place = unwrap_or (slice_get texts place) []
 
--- the device at a place
 abbrev pub device_at : NamedDevices → ℕ → Settings
 device_at devices place = unwrap_or (slice_get (values_of devices) place) []
 
--- ---- V1 to V3: a key, a value or a device that the tables refuse
-
--- the numbers by which V3 tells a device's fault
+-- how V3 tells what is wrong with a device
 abbrev pub device_fault_number : DeviceFault → ℕ
 device_fault_number device.BadName = 1
 device_fault_number device.NoType = 2
@@ -41,15 +20,15 @@ device_fault_number (device.BadValue place why) = 5
 device_fault_number device.NicSource = 6
 device_fault_number device.DiskShape = 7
 
--- the key of a device at which the fault is
 abbrev pub faulty_key : Settings → DeviceFault → List ℕ
 faulty_key settings (device.UnknownKey place) = text_at (keys_of settings) place
 faulty_key settings (device.BadValue place why) = text_at (keys_of settings) place
 faulty_key settings other = []
 
--- how a fault of the tables is told
+-- V1: no such key. V2: no such value of the key. V3: a device that the tables refuse.
 abbrev pub setting_refusal : Settings → NamedDevices → SettingFault → Refusal
-setting_refusal config devices (fault.Unknown place) = record { rule = rule.V1; kept = record untold { key = text_at (keys_of config) place } }
+setting_refusal config devices (fault.Unknown place) =
+    record { rule = rule.V1; kept = record untold { key = text_at (keys_of config) place } }
 setting_refusal config devices (fault.Bad place why) =
     record { rule = rule.V2; kept = record untold { key = text_at (keys_of config) place; number = fault_number why } }
 setting_refusal config devices (fault.Device place why) = record {
@@ -61,67 +40,64 @@ setting_refusal config devices (fault.Device place why) = record {
   };
 }
 
--- settings and devices against the tables
 abbrev pub tables_break : Settings → Option SettingFault → NamedDevices → Option Refusal
-tables_break config settings devices = option_map (setting_refusal config devices) (option_or settings (devices_fault devices))
+tables_break config settings devices =
+    option_map (setting_refusal config devices) (option_or settings (devices_fault devices))
 
--- which options the tables take for an instance of this kind
 abbrev pub scope_of : Kind → Scope
 scope_of Container = scope.Container
 scope_of Machine = scope.Machine
 
--- ---- V4: not exactly one root disk
-
--- whether there is exactly one root disk
 abbrev pub is_one : Root → Bool
 is_one root.None = false
 is_one (root.One place) = true
 is_one root.Several = false
 
--- V4 of an instance
+-- V4: not exactly one root disk.
 unfoldable pub root_missing : State → Instance → Option Refusal
 root_missing s i =
     if is_one (root_of (expanded_of s.projects s.profiles i).devices) then None else Some (on_name rule.V4 i.name)
 
--- ---- V5: a profile, or a network, pool or volume of a device, is missing
-
--- V5 of the first profile of an instance that is missing
+-- V5: the first profile of an instance that is missing; or a network, pool or volume that a device names.
 unfoldable pub profile_missing : State → Instance → Option Refusal
 profile_missing s i =
     option_map (λ name. on_object rule.V5 kind.Profile name)
     (find (λ name. is_none (profile_named s.profiles (home_of s.projects i.project kind.Profile) name)) i.profiles)
 
--- V5 of a network
 abbrev pub network_missing : State → List ℕ → List ℕ → Option Refusal
 network_missing s project name =
-    if is_none (network_named s.networks (home_of s.projects project kind.Network) name) then Some (on_object rule.V5 kind.Network name) else None
+    if is_none (network_named s.networks (home_of s.projects project kind.Network) name)
+    then Some (on_object rule.V5 kind.Network name)
+    else None
 
--- V5 of a pool
 abbrev pub pool_missing : State → List ℕ → Option Refusal
 pool_missing s name = if is_none (pool_named s.pools name) then Some (on_object rule.V5 kind.Pool name) else None
 
--- V5 of a volume
 abbrev pub volume_missing : State → List ℕ → List ℕ → List ℕ → Option Refusal
 volume_missing s project pool name =
-    if is_none (volume_named s.volumes (home_of s.projects project kind.Volume) pool name) then Some (on_object rule.V5 kind.Volume name) else None
+    if is_none (volume_named s.volumes (home_of s.projects project kind.Volume) pool name)
+    then Some (on_object rule.V5 kind.Volume name)
+    else None
 
 -- a disk in a pool names the pool, and with a source the volume
 abbrev pub disk_misses : State → List ℕ → Settings → List ℕ → Option Refusal
 disk_misses s project settings pool =
-    first (pool_missing s pool ∷ option_and_then (volume_missing s project pool) (setting settings (codes "source")) ∷ [])
+    first
+    (pool_missing s pool
+    ∷ option_and_then (volume_missing s project pool) (setting settings (codes "source"))
+    ∷ [])
 
 -- what a device in a project names: a nic its network, a disk its pool and then its volume
 abbrev pub device_misses : State → List ℕ → Settings → Option Refusal
 device_misses s project settings =
-    if has_setting settings (codes "type") (codes "nic") then option_and_then (network_missing s project) (setting settings (codes "network"))
-    else if has_setting settings (codes "type") (codes "disk") then option_and_then (disk_misses s project settings) (setting settings (codes "pool"))
+    if has_setting settings (codes "type") (codes "nic")
+    then option_and_then (network_missing s project) (setting settings (codes "network"))
+    else if has_setting settings (codes "type") (codes "disk")
+    then option_and_then (disk_misses s project settings) (setting settings (codes "pool"))
     else None
 
--- the first thing that devices in a project name and that is missing
 unfoldable pub devices_miss : State → List ℕ → NamedDevices → Option Refusal
 devices_miss s project devices = first_of (device_misses s project) (values_of devices)
-
--- ---- of a row
 
 -- an instance: its own settings and devices, and what its expansion names
 unfoldable pub instance_settings : State → Instance → Option Refusal
@@ -132,20 +108,19 @@ instance_settings s i = first
     ∷ devices_miss s i.project (expanded_of s.projects s.profiles i).devices
     ∷ [])
 
--- a profile by itself
 unfoldable pub profile_settings : State → Profile → Option Refusal
 profile_settings s r = first
     (tables_break r.config (instance_fault r.config scope.Any) r.devices
     ∷ devices_miss s r.project r.devices
     ∷ [])
 
--- the instances that are or would be there and name a profile
 abbrev pub naming : State → Profile → List Instance
 naming s r = filter (names_profile s r.project r.name) (judged_instances s)
 
 -- the profile `default` of a project, where it has one: the homes of its devices change with the project's features
 abbrev pub own_default : State → Project → Option Refusal
-own_default s r = option_and_then (λ p. devices_miss s p.project p.devices) (profile_named s.profiles r.name default_name)
+own_default s r =
+    option_and_then (λ p. devices_miss s p.project p.devices) (profile_named s.profiles r.name default_name)
 
 -- The first rule that a row of the state breaks: a profile by itself and then each instance that names it.
 unfoldable pub row_settings : State → Row → Option Refusal

@@ -1,81 +1,48 @@
 -- Rules on what stands in the way: B1 to B6.
-use Rattle.std.specs.Prelude.{ℕ, Bool, true, false, not, ◌&&◌, ◌||◌, List, [], ◌∷◌, Option, Some, None, if◌then◌else◌, codes, option_and_then, find, option_map}
-use Rattle.std.specs.List.{list_any}
-use Rattle.std.specs.Option.{option_map_or}
-use Rattle.std.specs.Result.{result_ok}
-use Rattle.std.specs.Str.{bytes_eq}
-use Rattle.row_machine.specs.Words.{first, truth_of, Power, Stopped, Frozen, Error, Deed, ObjectKind, Settings, setting, is_allowed, Refusal, Target, Command, What}
-use Rattle.row_machine.specs.Words.deed
-use Rattle.row_machine.specs.Words.kind
-use Rattle.row_machine.specs.Words.rule
-use Rattle.row_machine.specs.Words.what
-use Rattle.size_values.specs.declared.kinds.Power.TheVariants.{Running}
-use Rattle.records.specs.declared.rows.Project.{Project}
-use Rattle.row_machine.specs.machine.State.{State}
-use Rattle.row_machine.specs.machine.Rows.{default_name, project_named, instance_named, is_standing}
-use Rattle.row_machine.specs.machine.Homes.{home_of, is_on}
-use Rattle.row_machine.specs.machine.Expansions.{expanded_of}
-use Rattle.row_machine.specs.machine.Holders.{busy_with, holder_of, first_user_of}
-use Rattle.row_machine.specs.machine.Kinds.{kind_text}
+use Rattle.std.specs.Prelude.{◌&&◌, ◌||◌, ◌∷◌, if◌then◌else◌}
+use Rattle.row_machine.specs.Words.{ℕ, Bool, true, false, not, List, [], Option, Some, None, codes, option_and_then, find, option_map, list_any, option_map_or, result_ok, bytes_eq, truth_of, Power, Stopped, Frozen, Error, Deed, ObjectKind, Settings, setting, is_allowed, Refusal, Target, Command, What, Deed as deed, ObjectKind as kind, Rule as rule, What as what, Project}
+use Rattle.row_machine.specs.Estate.{State, default_name, project_named, instance_named, is_standing, home_of, is_on, expanded_of, kind_text, untold, on_name, on_object, is_of_kind}
+use Rattle.row_machine.specs.Readings.{power_line, busy_with, holder_of, first_user_of, instance_changed, is_parting}
 use Rattle.row_machine.specs.machine.NewRows.{put_project, patched_project}
-use Rattle.row_machine.specs.machine.Refusals.{untold, on_name, on_object}
-use Rattle.row_machine.specs.machine.Asked.{instance_changed, is_parting}
 
--- ---- B1: the instance that the command would change or copy from is busy
-
--- B1 of an instance
 abbrev pub busy : State → List ℕ → List ℕ → Option Refusal
 busy s project name =
-    option_map (λ o. record { rule = rule.B1; kept = record untold { name = name; number = o.number } }) (busy_with s project name)
+    option_map (λ o. record { rule = rule.B1; kept = record untold { name = name; number = o.number } })
+    (busy_with s project name)
 
--- the instance that a command would change or copy from is busy
+-- B1: the instance that a command would change or copy from is busy.
 unfoldable pub instance_busy : State → Command → Option Refusal
 instance_busy s c = option_and_then (busy s c.project) (instance_changed c.what)
 
--- ---- B2: the status of the instance does not allow the deed
-
--- how a status is written
 abbrev pub power_text : Power → List ℕ
-power_text Stopped = codes "Stopped"
-power_text Running = codes "Running"
-power_text Frozen = codes "Frozen"
-power_text Error = codes "Error"
+power_text power = (power_line power).text
 
--- the status of an instance
 abbrev pub power_of : State → List ℕ → List ℕ → Option Power
 power_of s project name = option_map (λ p. p.power) (find (is_standing project name) s.powers)
 
+abbrev pub on_instance : Deed → Target → Option (Deed × List ℕ)
+on_instance does of = if is_of_kind kind.Instance of then Some (does, of.name) else None
+
 -- what the command does to which instance, where the instance must have a status for it
 abbrev pub deed_asked : What → Option (Deed × List ℕ)
-deed_asked (what.Create of body) = on of.kind where
-  on : ObjectKind → Option (Deed × List ℕ)
-  on kind.Snapshot = Some (deed.Snap, of.instance)
-  on other = None
-deed_asked (what.Move of to) = on of.kind where
-  on : ObjectKind → Option (Deed × List ℕ)
-  on kind.Instance = Some (deed.Rename, of.name)
-  on other = None
-deed_asked (what.Delete of) = on of.kind where
-  on : ObjectKind → Option (Deed × List ℕ)
-  on kind.Instance = Some (deed.Delete, of.name)
-  on other = None
+deed_asked (what.Create of body) = if is_of_kind kind.Snapshot of then Some (deed.Snap, of.instance) else None
+deed_asked (what.Move of to) = on_instance deed.Rename of
+deed_asked (what.Delete of) = on_instance deed.Delete of
 deed_asked (what.Act of action) = Some (deed.Act action false, of.name)
 deed_asked (what.Restore of snapshot) = Some (deed.Restore, of.name)
 deed_asked other = None
 
--- B2, unless the status allows the deed
 abbrev pub in_wrong_state : Deed → List ℕ → Power → Option Refusal
 in_wrong_state does name power =
     if is_allowed does power then None
     else Some (record { rule = rule.B2; kept = record untold { key = power_text power; name = name } })
 
--- the status of the instance does not allow what a command asks for
+-- B2: the status of the instance does not allow what a command asks for.
 unfoldable pub wrong_state : State → Command → Option Refusal
-wrong_state s c = option_and_then (λ asked. option_and_then (in_wrong_state asked.0 asked.1) (power_of s c.project asked.1)) (deed_asked c.what)
+wrong_state s c =
+    option_and_then (λ asked. option_and_then (in_wrong_state asked.0 asked.1) (power_of s c.project asked.1))
+    (deed_asked c.what)
 
--- ---- features of a project
-
--- the features of a project
 abbrev pub feature_keys : List (List ℕ)
 feature_keys =
     codes "features.profiles"
@@ -90,37 +57,31 @@ abbrev pub feature_changes : Settings → Settings → List ℕ → Bool
 feature_changes old new key = changes (setting new key) where
   changes : Option (List ℕ) → Bool
   changes None = is_on old key
-  changes (Some text) = option_map_or (λ truth. if truth then not (is_on old key) else is_on old key) (result_ok (truth_of text)) false
+  changes (Some text) =
+      option_map_or (λ truth. if truth then not (is_on old key) else is_on old key) (result_ok (truth_of text)) false
 
--- whether some feature changes
 abbrev pub changes_features : Project → Project → Bool
 changes_features old new = list_any (feature_changes old.config new.config) feature_keys
 
--- whether a command changes the features of a project
+abbrev pub changes_of : State → (Project → Project) → Target → Bool
+changes_of s changed of =
+    is_of_kind kind.Project of
+    && option_map_or (λ r. changes_features r (changed r)) (project_named s.projects of.name) false
+
 abbrev pub asks_for_features : State → What → Bool
-asks_for_features s (what.Put of body) = asks of.kind where
-  asks : ObjectKind → Bool
-  asks kind.Project = option_map_or (λ r. changes_features r (put_project r body)) (project_named s.projects of.name) false
-  asks other = false
-asks_for_features s (what.Patch of body) = asks of.kind where
-  asks : ObjectKind → Bool
-  asks kind.Project = option_map_or (λ r. changes_features r (patched_project r body)) (project_named s.projects of.name) false
-  asks other = false
+asks_for_features s (what.Put of body) = changes_of s (λ r. put_project r body) of
+asks_for_features s (what.Patch of body) = changes_of s (λ r. patched_project r body) of
 asks_for_features s other = false
 
--- ---- B3: the object is protected
-
--- an instance whose expanded settings protect it
 abbrev pub protects_itself : State → List ℕ → List ℕ → Bool
 protects_itself s project name =
-    option_map_or (λ i. is_on (expanded_of s.projects s.profiles i).config (codes "security.protection.delete")) (instance_named s.instances project name) false
+    option_map_or (λ i. is_on (expanded_of s.projects s.profiles i).config (codes "security.protection.delete"))
+    (instance_named s.instances project name) false
 
--- whether a command deletes the object of its path
 abbrev pub is_deletion : What → Bool
 is_deletion (what.Delete of) = true
 is_deletion other = false
 
--- the object of the path is protected against the command
 abbrev pub is_protected : State → Command → Target → Bool
 is_protected s c of = protected of.kind where
   protected : ObjectKind → Bool
@@ -129,7 +90,6 @@ is_protected s c of = protected of.kind where
   protected kind.Instance = is_deletion c.what && protects_itself s c.project of.name
   protected other = false
 
--- the object that a command changes, renames or deletes
 abbrev pub object_changed : What → Option Target
 object_changed (what.Put of body) = Some of
 object_changed (what.Patch of body) = Some of
@@ -137,24 +97,22 @@ object_changed (what.Move of to) = Some of
 object_changed (what.Delete of) = Some of
 object_changed other = None
 
--- the object of a command is protected against it
+-- B3: the object of a command is protected against it.
 unfoldable pub object_protected : State → Command → Option Refusal
 object_protected s c =
-    option_and_then (λ of. if is_protected s c of then Some (on_object rule.B3 of.kind of.name) else None) (object_changed c.what)
+    option_and_then (λ of. if is_protected s c of then Some (on_object rule.B3 of.kind of.name) else None)
+    (object_changed c.what)
 
--- ---- B4: the object has a user
-
--- B4 of an object that has a user
 abbrev pub used_by_first : State → Command → Target → Option Refusal
 used_by_first s c of =
-    option_map (λ link. record { rule = rule.B4; kept = record untold { key = link; kind = kind_text of.kind; name = of.name } })
-    (first_user_of s (home_of s.projects c.project of.kind) of)
+    option_map used_by (first_user_of s (home_of s.projects c.project of.kind) of) where
+      used_by : List ℕ → Refusal
+      used_by link =
+          record { rule = rule.B4; kept = record untold { key = link; kind = kind_text of.kind; name = of.name } }
 
--- the object that a command renames or deletes has a user
+-- B4: the object that a command renames or deletes has a user.
 unfoldable pub object_used : State → Command → Option Refusal
 object_used s c = if is_parting c.what then option_and_then (used_by_first s c) (object_changed c.what) else None
-
--- ---- B5: the project is not empty
 
 -- It has an instance, a network, a volume, a profile other than `default`, or a live operation.
 abbrev pub is_occupied : State → List ℕ → Bool
@@ -165,29 +123,23 @@ is_occupied s name =
     || list_any (λ r. bytes_eq r.project name && not (bytes_eq r.name default_name)) s.profiles
     || list_any (λ o. bytes_eq o.work.project name) s.operations.live
 
--- whether a command needs an empty project
 abbrev pub must_be_empty : State → What → Target → Bool
-must_be_empty s asked of = must of.kind where
-  must : ObjectKind → Bool
-  must kind.Project = is_parting asked || asks_for_features s asked
-  must other = false
+must_be_empty s asked of = is_of_kind kind.Project of && (is_parting asked || asks_for_features s asked)
 
--- the project that a command needs empty is not
+-- B5: the project that a command needs empty is not.
 unfoldable pub project_occupied : State → Command → Option Refusal
 project_occupied s c =
-    option_and_then (λ of. if must_be_empty s c.what of && is_occupied s of.name then Some (on_name rule.B5 of.name) else None) (object_changed c.what)
+    option_and_then
+    (λ of. if must_be_empty s c.what of && is_occupied s of.name then Some (on_name rule.B5 of.name) else None)
+    (object_changed c.what)
 
--- ---- B6: an operation holds the profile
-
--- B6 of a profile that an operation holds
 abbrev pub held_profile : State → Command → Target → Option Refusal
-held_profile s c of = held of.kind where
-  held : ObjectKind → Option Refusal
-  held kind.Profile =
-      option_map (λ o. record { rule = rule.B6; kept = record untold { name = of.name; number = o.number } })
-      (holder_of s (home_of s.projects c.project kind.Profile) of.name)
-  held other = None
+held_profile s c of =
+    if is_of_kind kind.Profile of
+    then option_map (λ o. record { rule = rule.B6; kept = record untold { name = of.name; number = o.number } })
+    (holder_of s (home_of s.projects c.project kind.Profile) of.name)
+    else None
 
--- an operation holds the profile that a command changes
+-- B6: an operation holds the profile that a command changes.
 unfoldable pub profile_held : State → Command → Option Refusal
 profile_held s c = option_and_then (held_profile s c) (object_changed c.what)

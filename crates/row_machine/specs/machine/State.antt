@@ -1,7 +1,8 @@
 -- The state of the server: plain lists.
 use Rattle.std.specs.Prelude.{ℕ, List, [], Bool, false}
-use Rattle.row_machine.specs.Words.{Amounts, Power, no_operations, Books, no_books, Notice}
+use Rattle.row_machine.specs.Words.{Power, no_operations, Books, no_books, Notice}
 use Rattle.operations.specs.Kept.{Kept}
+use Rattle.reservations.specs.declared.books.Hold.{Hold}
 use Rattle.records.specs.declared.rows.Project.{Project}
 use Rattle.records.specs.declared.rows.Profile.{Profile}
 use Rattle.records.specs.declared.rows.Network.{Network}
@@ -17,15 +18,10 @@ pub record Standing : Type 0 where
   pub name : List ℕ
   pub power : Power
 
--- the share that a live operation holds of the limits of a project, as it was when the operation began
-pub record Held : Type 0 where
-  pub op : ℕ
-  pub project : List ℕ
-  pub share : Amounts
-
 -- The rows of each kind, in the order of project, pool or instance, and name; the status of each instance; the kept
--- operations and the next number; the shares that live operations hold, and the books over all shares; the last 1,024
--- notices and the number of the next one; and whether the server was told to close.
+-- operations and the next number; the shares that live operations hold of the limits of projects, each as it was when its
+-- operation began, and the books over all shares; the last 1,024 notices and the number of the next one; and whether the
+-- server was told to close.
 pub record State : Type 0 where
   pub projects : List Project
   pub profiles : List Profile
@@ -36,7 +32,7 @@ pub record State : Type 0 where
   pub snapshots : List Snapshot
   pub powers : List Standing
   pub operations : Kept Task
-  pub held : List Held
+  pub held : List Hold
   pub books : Books
   pub notices : List Notice
   pub next_notice : ℕ

@@ -1,25 +1,10 @@
 -- One step of the machine: what each event is answered, with each outcome of the outside, and the state after it.
-use Rattle.std.specs.Prelude.{ℕ, ◌+◌, true, List, [], ◌∷◌, Option, Some, None, find, is_some, if◌then◌else◌}
-use Rattle.row_machine.specs.Words.{Rise, HostCall, Report, OpFault, Status, Cancelling, is_pending, live_at, Command, Filter, Refusal}
-use Rattle.row_machine.specs.Words.report
-use Rattle.row_machine.specs.Words.rule
-use Rattle.row_machine.specs.Words.reply
-use Rattle.operations.specs.declared.operation.Operation.{Operation}
-use Rattle.operations.specs.declared.operation.OpFault.TheVariants as fault
-use Rattle.operations.specs.declared.status.Status.TheVariants.{Running}
-use Rattle.row_machine.specs.declared.changes.RowChange.{RowChange}
-use Rattle.row_machine.specs.declared.events.Event.{Event}
-use Rattle.row_machine.specs.declared.events.Event.TheVariants as event
-use Rattle.row_machine.specs.declared.events.Answer.{Answer}
-use Rattle.row_machine.specs.declared.events.Answer.TheVariants as answer
-use Rattle.row_machine.specs.machine.Task.{Task}
-use Rattle.row_machine.specs.machine.State.{State}
-use Rattle.row_machine.specs.machine.Refusals.{plainly}
-use Rattle.row_machine.specs.machine.Plans.{Plan, changes, plan_of}
+use Rattle.std.specs.Prelude.{◌+◌, ◌∷◌, if◌then◌else◌}
+use Rattle.row_machine.specs.Words.{ℕ, true, List, [], Option, Some, None, find, is_some, Rise, HostCall, Report, OpFault, Status, Cancelling, is_pending, live_at, Command, Filter, Refusal, Report as report, Rule as rule, Reply as reply, Operation, OpFault as fault, RowChange, Event, Event as event, Answer, Answer as answer}
+use Rattle.row_machine.specs.Estate.{Task, State, plainly}
+use Rattle.row_machine.specs.Doings.{Plan, changes, plan_of, telling, success_notices, since, with_task, moved, handing_out, one_more_done, undone, succeeded, failed, cancelled, success_changes}
 use Rattle.row_machine.specs.machine.Rules.{broken}
 use Rattle.row_machine.specs.machine.Accept.{After, and_then, accepted, told}
-use Rattle.row_machine.specs.shown.Notices.{telling, success_notices, since}
-use Rattle.row_machine.specs.machine.Work.{with_task, moved, handing_out, one_more_done, undone, succeeded, failed, cancelled, success_changes}
 
 -- What the outside made of a step: all went well, the store failed and its count rose, or memory was refused.
 pub data Outcome : Type 0 where
@@ -27,14 +12,11 @@ pub data Outcome : Type 0 where
   keeper_failed : Rise → Outcome
   no_memory : Outcome
 
--- ---- a request
-
 -- the store is asked for changes at once alone
 abbrev pub unavailable : State → Plan → Option After
 unavailable s (changes cs) = Some (and_then (answer.Reply (reply.Refused (plainly rule.K1))) s)
 unavailable s other = None
 
--- with the rule that the command breaks, if it breaks one
 abbrev pub asked : State → Command → ℕ → Outcome → Option Refusal → Option After
 asked s c moment well (Some refusal) = Some (and_then (answer.Reply (reply.Refused refusal)) s)
 asked s c moment well None = Some (accepted s c moment)
@@ -42,34 +24,27 @@ asked s c moment (keeper_failed rise) (Some refusal) = None
 asked s c moment (keeper_failed rise) None = unavailable s (plan_of s c moment)
 asked s c moment no_memory refused = Some (and_then answer.NoMemory s)
 
--- ---- a worker asks for a call
-
 -- the lowest-numbered operation that waits for its first call
 abbrev pub first_pending : State → Option (Operation Task)
 first_pending s = find (λ o. is_pending o.status) s.operations.live
 
--- the operation runs, and its first call is handed out
 abbrev pub handed_out : State → Operation Task → ℕ → List HostCall → After
 handed_out s o moment [] = and_then answer.NoJob s
 handed_out s o moment (call ∷ rest) =
-    and_then (answer.Job o.number call) (told (with_task o.number (handing_out o.work rest) (moved o.number Running moment s)) o.number moment)
+    and_then (answer.Job o.number call)
+    (told (with_task o.number (handing_out o.work rest) (moved o.number Status.Running moment s)) o.number moment)
 
--- the first call of an operation that waits, or that there is none
 abbrev pub taken : State → ℕ → Option (Operation Task) → After
 taken s moment (Some o) = handed_out s o moment o.work.calls
 taken s moment None = and_then (if s.closed then answer.Closed else answer.NoJob) s
-
--- ---- a worker reports
 
 -- an operation ended: its lifecycle notices, if it succeeded, and then itself
 abbrev pub over : State → ℕ → ℕ → After
 over s number moment = and_then (answer.Ended number) (told s number moment)
 
--- an operation succeeded
 abbrev pub success : State → Operation Task → ℕ → After
 success s o moment = over (telling (success_notices o.work moment) (succeeded s o moment)) o.number moment
 
--- an operation failed
 abbrev pub failure : State → Operation Task → OpFault → ℕ → ℕ → After
 failure s o why done moment = over (failed s o why done moment) o.number moment
 
@@ -77,29 +52,30 @@ failure s o why done moment = over (failed s o why done moment) o.number moment
 abbrev pub committed : State → Operation Task → ℕ → Outcome → List RowChange → Option After
 committed s o moment well cs = Some (success s o moment)
 committed s o moment (keeper_failed rise) [] = None
-committed s o moment (keeper_failed rise) (c ∷ cs) = Some (failure s o (fault.Keeper rise.before rise.after) (o.work.done + 1) moment)
+committed s o moment (keeper_failed rise) (c ∷ cs) =
+    Some (failure s o (fault.Keeper rise.before rise.after) (o.work.done + 1) moment)
 committed s o moment no_memory cs = Some (failure s o fault.NoMemory (o.work.done + 1) moment)
 
--- a call was done: the next one is handed out, or there is none left
 abbrev pub call_done : State → Operation Task → ℕ → Outcome → List HostCall → Option After
-call_done s o moment well (call ∷ rest) = Some (and_then (answer.Job o.number call) (with_task o.number (one_more_done o.work rest) s))
+call_done s o moment well (call ∷ rest) =
+    Some (and_then (answer.Job o.number call) (with_task o.number (one_more_done o.work rest) s))
 call_done s o moment other (call ∷ rest) = None
 call_done s o moment outcome [] = committed s o moment outcome (success_changes s o.work)
 
--- a call failed, or was refused memory
 abbrev pub call_failed : State → Operation Task → ℕ → Outcome → OpFault → Option After
 call_failed s o moment well why = Some (failure s o why o.work.done moment)
 call_failed s o moment other why = None
 
--- what is reported of an operation that runs
 abbrev pub while_running : State → Operation Task → Report → ℕ → Outcome → Option After
 while_running s o report.Done moment outcome = call_done s o moment outcome o.work.calls
-while_running s o (report.Failed rise) moment outcome = call_failed s o moment outcome (fault.Host (o.work.done + 1) rise.before rise.after)
+while_running s o (report.Failed rise) moment outcome =
+    call_failed s o moment outcome (fault.Host (o.work.done + 1) rise.before rise.after)
 while_running s o report.NoMemory moment outcome = call_failed s o moment outcome fault.NoMemory
 
 -- whatever is reported, the deed is taken back; and then the operation is cancelled
 abbrev pub while_cancelling : State → Operation Task → ℕ → Outcome → Option HostCall → Option After
-while_cancelling s o moment well (Some call) = Some (and_then (answer.Job o.number call) (with_task o.number (undone o.work) s))
+while_cancelling s o moment well (Some call) =
+    Some (and_then (answer.Job o.number call) (with_task o.number (undone o.work) s))
 while_cancelling s o moment well None = Some (over (cancelled s o.number moment) o.number moment)
 while_cancelling s o moment other undo = None
 
@@ -108,24 +84,15 @@ abbrev pub stray : State → ℕ → Outcome → Option After
 stray s number well = Some (and_then (answer.Stray number) s)
 stray s number other = None
 
--- what is reported of an operation, by its status
 abbrev pub reported : State → Operation Task → Report → ℕ → Outcome → Status → Option After
-reported s o r moment outcome Running = while_running s o r moment outcome
+reported s o r moment outcome Status.Running = while_running s o r moment outcome
 reported s o r moment outcome Cancelling = while_cancelling s o moment outcome o.work.undo
 reported s o r moment outcome other = stray s o.number outcome
 
--- what is reported of the operation of this number
 abbrev pub done : State → ℕ → Report → ℕ → Outcome → Option (Operation Task) → Option After
 done s number r moment outcome (Some o) = reported s o r moment outcome o.status
 done s number r moment outcome None = stray s number outcome
 
--- ---- looks, listeners, and the end
-
--- whether an operation is live
-abbrev pub looked : State → ℕ → Answer
-looked s number = if is_some (live_at s.operations number) then answer.NotYet number else answer.Ended number
-
--- what is answered without the outside
 abbrev pub always : After → Outcome → Option After
 always a well = Some a
 always a other = None
@@ -139,7 +106,9 @@ fetched s cursor filter no_memory = Some (and_then answer.NoMemory s)
 -- One step. None where an outcome is not possible with the event.
 unfoldable pub step : State → Event → Outcome → Option After
 step s (event.Ask c moment) outcome = asked s c moment outcome (broken s c moment)
-step s (event.Look number) outcome = always (and_then (looked s number) s) outcome
+step s (event.Look number) outcome = always (and_then looked s) outcome where
+  looked : Answer
+  looked = if is_some (live_at s.operations number) then answer.NotYet number else answer.Ended number
 step s (event.Take moment) outcome = always (taken s moment (first_pending s)) outcome
 step s (event.Done number r moment) outcome = done s number r moment outcome (live_at s.operations number)
 step s (event.Fetch cursor filter) outcome = fetched s cursor filter outcome

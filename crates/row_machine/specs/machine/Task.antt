@@ -1,6 +1,5 @@
 -- What a background operation does and holds: what contracts see of a `Work`.
-use Rattle.std.specs.Prelude.{ℕ, List, Option}
-use Rattle.row_machine.specs.Words.{Deed, HostCall, Row, Target}
+use Rattle.row_machine.specs.Words.{ℕ, List, Option, Deed, HostCall, Row, Target}
 
 -- The deed; the project and the object that it is about; the claimed row, which its success puts, and the project and
 -- name of the instance that this row replaces, if it replaces one; the source of a copy; the host's calls that are not

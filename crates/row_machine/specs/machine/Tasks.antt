@@ -1,16 +1,7 @@
 -- The background operations that commands begin: what each is about, claims and asks of the host.
-use Rattle.std.specs.Prelude.{ℕ, Bool, true, false, List, [], ◌∷◌, Some, None, if◌then◌else◌}
-use Rattle.row_machine.specs.Words.{Action, Deed, ObjectKind, Place, HostCall, Target, Body}
-use Rattle.row_machine.specs.Words.deed
-use Rattle.row_machine.specs.Words.kind
-use Rattle.row_machine.specs.Words.row
-use Rattle.host_model.specs.declared.call.HostCall.TheVariants as call
-use Rattle.records.specs.declared.rows.Volume.{Volume}
-use Rattle.records.specs.declared.rows.Instance.{Instance}
-use Rattle.records.specs.declared.rows.Snapshot.{Snapshot}
-use Rattle.row_machine.specs.machine.Task.{Task}
-use Rattle.row_machine.specs.machine.State.{State}
-use Rattle.row_machine.specs.machine.Expansions.{expanded_of}
+use Rattle.std.specs.Prelude.{◌∷◌, if◌then◌else◌}
+use Rattle.row_machine.specs.Words.{ℕ, Bool, true, false, List, [], Some, None, Action, Deed, ObjectKind, Place, HostCall, Target, Body, Deed as deed, ObjectKind as kind, Row as row, HostCall as call, Volume, Instance, Snapshot}
+use Rattle.row_machine.specs.Estate.{Task, State, expanded_of}
 use Rattle.row_machine.specs.machine.HostCalls.{place_of, volume_place, spec_of, create_calls, copy_calls, act_calls}
 use Rattle.row_machine.specs.machine.NewRows as new
 
@@ -30,7 +21,8 @@ plain_task does project of calls = record {
 
 -- an instance is made, from nothing or from an image
 abbrev pub creation : List ℕ → Target → Body → ℕ → Task
-creation project of body moment = record (plain_task deed.Create project of (create_calls at (new.image_of body.origin))) {
+creation project of body moment = record (plain_task deed.Create project of []) {
+  calls = create_calls at (new.image_of body.origin);
   claim = Some (row.Instance (new.made_instance project of.name body moment));
   undo = Some (call.Clear at);
 } where
@@ -39,7 +31,8 @@ creation project of body moment = record (plain_task deed.Create project of (cre
 
 -- a copy of an instance, or of its snapshot, in the same project
 abbrev pub copy : List ℕ → Target → Body → ℕ → Target → new.Source → Task
-copy project of body moment from source = record (plain_task deed.Copy project of (copy_calls (place_of project instance) snapshot at)) {
+copy project of body moment from source = record (plain_task deed.Copy project of []) {
+  calls = copy_calls (place_of project instance) snapshot at;
   claim = Some (row.Instance (new.copied_instance project of.name body moment source));
   source = Some from;
   undo = Some (call.Clear at);
@@ -59,7 +52,8 @@ copy project of body moment from source = record (plain_task deed.Copy project o
 
 -- a volume is copied
 abbrev pub volume_copy : List ℕ → Target → Body → ℕ → Target → Volume → Task
-volume_copy home of body moment from source = record (plain_task deed.CopyVolume home of (copy_calls (volume_place home from.pool from.name) [] at)) {
+volume_copy home of body moment from source = record (plain_task deed.CopyVolume home of []) {
+  calls = copy_calls (volume_place home from.pool from.name) [] at;
   claim = Some (row.Volume (new.copied_volume home of body moment source));
   source = Some from;
   undo = Some (call.Clear at);
@@ -78,20 +72,26 @@ snapshot_creation project of moment i = record (plain_task deed.Snap project of 
 
 -- the instance as it stands is replaced by the claimed row
 abbrev pub replacement : Deed → List ℕ → Target → Instance → List HostCall → Task
-replacement does project of i calls = record (plain_task does project of calls) { claim = Some (row.Instance i); replaces = Some (project, of.name) }
+replacement does project of i calls =
+    record (plain_task does project of calls) { claim = Some (row.Instance i); replaces = Some (project, of.name) }
 
 -- the host is told what the changed instance has
 abbrev pub update : State → List ℕ → Target → Instance → Task
-update s project of i = replacement deed.Update project of i (call.Apply (place_of project of.name) (spec_of (expanded_of s.projects s.profiles i)) ∷ [])
+update s project of i =
+    replacement deed.Update project of i
+    (call.Apply (place_of project of.name) (spec_of (expanded_of s.projects s.profiles i)) ∷ [])
 
 -- an instance is taken back to its snapshot
 abbrev pub restoring : List ℕ → Target → Instance → Snapshot → Task
-restoring project of i r = replacement deed.Restore project of (new.restored_instance i r) (call.Restore (place_of project of.name) r.name ∷ [])
+restoring project of i r =
+    replacement deed.Restore project of (new.restored_instance i r)
+    (call.Restore (place_of project of.name) r.name ∷ [])
 
 -- an instance gets another name
 abbrev pub renaming : List ℕ → Target → List ℕ → Instance → Task
 renaming project of to i =
-    replacement deed.Rename project of (record i { name = to }) (call.Rename (place_of project of.name) (place_of project to) ∷ [])
+    replacement deed.Rename project of (record i { name = to })
+    (call.Rename (place_of project of.name) (place_of project to) ∷ [])
 
 -- an instance is deleted
 abbrev pub deletion : List ℕ → Target → Task
@@ -99,9 +99,11 @@ deletion project of = plain_task deed.Delete project of (call.Clear (place_of pr
 
 -- a snapshot is deleted
 abbrev pub snapshot_deletion : List ℕ → Target → Task
-snapshot_deletion project of = plain_task deed.Unsnap project of (call.Unsnap (place_of project of.instance) of.name ∷ [])
+snapshot_deletion project of =
+    plain_task deed.Unsnap project of (call.Unsnap (place_of project of.instance) of.name ∷ [])
 
 -- the state of an instance is changed
 abbrev pub acting : State → List ℕ → Target → Action → Instance → Task
 acting s project of action i =
-    plain_task (deed.Act action i.ephemeral) project of (act_calls action i.ephemeral (place_of project of.name) (spec_of (expanded_of s.projects s.profiles i)))
+    plain_task (deed.Act action i.ephemeral) project of
+    (act_calls action i.ephemeral (place_of project of.name) (spec_of (expanded_of s.projects s.profiles i)))

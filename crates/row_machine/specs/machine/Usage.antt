@@ -1,25 +1,16 @@
 -- How much of its limits a project uses, summed anew from its rows and from what live operations claim.
-use Rattle.std.specs.Prelude.{ℕ, List, ◌++◌, map, filter, length, Option, if◌then◌else◌, option_map}
-use Rattle.std.specs.List.{sum_by}
-use Rattle.std.specs.Str.{bytes_eq}
-use Rattle.row_machine.specs.Words.{part, Amounts, Part}
-use Rattle.row_machine.specs.Words.part_of
-use Rattle.records.specs.declared.rows.Volume.{Volume}
-use Rattle.records.specs.declared.rows.Instance.{Instance}
-use Rattle.row_machine.specs.machine.Task.{Task}
-use Rattle.row_machine.specs.machine.State.{State}
+use Rattle.std.specs.Prelude.{◌++◌, if◌then◌else◌}
+use Rattle.row_machine.specs.Words.{ℕ, List, map, filter, length, Option, option_map, sum_by, bytes_eq, part, Amounts, Part, Part as part_of, Volume, Instance}
+use Rattle.row_machine.specs.Estate.{Task, State}
 use Rattle.row_machine.specs.machine.Claims.{of_live, amounts_of_instance, amounts_of_volume, share_of, project_of_row}
 
--- what counts for the limits of a project
 pub record Load : Type 0 where
   pub project : List ℕ
   pub amounts : Amounts
 
--- what an instance counts for in its project
 abbrev pub instance_load : State → Instance → Load
 instance_load s i = record { project = i.project; amounts = amounts_of_instance s i }
 
--- what a volume counts for in its project
 abbrev pub volume_load : Volume → Load
 volume_load v = record { project = v.project; amounts = amounts_of_volume v }
 
@@ -31,15 +22,12 @@ claim_load s task = option_map (λ new. record { project = project_of_row new; a
 unfoldable pub loads : State → List Load
 loads s = map (instance_load s) s.instances ++ map volume_load s.volumes ++ of_live (claim_load s) s
 
--- one part of what a load counts for in a project
 abbrev pub counted : List ℕ → Part → Load → ℕ
 counted project k load = if bytes_eq load.project project then part k load.amounts else 0
 
--- one part of the usage of a project
 abbrev pub used : State → List ℕ → Part → ℕ
 used s project k = sum_by (counted project k) (loads s)
 
--- the usage of a project, part by part
 unfoldable pub usage_of : State → List ℕ → Amounts
 usage_of s project = record {
   instances = used s project part_of.Instances;
@@ -51,6 +39,5 @@ usage_of s project = record {
   disk = used s project part_of.Disk;
 }
 
--- the number of networks of a project
 unfoldable pub networks_of : State → List ℕ → ℕ
 networks_of s project = length (filter (λ n. bytes_eq n.project project) s.networks)

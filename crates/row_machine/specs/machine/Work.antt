@@ -1,36 +1,21 @@
 -- Background operations: how one is entered, what each status becomes, and how one ends.
-use Rattle.std.specs.Prelude.{ℕ, ◌+◌, ◌==◌, nat_lt, Bool, true, false, ◌&&◌, List, [], ◌∷◌, ◌++◌, map, find, Option, Some, None, is_some, if◌then◌else◌, option_and_then}
-use Rattle.std.specs.Option.{option_map_or, option_to_list}
-use Rattle.std.specs.Result.{result_ok}
-use Rattle.row_machine.specs.Words.{dropped, changed_first, Amounts, Action, Deed, Power, Error, HostCall, undo_of, after_of, OpFault, Status, granted_more, converted_more, returned_more}
-use Rattle.row_machine.specs.Words.action
-use Rattle.row_machine.specs.Words.deed
-use Rattle.row_machine.specs.Words.status
-use Rattle.row_machine.specs.Words.row
-use Rattle.row_machine.specs.machine.Deeds.{breaks_instance}
-use Rattle.size_values.specs.Amounts.{nothing}
-use Rattle.operations.specs.declared.operation.Operation.{Operation}
-use Rattle.operations.specs.declared.operation.OpFault.TheVariants as op_fault
+use Rattle.std.specs.Prelude.{◌+◌, ◌==◌, ◌&&◌, ◌∷◌, ◌++◌, if◌then◌else◌}
+use Rattle.row_machine.specs.Words.{ℕ, nat_lt, Bool, true, List, [], map, find, Option, Some, None, is_some, option_and_then, option_map_or, option_to_list, result_ok, dropped, changed_first, Amounts, Action, Deed, Power, Error, HostCall, undo_of, after_of, OpFault, Status, granted_more, converted_more, returned_more, Action as action, Deed as deed, Status as status, Row as row, no_amounts, Operation, OpFault as op_fault, Instance, RowChange, RowChange as change}
+use Rattle.row_machine.specs.Estate.{breaks_instance, Task, instance_named, snapshot_named, is_standing}
+use Rattle.row_machine.specs.Readings.{share_of, project_of_row, claimed_instance, applied, removal, snapshots_of}
 use Rattle.operations.specs.Kept as kept
-use Rattle.records.specs.declared.rows.Instance.{Instance}
-use Rattle.row_machine.specs.declared.changes.RowChange.{RowChange}
-use Rattle.row_machine.specs.declared.changes.RowChange.TheVariants as change
-use Rattle.row_machine.specs.machine.Task.{Task}
-use Rattle.row_machine.specs.machine.State.{State, Held}
-use Rattle.row_machine.specs.machine.Rows.{instance_named, snapshot_named, is_standing}
-use Rattle.row_machine.specs.machine.Claims.{share_of, project_of_row, claimed_instance}
-use Rattle.row_machine.specs.machine.Changes.{applied, removal}
-use Rattle.row_machine.specs.machine.Asked.{snapshots_of}
+use Rattle.reservations.specs.declared.books.Hold.{Hold}
+use Rattle.row_machine.specs.machine.State.{State}
 
 -- ---- shares
 
 -- whether it is the share of this operation
-abbrev pub is_held_by : ℕ → Held → Bool
+abbrev pub is_held_by : ℕ → Hold → Bool
 is_held_by op h = h.op == op
 
 -- the share that an operation holds
 abbrev pub held_share : State → ℕ → Amounts
-held_share s op = option_map_or (λ h. h.share) (find (is_held_by op) s.held) nothing
+held_share s op = option_map_or (λ h. h.share) (find (is_held_by op) s.held) no_amounts
 
 -- the share is no longer held
 abbrev pub without_share : ℕ → State → State
@@ -63,33 +48,27 @@ entered s task moment = record (claiming s task moment) {
 
 -- ---- going on
 
--- a live operation with another task
 abbrev pub with_task : ℕ → Task → State → State
 with_task number task s = record s { operations = kept.with_work number task s.operations }
 
--- a live operation has another status, since this moment
 abbrev pub moved : ℕ → Status → ℕ → State → State
 moved number now moment s = record s { operations = kept.moved number now moment s.operations }
 
--- a task whose first call that is left is handed out
 abbrev pub handing_out : Task → List HostCall → Task
 handing_out task rest = record task { calls = rest }
 
--- the same, after one more call was done
 abbrev pub one_more_done : Task → List HostCall → Task
 one_more_done task rest = record task { calls = rest; done = task.done + 1 }
 
--- a task whose undo call was handed out
 abbrev pub undone : Task → Task
 undone task = record task { undo = None }
 
 -- ---- ends
 
--- the status of an instance
 abbrev pub with_power : State → List ℕ → List ℕ → Power → State
-with_power s project name power = record s { powers = changed_first (is_standing project name) (λ p. record p { power = power }) s.powers }
+with_power s project name power =
+    record s { powers = changed_first (is_standing project name) (λ p. record p { power = power }) s.powers }
 
--- an instance, and all its snapshots, are removed
 abbrev pub removes_instance : State → List ℕ → List ℕ → List RowChange
 removes_instance s project name = map removal
     (map row.Snapshot (snapshots_of s project name)
@@ -99,46 +78,41 @@ removes_instance s project name = map removal
 abbrev pub renames_instance : State → Task → Instance → List RowChange
 renames_instance s task i =
     removes_instance s task.project task.target.name
-    ++ map change.Put (row.Instance i ∷ map (λ r. row.Snapshot (record r { instance = i.name; project = i.project })) (snapshots_of s task.project task.target.name))
+    ++ map change.Put
+    (row.Instance i ∷ map (λ r. row.Snapshot (record r { instance = i.name; project = i.project }))
+    (snapshots_of s task.project task.target.name))
 
--- the changes of rows at the success of an operation
 abbrev pub success_changes : State → Task → List RowChange
 success_changes s task = changes task.deed where
-  puts_claim : List RowChange
-  puts_claim = map change.Put (option_to_list task.claim)
-
   act_changes : Action → Bool → List RowChange
   act_changes action.Stop true = removes_instance s task.project task.target.name
   act_changes other ephemeral = []
 
   changes : Deed → List RowChange
-  changes deed.Create = puts_claim
-  changes deed.Copy = puts_claim
-  changes deed.Update = puts_claim
-  changes deed.Restore = puts_claim
   changes deed.Rename = option_map_or (renames_instance s task) (claimed_instance task) []
   changes deed.Delete = removes_instance s task.project task.target.name
   changes (deed.Act does ephemeral) = act_changes does ephemeral
-  changes deed.Snap = puts_claim
-  changes deed.Unsnap = map removal (map row.Snapshot (option_to_list (snapshot_named s.snapshots task.project task.target.instance task.target.name)))
-  changes deed.CopyVolume = puts_claim
+  changes deed.Unsnap =
+      map removal
+      (map row.Snapshot
+      (option_to_list (snapshot_named s.snapshots task.project task.target.instance task.target.name)))
+  changes other = map change.Put (option_to_list task.claim)
 
--- the status of the target after a change of state
 abbrev pub power_after : State → Task → Option Power
 power_after s task = after task.deed where
   by_action : Action → Option Power
-  by_action does = option_and_then (λ p. result_ok (after_of p.power does)) (find (is_standing task.project task.target.name) s.powers)
+  by_action does =
+      option_and_then (λ p. result_ok (after_of p.power does))
+      (find (is_standing task.project task.target.name) s.powers)
 
   after : Deed → Option Power
   after (deed.Act does ephemeral) = by_action does
   after other = None
 
--- its target has this status, where there is one
 abbrev pub with_power_after : Task → Option Power → State → State
 with_power_after task None s = s
 with_power_after task (Some power) s = with_power s task.project task.target.name power
 
--- an operation has ended
 abbrev pub ended : ℕ → Status → OpFault → ℕ → State → State
 ended number now why moment s = record s { operations = kept.ends number now why moment s.operations }
 

@@ -9,7 +9,7 @@ use Rattle.core_rows.proofs.Following.{follows-why}
 use Rattle.core_objects.specs.Answers.{IsAnswer}
 use Rattle.core_objects.proofs.BuiltChanges.{built-changes}
 use Rattle.core_objects.proofs.FirstRules.{refuses-first, both-free}
-use Rattle.core_objects.proofs.ReadSteps.{read-follows, read-unbroken}
+use Rattle.core_objects.proofs.ReadSteps.{reads, read-free, read-follows}
 use Rattle.core_objects.proofs.objects.do_object.Goals as goal
 
 pub returns-in-Err : goal.returns-in-Err
@@ -27,9 +27,9 @@ pub returns-then-is_read : goal.returns-then-is_read
 returns-then-is_read g c =
     let s = c.args.estate.now.state in
     let command = c.args.command.now in
-    let reads = sym c.is_read.ensures ∙ c.if-is_read.true in
+    let only = reads s command c.args.moment (sym c.is_read.ensures ∙ c.if-is_read.true) in
     let free = both-free s command (subst (λ t. first (names_broken t command ∷ standing_broken t command ∷ []) ≡ None) c.view.ensures.state c.in_default.ensures) in
-    read-follows s command c.args.moment c.args.estate.now.untold (g.R.Keeper.store c.args.keeper.now) reads (read-unbroken s command c.args.moment reads free)
+    read-follows s command c.args.moment c.args.estate.now.untold (g.R.Keeper.store c.args.keeper.now) only (read-free s command c.args.moment only free)
     c.requires.quiet c.answer_read.result
     (subst (λ t. IsAnswer c.answer_read.result (read t command.project command.what)) c.view-then-is_read.ensures.state c.answer_read.ensures)
 

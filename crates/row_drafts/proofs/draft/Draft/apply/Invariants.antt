@@ -8,4 +8,5 @@ invariant-loop-place l =
     (applied l.self.state l.changes ≡ applied l.fn.self.state l.fn.changes)
     × (former l.self ≡ former l.fn.self)
     × IsReady l.self l.changes
+    × (l.self.backing ≡ l.fn.self.backing)
     × (length l.changes + l._place ≡ length l.fn.changes)

@@ -2,7 +2,7 @@ use Rattle.std.proofs.Common.{Some, sym, ◌∙◌, ap}
 use Rattle.std.specs.List.{position}
 use Rattle.operations.specs.Kept.{has_number}
 use Rattle.plain_lists.proofs.Places.{find-at, dropped-at}
-use Rattle.operations.proofs.slots.take_out.Goals as goal
+use Rattle.operations.proofs.lists.take_out.Goals as goal
 
 pub returns-clause-taken : goal.returns-clause-taken
 returns-clause-taken g c =

@@ -3,7 +3,7 @@ use Rattle.std.specs.List.{position}
 use Rattle.operations.specs.declared.operation.Operation.{Operation}
 use Rattle.operations.specs.Kept.{has_number}
 use Rattle.plain_lists.proofs.Places.{changed-at}
-use Rattle.operations.proofs.slots.set_status.Goals as goal
+use Rattle.operations.proofs.lists.set_status.Goals as goal
 
 pub returns-clause-items : goal.returns-clause-items
 returns-clause-items g c =

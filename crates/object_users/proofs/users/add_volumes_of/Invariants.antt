@@ -1,7 +1,7 @@
 use Rattle.std.proofs.Common.{◌≡◌, ◌++◌, map, take, filter}
 use Rattle.records.specs.declared.rows.Row.TheVariants as row
 use Rattle.row_machine.specs.machine.Holders.{volume_uses}
-use Rattle.object_users.proofs.users.add_using_volumes.Given as goal
+use Rattle.object_users.proofs.users.add_volumes_of.Given as goal
 
 abbrev pub invariant-loop-row : goal.invariant-loop-row
 invariant-loop-row l = l.all.items ≡ l.initial.all.items ++ map row.Volume (filter (volume_uses l.of) (take l.row-index l.row-items))

@@ -4,7 +4,7 @@ use Rattle.std.specs.Option.{option_map}
 use Rattle.operations.specs.declared.operation.Operation.{Operation}
 use Rattle.operations.specs.Kept.{has_number}
 use Rattle.plain_lists.proofs.Places.{find-at, changed-at}
-use Rattle.operations.proofs.slots.swap_in.Goals as goal
+use Rattle.operations.proofs.lists.swap_in.Goals as goal
 
 pub returns-clause-old : goal.returns-clause-old
 returns-clause-old g c =

@@ -1,0 +1,31 @@
+-- A read of instances or operations as one step of the machine.
+use Rattle.std.proofs.Common.{◌≡◌, ℕ, true, false, cond, List, refl, ap}
+use Rattle.records.specs.declared.commands.Command.{Command}
+use Rattle.records.specs.declared.commands.What.{What}
+use Rattle.records.specs.declared.commands.What.TheVariants as what
+use Rattle.row_machine.specs.declared.events.Answer.TheVariants as answer
+use Rattle.row_machine.specs.machine.State.{State}
+use Rattle.row_machine.specs.machine.Accept.{and_then}
+use Rattle.row_machine.specs.machine.Plans.{plan_of}
+use Rattle.row_machine.specs.machine.TableRules.{cancel_broken}
+use Rattle.row_machine.specs.shown.Views.{read}
+use Rattle.machine_laws.proofs.Commands.{command_of}
+use Rattle.core_objects.proofs.ReadSteps.{ReadsOnly}
+use Rattle.core_instances.specs.Commands.{is_read, is_held}
+
+-- each of them only reads, but for a wait that is held
+reads-only : (s : State) (project : List ℕ) (w : What) (moment : ℕ) → is_read w ≡ true → is_held s w ≡ false → ReadsOnly s (command_of project w) moment
+unfolding plan_of cancel_broken read
+reads-only s project (what.List of recursion) moment is answered = record { plan = refl; uncancelled = refl; answers = refl }
+reads-only s project (what.Get of) moment is answered = record { plan = refl; uncancelled = refl; answers = refl }
+reads-only s project (what.State of) moment is answered = record { plan = refl; uncancelled = refl; answers = refl }
+reads-only s project (what.GetOp op) moment is answered = record { plan = refl; uncancelled = refl; answers = refl }
+reads-only s project (what.Wait op timeout) moment is answered = record {
+  plan = refl;
+  uncancelled = refl;
+  answers = ap (λ held. and_then (cond held (answer.Hold op) (answer.Reply (read s project (what.Wait op timeout)))) s) answered;
+}
+reads-only s project other moment is answered = cc
+
+pub reads : (s : State) (c : Command) (moment : ℕ) → is_read c.what ≡ true → is_held s c.what ≡ false → ReadsOnly s c moment
+reads s c moment is answered = reads-only s c.project c.what moment is answered

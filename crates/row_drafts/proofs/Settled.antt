@@ -1,0 +1,11 @@
+-- A draft without changes that are not settled is one.
+use Rattle.std.proofs.Common.{◌≡◌, ◌≤◌, [], length, sym, subst, arith, ap}
+use Rattle.row_drafts.specs.declared.draft.Draft.TheInside.{Inside}
+use Rattle.row_drafts.specs.Inside.{IsDraft}
+use Rattle.row_drafts.specs.Steps.{FitChanges}
+
+pub settled_is : (d : Inside) → d.log.items ≡ [] → IsDraft d
+settled_is d none = record {
+  fits = subst (λ us. FitChanges us d.lists.state) (sym none) tt;
+  room = let few = ap length none in omega (arith, few);
+}

@@ -1,0 +1,17 @@
+use Rattle.std.proofs.Common.{◌-◌, ◌++◌, [], ◌∷◌, sym, subst, arith}
+use Rattle.reservations.specs.Holdings.{granted_more}
+use Rattle.row_drafts.specs.Steps.{FitChanges}
+use Rattle.row_drafts.proofs.HeldAside.{fits-held}
+use Rattle.row_drafts.proofs.draft.Draft.hold.Goals as goal
+
+pub invariant_of-self : goal.invariant_of-self
+invariant_of-self c =
+    let s = c.self.inside.lists.state in
+    record {
+      fits = subst (FitChanges c.self.inside.log.items) (sym c.hold.ensures.state)
+          (fits-held
+          (s.held ++ record { op = s.operations.next - 1; project = c.args.project; share = c.args.share } ∷ [])
+          (granted_more c.args.share s.books)
+          c.self.inside.log.items s c.self.invariant.fits);
+      room = omega (arith, c.self.invariant.room, c.hold.ensures.room);
+    }
