@@ -16,7 +16,8 @@ use task_ends::breaks_instance;
 
 /// Whether a failure of the live operation of a number leaves its instance in an unknown state.
 fn breaks_at(view: &View<'_>, number: u64) -> bool
-    ensures { result ≡ option_map_or (λ (o : OperationValue Task). breaks_instance o.work.deed) (live_at view.now.operations number) false }
+    ensures { result ≡ option_map_or (λ (o : OperationValue Task). breaks_instance o.work.deed)
+        (live_at view.now.operations number) false }
 {
     match live_at(view, number) {
         Some(operation) => breaks_instance(operation.work.deed),
