@@ -1,4 +1,6 @@
+mod Begun
 mod Changed
+mod Failing
 mod FirstEntries
 pub mod Following
 mod Handing
@@ -9,3 +11,4 @@ mod Reporting
 mod Reports
 mod Silent
 pub mod Stepping
+mod Turning

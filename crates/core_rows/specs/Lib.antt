@@ -6,3 +6,4 @@ pub mod Planned
 pub mod Stores
 pub mod View
 pub mod Waiting
+pub mod Turns

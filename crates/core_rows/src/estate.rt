@@ -3,11 +3,15 @@ ghost use Rattle.limit_rules.specs.Exceeding.{Serves};
 ghost use Rattle.row_drafts.specs.Drafted.{IsReady};
 ghost use Rattle.row_machine.specs.machine.Changes.{applied};
 ghost use Rattle.row_machine.specs.facts.Whole.{IsWhole};
+ghost use Rattle.size_values.specs.Moments.{moment_limit};
+ghost use Rattle.core_rows.specs.Jobs.{IsTaken};
 ghost use Rattle.core_rows.specs.Kept.{IsSilent};
 ghost use Rattle.core_rows.specs.Planned.{Follows, IsToDo};
 
 use crate::changing::{commit, copy_changes, give_up, judge};
+use crate::jobs::{begin, first_pending, tell};
 use crate::waiting::{Waiting, told_by};
+use host_model::HostCall;
 use limit_rules::{Usage, usage_before_changes};
 use plain_lists::push_reserved;
 use record_keeper::Keeper;
@@ -124,6 +128,21 @@ impl Estate {
         self.draft.settle();
         push_reserved(&mut self.untold, Waiting::Whole(notice));
         Reply::Empty
+    }
+
+    /// Hands out the first call of the lowest-numbered operation that waits for it, which runs from then on and is left to be
+    /// told; or tells that none waits. The moment is in seconds since 1970. It takes no memory.
+    pub fn take_job(&mut self, moment: u64) -> Option<(u64, HostCall)>
+        requires quiet { self.old.untold ≡ [] }
+        requires early { moment < moment_limit }
+        ensures { IsTaken self.old.state moment result self.new.state self.new.untold }
+    {
+        let Some(number) = first_pending(&self.draft.view()) else {
+            return None;
+        };
+        let call = begin(&mut self.draft, number, moment);
+        tell(&mut self.untold, &self.draft.view(), number, moment);
+        Some((number, call))
     }
 
     /// Hands out the first notice that was not yet taken.

@@ -3,10 +3,12 @@
 #![tactic(auto)]
 
 mod changing;
+mod ends;
 mod entries;
 mod estate;
 mod jobs;
 mod opening;
+mod turns;
 mod waiting;
 
 pub use changing::refused_reply;

@@ -9,7 +9,7 @@ use row_machine::Work;
 /// Which call of a task is handed out: the first that is left; the same, once the one before it was done; or the one that
 /// takes the deed back.
 #[derive(Clone, Copy)]
-pub(crate) enum Handing {
+pub enum Handing {
     First,
     Next,
     Undo,

@@ -10,4 +10,5 @@ mod keys;
 mod lists;
 mod placed;
 
+pub use calls::Handing;
 pub use draft::Draft;

@@ -26,7 +26,8 @@ fn puts_claim(alloc: Global, work: &Work) -> Result<Seq<RowChange>, NoMemory>
 
 /// The claimed instance takes the place of the target, where one is claimed.
 fn renames_target(alloc: Global, view: &View<'_>, work: &Work) -> Result<Seq<RowChange>, NoMemory>
-    ensures { IfOk result (λ cs. cs ≡ option_map_or (renames_instance view.now work.now) (claimed_instance work.now) []) }
+    ensures { IfOk result (λ cs. cs ≡
+        option_map_or (renames_instance view.now work.now) (claimed_instance work.now) []) }
 {
     match claimed_instance(work) {
         Some(row) => renames_instance(alloc, view, work, row),

@@ -124,7 +124,8 @@ pub fn operation_notice(
     operation: &Operation<Work>,
     moment: u64,
 ) -> Result<Untold, NoMemory>
-    ensures { IfOk result (λ n. n ≡ record { moment = moment; project = operation.now.work.project; told = told_of.Op (view_of operation.now) }) }
+    ensures { IfOk result (λ n. n ≡
+        record { moment = moment; project = operation.now.work.project; told = told_of.Op (view_of operation.now) }) }
 {
     let project = operation.work.project.copy(alloc)?;
     let shown = view_of(alloc, operation)?;

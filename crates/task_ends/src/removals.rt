@@ -32,7 +32,8 @@ fn instance_removal(alloc: Global, row: &Instance) -> Result<RowChange, NoMemory
 
 /// Whether a snapshot is one of the instance of this project and name.
 pub(crate) fn is_of(row: &Snapshot, project: &str, instance: &str) -> bool
-    ensures { result ≡ (if bytes_eq row.now.project project.now then bytes_eq row.now.instance instance.now else false) }
+    ensures { result ≡
+        (if bytes_eq row.now.project project.now then bytes_eq row.now.instance instance.now else false) }
 {
     row.project.view() == project && row.instance.view() == instance
 }
@@ -45,7 +46,8 @@ fn remove_snapshots(
     changes: &mut Seq<RowChange>,
 ) -> Result<(), NoMemory>
     ensures { OnOk result (changes.new ≡ changes.old
-        ++ map removal (map row_of.Snapshot (filter (λ r. if bytes_eq r.project project.now then bytes_eq r.instance instance.now else false) snapshots.now))) }
+        ++ map removal (map row_of.Snapshot
+        (filter (λ r. if bytes_eq r.project project.now then bytes_eq r.instance instance.now else false) snapshots.now))) }
 {
     for row in snapshots {
         if is_of(row, project, instance) {
@@ -60,7 +62,8 @@ fn remove_instance(
     row: Option<&Instance>,
     changes: &mut Seq<RowChange>,
 ) -> Result<(), NoMemory>
-    ensures { OnOk result (changes.new ≡ changes.old ++ map removal (map row_of.Instance (option_to_list (option_copied row.entry)))) }
+    ensures { OnOk result (changes.new ≡ changes.old
+        ++ map removal (map row_of.Instance (option_to_list (option_copied row.entry)))) }
 {
     match row {
         Some(row) => changes.push(instance_removal(alloc, row)?),

@@ -30,7 +30,8 @@ fn under(row: Snapshot, project: Text, instance: Text) -> Snapshot
 
 /// The change that puts a snapshot as one of another instance.
 fn snapshot_moved(alloc: Global, row: &Snapshot, to: &Instance) -> Result<RowChange, NoMemory>
-    ensures { IfOk result (λ c. c ≡ change.Put (row_of.Snapshot (record row.now { instance = to.now.name; project = to.now.project }))) }
+    ensures { IfOk result (λ c. c ≡ change.Put (row_of.Snapshot
+        (record row.now { instance = to.now.name; project = to.now.project }))) }
 {
     let project = to.project.copy(alloc)?;
     let instance = to.name.copy(alloc)?;
@@ -55,7 +56,8 @@ fn put_moved(
     changes: &mut Seq<RowChange>,
 ) -> Result<(), NoMemory>
     ensures { OnOk result (changes.new ≡ changes.old
-        ++ map change.Put (row_of.Instance to.now ∷ map (λ r. row_of.Snapshot (record r { instance = to.now.name; project = to.now.project }))
+        ++ map change.Put (row_of.Instance to.now
+        ∷ map (λ r. row_of.Snapshot (record r { instance = to.now.name; project = to.now.project }))
         (filter (λ r. if bytes_eq r.project project.now then bytes_eq r.instance instance.now else false) snapshots.now))) }
 {
     put_instance(alloc, to, changes)?;

@@ -1,0 +1,131 @@
+-- What is known of an operation from what comes of its report.
+use Rattle.std.proofs.Common.{◌≡◌, ℕ, ◌+◌, ◌≤◌, ◌<◌, true, false, List, [], ◌∷◌, length, Option, Some, None, IfSome, refl, ap, sym, ◌∙◌, arith}
+use Rattle.size_values.specs.declared.kinds.Action.TheVariants as action
+use Rattle.size_values.specs.declared.kinds.Deed.{Deed}
+use Rattle.size_values.specs.declared.kinds.Deed.TheVariants as deed
+use Rattle.row_machine.specs.Words.{calls_of}
+use Rattle.host_model.specs.declared.call.HostCall.{HostCall}
+use Rattle.host_model.specs.declared.report.Report.{Report}
+use Rattle.host_model.specs.declared.report.Report.TheVariants as report
+use Rattle.operations.specs.declared.operation.Operation.{Operation}
+use Rattle.operations.specs.declared.status.Status.{Status}
+use Rattle.operations.specs.declared.status.Status.TheVariants as status
+use Rattle.operations.specs.Kept.{live_at}
+use Rattle.row_machine.specs.machine.Task.{Task}
+use Rattle.row_machine.specs.machine.State.{State}
+use Rattle.row_machine.specs.facts.Whole.{IsWhole, IsUnderWay, calls_out}
+use Rattle.machine_laws.proofs.Base.{live-mem, live-number}
+use Rattle.core_rows.specs.Turns.{turn_of, turn_while, turn_running, turn_done, turn_cancelling}
+use Rattle.core_rows.specs.declared.turns.Turn.{Turn}
+use Rattle.core_rows.specs.declared.turns.Turn.TheVariants as turn
+
+-- ---- how many calls are done
+
+-- no deed has more than two calls
+few-calls : (d : Deed) → length (calls_of d) ≤ 2
+few-calls deed.Create = omega arith
+few-calls deed.Copy = omega arith
+few-calls deed.Update = omega arith
+few-calls deed.Restore = omega arith
+few-calls deed.Rename = omega arith
+few-calls deed.Delete = omega arith
+few-calls (deed.Act action.Start ephemeral) = omega arith
+few-calls (deed.Act action.Stop true) = omega arith
+few-calls (deed.Act action.Stop false) = omega arith
+few-calls (deed.Act action.Restart ephemeral) = omega arith
+few-calls (deed.Act action.Freeze ephemeral) = omega arith
+few-calls (deed.Act action.Unfreeze ephemeral) = omega arith
+few-calls deed.Snap = omega arith
+few-calls deed.Unsnap = omega arith
+few-calls deed.CopyVolume = omega arith
+
+few : (o : Operation Task) → IsUnderWay o → o.work.done + 1 < 256
+few o u = omega (arith, u.calls, few-calls o.work.deed)
+
+pub few-done : (s : State) (number : ℕ) → IsWhole s → IfSome (live_at s.operations number) (λ (o : Operation Task). o.work.done + 1 < 256)
+few-done s number h = at (live_at s.operations number) refl where
+  at : (x : Option (Operation Task)) → live_at s.operations number ≡ x → IfSome x (λ (o : Operation Task). o.work.done + 1 < 256)
+  at None is = tt
+  at (Some o) is = few o (h.under_way.at o (live-mem s number o is))
+
+-- ---- by what comes of the report
+
+-- the live operation of a number, of this status
+pub record IsLive (s : State) (number : ℕ) (now : Status) : Type 0 where
+  pub of : Operation Task
+  pub live : live_at s.operations number ≡ Some of
+  pub numbered : of.number ≡ number
+  pub status : of.status ≡ now
+
+-- the next call is handed out where one is left, after the report that one was done
+pub record HasNext (s : State) (number : ℕ) (r : Report) : Type 0 where
+  pub running : IsLive s number status.Running
+  pub call : HostCall
+  pub rest : List HostCall
+  pub calls : running.of.work.calls ≡ call ∷ rest
+  pub report : r ≡ report.Done
+
+-- the last call was done where none is left
+pub record HasLast (s : State) (number : ℕ) (r : Report) : Type 0 where
+  pub running : IsLive s number status.Running
+  pub calls : running.of.work.calls ≡ []
+  pub report : r ≡ report.Done
+
+-- the call that takes the deed back is left
+pub record HasUndo (s : State) (number : ℕ) : Type 0 where
+  pub cancelling : IsLive s number status.Cancelling
+  pub call : HostCall
+  pub undo : cancelling.of.work.undo ≡ Some call
+
+-- that call was handed out already
+pub record HasNoUndo (s : State) (number : ℕ) : Type 0 where
+  pub cancelling : IsLive s number status.Cancelling
+  pub undo : cancelling.of.work.undo ≡ None
+
+module _ (s : State) (number : ℕ) (o : Operation Task) (live : live_at s.operations number ≡ Some o) where
+  as-live : (now : Status) → o.status ≡ now → IsLive s number now
+  as-live now is = record { of = o; live = live; numbered = live-number s number o live; status = is }
+
+  next-while : (now : Status) (r : Report) → o.status ≡ now → turn_while o r now ≡ turn.Next → HasNext s number r
+  next-while status.Running report.Done is e = at o.work.calls refl e where
+    at : (calls : List HostCall) → o.work.calls ≡ calls → turn_done calls ≡ turn.Next → HasNext s number report.Done
+    at [] which e = cc
+    at (call ∷ rest) which e = record { running = as-live status.Running is; call = call; rest = rest; calls = which; report = refl }
+  next-while status.Running (report.Failed rise) is e = cc
+  next-while status.Running report.NoMemory is e = cc
+  next-while status.Cancelling r is e = at o.work.undo e where
+    at : (undo : Option HostCall) → turn_cancelling undo ≡ turn.Next → HasNext s number r
+    at None e = cc
+    at (Some call) e = cc
+  next-while status.Pending r is e = cc
+  next-while status.Success r is e = cc
+  next-while status.Failure r is e = cc
+  next-while status.Cancelled r is e = cc
+
+  last-while : (now : Status) (r : Report) → o.status ≡ now → turn_while o r now ≡ turn.Last → HasLast s number r
+  last-while status.Running report.Done is e = at o.work.calls refl e where
+    at : (calls : List HostCall) → o.work.calls ≡ calls → turn_done calls ≡ turn.Last → HasLast s number report.Done
+    at [] which e = record { running = as-live status.Running is; calls = which; report = refl }
+    at (call ∷ rest) which e = cc
+  last-while status.Running (report.Failed rise) is e = cc
+  last-while status.Running report.NoMemory is e = cc
+  last-while status.Cancelling r is e = at o.work.undo e where
+    at : (undo : Option HostCall) → turn_cancelling undo ≡ turn.Last → HasLast s number r
+    at None e = cc
+    at (Some call) e = cc
+  last-while status.Pending r is e = cc
+  last-while status.Success r is e = cc
+  last-while status.Failure r is e = cc
+  last-while status.Cancelled r is e = cc
+
+pub next-of : (s : State) (number : ℕ) (r : Report) → turn_of (live_at s.operations number) r ≡ turn.Next → HasNext s number r
+next-of s number r h = at (live_at s.operations number) refl h where
+  at : (x : Option (Operation Task)) → live_at s.operations number ≡ x → turn_of x r ≡ turn.Next → HasNext s number r
+  at None is h = cc
+  at (Some o) is h = next-while s number o is o.status r refl h
+
+pub last-of : (s : State) (number : ℕ) (r : Report) → turn_of (live_at s.operations number) r ≡ turn.Last → HasLast s number r
+last-of s number r h = at (live_at s.operations number) refl h where
+  at : (x : Option (Operation Task)) → live_at s.operations number ≡ x → turn_of x r ≡ turn.Last → HasLast s number r
+  at None is h = cc
+  at (Some o) is h = last-while s number o is o.status r refl h
