@@ -4,4 +4,5 @@ pub mod Following
 pub mod Judging
 mod Opens
 mod Silent
+pub mod Started
 pub mod Stepping

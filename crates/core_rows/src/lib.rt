@@ -6,6 +6,7 @@ mod changing;
 mod entries;
 mod estate;
 mod opening;
+mod starting;
 
 pub use changing::refused_reply;
 pub use entries::{default_profile, entry_changes};
