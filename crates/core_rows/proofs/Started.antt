@@ -63,19 +63,19 @@ found-entered s task moment kept =
     ∙ ap (λ x. option_or x (find test s.operations.ended))
     (find-append test s.operations.live (last ∷ []) ∙ ap (λ x. option_or x (find test (last ∷ []))) others ∙ own)
   where
-  test : Operation Task → Bool
-  test = has_number s.operations.next
+    test : Operation Task → Bool
+    test = has_number s.operations.next
 
-  last : Operation Task
-  last = pending_of s.operations.next task moment
+    last : Operation Task
+    last = pending_of s.operations.next task moment
 
-  others : find test s.operations.live ≡ None
-  others = none-find test s.operations.live
-      (Each-map (λ o below. ne_eqb o.number s.operations.next (λ same. let b : o.number < s.operations.next = below in let e : o.number ≡ s.operations.next = same in absurd (omega arith)))
-      (Each-left s.operations.ended kept.numbered.below_next))
+    others : find test s.operations.live ≡ None
+    others = none-find test s.operations.live
+        (Each-map (λ o below. ne_eqb o.number s.operations.next (λ same. let b : o.number < s.operations.next = below in let e : o.number ≡ s.operations.next = same in absurd (omega arith)))
+        (Each-left s.operations.ended kept.numbered.below_next))
 
-  own : find test (last ∷ []) ≡ Some last
-  own = ap (λ b. cond b (Some last) None) (eq-eqb s.operations.next s.operations.next refl)
+    own : find test (last ∷ []) ≡ Some last
+    own = ap (λ b. cond b (Some last) None) (eq-eqb s.operations.next s.operations.next refl)
 
 -- ---- the rules that it breaks
 

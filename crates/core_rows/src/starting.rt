@@ -112,12 +112,7 @@ fn notice(alloc: Global, number: u64, work: &Work, moment: u64) -> Result<Untold
 }
 
 /// What is told of an operation that waits for its first call: how it is shown, and the notice of it.
-fn told(
-    alloc: Global,
-    number: u64,
-    work: &Work,
-    moment: u64,
-) -> Result<(OpView, Untold), NoMemory>
+fn told(alloc: Global, number: u64, work: &Work, moment: u64) -> Result<(OpView, Untold), NoMemory>
     ensures shown { IfOk result (λ t. t.0 ≡ view_of (pending_of number work.now moment)) }
     ensures notice { IfOk result
         (λ t. t.1 ≡ record { moment = moment; project = work.now.project; told = told_of.Op (view_of (pending_of number work.now moment)) }) }
@@ -128,16 +123,21 @@ fn told(
 }
 
 /// What the entry of an operation needs, read off the rows before it.
-fn beginning_of(alloc: Global, view: &View<'_>, work: &Work, moment: u64) -> Result<Beginning, NoMemory>
+fn beginning_of(
+    alloc: Global,
+    view: &View<'_>,
+    work: &Work,
+    moment: u64,
+) -> Result<Beginning, NoMemory>
     ensures before { IfOk result (λ e. e.before ≡ counts_in view.now) }
     ensures fault { IfOk result (λ e. e.fault ≡ enter_fault view.now.operations) }
     ensures share { IfOk result (λ e. e.share ≡ share_of view.now work.now) }
     ensures project { IfOk result (λ e. e.project ≡ project_of_task work.now) }
     ensures shown { IfOk result (λ e. e.shown ≡ view_of (pending_of view.now.operations.next work.now moment)) }
     ensures notice { IfOk result (λ e. e.notice ≡ record {
-        moment = moment;
-        project = work.now.project;
-        told = told_of.Op (view_of (pending_of view.now.operations.next work.now moment));
+      moment = moment;
+      project = work.now.project;
+      told = told_of.Op (view_of (pending_of view.now.operations.next work.now moment));
     }) }
 {
     let fault = enter_fault(view);
@@ -169,9 +169,9 @@ pub(crate) fn make_beginning(
     ensures project { IfOk result (λ e. e.project ≡ project_of_task work.now) }
     ensures shown { IfOk result (λ e. e.shown ≡ view_of (pending_of draft.old.state.operations.next work.now moment)) }
     ensures notice { IfOk result (λ e. e.notice ≡ record {
-        moment = moment;
-        project = work.now.project;
-        told = told_of.Op (view_of (pending_of draft.old.state.operations.next work.now moment));
+      moment = moment;
+      project = work.now.project;
+      told = told_of.Op (view_of (pending_of draft.old.state.operations.next work.now moment));
     }) }
     ensures ready { OnOk result (CanClaim draft.new) }
     ensures state { draft.new.state ≡ draft.old.state }
@@ -206,7 +206,7 @@ pub(crate) fn judge_claim(
 ) -> Result<(), Or<Refusal>>
     ensures { (s : State) → beginning.now.before ≡ counts_in s →
         Says result (claim_judged_by s command.now after.now beginning.now.fault
-            (option_and_then (λ (o : OperationValue Task). o.work.claim) (kept_at after.now.operations number))) }
+        (option_and_then (λ (o : OperationValue Task). o.work.claim) (kept_at after.now.operations number))) }
 {
     let claim = claim_of(after, number);
     claim_settings_broken(alloc, after, claim)?;

@@ -41,6 +41,6 @@ of-requires-clause-above c =
       ap (λ (b : Backing). b.greatest) (c.settle.ensures.backing ∙ c.apply.ensures.backing ∙ c.in_ok-reserve_for.ensures.backing),
       c.in_ok-draft.ensures.greatest,
       ap (λ (s : State). s.operations.next) (c.settle.ensures.state ∙ c.apply.ensures.state)
-      ∙ ap (λ k. k.next) (applied-operations c.args.changes c.reserve_for.new.self.state)
-      ∙ ap (λ (s : State). s.operations.next) (c.in_ok-reserve_for.ensures.state ∙ c.in_ok-draft.ensures.state),
+          ∙ ap (λ k. k.next) (applied-operations c.args.changes c.reserve_for.new.self.state)
+          ∙ ap (λ (s : State). s.operations.next) (c.in_ok-reserve_for.ensures.state ∙ c.in_ok-draft.ensures.state),
     )

@@ -83,8 +83,8 @@ invariant_of-self-2 g c = record {
         c.make_ready.ensures.greatest,
         ap (λ (b : Backing). b.greatest) (c.settle.ensures.backing ∙ c.apply.ensures.backing),
         ap (λ (s : State). s.operations.next) (c.settle.ensures.state ∙ c.apply.ensures.state)
-        ∙ ap (λ k. k.next) (applied-operations c.args.changes c.make_ready.new.draft.state)
-        ∙ ap (λ (s : State). s.operations.next) c.make_ready.ensures.state,
+            ∙ ap (λ k. k.next) (applied-operations c.args.changes c.make_ready.new.draft.state)
+            ∙ ap (λ (s : State). s.operations.next) c.make_ready.ensures.state,
       );
 }
 

@@ -32,8 +32,8 @@ returns-in-Err c = λ store.
     let planned = subst (λ t. IsToStart t command moment task) (sym is) c.requires.planned in
     let claimed = c.claim-number.ensures.state ∙ ap (λ t. claiming t task moment) c.make_beginning.ensures.state in
     let same = judged-claim old command moment task c.view.result c.in-Ok.beginning.fault c.claim-number.result c.self.invariant.whole.operations.kept planned
-        (c.view.ensures ∙ claimed) c.in-Ok.ensures.fault
-        (c.claim-number.ensures.number ∙ ap (λ (t : State). t.operations.next) c.make_beginning.ensures.state) in
+    (c.view.ensures ∙ claimed) c.in-Ok.ensures.fault
+    (c.claim-number.ensures.number ∙ ap (λ (t : State). t.operations.next) c.make_beginning.ensures.state) in
     subst (λ t. IsAsked t command moment c.give_up.new.draft.state c.self.inside.untold.items c.give_up.result store store) is
     (start-refused old command moment c.give_up.new.draft.state c.self.inside.untold.items c.in-Err.why c.give_up.result store
     (subst (Refuses c.in-Err.why) same (c.in-Err.ensures old c.in-Ok.ensures.before))
@@ -53,10 +53,10 @@ settle_beginning-requires-clause-limit c =
     let planned = subst (λ t. IsToStart t command moment task) (sym is) c.requires.planned in
     let claimed = c.claim-number.ensures.state ∙ ap (λ t. claiming t task moment) c.make_beginning.ensures.state in
     let same = judged-claim old command moment task c.view.result c.in-Ok.beginning.fault c.claim-number.result c.self.invariant.whole.operations.kept planned
-        (c.view.ensures ∙ claimed) c.in-Ok.ensures.fault
-        (c.claim-number.ensures.number ∙ ap (λ (t : State). t.operations.next) c.make_beginning.ensures.state) in
+    (c.view.ensures ∙ claimed) c.in-Ok.ensures.fault
+    (c.claim-number.ensures.number ∙ ap (λ (t : State). t.operations.next) c.make_beginning.ensures.state) in
     let accepted = start-accepted old command moment task c.self.invariant.whole planned
-        (sym same ∙ c.in_default-judged.ensures old c.in-Ok.ensures.before) in
+    (sym same ∙ c.in_default-judged.ensures old c.in-Ok.ensures.before) in
     omega (arith, number-left old task moment (whole-entered accepted), ap (λ (t : State). t.operations.next) claimed)
 
 pub settle_beginning-requires-clause-small : goal.settle_beginning-requires-clause-small
@@ -73,12 +73,12 @@ invariant_of-self-2 c =
     let planned = subst (λ t. IsToStart t command moment task) (sym is) c.requires.planned in
     let claimed = c.claim-number.ensures.state ∙ ap (λ t. claiming t task moment) c.make_beginning.ensures.state in
     let same = judged-claim old command moment task c.view.result c.in-Ok.beginning.fault c.claim-number.result c.self.invariant.whole.operations.kept planned
-        (c.view.ensures ∙ claimed) c.in-Ok.ensures.fault
-        (c.claim-number.ensures.number ∙ ap (λ (t : State). t.operations.next) c.make_beginning.ensures.state) in
+    (c.view.ensures ∙ claimed) c.in-Ok.ensures.fault
+    (c.claim-number.ensures.number ∙ ap (λ (t : State). t.operations.next) c.make_beginning.ensures.state) in
     let accepted = start-accepted old command moment task c.self.invariant.whole planned
-        (sym same ∙ c.in_default-judged.ensures old c.in-Ok.ensures.before) in
+    (sym same ∙ c.in_default-judged.ensures old c.in-Ok.ensures.before) in
     let made = entered-from old task moment c.settle_beginning.new.draft.state c.claim-number.new.self.state c.in-Ok.beginning.project c.in-Ok.beginning.share
-        claimed c.in-Ok.ensures.project c.in-Ok.ensures.share c.settle_beginning.ensures.state in
+    claimed c.in-Ok.ensures.project c.in-Ok.ensures.share c.settle_beginning.ensures.state in
     record {
       whole = subst IsWhole (sym made) (whole-entered accepted);
       silent = subst IsSilent (sym made) (entered-silent old task moment c.self.invariant.silent);
@@ -103,12 +103,12 @@ returns c = λ store.
     let planned = subst (λ t. IsToStart t command moment task) (sym is) c.requires.planned in
     let claimed = c.claim-number.ensures.state ∙ ap (λ t. claiming t task moment) c.make_beginning.ensures.state in
     let same = judged-claim old command moment task c.view.result c.in-Ok.beginning.fault c.claim-number.result c.self.invariant.whole.operations.kept planned
-        (c.view.ensures ∙ claimed) c.in-Ok.ensures.fault
-        (c.claim-number.ensures.number ∙ ap (λ (t : State). t.operations.next) c.make_beginning.ensures.state) in
+    (c.view.ensures ∙ claimed) c.in-Ok.ensures.fault
+    (c.claim-number.ensures.number ∙ ap (λ (t : State). t.operations.next) c.make_beginning.ensures.state) in
     let accepted = start-accepted old command moment task c.self.invariant.whole planned
-        (sym same ∙ c.in_default-judged.ensures old c.in-Ok.ensures.before) in
+    (sym same ∙ c.in_default-judged.ensures old c.in-Ok.ensures.before) in
     let made = entered-from old task moment c.settle_beginning.new.draft.state c.claim-number.new.self.state c.in-Ok.beginning.project c.in-Ok.beginning.share
-        claimed c.in-Ok.ensures.project c.in-Ok.ensures.share c.settle_beginning.ensures.state in
+    claimed c.in-Ok.ensures.project c.in-Ok.ensures.share c.settle_beginning.ensures.state in
     let none = ap (λ (k : Kept). k.untold) c.self.view_is ∙ c.requires.quiet in
     subst (λ t. IsAsked t command moment c.settle_beginning.new.draft.state c.settle_beginning.new.untold.items c.settle_beginning.result store store) is
     (start-made old command moment task c.settle_beginning.new.draft.state c.settle_beginning.new.untold.items c.settle_beginning.result store accepted made
