@@ -10,5 +10,6 @@ mod Powers
 mod Reporting
 mod Reports
 mod Silent
+pub mod Started
 pub mod Stepping
 mod Turning

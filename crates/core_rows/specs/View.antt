@@ -1,5 +1,5 @@
 -- What contracts see of the rows of the server, and what is true of the fields.
-use Rattle.std.specs.Prelude.{◌≡◌, ◌≤◌, [], map, vec_capacity}
+use Rattle.std.specs.Prelude.{◌≡◌, ◌<◌, ◌≤◌, [], map, vec_capacity}
 use Rattle.row_machine.specs.facts.Whole.{IsWhole}
 use Rattle.core_rows.specs.declared.estate.Estate.TheInside.{Inside}
 use Rattle.core_rows.specs.Kept.{Kept, IsSilent, untold_limit}
@@ -9,10 +9,11 @@ use Rattle.core_rows.specs.Waiting.{told_by}
 abbrev pub kept : Inside → Kept
 kept e = record { state = e.draft.state; untold = map (told_by e.draft.state.operations) e.untold.items }
 
--- the facts hold of the state, in which nothing was told; no change of it is left unsettled; and there is room for the notices of
--- a step
+-- the facts hold of the state, in which nothing was told; no change of it is left unsettled; there is room for the notices of
+-- a step; and each operation that ever held a share is below the next one
 pub record IsEstate (e : Inside) : Type 0 where
   pub whole : IsWhole e.draft.state
   pub silent : IsSilent e.draft.state
   pub settled : e.draft.log ≡ []
   pub room : untold_limit ≤ vec_capacity e.untold
+  pub above : e.draft.backing.greatest < e.draft.state.operations.next

@@ -109,6 +109,7 @@ pub(crate) fn give_up(draft: &mut Draft, why: Or<Refusal>) -> Reply
     ensures reply { result ≡ reply_for why }
     ensures state { draft.new.state ≡ former draft.old }
     ensures log { draft.new.log ≡ [] }
+    ensures greatest { draft.new.backing.greatest ≡ draft.old.backing.greatest }
 {
     draft.take_back();
     refused_reply(why)

@@ -6,10 +6,13 @@ ghost use Rattle.row_machine.specs.facts.Whole.{IsWhole};
 ghost use Rattle.size_values.specs.Moments.{moment_limit};
 ghost use Rattle.core_rows.specs.Jobs.{IsTaken};
 ghost use Rattle.core_rows.specs.Kept.{IsSilent};
-ghost use Rattle.core_rows.specs.Planned.{Follows, IsToDo};
+ghost use Rattle.core_rows.specs.Planned.{Follows, IsToDo, IsToStart};
+ghost use Rattle.core_rows.specs.Asked.{IsAsked};
+ghost use Rattle.record_keeper.specs.Store.{Store};
 
 use crate::changing::{commit, copy_changes, give_up, judge};
 use crate::jobs::{begin, first_pending, tell};
+use crate::starting::{judge_claim, make_beginning, settle_beginning};
 use crate::waiting::{Waiting, told_by};
 use host_model::HostCall;
 use limit_rules::{Usage, usage_before_changes};
@@ -17,7 +20,7 @@ use plain_lists::push_reserved;
 use record_keeper::Keeper;
 use records::{Command, Reply, Untold};
 use row_drafts::Draft;
-use row_machine::RowChange;
+use row_machine::{RowChange, Work};
 use row_readings::View;
 use size_values::{NoMemory, Seq};
 use std::alloc::Global;
@@ -58,6 +61,7 @@ fn make_ready(alloc: Global, draft: &mut Draft, changes: &Seq<RowChange>) -> Res
     ensures ready { OnOk result (IsReady draft.new changes.now) }
     ensures state { draft.new.state ≡ draft.old.state }
     ensures log { draft.new.log ≡ [] }
+    ensures greatest { draft.new.backing.greatest ≡ draft.old.backing.greatest }
 {
     draft.reserve_for(alloc, changes)?;
     let before = usage_before_changes(alloc, &draft.view(), changes.view())?;
@@ -71,6 +75,7 @@ impl Estate {
         requires whole { IsWhole draft.state }
         requires silent { IsSilent draft.state }
         requires settled { draft.log ≡ [] }
+        requires above { draft.backing.greatest < draft.state.operations.next }
         ensures state { IfOk result (λ e. e.state ≡ draft.state) }
         ensures untold { IfOk result (λ e. e.untold ≡ []) }
     {
@@ -143,6 +148,27 @@ impl Estate {
         let call = begin(&mut self.draft, number, moment);
         tell(&mut self.untold, &self.draft.view(), number, moment);
         Some((number, call))
+    }
+
+    /// Begins the background operation of a command that breaks no rule on names and on what stands in the way. The operation is
+    /// entered and judged by the state with its claim; where a rule is broken or memory is refused, it is taken back. Else it
+    /// holds its share from then on, and its notice is left to be told. The store is not asked.
+    pub fn start(&mut self, alloc: Global, command: &Command, moment: u64, work: Work) -> Reply
+        requires quiet { self.old.untold ≡ [] }
+        requires planned { IsToStart self.old.state command.now moment work }
+        ensures { (store : Store) → IsAsked self.old.state command.now moment self.new.state self.new.untold result store store }
+    {
+        let Ok(beginning) = make_beginning(alloc, &mut self.draft, &work, moment) else {
+            drop(work);
+            return Reply::NoMemory;
+        };
+        let number = self.draft.claim(work, moment);
+        let judged = judge_claim(alloc, &beginning, &self.draft.view(), command, number);
+        if let Err(why) = judged {
+            drop(beginning);
+            return give_up(&mut self.draft, why);
+        }
+        settle_beginning(&mut self.draft, &mut self.untold, beginning)
     }
 
     /// Hands out the first notice that was not yet taken.

@@ -91,6 +91,7 @@ pub(crate) fn begin(draft: &mut Draft, number: u64, moment: u64) -> HostCall
     requires first { first_pending_of draft.old.state.operations ≡ Some number }
     ensures begun { IsBegun draft.old.state number moment result draft.new.state }
     ensures log { draft.new.log ≡ [] }
+    ensures greatest { draft.new.backing.greatest ≡ draft.old.backing.greatest }
 {
     draft.set_status(number, Status::Running, moment);
     draft.hand_out(number)

@@ -8,6 +8,7 @@ mod entries;
 mod estate;
 mod jobs;
 mod opening;
+mod starting;
 mod turns;
 mod waiting;
 

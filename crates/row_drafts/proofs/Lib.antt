@@ -1,5 +1,6 @@
 mod Backgrounds
 mod Backs
+pub mod Entering
 mod Fitting
 mod Handed
 mod HeldAside

@@ -1,8 +1,11 @@
-use Rattle.std.proofs.Common.{refl, ◌∙◌, ap, sym, subst}
+use Rattle.std.proofs.Common.{arith, refl, ◌∙◌, ap, sym, subst}
 use Rattle.row_machine.specs.machine.State.{empty_state}
 use Rattle.row_machine.specs.machine.Changes.{applied}
 use Rattle.row_machine.specs.facts.Whole.{IsWhole}
 use Rattle.row_machine.proofs.Beginning.{new-whole}
+use Rattle.row_machine.specs.machine.State.{State}
+use Rattle.row_drafts.specs.Background.{Backing}
+use Rattle.machine_laws.proofs.NamesApplied.{applied-operations}
 use Rattle.core_rows.specs.Kept.{IsSilent}
 use Rattle.core_rows.specs.Opening.{first_state}
 use Rattle.core_rows.proofs.opening.first_estate.Goals as goal
@@ -17,7 +20,7 @@ of-requires-clause-whole c =
     (sym
     (c.settle.ensures.state
     ∙ c.apply.ensures.state
-    ∙ ap (λ s. applied s c.args.changes) (c.in_ok-reserve_for.ensures.state ∙ c.new-draft.ensures.state)
+    ∙ ap (λ s. applied s c.args.changes) (c.in_ok-reserve_for.ensures.state ∙ c.in_ok-draft.ensures.state)
     ∙ ap (applied empty_state) c.requires))
     new-whole
 
@@ -27,6 +30,17 @@ of-requires-clause-silent c =
     (sym
     (c.settle.ensures.state
     ∙ c.apply.ensures.state
-    ∙ ap (λ s. applied s c.args.changes) (c.in_ok-reserve_for.ensures.state ∙ c.new-draft.ensures.state)
+    ∙ ap (λ s. applied s c.args.changes) (c.in_ok-reserve_for.ensures.state ∙ c.in_ok-draft.ensures.state)
     ∙ ap (applied empty_state) c.requires))
     first-silent
+
+pub of-requires-clause-above : goal.of-requires-clause-above
+of-requires-clause-above c =
+    omega (
+      arith,
+      ap (λ (b : Backing). b.greatest) (c.settle.ensures.backing ∙ c.apply.ensures.backing ∙ c.in_ok-reserve_for.ensures.backing),
+      c.in_ok-draft.ensures.greatest,
+      ap (λ (s : State). s.operations.next) (c.settle.ensures.state ∙ c.apply.ensures.state)
+          ∙ ap (λ k. k.next) (applied-operations c.args.changes c.reserve_for.new.self.state)
+          ∙ ap (λ (s : State). s.operations.next) (c.in_ok-reserve_for.ensures.state ∙ c.in_ok-draft.ensures.state),
+    )

@@ -5,6 +5,9 @@ use Rattle.limit_rules.specs.Exceeding.{Serves}
 use Rattle.row_machine.specs.machine.Changes.{applied}
 use Rattle.row_machine.specs.facts.Whole.{IsWhole}
 use Rattle.machine_laws.specs.Entries.{entry_changes}
+use Rattle.row_machine.specs.machine.State.{State}
+use Rattle.row_drafts.specs.Background.{Backing}
+use Rattle.machine_laws.proofs.NamesApplied.{applied-operations}
 use Rattle.row_drafts.specs.Steps.{before_changes}
 use Rattle.core_rows.specs.Kept.{Kept, HasEntry, IsSilent}
 use Rattle.core_rows.proofs.Silent.{applied-silent, still-quiet, only-one}
@@ -73,6 +76,16 @@ invariant_of-self-2 g c = record {
       (applied-silent c.args.changes c.self.inside.draft.state c.self.invariant.silent);
   settled = c.settle.ensures.log;
   room = omega (arith, c.self.invariant.room, c.push_reserved.ensures.capacity);
+  above =
+      omega (
+        arith,
+        c.self.invariant.above,
+        c.make_ready.ensures.greatest,
+        ap (λ (b : Backing). b.greatest) (c.settle.ensures.backing ∙ c.apply.ensures.backing),
+        ap (λ (s : State). s.operations.next) (c.settle.ensures.state ∙ c.apply.ensures.state)
+            ∙ ap (λ k. k.next) (applied-operations c.args.changes c.make_ready.new.draft.state)
+            ∙ ap (λ (s : State). s.operations.next) c.make_ready.ensures.state,
+      );
 }
 
 pub returns : goal.returns

@@ -15,6 +15,7 @@ invariant_of-self c = record {
       c.begin-call.ensures.begun;
   settled = c.begin-call.ensures.log;
   room = omega (arith, c.self.invariant.room, c.tell.ensures.capacity);
+  above = omega (arith, c.self.invariant.above, c.begin-call.ensures.greatest, ap (λ (s : State). s.operations.next) c.begin-call.ensures.begun.made);
 }
 
 pub returns : goal.returns
