@@ -18,3 +18,8 @@ still-quiet f g (x ∷ xs) e = cc
 pub only-one : {X Y : Type 0} (f g : X → Y) (xs ys : List X) (x : X) → map f xs ≡ [] → ys ≡ xs ++ x ∷ [] → map g ys ≡ g x ∷ []
 only-one f g [] ys x e is = ap (map g) is
 only-one f g (y ∷ xs) ys x e is = cc
+
+-- no notices wait where none are read
+pub none-wait : {X Y : Type 0} (f : X → Y) (xs : List X) → map f xs ≡ [] → xs ≡ []
+none-wait f [] e = refl
+none-wait f (x ∷ xs) e = cc

@@ -87,6 +87,7 @@ module _ (s : State) (number : ℕ) (o : Operation Task) (live : live_at s.opera
   as-live now is = record { of = o; live = live; numbered = live-number s number o live; status = is }
 
   next-while : (now : Status) (r : Report) → o.status ≡ now → turn_while o r now ≡ turn.Next → HasNext s number r
+  unfolding as-live
   next-while status.Running report.Done is e = at o.work.calls refl e where
     at : (calls : List HostCall) → o.work.calls ≡ calls → turn_done calls ≡ turn.Next → HasNext s number report.Done
     at [] which e = cc
@@ -103,6 +104,7 @@ module _ (s : State) (number : ℕ) (o : Operation Task) (live : live_at s.opera
   next-while status.Cancelled r is e = cc
 
   last-while : (now : Status) (r : Report) → o.status ≡ now → turn_while o r now ≡ turn.Last → HasLast s number r
+  unfolding as-live
   last-while status.Running report.Done is e = at o.work.calls refl e where
     at : (calls : List HostCall) → o.work.calls ≡ calls → turn_done calls ≡ turn.Last → HasLast s number report.Done
     at [] which e = record { running = as-live status.Running is; calls = which; report = refl }

@@ -1,4 +1,4 @@
-use Rattle.std.proofs.Common.{◌∙◌, ap, sym, subst, arith}
+use Rattle.std.proofs.Common.{length, ◌∙◌, ap, sym, subst, arith}
 use Rattle.std.specs.List.{AllByRecursion}
 use Rattle.record_keeper.specs.Store.{after_commit}
 use Rattle.limit_rules.specs.Exceeding.{Serves}
@@ -10,7 +10,7 @@ use Rattle.row_drafts.specs.Background.{Backing}
 use Rattle.machine_laws.proofs.NamesApplied.{applied-operations}
 use Rattle.row_drafts.specs.Steps.{before_changes}
 use Rattle.core_rows.specs.Kept.{Kept, HasEntry, IsSilent}
-use Rattle.core_rows.proofs.Silent.{applied-silent, still-quiet, only-one}
+use Rattle.core_rows.proofs.Silent.{applied-silent, still-quiet, only-one, none-wait}
 use Rattle.core_rows.proofs.Changed.{accepted-from, refused-from, uncommitted-from, unready-from}
 use Rattle.core_rows.proofs.Following.{follows-made}
 use Rattle.core_rows.proofs.Judging.{entries-ready}
@@ -87,6 +87,10 @@ invariant_of-self-2 g c = record {
             ∙ ap (λ (s : State). s.operations.next) c.make_ready.ensures.state,
       );
 }
+
+pub push_reserved-requires : goal.push_reserved-requires
+push_reserved-requires g c =
+    omega (arith, c.self.invariant.room, ap length (none-wait _ c.self.inside.untold.items (ap (λ (k : Kept). k.untold) c.self.view_is ∙ c.requires.quiet)))
 
 pub returns : goal.returns
 returns g c =

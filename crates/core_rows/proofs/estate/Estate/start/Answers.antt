@@ -1,4 +1,4 @@
-use Rattle.std.proofs.Common.{[], ◌∷◌, map, refl, ap, sym, subst, ◌∙◌, arith}
+use Rattle.std.proofs.Common.{[], ◌∷◌, map, length, refl, ap, sym, subst, ◌∙◌, arith}
 use Rattle.size_values.specs.Amounts.{part}
 use Rattle.size_values.specs.Causes.{Refuses}
 use Rattle.size_values.specs.declared.memory.Or.TheVariants as or
@@ -13,7 +13,7 @@ use Rattle.core_rows.specs.Asked.{IsAsked}
 use Rattle.core_rows.specs.Kept.{Kept, IsSilent}
 use Rattle.core_rows.specs.Planned.{IsToStart}
 use Rattle.core_rows.specs.Waiting.{told_by}
-use Rattle.core_rows.proofs.Silent.{still-quiet, only-one}
+use Rattle.core_rows.proofs.Silent.{still-quiet, only-one, none-wait}
 use Rattle.core_rows.proofs.Started.{judged-claim, start-refused, start-accepted, start-made, entered-from, number-left, entered-silent}
 use Rattle.core_rows.proofs.estate.Estate.start.Goals as goal
 
@@ -60,6 +60,10 @@ settle_beginning-requires-clause-limit c =
     let accepted = start-accepted old command moment task c.self.invariant.whole planned
     (sym same ∙ c.in_default-judged.ensures old c.in-Ok.ensures.before) in
     omega (arith, number-left old task moment (whole-entered accepted), ap (λ (t : State). t.operations.next) claimed)
+
+pub settle_beginning-requires-clause-room : goal.settle_beginning-requires-clause-room
+settle_beginning-requires-clause-room c =
+    omega (arith, c.self.invariant.room, ap length (none-wait _ c.self.inside.untold.items (ap (λ (k : Kept). k.untold) c.self.view_is ∙ c.requires.quiet)))
 
 pub settle_beginning-requires-clause-small : goal.settle_beginning-requires-clause-small
 settle_beginning-requires-clause-small c = λ k.
