@@ -1,4 +1,5 @@
 -- A read of instances or operations as one step of the machine.
+use Rattle.std.specs.Prelude.{pos, negsuc}
 use Rattle.std.proofs.Common.{◌≡◌, ℕ, true, false, cond, List, refl, ap}
 use Rattle.records.specs.declared.commands.Command.{Command}
 use Rattle.records.specs.declared.commands.What.{What}
@@ -20,10 +21,15 @@ reads-only s project (what.List of recursion) moment is answered = record { plan
 reads-only s project (what.Get of) moment is answered = record { plan = refl; uncancelled = refl; answers = refl }
 reads-only s project (what.State of) moment is answered = record { plan = refl; uncancelled = refl; answers = refl }
 reads-only s project (what.GetOp op) moment is answered = record { plan = refl; uncancelled = refl; answers = refl }
-reads-only s project (what.Wait op timeout) moment is answered = record {
+reads-only s project (what.Wait op (pos n)) moment is answered = record {
   plan = refl;
   uncancelled = refl;
-  answers = ap (λ held. and_then (cond held (answer.Hold op) (answer.Reply (read s project (what.Wait op timeout)))) s) answered;
+  answers = ap (λ held. and_then (cond held (answer.Hold op) (answer.Reply (read s project (what.Wait op (pos n))))) s) answered;
+}
+reads-only s project (what.Wait op (negsuc n)) moment is answered = record {
+  plan = refl;
+  uncancelled = refl;
+  answers = ap (λ held. and_then (cond held (answer.Hold op) (answer.Reply (read s project (what.Wait op (negsuc n))))) s) answered;
 }
 reads-only s project other moment is answered = cc
 

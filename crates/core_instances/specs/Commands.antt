@@ -1,12 +1,11 @@
 -- The commands on instances and operations that are carried out so far, and those that only read.
-use Rattle.std.specs.Prelude.{Bool, true, false, not, ◌&&◌, is_some}
+use Rattle.std.specs.Prelude.{ℤ, pos, negsuc, ◌==◌, Bool, true, false, not, ◌&&◌, is_some}
 use Rattle.size_values.specs.declared.kinds.ObjectKind.{ObjectKind}
 use Rattle.size_values.specs.declared.kinds.ObjectKind.TheVariants as kind
 use Rattle.operations.specs.Kept.{live_at}
 use Rattle.records.specs.declared.commands.What.{What}
 use Rattle.records.specs.declared.commands.What.TheVariants as what
 use Rattle.row_machine.specs.machine.State.{State}
-use Rattle.row_machine.specs.machine.Accept.{is_zero}
 
 -- instances
 abbrev pub is_instance : ObjectKind → Bool
@@ -37,6 +36,11 @@ is_read (what.State of) = true
 is_read (what.GetOp op) = true
 is_read (what.Wait op timeout) = true
 is_read other = false
+
+-- whether a number of seconds is none
+abbrev pub is_zero : ℤ → Bool
+is_zero (pos n) = n == 0
+is_zero (negsuc n) = false
 
 -- whether its answer is held back: it waits for a live operation, for some time
 abbrev pub is_held : State → What → Bool
