@@ -17,7 +17,7 @@ use Rattle.row_machine.specs.machine.Rules.{names_broken}
 use Rattle.machine_laws.proofs.Commands.{command_of, target}
 use Rattle.machine_laws.proofs.Speaking.{about-patch}
 use Rattle.object_plans.specs.Planning.{changes_in}
-use Rattle.core_objects.proofs.BuiltChanges.{its-object}
+use Rattle.core_objects.proofs.ObjectChanges.{its-object}
 use Rattle.core_instances.specs.Commands.{is_command, is_read, is_instance}
 
 -- an instance that is there

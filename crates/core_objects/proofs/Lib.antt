@@ -1,3 +1,3 @@
-pub mod BuiltChanges
 pub mod FirstRules
+pub mod ObjectChanges
 pub mod ReadSteps

@@ -1,7 +1,6 @@
 ghost use Rattle.std.specs.Prelude.{◌≡◌, ◌≢◌, ◌<◌, ◌∷◌, [], true, None};
 ghost use Rattle.size_values.specs.Causes.{Says};
 ghost use Rattle.plain_lists.specs.Firsts.{first};
-ghost use Rattle.records.specs.Built.{is_built_command};
 ghost use Rattle.records.specs.Forms.{is_formed};
 ghost use Rattle.row_machine.specs.machine.Rules.{names_broken};
 ghost use Rattle.row_machine.specs.machine.Rules.{standing_broken};
@@ -10,6 +9,7 @@ ghost use Rattle.row_machine.specs.shown.Views.{read};
 ghost use Rattle.object_plans.specs.Planning.{changes_in};
 ghost use Rattle.core_rows.specs.Planned.{Follows};
 ghost use Rattle.core_objects.specs.Answers.{IsAnswer, is_read};
+ghost use Rattle.core_objects.specs.Commands.{is_object_command};
 
 use core_rows::{Estate, refused_reply};
 use name_rules::names_broken;
@@ -91,9 +91,9 @@ pub fn change_at_once<R: Keeper>(
     }
 }
 
-/// Carries one command out, of those that are built. A command that breaks a rule changes nothing, and neither
-/// does one whose changes the keeper did not commit. The notices of a change are left with the estate. The moment is in
-/// seconds since 1970 (<https://linuxcontainers.org/incus/docs/main/rest-api/>).
+/// Carries out one command on projects, profiles, networks, pools or volumes. A command that breaks a rule changes
+/// nothing, and neither does one whose changes the keeper did not commit. The notices of a change are left with the
+/// estate. The moment is in seconds since 1970 (<https://linuxcontainers.org/incus/docs/main/rest-api/>).
 pub fn do_object<R: Keeper>(
     alloc: Global,
     estate: &mut Estate,
@@ -103,7 +103,7 @@ pub fn do_object<R: Keeper>(
 ) -> Reply
     requires quiet { estate.old.untold ≡ [] }
     requires formed { is_formed command.now ≡ true }
-    requires built { is_built_command command.now ≡ true }
+    requires command { is_object_command command.now.what ≡ true }
     requires moment { moment < MOMENT_LIMIT }
     ensures { Follows estate.old.state command.now moment estate.new.state estate.new.untold result (R.store keeper.old)
         (R.store keeper.new) }

@@ -4,7 +4,7 @@ ghost use Rattle.records.specs.Built.{is_built_kind, is_built_state};
 
 use size_values::ObjectKind;
 
-/// Whether objects of a kind are listed, shown, made, changed and deleted.
+/// Whether objects of a kind are listed and shown, and made where a client can make them.
 pub fn is_built_kind(kind: ObjectKind) -> bool
     ensures { result ≡ is_built_kind kind }
 {
@@ -13,8 +13,10 @@ pub fn is_built_kind(kind: ObjectKind) -> bool
         | ObjectKind::Profile
         | ObjectKind::Network
         | ObjectKind::Pool
-        | ObjectKind::Volume => true,
-        ObjectKind::Instance | ObjectKind::Snapshot | ObjectKind::Operation => false,
+        | ObjectKind::Volume
+        | ObjectKind::Instance
+        | ObjectKind::Operation => true,
+        ObjectKind::Snapshot => false,
     }
 }
 
@@ -23,7 +25,7 @@ pub fn is_built_state(kind: ObjectKind) -> bool
     ensures { result ≡ is_built_state kind }
 {
     match kind {
-        ObjectKind::Project => true,
+        ObjectKind::Project | ObjectKind::Instance => true,
         _ => false,
     }
 }

@@ -7,7 +7,7 @@ use Rattle.row_drafts.specs.Background.{with_background}
 use Rattle.row_drafts.specs.Drafted.{Listed, Drafted}
 use Rattle.row_drafts.specs.Steps.{FitChanges}
 
--- the state with these rows, statuses, operations and shares
+-- the state with these rows, statuses, operations and shares, which was told to close or not
 abbrev pub state_in : ListsInside → State
 state_in l = with_background l.background (record empty_state {
   projects = l.projects.items;
@@ -18,6 +18,7 @@ state_in l = with_background l.background (record empty_state {
   instances = l.instances.items;
   snapshots = l.snapshots.items;
   powers = l.powers.items;
+  closed = l.closed;
 })
 
 -- the rows and operations, and the least room that a kind of rows has

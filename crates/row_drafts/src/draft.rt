@@ -1,4 +1,4 @@
-ghost use Rattle.std.specs.Prelude.{◌≡◌, ◌+◌, ◌*◌, ◌-◌, ◌^◌, ◌<◌, ◌≤◌, ◌∷◌, ◌++◌, [], Some, IsSome, length, take, drop, find, IfOk, OnOk};
+ghost use Rattle.std.specs.Prelude.{◌≡◌, ◌+◌, ◌*◌, ◌-◌, ◌^◌, ◌<◌, ◌≤◌, ◌∷◌, ◌++◌, [], true, Some, IsSome, length, take, drop, find, IfOk, OnOk};
 ghost use Rattle.host_model.specs.declared.call.HostCall.{HostCall as HostCallValue};
 ghost use Rattle.operations.specs.Kept.{live_at};
 ghost use Rattle.operations.specs.declared.operation.Operation.{Operation as OperationValue};
@@ -112,6 +112,17 @@ impl Draft {
         ensures { result ≡ self.now.state }
     {
         self.lists.view()
+    }
+
+    /// The server is told to close. It takes no memory.
+    #[tactic(auto, using(crate::proofs::Settled::settled_is))]
+    pub fn close(&mut self)
+        requires settled { self.old.log ≡ [] }
+        ensures state { self.new.state ≡ record self.old.state { closed = true } }
+        ensures log { self.new.log ≡ [] }
+        ensures backing { self.new.backing ≡ self.old.backing }
+    {
+        self.lists.close();
     }
 
     /// Takes memory for these changes, and for taking them back.

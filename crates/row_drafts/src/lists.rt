@@ -1,4 +1,4 @@
-ghost use Rattle.std.specs.Prelude.{◌≡◌, ◌+◌, ◌-◌, ◌^◌, ◌<◌, ◌≤◌, ◌∷◌, [], Some, IsSome, length, take, drop, find, if◌then◌else◌, OnOk, IfOk};
+ghost use Rattle.std.specs.Prelude.{◌≡◌, ◌+◌, ◌-◌, ◌^◌, ◌<◌, ◌≤◌, ◌∷◌, [], true, Some, IsSome, length, take, drop, find, if◌then◌else◌, OnOk, IfOk};
 ghost use Rattle.std.specs.List.{list_any, position};
 ghost use Rattle.host_model.specs.declared.call.HostCall.{HostCall as HostCallValue};
 ghost use Rattle.operations.specs.Kept.{live_at};
@@ -45,7 +45,8 @@ pub(crate) enum Undone {
     Nothing,
 }
 
-/// The rows of each kind in the order of their names, the status of each instance, and the kept operations. Contracts see
+/// The rows of each kind in the order of their names, the status of each instance, the kept operations, and whether the server was
+/// told to close. Contracts see
 /// the state with them, and how many rows of each kind can be put in without taking memory.
 #[derive(Drop)]
 pub(crate) struct Lists {
@@ -58,6 +59,7 @@ pub(crate) struct Lists {
     snapshots: Vec<Snapshot>,
     powers: Vec<InstancePower>,
     background: Background,
+    closed: bool,
 }
 
 impl Model for Lists {
@@ -87,6 +89,7 @@ impl Lists {
             snapshots: Vec::new(alloc),
             powers: Vec::new(alloc),
             background,
+            closed: false,
         })
     }
 
@@ -108,7 +111,16 @@ impl Lists {
             next: self.background.next(),
             held: self.background.holds(),
             books: self.background.books(),
+            closed: self.closed,
         }
+    }
+
+    /// The server is told to close.
+    pub(crate) fn close(&mut self)
+        ensures state { self.new.state ≡ record self.old.state { closed = true } }
+        ensures backing { self.new.backing ≡ self.old.backing }
+    {
+        self.closed = true;
     }
 
     /// Takes memory for so many more rows of each kind.

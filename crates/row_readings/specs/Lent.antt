@@ -2,7 +2,7 @@
 use Rattle.row_machine.specs.machine.State.{State, empty_state}
 use Rattle.row_readings.specs.declared.view.View.TheInside.{Inside}
 
--- the state with these rows, statuses, operations and shares
+-- the state with these rows, statuses, operations and shares, which was told to close or not
 abbrev pub state_in : Inside → State
 state_in v = record empty_state {
   projects = v.projects.now;
@@ -16,4 +16,5 @@ state_in v = record empty_state {
   operations = record { live = v.live.now; ended = v.ended.now; next = v.next };
   held = v.held.now;
   books = v.books;
+  closed = v.closed;
 }

@@ -23,8 +23,8 @@ impl Model for InstancePower {
 
 /// The rows of each kind, in the order of project, pool or instance, and name, the status of each instance, and the kept
 /// operations: those that live in the order of their numbers, those that ended in the order of their ends, and the
-/// number of the next one; and the shares that live operations hold, and the books. The lists are lent. Contracts see the
-/// state of the row machine with these rows, statuses, operations and shares, in which nothing was told yet.
+/// number of the next one; the shares that live operations hold, and the books; and whether the server was told to close. The
+/// lists are lent. Contracts see the state of the row machine with all of it, in which nothing was told yet.
 #[derive(Drop)]
 pub struct View<'a> {
     pub projects: &'a [Project],
@@ -40,6 +40,7 @@ pub struct View<'a> {
     pub next: u64,
     pub held: &'a [Hold],
     pub books: Books,
+    pub closed: bool,
 }
 
 impl<'a> Model for View<'a> {

@@ -83,6 +83,7 @@ impl Rows {
             next: self.next,
             held: &self.held,
             books: self.books,
+            closed: false,
         }
     }
 

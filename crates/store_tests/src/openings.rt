@@ -1,6 +1,6 @@
 //! How rows are opened over a keeper, and read, changed and told after that.
 ghost use Rattle.std.specs.Prelude.{◌≡◌, [], true, IfOk};
-ghost use Rattle.records.specs.Built.{is_built_command};
+ghost use Rattle.core_objects.specs.Commands.{is_object_command};
 ghost use Rattle.records.specs.Forms.{is_formed};
 
 use core_objects::do_object;
@@ -68,7 +68,7 @@ fn rows_are_opened_once(rt: HostRuntime) {
 /// A PATCH of the profile `default` that changes nothing.
 fn patch(alloc: Global) -> Result<Command, NoMemory>
     ensures formed { IfOk result (λ c. is_formed c ≡ true) }
-    ensures built { IfOk result (λ c. is_built_command c ≡ true) }
+    ensures command { IfOk result (λ c. is_object_command c.what ≡ true) }
 {
     let project = Text::from_text(alloc, "default")?;
     let name = Text::from_text(alloc, "default")?;
@@ -151,7 +151,7 @@ fn is_taken_back(alloc: Global, draft: &mut Draft) -> bool
 fn tells_once(alloc: Global, estate: &mut Estate, keeper: &mut MapKeeper, command: &Command) -> bool
     requires quiet { estate.old.untold ≡ [] }
     requires formed { is_formed command.now ≡ true }
-    requires built { is_built_command command.now ≡ true }
+    requires command { is_object_command command.now.what ≡ true }
 {
     let reply = do_object(alloc, estate, keeper, command, 0);
     let done = matches!(&reply, Reply::Empty);

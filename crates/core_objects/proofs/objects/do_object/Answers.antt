@@ -7,7 +7,7 @@ use Rattle.row_machine.specs.shown.Views.{read}
 use Rattle.core_rows.specs.Planned.{Follows}
 use Rattle.core_rows.proofs.Following.{follows-why}
 use Rattle.core_objects.specs.Answers.{IsAnswer}
-use Rattle.core_objects.proofs.BuiltChanges.{built-changes}
+use Rattle.core_objects.proofs.ObjectChanges.{object-changes}
 use Rattle.core_objects.proofs.FirstRules.{refuses-first, both-free}
 use Rattle.core_objects.proofs.ReadSteps.{reads, read-free, read-follows}
 use Rattle.core_objects.proofs.objects.do_object.Goals as goal
@@ -43,5 +43,5 @@ change_at_once-requires g c =
       formed = c.requires.formed;
       moment = c.requires.moment;
       free = free;
-      changes = built-changes s command c.args.moment c.requires.formed c.requires.built (sym c.is_read.ensures ∙ c.if-is_read.false) (both-free s command free).0;
+      changes = object-changes s command c.args.moment c.requires.formed c.requires.command (sym c.is_read.ensures ∙ c.if-is_read.false) (both-free s command free).0;
     }

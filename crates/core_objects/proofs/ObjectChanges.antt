@@ -1,9 +1,8 @@
--- Each command that is carried out either reads or changes rows at once.
+-- Each command on objects either reads or changes rows at once.
 use Rattle.std.proofs.Common.{◌≡◌, ℕ, Bool, true, false, ◌&&◌, List, Option, Some, None, option_map, refl}
 use Rattle.std.specs.Prelude.{is_some}
 use Rattle.size_values.specs.declared.kinds.ObjectKind.{ObjectKind}
 use Rattle.size_values.specs.declared.kinds.ObjectKind.TheVariants as kind
-use Rattle.records.specs.Built.{is_built_kind, is_built_request, is_built_origin}
 use Rattle.records.specs.Forms.{is_request, is_formed, is_renamable}
 use Rattle.records.specs.declared.rows.Project.{Project}
 use Rattle.records.specs.declared.rows.Profile.{Profile}
@@ -30,6 +29,7 @@ use Rattle.machine_laws.proofs.Speaking.{IsAbout, about-put, about-patch, about-
 use Rattle.machine_laws.proofs.Told.{names-right}
 use Rattle.object_plans.specs.Planning.{changes_in}
 use Rattle.core_objects.specs.Answers.{is_read}
+use Rattle.core_objects.specs.Commands.{is_object_kind, is_made_at_once, is_object_command}
 
 -- what is there is changed
 changes-there : {X : Type 0} (as_row : X → Row) (plan : Row → Plan) (o : Option X) → ((x : X) → changes_in (plan (as_row x)) ≡ None → ⊥)
@@ -48,7 +48,7 @@ ChangesEach other plan = Unit {0}
 
 -- the object of a path that is there is changed
 module _ (s : State) (project pool instance name : List ℕ) where
-  row-changes : (k : ObjectKind) (plan : Row → Plan) → is_built_kind k ≡ true → ChangesEach k plan → is_there s project (target k pool instance name) ≡ true
+  row-changes : (k : ObjectKind) (plan : Row → Plan) → is_object_kind k ≡ true → ChangesEach k plan → is_there s project (target k pool instance name) ≡ true
       → changes_in (if_there plan (row_of s project (target k pool instance name))) ≡ None → ⊥
   row-changes kind.Project plan built each there e = changes-there row.Project plan (project_named s.projects name) each there e
   row-changes kind.Profile plan built each there e =
@@ -99,14 +99,14 @@ module _ (s : State) (project : List ℕ) (of : Target) where
   deletes-each other = tt
 
 -- a volume that is no copy is made at once
-volume-made : (s : State) (home : List ℕ) (of : Target) (body : Body) (moment : ℕ) (from : Origin) → is_built_origin from ≡ true
+volume-made : (s : State) (home : List ℕ) (of : Target) (body : Body) (moment : ℕ) (from : Origin) → is_made_at_once from ≡ true
     → changes_in (volume_creation s home of body moment from) ≡ None → ⊥
 volume-made s home of body moment origin.None built e = cc
 volume-made s home of body moment (origin.Image alias) built e = cc
 volume-made s home of body moment (origin.Copy from snapshot pool) built e = cc
 
 creates : (s : State) (project : List ℕ) (k : ObjectKind) (pool instance name : List ℕ) (body : Body) (moment : ℕ)
-    → is_built_request (what.Create (target k pool instance name) body) ≡ true
+    → is_object_command (what.Create (target k pool instance name) body) ≡ true
     → changes_in (plan_of s (command_of project (what.Create (target k pool instance name) body)) moment) ≡ None → ⊥
 unfolding plan_of
 creates s project kind.Project pool instance name body moment built e = cc
@@ -122,8 +122,8 @@ first-passes : (a b : Bool) → (a && b) ≡ true → a ≡ true
 first-passes true b e = refl
 first-passes false b e = e
 
--- a command that is carried out, does not read and passes the rules on names changes rows at once
-by-what : (s : State) (project : List ℕ) (w : What) (moment : ℕ) → is_request w ≡ true → is_built_request w ≡ true → is_read w ≡ false
+-- a command on objects that does not read and passes the rules on names changes rows at once
+by-what : (s : State) (project : List ℕ) (w : What) (moment : ℕ) → is_request w ≡ true → is_object_command w ≡ true → is_read w ≡ false
     → names_broken s (command_of project w) ≡ None → changes_in (plan_of s (command_of project w) moment) ≡ None → ⊥
 unfolding plan_of
 by-what s project (what.Create of body) moment formed built reads free e = creates s project of.kind of.pool of.instance of.name body moment built e
@@ -142,6 +142,6 @@ by-what s project (what.Delete of) moment formed built reads free e =
     (its-object s project (what.Delete of) of (about-delete of) free) e
 by-what s project other moment formed built reads free e = cc
 
-pub built-changes : (s : State) (c : Command) (moment : ℕ) → is_formed c ≡ true → is_built_request c.what ≡ true → is_read c.what ≡ false → names_broken s c ≡ None
+pub object-changes : (s : State) (c : Command) (moment : ℕ) → is_formed c ≡ true → is_object_command c.what ≡ true → is_read c.what ≡ false → names_broken s c ≡ None
     → changes_in (plan_of s c moment) ≡ None → ⊥
-built-changes s c moment formed built reads free e = by-what s c.project c.what moment formed built reads free e
+object-changes s c moment formed built reads free e = by-what s c.project c.what moment formed built reads free e
