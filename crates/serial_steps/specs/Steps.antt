@@ -1,0 +1,117 @@
+-- The steps of the one worker of a serial server. It asks for a call where it has none in hand, and else makes the call that it
+-- has on the host and reports of it.
+use Rattle.std.specs.Prelude.{◌≡◌, ◌≢◌, ◌<◌, ◌≤◌, ℕ, List, [], ◌∷◌, Option, Some, None}
+use Rattle.size_values.specs.Causes.{Rose}
+use Rattle.size_values.specs.Moments.{moment_limit}
+use Rattle.host_model.specs.declared.call.HostCall.{HostCall}
+use Rattle.host_model.specs.declared.report.Report.{Report}
+use Rattle.host_model.specs.declared.report.Report.TheVariants as report
+use Rattle.host_model.specs.declared.root.HostRoot.{HostRoot}
+use Rattle.host_model.specs.Reports.{roots_after, CarriesCounts}
+use Rattle.http_front.specs.Clocks.{Readings, Reads}
+use Rattle.operations.specs.Kept.{live_at}
+use Rattle.record_keeper.specs.Store.{Store}
+use Rattle.row_machine.specs.declared.events.Answer.{Answer}
+use Rattle.row_machine.specs.declared.events.Answer.TheVariants as answer
+use Rattle.row_machine.specs.declared.events.Event.TheVariants as event
+use Rattle.row_machine.specs.machine.State.{State}
+use Rattle.row_machine.specs.machine.Step.{Outcome, well}
+use Rattle.core_rows.specs.Stores.{IsCaused, KeepsRecords}
+use Rattle.core_turns.specs.Turns.{Turns}
+
+-- the rows and operations of a serial server, and the call that its worker has in hand, with the number of its operation
+pub record Serial : Type 0 where
+  pub state : State
+  pub hand : Option (ℕ × HostCall)
+
+-- what is seen of a host at one moment: the roots, where it tells them, and how many calls failed
+pub record Hosted : Type 0 where
+  pub roots : Option (List HostRoot)
+  pub failures : ℕ
+
+-- what these members tell of a host
+abbrev pub hosted : {H : Type 0} → (H → Option (List HostRoot)) → (H → ℕ) → H → Hosted
+hosted roots failures host = record { roots = roots host; failures = failures host }
+
+-- what a serial server is and works on at one moment: its rows and the call in hand, the store, the host, and what its clock
+-- tells of its readings to come
+pub record Site : Type 0 where
+  pub serial : Serial
+  pub store : Store
+  pub host : Hosted
+  pub clock : Readings
+
+abbrev pub site : Serial → Store → Hosted → Readings → Site
+site serial store host clock = record { serial = serial; store = store; host = host; clock = clock }
+
+-- ---- one step
+
+-- What a step was. No call was in hand, and at this moment one was asked for; or the call in hand was made on the host, with this
+-- report, which the server took at this moment with this outcome.
+pub data Step : Type 0 where
+  took : ℕ → Step
+  reported : Report → ℕ → Outcome → Step
+
+-- the call that an answer puts in the hand of the worker
+abbrev pub job_of : Answer → Option (ℕ × HostCall)
+job_of (answer.Job number call) = Some (number, call)
+job_of other = None
+
+-- a call was asked for, and there was one or none
+pub record Takes (w : Site) (moment : ℕ) (w' : Site) : Type 0 where
+  pub answer : Answer
+  pub idle : w.serial.hand ≡ None
+  pub turn : Turns w.serial.state w.store (event.Take moment) well answer w'.serial.state w'.store
+  pub hand : w'.serial.hand ≡ job_of answer
+  pub host : w'.host ≡ w.host
+  pub clock : Reads w.clock (moment ∷ []) w'.clock
+  pub early : moment < moment_limit
+  pub kept : KeepsRecords w.store.told w.serial.state w'.store.told w'.serial.state
+
+-- a report of a failed call has its cause in the host's count
+abbrev pub HasCause : Report → ℕ → ℕ → Type 0
+HasCause report.Done before after = before ≤ after
+HasCause (report.Failed rise) before after = Rose before after
+HasCause report.NoMemory before after = before ≤ after
+
+-- the call in hand was made, and its report was taken
+pub record Reports (w : Site) (r : Report) (moment : ℕ) (outcome : Outcome) (w' : Site) : Type 0 where
+  pub number : ℕ
+  pub call : HostCall
+  pub answer : Answer
+  pub busy : w.serial.hand ≡ Some (number, call)
+  pub turn : Turns w.serial.state w.store (event.Done number r moment) outcome answer w'.serial.state w'.store
+  pub hand : w'.serial.hand ≡ job_of answer
+  pub roots : w'.host.roots ≡ roots_after r call w.host.roots
+  pub counts : CarriesCounts r w.host.failures w'.host.failures
+  pub cause : HasCause r w.host.failures w'.host.failures
+  pub clock : Reads w.clock (moment ∷ []) w'.clock
+  pub early : moment < moment_limit
+  pub caused : IsCaused outcome w.store.failures w'.store.failures
+  pub kept : KeepsRecords w.store.told w.serial.state w'.store.told w'.serial.state
+
+-- one step leads from one moment to the next
+abbrev pub Steps : Site → Step → Site → Type 0
+Steps w (took moment) w' = Takes w moment w'
+Steps w (reported r moment outcome) w' = Reports w r moment outcome w'
+
+-- ---- several steps
+
+-- steps lead from one moment to another, each made where the state before it is such
+abbrev pub StepsWhile : (State → Type 0) → Site → List Step → Site → Type 0
+StepsWhile such w [] w' = w ≡ w'
+StepsWhile such w (s ∷ steps) w' = such w.serial.state × (next : Site) × Steps w s next × StepsWhile such next steps w'
+
+-- steps lead from one moment to another
+abbrev pub StepsTo : Site → List Step → Site → Type 0
+StepsTo = StepsWhile (λ s. Unit {0})
+
+-- steps until nothing is live
+pub record Finishes (w : Site) (steps : List Step) (w' : Site) : Type 0 where
+  pub steps : StepsWhile (λ s. s.operations.live ≢ []) w steps w'
+  pub done : w'.serial.state.operations.live ≡ []
+
+-- steps until an operation has ended
+pub record WaitsFor (number : ℕ) (w : Site) (steps : List Step) (w' : Site) : Type 0 where
+  pub steps : StepsWhile (λ s. live_at s.operations number ≢ None) w steps w'
+  pub done : live_at w'.serial.state.operations number ≡ None
