@@ -1,9 +1,9 @@
 #!/usr/bin/env python3
 """Runs a program on a file of requests, and tells for each section of it how many requests a second were answered.
 
-Usage: pace.py PROGRAM FOLDER RUNS UNTIL
+Usage: pace.py PROGRAM FOLDER RUNS UNTIL [OPTION..]
 
-`PROGRAM run` reads FOLDER/requests and writes FOLDER/replies, both files, RUNS times, or fewer where a further run would
+`PROGRAM run OPTION..` reads FOLDER/requests and writes FOLDER/replies, both files, RUNS times, or fewer where a further run would
 not end before the moment UNTIL (of `date +%s`). While it runs, some thousand times a second, the size of FOLDER/replies is
 looked at beside the processor time that the program has used and the memory that it holds. Afterwards the replies are
 split, so for each of them it is known when it was there. Seconds are seconds of the program's processor time: it has one
@@ -13,7 +13,7 @@ Each line of FOLDER/sections tells, with a tab between, how many requests a sect
 is printed where that is empty. Of several runs the fastest counts, for each section by itself. A line with ~ may be off by
 more than a twentieth in each run: the looks at the program were too far apart, as on a machine that is busy.
 
-A reply other than a 200, too few of them, another exit status than 0, and a run that has not ended at UNTIL are errors.
+A reply other than a 200 or a 202, too few of them, another exit status than 0, and a run that has not ended at UNTIL are errors.
 """
 import bisect
 import os
@@ -22,7 +22,7 @@ import sys
 import time
 
 PAGE = os.sysconf("SC_PAGE_SIZE") / 1e6
-OK = b"HTTP/1.1 200 OK\r\n"
+OK = (b"HTTP/1.1 200 OK\r\n", b"HTTP/1.1 202 Accepted\r\n")
 
 
 class Watched:
@@ -30,11 +30,11 @@ class Watched:
     The system brings the processor time of another process up to date some hundred times a second: a clock is kept where
     it has changed."""
 
-    def __init__(self, program, folder, until):
+    def __init__(self, program, folder, until, options):
         begun = time.monotonic()
         self.looks, self.clocks, self.held, self.most = [(0, begun, 0.0)], [(begun, 0.0)], 0.0, 0.0
         with open(f"{folder}/requests", "rb") as requests, open(f"{folder}/replies", "wb") as replies:
-            child = subprocess.Popen([program, "run"], stdin=requests, stdout=replies)
+            child = subprocess.Popen([program, "run", *options], stdin=requests, stdout=replies)
             with open(f"/proc/{child.pid}/statm", "rb", buffering=0) as memory:
                 while True:
                     pid, status, usage = os.wait4(child.pid, os.WNOHANG)
@@ -88,22 +88,22 @@ def ends_of(text):
         head = text.index(b"\r\n\r\n", at)
         fields = text[at:head].split(b"\r\n")
         if not text.startswith(OK, at):
-            sys.exit(f"a reply is no 200: {text[at:at + 300]!r}")
+            sys.exit(f"a reply is neither a 200 nor a 202: {text[at:at + 300]!r}")
         length = next(field for field in fields if field.lower().startswith(b"content-length:"))
         at = head + 4 + int(length.split(b":")[1])
         yield at
 
 
-def measure(program, folder, until, sections):
+def measure(program, folder, until, sections, options):
     """For each section its seconds, how far off they may be, and the memory held at its end. The whole run is told last:
     its seconds and its most memory, and the seconds that passed."""
-    watched = Watched(program, folder, until)
+    watched = Watched(program, folder, until, options)
     with open(f"{folder}/replies", "rb") as replies:
         text = replies.read()
     ends = list(ends_of(text))
     wanted = sum(count for count, _ in sections)
-    if not len(ends) == text.count(OK) == wanted:
-        sys.exit(f"{wanted} requests, {len(ends)} replies, {text.count(OK)} times 200")
+    if len(ends) != wanted:
+        sys.exit(f"{wanted} requests, {len(ends)} replies")
     times, place, start, off_before = list(watched.moments(ends)), 0, 0.0, 0.0
     for count, _ in sections:
         place += count
@@ -126,14 +126,14 @@ def rank(result):
     return (True, off / max(seconds, 1e-9)) if is_rough(result) else (False, seconds)
 
 
-def main(program, folder, runs, until):
+def main(program, folder, runs, until, *options):
     with open(f"{folder}/sections") as lines:
         sections = [line.rstrip("\n").split("\t", 1) for line in lines]
     sections = [(int(count), shown) for count, shown in sections]
     results, longest = [], 0.0
     while len(results) < int(runs) and (not results or time.time() + 1.2 * longest < float(until)):
         begun = time.time()
-        results.append(list(measure(program, folder, float(until), sections)))
+        results.append(list(measure(program, folder, float(until), sections, options)))
         longest = max(longest, time.time() - begun)
     best = [min(each, key=rank) for each in zip(*results)]
     for (count, shown), result in zip(sections, best):
@@ -147,6 +147,6 @@ def main(program, folder, runs, until):
 
 
 if __name__ == "__main__":
-    if len(sys.argv) != 5:
+    if len(sys.argv) < 5:
         sys.exit(__doc__)
     main(*sys.argv[1:])

@@ -24,5 +24,5 @@ add_reads() { # WHAT TARGET COUNT
     add "$3" "$(rows "$1")" reads "$2" "$3"
 }
 measure() {
-    python3 pace.py "$program" "$stream" "$runs" "$until"
+    python3 pace.py "$program" "$stream" "$runs" "$until" ${options:-}
 }

@@ -19,6 +19,13 @@ Usage: stream.py projects COUNT          creations of the projects p1 to pCOUNT
        stream.py put-rows LIST LETTER ROWS COUNT     COUNT times the PUT of one
        stream.py move-rows LIST LETTER FIRST LAST    renames of the rows of these numbers, and back again
        stream.py delete-rows LIST LETTER FIRST LAST  deletions of the rows of these numbers
+       stream.py tenant PROJECT [limits]             a project with a pool and a root disk in its profile `default`, and with limits
+                                                     on all that instances have, where the word `limits` stands
+       stream.py creations PROJECT FIRST LAST        creations of the instances of these numbers in PROJECT, each with settings
+       stream.py waits FIRST LAST                    waits for the operations of these numbers, of the boot word 0
+       stream.py made PROJECT FIRST LAST OPERATION   the same creations, each with a wait for its operation behind it; the first
+                                                     operation has the number OPERATION
+       stream.py put-profile PROJECT COUNT           COUNT times the PUT of the profile `default`, with another description
        stream.py reads TARGET COUNT                  COUNT times the GET of TARGET
        stream.py name LETTER NUMBER                  the name of the row of a number: a project (p), a profile (a), a network
                                                      (n), a pool (s), a volume (v)
@@ -159,6 +166,55 @@ def delete_rows(path, letter, first, last):
         yield request("DELETE", f"{path}/{name(letter, number)}", "")
 
 
+LIMITS = {
+    "limits.cpu": "1000000",
+    "limits.disk": "1000TiB",
+    "limits.instances": "100000",
+    "limits.memory": "1000TiB",
+    "limits.processes": "100000000",
+}
+
+
+def tenant(project, *limits):
+    yield request("POST", "/1.0/storage-pools", compact({"driver": "dir", "name": f"pool-{project}"}))
+    config = {"restricted": "true", **LIMITS} if limits else {}
+    yield request("POST", "/1.0/projects", compact({"config": config, "name": project}))
+    yield from put_profile(project, 1)
+
+
+def put_profile(project, count):
+    root = {"path": "/", "pool": f"pool-{project}", "size": "10GiB", "type": "disk"}
+    for number in range(count):
+        body = {"description": f"the {number}th", "devices": {"root": root}}
+        yield request("PUT", f"/1.0/profiles/default?project={project}", compact(body))
+
+
+def creation(project, number):
+    config = {"limits.cpu": str(1 + number % 4), "limits.memory": "512MiB", "limits.processes": "500"}
+    body = {"config": config, "name": name("i", number), "source": {"type": "none"}}
+    return request("POST", f"/1.0/instances?project={project}", compact(body))
+
+
+def wait(number):
+    return f"GET /1.0/operations/00000000-0000-8000-8000-{number:012x}/wait HTTP/1.1\r\nHost: localhost\r\n\r\n".encode("ascii")
+
+
+def creations(project, first, last):
+    for number in range(first, last + 1):
+        yield creation(project, number)
+
+
+def waits(first, last):
+    for number in range(first, last + 1):
+        yield wait(number)
+
+
+def made(project, first, last, operation):
+    for number in range(first, last + 1):
+        yield creation(project, number)
+        yield wait(operation + number - first)
+
+
 def numbers(seed):
     while True:
         seed = (6364136223846793005 * seed + 1442695040888963407) % 2**64
@@ -207,6 +263,11 @@ KINDS = {
     "put-rows": (put_rows, (str, str, int, int)),
     "move-rows": (move_rows, (str, str, int, int)),
     "delete-rows": (delete_rows, (str, str, int, int)),
+    "tenant": (tenant, (str, str)),
+    "creations": (creations, (str, int, int)),
+    "waits": (waits, (int, int)),
+    "made": (made, (str, int, int, int)),
+    "put-profile": (put_profile, (str, int)),
     "reads": (reads, (str, int)),
     "name": (lambda letter, number: [name(letter, number).encode("ascii")], (str, int)),
 }
@@ -214,7 +275,8 @@ KINDS = {
 
 def main(words):
     make, kinds = KINDS.get(words[0] if words else "", (None, ()))
-    if make is None or len(words) - 1 != len(kinds):
+    optional = 1 if make is tenant else 0
+    if make is None or not len(kinds) - optional <= len(words) - 1 <= len(kinds):
         sys.exit(__doc__)
     for piece in make(*(kind(word) for kind, word in zip(kinds, words[1:]))):
         sys.stdout.buffer.write(piece)
