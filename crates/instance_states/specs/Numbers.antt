@@ -1,4 +1,5 @@
-use Rattle.std.specs.Prelude.{ℕ, ◌+◌, ◌-◌, ◌==◌, ◌&&◌, ◌||◌, not, nat_le, nat_eq, Bool, max, Option, Some, None, List, [], ◌∷◌, ◌++◌, length, slice_index, slice_range, if◌then◌else◌}
+use Rattle.std.specs.Prelude.{ℕ, ◌+◌, ◌-◌, ◌==◌, ◌&&◌, ◌||◌, not, nat_le, nat_eq, Bool, max, Option, Some, None, List}
+use Rattle.std.specs.Prelude.{[], ◌∷◌, ◌++◌, length, slice_index, slice_range, if◌then◌else◌}
 use Rattle.std.specs.List.{starts_with, ends_with, list_all}
 use Rattle.std.specs.Option.{option_map_or, option_and_then}
 use Rattle.std.specs.Char.{is_ascii_digit}
@@ -44,7 +45,8 @@ number_of digits = if is_number digits then Some (digits_value 10 digits) else N
 -- the part of a name between the text before and the text after
 abbrev pub between : List ℕ → List ℕ → List ℕ → Option (List ℕ)
 between before behind name =
-    if nat_le (length before + length behind) (length name) && starts_with nat_eq name before && ends_with nat_eq name behind
+    if nat_le (length before + length behind) (length name) && starts_with nat_eq name before
+    && ends_with nat_eq name behind
     then Some (slice_range name (length before) (length name - length behind))
     else None
 

@@ -5,7 +5,8 @@ use Rattle.size_values.specs.declared.kinds.Action.TheVariants as action
 use Rattle.size_values.specs.declared.kinds.Deed.{Deed}
 use Rattle.size_values.specs.declared.kinds.Deed.TheVariants as deed
 use Rattle.instance_states.specs.declared.plan.CallName.{CallName}
-use Rattle.instance_states.specs.declared.plan.CallName.TheVariants.{Clear, MakeRoot, CopyRoot, Start, Stop, Freeze, Thaw, Apply, Rename, Snap, Unsnap, Restore}
+use Rattle.instance_states.specs.declared.plan.CallName.TheVariants.{Clear, MakeRoot, CopyRoot, Start, Stop, Freeze}
+use Rattle.instance_states.specs.declared.plan.CallName.TheVariants.{Thaw, Apply, Rename, Snap, Unsnap, Restore}
 use Rattle.instance_states.specs.declared.plan.Plan.{Plan}
 use Rattle.host_model.specs.declared.call.HostCall.{HostCall}
 use Rattle.host_model.specs.declared.call.HostCall.TheVariants as call

@@ -1,7 +1,8 @@
 //! The rows that the creation of an instance makes.
 ghost use Rattle.std.specs.Prelude.{◌≡◌, IfOk, ◌∷◌, [], unwrap_or};
 ghost use Rattle.row_machine.specs.machine.Rows.{default_name};
-ghost use Rattle.row_machine.specs.machine.NewRows.{new_description, new_config, new_devices, patched_config, patched_devices, image_of, made_instance, copied_instance};
+ghost use Rattle.row_machine.specs.machine.NewRows.{new_description, new_config, new_devices, patched_config};
+ghost use Rattle.row_machine.specs.machine.NewRows.{patched_devices, image_of, made_instance, copied_instance};
 
 use crate::pairs::both;
 use config_lists::{Config, Devices};
@@ -70,7 +71,13 @@ struct Texts {
 }
 
 fn new_texts(alloc: Global, project: &Text, name: &Text, body: &Body) -> Result<Texts, NoMemory>
-    ensures { IfOk result (λ t. t ≡ record { project = project.now; name = name.now; description = new_description body.now; origin = image_of body.now.origin }) }
+    ensures { IfOk result (λ t. t
+        ≡ record {
+          project = project.now;
+          name = name.now;
+          description = new_description body.now;
+          origin = image_of body.now.origin;
+        }) }
 {
     let names = both(project.copy(alloc), name.copy(alloc));
     let origin = Text::from_text(alloc, image_of(&body.origin));
@@ -92,7 +99,12 @@ struct Parts {
 }
 
 fn new_parts(alloc: Global, body: &Body) -> Result<Parts, NoMemory>
-    ensures { IfOk result (λ p. p ≡ record { profiles = unwrap_or body.now.profiles (default_name ∷ []); config = new_config body.now; devices = new_devices body.now }) }
+    ensures { IfOk result (λ p. p
+        ≡ record {
+          profiles = unwrap_or body.now.profiles (default_name ∷ []);
+          config = new_config body.now;
+          devices = new_devices body.now;
+        }) }
 {
     let settings = both(new_config(alloc, body), new_devices(alloc, body));
     let (profiles, settings) = both(new_profiles(alloc, body), settings)?;
@@ -139,7 +151,12 @@ pub(crate) struct Source<'x> {
 }
 
 fn copied_parts(alloc: Global, body: &Body, source: &Source) -> Result<Parts, NoMemory>
-    ensures { IfOk result (λ p. p ≡ record { profiles = unwrap_or body.now.profiles source.now.profiles.now; config = patched_config source.now.config.now body.now; devices = patched_devices source.now.devices.now body.now }) }
+    ensures { IfOk result (λ p. p
+        ≡ record {
+          profiles = unwrap_or body.now.profiles source.now.profiles.now;
+          config = patched_config source.now.config.now body.now;
+          devices = patched_devices source.now.devices.now body.now;
+        }) }
 {
     let settings = both(
         patched_config(source.config, body),
@@ -162,7 +179,14 @@ pub(crate) fn copied_instance(
     moment: u64,
     source: &Source,
 ) -> Result<Instance, NoMemory>
-    ensures { IfOk result (λ r. r ≡ copied_instance project.now name.now body.now moment (record { kind = source.now.kind; profiles = source.now.profiles.now; config = source.now.config.now; devices = source.now.devices.now })) }
+    ensures { IfOk result (λ r. r
+        ≡ copied_instance project.now name.now body.now moment
+        (record {
+          kind = source.now.kind;
+          profiles = source.now.profiles.now;
+          config = source.now.config.now;
+          devices = source.now.devices.now;
+        })) }
 {
     let texts = new_texts(alloc, project, name, body);
     let (texts, given) = both(texts, copied_parts(alloc, body, source))?;

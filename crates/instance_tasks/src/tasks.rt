@@ -130,7 +130,13 @@ fn begun_with(
 
 /// What makes a new instance of an image, or an empty one.
 fn making(alloc: Global, project: &Text, of: &Target, image: &str) -> Result<Begun, NoMemory>
-    ensures { IfOk result (λ b. b ≡ record { project = project.now; target = of.now; at = place_of project.now of.now.name; calls = create_calls (place_of project.now of.now.name) image.now }) }
+    ensures { IfOk result (λ b. b
+        ≡ record {
+          project = project.now;
+          target = of.now;
+          at = place_of project.now of.now.name;
+          calls = create_calls (place_of project.now of.now.name) image.now;
+        }) }
 {
     let at = place_of(alloc, project, &of.name)?;
     let calls = create_calls(alloc, &at, image);
@@ -146,7 +152,13 @@ fn copying(
     instance: &Text,
     snapshot: &str,
 ) -> Result<Begun, NoMemory>
-    ensures { IfOk result (λ b. b ≡ record { project = project.now; target = of.now; at = place_of project.now of.now.name; calls = copy_calls (place_of project.now instance.now) snapshot.now (place_of project.now of.now.name) }) }
+    ensures { IfOk result (λ b. b
+        ≡ record {
+          project = project.now;
+          target = of.now;
+          at = place_of project.now of.now.name;
+          calls = copy_calls (place_of project.now instance.now) snapshot.now (place_of project.now of.now.name);
+        }) }
 {
     let at = place_of(alloc, project, &of.name);
     let (at, from) = both(at, place_of(alloc, project, instance))?;
@@ -158,7 +170,12 @@ fn copying(
 
 /// The task of a creation or of a copy, which claims this row.
 fn task(deed: Deed, begun: Begun, row: Instance, source: Option<Target>) -> Work
-    ensures { result ≡ record (plain_task deed begun.project begun.target begun.calls) { claim = Some (row_of.Instance row); source = source; undo = Some (call.Clear begun.at) } }
+    ensures { result
+        ≡ record (plain_task deed begun.project begun.target begun.calls) {
+          claim = Some (row_of.Instance row);
+          source = source;
+          undo = Some (call.Clear begun.at);
+        } }
 {
     Work {
         deed,
@@ -224,7 +241,8 @@ fn instance_copy(
     from: &Text,
     old: &Instance,
 ) -> Result<Work, NoMemory>
-    ensures { IfOk result (λ w. w ≡ copy project.now of.now body.now moment (instance_target from.now) (source_instance old.now)) }
+    ensures { IfOk result (λ w. w
+        ≡ copy project.now of.now body.now moment (instance_target from.now) (source_instance old.now)) }
 {
     let source = Source {
         kind: old.kind,
@@ -250,7 +268,9 @@ fn snapshot_copy(
     snapshot: &Snapshot,
     name: &Text,
 ) -> Result<Work, NoMemory>
-    ensures { IfOk result (λ w. w ≡ copy project.now of.now body.now moment (snapshot_target from.now name.now) (source_snapshot old.now snapshot.now)) }
+    ensures { IfOk result (λ w. w
+        ≡ copy project.now of.now body.now moment (snapshot_target from.now name.now)
+        (source_snapshot old.now snapshot.now)) }
 {
     let source = Source {
         kind: old.kind,
@@ -301,7 +321,8 @@ pub fn instance_creation(
     body: &Body,
     moment: u64,
 ) -> Result<Option<Work>, NoMemory>
-    ensures { IfOk result (λ w. planned w ≡ instance_creation view.now project.now of.now body.now moment body.now.origin) }
+    ensures { IfOk result (λ w. planned w
+        ≡ instance_creation view.now project.now of.now body.now moment body.now.origin) }
 {
     match &body.origin {
         Origin::None => {

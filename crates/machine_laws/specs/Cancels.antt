@@ -29,7 +29,8 @@ use Rattle.machine_laws.specs.Headline.{IsKeptAs}
 -- The operation is Cancelling, with the call that takes its deed back still to be handed out. No row changed.
 pub record IsBeingCancelled (s : State) (o : Operation Task) (moment : ℕ) (a : After) : Type 0 where
   pub answer : a.answer ≡ answer.Reply reply.Empty
-  pub cancelling : live_at a.state.operations o.number ≡ Some (record o { status = status.Cancelling; updated = moment })
+  pub cancelling : live_at a.state.operations o.number
+      ≡ Some (record o { status = status.Cancelling; updated = moment })
   pub undo : option_map name_of o.work.undo ≡ undo_of o.work.deed
   pub undoable : is_some o.work.undo ≡ true
   pub rows : rows_of a.state ≡ rows_of s

@@ -1,7 +1,7 @@
--- The promise of the server, from any state that entries open to, for every list of possible events with every outcome: at
--- the end of each turn usage with claims stands within every limit, nothing in a restricted project is forbidden to it,
--- each instance has what its profiles in their order and then its own settings say, and each operation ends at most once,
--- with its share whole.
+-- The promise of the server, from any state that entries open to, for every list of possible events with every outcome:
+-- at the end of each turn usage with claims stands within every limit, nothing in a restricted project is forbidden to
+-- it, each instance has what its profiles in their order and then its own settings say, and each operation ends at most
+-- once, with its share whole.
 use Rattle.std.specs.Prelude.{◌≡◌, ℕ, ◌+◌, ◌≤◌, List, [], ◌∷◌, ◌⊎◌, Some, None, IfSome}
 use Rattle.std.specs.List.{sum_by}
 use Rattle.std.specs.Option.{option_map}
@@ -64,8 +64,9 @@ IsCountable s p i =
 abbrev pub IsCountableVolume : Project → Volume → Type 0
 IsCountableVolume p v = v.project ≡ p.name → volume_uncounted (limits_of p.config) v.config ≡ None
 
--- Each part of a project's usage, claims included, is at most the limit on it that the project sets, and so is the number
--- of its networks. Each of its instances and volumes, also those that an operation is about to put, is countable.
+-- Each part of a project's usage, claims included, is at most the limit on it that the project sets, and so is the
+-- number of its networks. Each of its instances and volumes, also those that an operation is about to put, is
+-- countable.
 pub record KeepsLimits (s : State) (p : Project) : Type 0 where
   pub usage : (k : Part) → IfSome (limit_on k (limits_of p.config)) (λ limit. part k (usage_of s p.name) ≤ limit)
   pub networks : IfSome (limits_of p.config).networks (λ limit. networks_of s p.name ≤ limit)
@@ -79,7 +80,8 @@ IsAllowedProfile p r =
 
 abbrev pub IsAllowedInstance : State → Project → Instance → Type 0
 IsAllowedInstance s p i =
-    i.project ≡ p.name → first_forbidden (policy_of p.config) (subject_of i.kind) (has s i).config (has s i).devices ≡ None
+    i.project ≡ p.name
+    → first_forbidden (policy_of p.config) (subject_of i.kind) (has s i).config (has s i).devices ≡ None
 
 -- a project's policy forbids nothing in it, nor what an operation is about to put
 pub record KeepsPolicy (s : State) (p : Project) : Type 0 where
@@ -138,9 +140,9 @@ pub record KeepsItsPromise (s : State) (events : List (Event × Outcome)) (r : R
   pub turns : EachTurn (λ before after. StandsAsPromised after × SharesGoWhole before after) s events
   pub ends : Distinct (λ (end : ℕ × Status). end.0) r.ends
 
--- The store may hold anything that opening takes, or nothing: then the server is new. Requests may come in any order, with
--- any reports of calls between them, and the outside may fail as it likes. Settings and devices of a request stand in the
--- order of their keys, as the program's types keep them.
+-- The store may hold anything that opening takes, or nothing: then the server is new. Requests may come in any order,
+-- with any reports of calls between them, and the outside may fail as it likes. Settings and devices of a request stand
+-- in the order of their keys, as the program's types keep them.
 abbrev pub TheHeadline : Type 0
 TheHeadline = (entries : List Entry) (s : State) (events : List (Event × Outcome)) (r : Ran) →
     Each HasBytes entries → opening_of entries ≡ opened s →

@@ -18,7 +18,8 @@ use Rattle.row_machine.specs.machine.Changes.{applied}
 use Rattle.row_machine.specs.machine.Plans.{changes, starts}
 use Rattle.row_machine.specs.shown.Notices.{telling}
 use Rattle.row_machine.specs.machine.Step.{first_pending}
-use Rattle.row_machine.specs.machine.Work.{entered, with_task, moved, handing_out, one_more_done, undone, cancelled, failed, succeeded}
+use Rattle.row_machine.specs.machine.Work.{entered, with_task, moved, handing_out, one_more_done, undone, cancelled}
+use Rattle.row_machine.specs.machine.Work.{failed, succeeded}
 use Rattle.row_machine.specs.facts.Whole.{IsWhole}
 use Rattle.machine_laws.specs.Accepted.{IsAccepted, IsLiveAs}
 

@@ -32,12 +32,17 @@ pub record LowersUsage (s later : State) (o : Operation Task) : Type 0 where
   pub new : Instance
   pub stands : instance_named s.instances o.work.project o.work.target.name ≡ Some old
   pub claimed : claimed_instance o.work ≡ Some new
-  pub own : (k : Part) → part k (usage_of s o.work.project) ≡ part k (usage_of later o.work.project) + part k (minus_of (amounts_of_instance s old) (amounts_of_instance s new))
-  pub others : (project : List ℕ) → project ≢ o.work.project → (k : Part) → part k (usage_of later project) ≡ part k (usage_of s project)
+  pub own : (k : Part)
+      → part k (usage_of s o.work.project)
+      ≡ part k (usage_of later o.work.project)
+      + part k (minus_of (amounts_of_instance s old) (amounts_of_instance s new))
+  pub others : (project : List ℕ) → project ≢ o.work.project → (k : Part)
+      → part k (usage_of later project) ≡ part k (usage_of s project)
 
 -- an update or a restore that succeeds
 abbrev pub UpdatesLower : Type 0
-UpdatesLower = (s : State) (o : Operation Task) (moment : ℕ) (after : After) → IsLastDone s o → keeps_name o.work.deed ≡ true
+UpdatesLower =
+    (s : State) (o : Operation Task) (moment : ℕ) (after : After) → IsLastDone s o → keeps_name o.work.deed ≡ true
     → step s (event.Done o.number report.Done moment) well ≡ Some after → LowersUsage s after.state o
 
 -- whatever succeeds raises no part of the usage of any project

@@ -18,5 +18,6 @@ OpeningIsWhole = (entries : List Entry) (s : State) → Each HasBytes entries �
 
 -- The records of a state that entries open to are these entries, where they stand in order and there are some.
 abbrev pub OpeningKeepsEntries : Type 0
-OpeningKeepsEntries = (entries : List Entry) (s : State) → Each HasBytes entries → IsOrderedEntries entries → entries ≢ [] →
+OpeningKeepsEntries =
+    (entries : List Entry) (s : State) → Each HasBytes entries → IsOrderedEntries entries → entries ≢ [] →
     opening_of entries ≡ opened s → records_of s ≡ entries

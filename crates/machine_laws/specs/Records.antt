@@ -35,7 +35,8 @@ RecordsFollow = (s : State) (cs : List RowChange) → AreNamed s → StaysNamed 
 -- The changes at once of a command that breaks no rule, committed, make the records of the state after them.
 abbrev pub CommandsFollow : Type 0
 CommandsFollow = (s : State) (c : Command) (moment : ℕ) (cs : List RowChange) →
-    IsWhole s → is_formed c ≡ true → moment < moment_limit → broken s c moment ≡ None → plan_of s c moment ≡ changes cs →
+    IsWhole s → is_formed c ≡ true → moment < moment_limit → broken s c moment ≡ None
+    → plan_of s c moment ≡ changes cs →
     after_changes (entry_changes cs) (records_of s) ≡ records_of (applied s cs)
 
 -- The changes at the success of a live operation, committed, make the records of the state after it.

@@ -1,6 +1,7 @@
 -- A worker that serves alone while a client's wait is held: after at most four steps for each live operation all have
 -- ended.
-use Rattle.std.specs.Prelude.{◌≡◌, ◌≢◌, ◌⊎◌, ℕ, ◌*◌, ◌<◌, ◌≤◌, List, [], ◌∷◌, length, Option, Some, None, option_and_then}
+use Rattle.std.specs.Prelude.{◌≡◌, ◌≢◌, ◌⊎◌, ℕ, ◌*◌, ◌<◌, ◌≤◌, List, [], ◌∷◌, length, Option, Some, None}
+use Rattle.std.specs.Prelude.{option_and_then}
 use Rattle.std.specs.Option.{option_map}
 use Rattle.plain_lists.specs.Members.{Each}
 use Rattle.size_values.specs.Moments.{moment_limit}
@@ -44,7 +45,8 @@ pub record Served : Type 0 where
 
 -- after one step; none where the outcome is not possible
 abbrev pub served : State → Option ℕ → Round → Option Served
-served s hand round = option_map (λ (a : After). record { state = a.state; hand = hand_of a.answer }) (step s (event_of hand round) round.outcome)
+served s hand round = option_map (λ (a : After). record { state = a.state; hand = hand_of a.answer })
+    (step s (event_of hand round) round.outcome)
 
 -- after several
 abbrev pub serves : State → Option ℕ → List Round → Option Served

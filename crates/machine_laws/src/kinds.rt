@@ -1,6 +1,8 @@
 //! What each kind of change keeps: functions that do nothing, whose contracts are the laws.
 ghost use Rattle.size_values.specs.declared.kinds.ObjectKind.TheVariants as kind;
-ghost use Rattle.machine_laws.specs.KindsOfChange.{RowsKeep, EntriesKeep, FirstCallsKeep, NextCallsKeep, CancelsKeep, UndoCallsKeep, CancelledKeeps, FailureKeeps, SuccessKeeps, NoticesKeep, ClosingKeeps};
+ghost use Rattle.machine_laws.specs.KindsOfChange.{RowsKeep, EntriesKeep, FirstCallsKeep, NextCallsKeep, CancelsKeep};
+ghost use Rattle.machine_laws.specs.KindsOfChange.{UndoCallsKeep, CancelledKeeps, FailureKeeps, SuccessKeeps};
+ghost use Rattle.machine_laws.specs.KindsOfChange.{NoticesKeep, ClosingKeeps};
 
 /// A row of each kind that an accepted command puts or removes at once keeps all ten facts: a project with its profile
 /// `default`, a profile, a network, a pool, a volume, and an instance by PATCH.

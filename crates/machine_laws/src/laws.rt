@@ -23,10 +23,10 @@ pub fn steps_keep_settings_in_order()
     ensures { StepsKeepOrder }
 {}
 
-/// The promise of the server. Over every list of requests, operation steps, host outcomes and cancellations, from any state
-/// that entries open to: at the end of each turn every project's instances, volumes and live claims stand within its
-/// limits, no restricted project holds a forbidden setting, every instance has what its profiles in their order and then
-/// its own settings say, and each operation ended at most once, its share made its object's or returned whole.
+/// The promise of the server. Over every list of requests, operation steps, host outcomes and cancellations, from any
+/// state that entries open to: at the end of each turn every project's instances, volumes and live claims stand within
+/// its limits, no restricted project holds a forbidden setting, every instance has what its profiles in their order and
+/// then its own settings say, and each operation ended at most once, its share made its object's or returned whole.
 pub fn the_headline()
     ensures { TheHeadline }
 {}

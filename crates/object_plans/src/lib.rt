@@ -1,5 +1,5 @@
-//! What each command that changes rows at once is to do: the changes of rows in their order, and the notice that tells of
-//! them. The rows are lent; what commands make of them is read off the request and the rows that stand.
+//! What each command that changes rows at once is to do: the changes of rows in their order, and the notice that tells
+//! of them. The rows are lent; what commands make of them is read off the request and the rows that stand.
 #![tactic(auto)]
 
 mod changes;

@@ -82,7 +82,8 @@ pub(crate) fn with_notice(
     changes: Option<Seq<RowChange>>,
 ) -> Result<Option<Planned>, NoMemory>
     ensures { (plan : Plan) → changes ≡ changes_in plan
-        → IfOk result (λ p. IsPlanned p plan (life_notice moment (home_of view.now.projects project.now of.now.kind) of.now action ∷ [])) }
+        → IfOk result (λ p. IsPlanned p plan
+        (life_notice moment (home_of view.now.projects project.now of.now.kind) of.now action ∷ [])) }
 {
     let Some(changes) = changes else {
         return Ok(None);

@@ -137,8 +137,8 @@ fn plan_deletion(
     with_notice(alloc, view, project, of, action, moment, changes)
 }
 
-/// What a command changes at once, and the notice that tells of it; nothing where it is a read or a background operation, or
-/// where what it speaks of is missing. The moment is in seconds since 1970.
+/// What a command changes at once, and the notice that tells of it; nothing where it is a read or a background
+/// operation, or where what it speaks of is missing. The moment is in seconds since 1970.
 pub fn plan_change(
     alloc: Global,
     view: &View<'_>,

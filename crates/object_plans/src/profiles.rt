@@ -1,6 +1,7 @@
 //! The rows of profiles that commands make.
 ghost use Rattle.std.specs.Prelude.{◌≡◌, IfOk};
-ghost use Rattle.row_machine.specs.machine.NewRows.{new_description, new_config, new_devices, patched_description, patched_config, patched_devices};
+ghost use Rattle.row_machine.specs.machine.NewRows.{new_description, new_config, new_devices, patched_description};
+ghost use Rattle.row_machine.specs.machine.NewRows.{patched_config, patched_devices};
 ghost use Rattle.row_machine.specs.machine.NewRows.{default_profile, made_profile, put_profile, patched_profile};
 
 use crate::contents::{Content, copied_content, new_content, patched_content};

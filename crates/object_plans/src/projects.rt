@@ -4,8 +4,10 @@ ghost use Rattle.std.specs.Prelude.{◌≡◌, ◌≢◌, [], ◌∷◌, ◌++�
 ghost use Rattle.records.specs.declared.rows.Row.TheVariants as row_of;
 ghost use Rattle.row_machine.specs.declared.changes.RowChange.TheVariants as change;
 ghost use Rattle.row_machine.specs.machine.NewRows.{new_description, new_config, patched_description, patched_config};
-ghost use Rattle.row_machine.specs.machine.NewRows.{default_profile, feature_on, with_features, made_project, put_project, patched_project};
-ghost use Rattle.row_machine.specs.machine.Plans.{moved_row, project_creation, project_change, project_rename, project_deletion};
+ghost use Rattle.row_machine.specs.machine.NewRows.{default_profile, feature_on, with_features, made_project};
+ghost use Rattle.row_machine.specs.machine.NewRows.{put_project, patched_project};
+ghost use Rattle.row_machine.specs.machine.Plans.{moved_row, project_creation, project_change, project_rename};
+ghost use Rattle.row_machine.specs.machine.Plans.{project_deletion};
 
 use crate::changes::{and_default_removal, and_put, and_removal, one_put, one_removal};
 use crate::contents::{Content, copied_content, new_content, patched_content};
@@ -127,8 +129,8 @@ pub(crate) fn project_creation(
     and_default_put(alloc, changes, name)
 }
 
-/// A changed project is put. Where its profiles are turned off its profile `default` goes, where they are turned on there
-/// is one.
+/// A changed project is put. Where its profiles are turned off its profile `default` goes, where they are turned on
+/// there is one.
 fn project_change(alloc: Global, old: &Project, row: Project) -> Result<Seq<RowChange>, NoMemory>
     requires name { row.name ≡ old.now.name }
     ensures { IfOk result (λ cs. cs ≡ project_change old.now row) }
@@ -176,7 +178,8 @@ fn and_rehomed(
     old: &Profile,
     project: &Text,
 ) -> Result<Seq<RowChange>, NoMemory>
-    ensures { IfOk result (λ cs. cs ≡ changes ++ moved_row (row_of.Profile old.now) (row_of.Profile (record old.now { project = project.now }))) }
+    ensures { IfOk result (λ cs. cs ≡ changes
+        ++ moved_row (row_of.Profile old.now) (row_of.Profile (record old.now { project = project.now }))) }
 {
     let changes = and_removal(alloc, changes, Found::Profile(old))?;
     let profile = rehomed_profile(alloc, old, project)?;

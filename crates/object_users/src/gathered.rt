@@ -37,7 +37,8 @@ pub fn add_profiles<'x>(
     project: &str,
     all: &mut Vec<RowRef<'x>>,
 ) -> Result<(), NoMemory>
-    ensures { OnOk result (all.new.items ≡ all.old.items ++ map row.Profile (filter (λ r. bytes_eq r.project project.now) rows.now)) }
+    ensures { OnOk result (all.new.items ≡ all.old.items
+        ++ map row.Profile (filter (λ r. bytes_eq r.project project.now) rows.now)) }
 {
     for row in rows {
         if row.project.view() == project {
@@ -55,7 +56,8 @@ pub fn add_networks<'x>(
     project: &str,
     all: &mut Vec<RowRef<'x>>,
 ) -> Result<(), NoMemory>
-    ensures { OnOk result (all.new.items ≡ all.old.items ++ map row.Network (filter (λ r. bytes_eq r.project project.now) rows.now)) }
+    ensures { OnOk result (all.new.items ≡ all.old.items
+        ++ map row.Network (filter (λ r. bytes_eq r.project project.now) rows.now)) }
 {
     for row in rows {
         if row.project.view() == project {
@@ -73,7 +75,8 @@ pub fn add_volumes<'x>(
     project: &str,
     all: &mut Vec<RowRef<'x>>,
 ) -> Result<(), NoMemory>
-    ensures { OnOk result (all.new.items ≡ all.old.items ++ map row.Volume (filter (λ r. bytes_eq r.project project.now) rows.now)) }
+    ensures { OnOk result (all.new.items ≡ all.old.items
+        ++ map row.Volume (filter (λ r. bytes_eq r.project project.now) rows.now)) }
 {
     for row in rows {
         if row.project.view() == project {
@@ -91,7 +94,8 @@ pub fn add_instances<'x>(
     project: &str,
     all: &mut Vec<RowRef<'x>>,
 ) -> Result<(), NoMemory>
-    ensures { OnOk result (all.new.items ≡ all.old.items ++ map row.Instance (filter (λ r. bytes_eq r.project project.now) rows.now)) }
+    ensures { OnOk result (all.new.items ≡ all.old.items
+        ++ map row.Instance (filter (λ r. bytes_eq r.project project.now) rows.now)) }
 {
     for row in rows {
         if row.project.view() == project {
@@ -110,7 +114,8 @@ pub fn add_volumes_in<'x>(
     pool: &str,
     all: &mut Vec<RowRef<'x>>,
 ) -> Result<(), NoMemory>
-    ensures { OnOk result (all.new.items ≡ all.old.items ++ map row.Volume (filter (λ r. bytes_eq r.project project.now && bytes_eq r.pool pool.now) rows.now)) }
+    ensures { OnOk result (all.new.items ≡ all.old.items
+        ++ map row.Volume (filter (λ r. bytes_eq r.project project.now && bytes_eq r.pool pool.now) rows.now)) }
 {
     for row in rows {
         if row.project.view() == project && row.pool.view() == pool {
@@ -129,7 +134,9 @@ pub fn add_snapshots<'x>(
     instance: &str,
     all: &mut Vec<RowRef<'x>>,
 ) -> Result<(), NoMemory>
-    ensures { OnOk result (all.new.items ≡ all.old.items ++ map row.Snapshot (filter (λ r. if bytes_eq r.project project.now then bytes_eq r.instance instance.now else false) rows.now)) }
+    ensures { OnOk result (all.new.items ≡ all.old.items
+        ++ map row.Snapshot (filter (λ r. if bytes_eq r.project project.now
+        then bytes_eq r.instance instance.now else false) rows.now)) }
 {
     for row in rows {
         if row.project.view() == project && row.instance.view() == instance {

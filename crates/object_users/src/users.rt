@@ -33,7 +33,8 @@ fn naming<'x>(
     home: &str,
     profile: &str,
 ) -> Result<Vec<RowRef<'x>>, NoMemory>
-    ensures { IfOk result (λ all. all.items ≡ map row.Instance (filter (names_profile view.now home.now profile.now) view.now.instances)) }
+    ensures { IfOk result (λ all. all.items
+        ≡ map row.Instance (filter (names_profile view.now home.now profile.now) view.now.instances)) }
 {
     let mut all = Vec::new(alloc);
     for row in view.instances {
@@ -53,7 +54,8 @@ fn add_using_instances<'x>(
     of: &Target,
     all: &mut Vec<RowRef<'x>>,
 ) -> Result<(), NoMemory>
-    ensures { OnOk result (all.new.items ≡ all.old.items ++ map row.Instance (filter (instance_uses view.now home.now of.now) view.now.instances)) }
+    ensures { OnOk result (all.new.items ≡ all.old.items
+        ++ map row.Instance (filter (instance_uses view.now home.now of.now) view.now.instances)) }
 {
     for row in view.instances {
         if instance_uses(alloc, view, home, of, row)? {
@@ -71,7 +73,8 @@ fn add_using_profiles<'x>(
     of: &Target,
     all: &mut Vec<RowRef<'x>>,
 ) -> Result<(), NoMemory>
-    ensures { OnOk result (all.new.items ≡ all.old.items ++ map row.Profile (filter (profile_uses view.now home.now of.now) view.now.profiles)) }
+    ensures { OnOk result (all.new.items ≡ all.old.items
+        ++ map row.Profile (filter (profile_uses view.now home.now of.now) view.now.profiles)) }
 {
     for row in view.profiles {
         if profile_uses(view, home, of, row) {
@@ -88,7 +91,8 @@ fn add_volumes_of<'x>(
     of: &Target,
     all: &mut Vec<RowRef<'x>>,
 ) -> Result<(), NoMemory>
-    ensures { OnOk result (all.new.items ≡ all.old.items ++ map row.Volume (filter (volume_uses of.now) view.now.volumes)) }
+    ensures { OnOk result (all.new.items ≡ all.old.items
+        ++ map row.Volume (filter (volume_uses of.now) view.now.volumes)) }
 {
     for row in view.volumes {
         if volume_uses(of, row) {
@@ -107,7 +111,8 @@ fn add_using_volumes<'x>(
     of: &Target,
     all: &mut Vec<RowRef<'x>>,
 ) -> Result<(), NoMemory>
-    ensures { OnOk result (all.new.items ≡ all.old.items ++ map row.Volume (filter (volume_uses of.now) view.now.volumes)) }
+    ensures { OnOk result (all.new.items ≡ all.old.items
+        ++ map row.Volume (filter (volume_uses of.now) view.now.volumes)) }
 {
     match of.kind {
         ObjectKind::Pool => add_volumes_of(view, of, all),
@@ -167,7 +172,8 @@ fn links_naming(
     home: &str,
     profile: &str,
 ) -> Result<Seq<Text>, NoMemory>
-    ensures { IfOk result (λ ts. ts ≡ sorted (links (map row.Instance (filter (names_profile view.now home.now profile.now) view.now.instances)))) }
+    ensures { IfOk result (λ ts. ts
+        ≡ sorted (links (map row.Instance (filter (names_profile view.now home.now profile.now) view.now.instances)))) }
 {
     let rows = naming(alloc, view, home, profile)?;
     sorted_links(alloc, &rows)

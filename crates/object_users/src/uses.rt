@@ -2,7 +2,8 @@
 ghost use Rattle.std.specs.Prelude.{◌≡◌, IfOk};
 ghost use Rattle.std.specs.List.{list_any};
 ghost use Rattle.std.specs.Str.{bytes_eq};
-ghost use Rattle.row_machine.specs.machine.Holders.{devices_name, instance_uses, names_profile, profile_uses, volume_uses};
+ghost use Rattle.row_machine.specs.machine.Holders.{devices_name, instance_uses, names_profile, profile_uses};
+ghost use Rattle.row_machine.specs.machine.Holders.{volume_uses};
 
 use config_lists::Devices;
 use estate_rules::{names_network, names_pool, names_volume};

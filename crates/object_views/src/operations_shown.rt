@@ -80,7 +80,8 @@ fn insert_operation<'x>(
     all: &mut Vec<OperationRef<'x>>,
     operation: &'x Operation<Work>,
 ) -> Result<(), NoMemory>
-    ensures { OnOk result (all.new.items ≡ inserted (λ o. nat_lt operation.now.number o.number) operation.now all.old.items) }
+    ensures { OnOk result (all.new.items
+        ≡ inserted (λ o. nat_lt operation.now.number o.number) operation.now all.old.items) }
 {
     let place = gap(all, operation.number);
     all.insert(place, OperationRef { operation })?;
@@ -182,7 +183,8 @@ fn add_numbers(
     status: Status,
     groups: &mut Seq<(Status, Seq<u64>)>,
 ) -> Result<(), NoMemory>
-    ensures { OnOk result (groups.new ≡ groups.old ++ option_to_list (if_any (λ o. o.number) status (filter (has_status project.now status) operations.now))) }
+    ensures { OnOk result (groups.new ≡ groups.old
+        ++ option_to_list (if_any (λ o. o.number) status (filter (has_status project.now status) operations.now))) }
 {
     let chosen = with_status(alloc, operations, project, status)?;
     if chosen.is_empty() {
@@ -200,7 +202,8 @@ fn add_views(
     status: Status,
     groups: &mut Seq<(Status, Seq<OpView>)>,
 ) -> Result<(), NoMemory>
-    ensures { OnOk result (groups.new ≡ groups.old ++ option_to_list (if_any view_of status (filter (has_status project.now status) operations.now))) }
+    ensures { OnOk result (groups.new ≡ groups.old
+        ++ option_to_list (if_any view_of status (filter (has_status project.now status) operations.now))) }
 {
     let chosen = with_status(alloc, operations, project, status)?;
     if chosen.is_empty() {
@@ -216,7 +219,9 @@ fn numbers_by_status(
     project: &str,
     statuses: &[Status],
 ) -> Result<Seq<(Status, Seq<u64>)>, NoMemory>
-    ensures { IfOk result (λ groups. groups ≡ filter_map (λ status. if_any (λ o. o.number) status (filter (has_status project.now status) operations.now)) statuses.now) }
+    ensures { IfOk result (λ groups. groups
+        ≡ filter_map (λ status. if_any (λ o. o.number) status
+        (filter (has_status project.now status) operations.now)) statuses.now) }
 {
     let mut groups = Seq::new(alloc);
     for status in statuses {
@@ -231,7 +236,9 @@ fn views_by_status(
     project: &str,
     statuses: &[Status],
 ) -> Result<Seq<(Status, Seq<OpView>)>, NoMemory>
-    ensures { IfOk result (λ groups. groups ≡ filter_map (λ status. if_any view_of status (filter (has_status project.now status) operations.now)) statuses.now) }
+    ensures { IfOk result (λ groups. groups
+        ≡ filter_map (λ status. if_any view_of status
+        (filter (has_status project.now status) operations.now)) statuses.now) }
 {
     let mut groups = Seq::new(alloc);
     for status in statuses {

@@ -122,7 +122,8 @@ fn state_reply(
     project: &str,
     of: &Target,
 ) -> Result<Reply, NoMemory>
-    ensures { IfOk result (λ r. r ≡ one (option_and_then (state_view view.now project.now) (row_of view.now project.now of.now))) }
+    ensures { IfOk result (λ r. r
+        ≡ one (option_and_then (state_view view.now project.now) (row_of view.now project.now of.now))) }
 {
     match row_of(view, project, of) {
         Some(row) => state_of_row(alloc, view, project, &row),

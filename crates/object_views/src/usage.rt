@@ -29,7 +29,9 @@ fn usage_lines(
     used: &Amounts,
     networks: u128,
 ) -> Result<Seq<UsageLine>, NoMemory>
-    ensures { IfOk result (λ lines. lines ≡ map (λ k. record { key = line_key k; used = part k used.now; limit = limit_on k limits.now }) parts ++ record { key = line.Networks; used = networks; limit = limits.now.networks } ∷ []) }
+    ensures { IfOk result (λ lines. lines
+        ≡ map (λ k. record { key = line_key k; used = part k used.now; limit = limit_on k limits.now }) parts
+        ++ record { key = line.Networks; used = networks; limit = limits.now.networks } ∷ []) }
 {
     let mut lines = Seq::new(alloc);
     add(

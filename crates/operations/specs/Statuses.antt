@@ -1,6 +1,7 @@
 use Rattle.std.specs.Prelude.{Bool, true, false, Result, Ok, Err, if◌then◌else◌}
 use Rattle.operations.specs.declared.status.Status.{Status}
-use Rattle.operations.specs.declared.status.Status.TheVariants.{Pending, Running, Cancelling, Success, Failure, Cancelled}
+use Rattle.operations.specs.declared.status.Status.TheVariants.{Pending, Running, Cancelling, Success, Failure}
+use Rattle.operations.specs.declared.status.Status.TheVariants.{Cancelled}
 use Rattle.operations.specs.declared.faults.CancelFault.{CancelFault}
 use Rattle.operations.specs.declared.faults.CancelFault.TheVariants.{Ended, Fixed, Already}
 

@@ -34,8 +34,10 @@ pub fn known_place<W>(operations: &[Operation<W>], number: u64) -> usize
 /// Puts another work into the operation of this number, and hands the old one out.
 pub fn swap_in<W>(operations: &mut Vec<Operation<W>>, number: u64, work: W) -> W
     requires { IsSome (find (has_number number) operations.old.items) }
-    ensures old { option_map (λ (o : Operation W). o.work) (find (has_number number) operations.old.items) ≡ Some result }
-    ensures items { operations.new.items ≡ changed_first (has_number number) (λ (o : Operation W). record o { work = work }) operations.old.items }
+    ensures old { option_map (λ (o : Operation W). o.work) (find (has_number number) operations.old.items)
+        ≡ Some result }
+    ensures items { operations.new.items
+        ≡ changed_first (has_number number) (λ (o : Operation W). record o { work = work }) operations.old.items }
     ensures capacity { vec_capacity operations.new ≡ vec_capacity operations.old }
 {
     let place = known_place(operations, number);
@@ -47,7 +49,8 @@ pub fn swap_in<W>(operations: &mut Vec<Operation<W>>, number: u64, work: W) -> W
 pub fn set_status<W>(operations: &mut Vec<Operation<W>>, number: u64, status: Status, moment: u64)
     requires { IsSome (find (has_number number) operations.old.items) }
     ensures items { operations.new.items ≡
-        changed_first (has_number number) (λ (o : Operation W). record o { status = status; updated = moment }) operations.old.items }
+        changed_first (has_number number)
+        (λ (o : Operation W). record o { status = status; updated = moment }) operations.old.items }
     ensures capacity { vec_capacity operations.new ≡ vec_capacity operations.old }
 {
     let place = known_place(operations, number);
@@ -71,7 +74,9 @@ pub fn take_out<W>(operations: &mut Vec<Operation<W>>, number: u64) -> Operation
 pub fn drop_oldest<W: Drop>(ended: &mut Vec<Operation<W>>) -> Option<u64>
     requires { length ended.old.items ≤ most_ended }
     ensures rest { ended.new.items ≡ keep_last (most_ended - 1) ended.old.items }
-    ensures number { result ≡ (if length ended.old.items == most_ended then option_map (λ (o : Operation W). o.number) (slice_get ended.old.items 0) else None) }
+    ensures number { result
+        ≡ (if length ended.old.items == most_ended
+        then option_map (λ (o : Operation W). o.number) (slice_get ended.old.items 0) else None) }
     ensures capacity { vec_capacity ended.old ≤ vec_capacity ended.new }
 {
     if ended.len() < ENDED_LIMIT {

@@ -1,9 +1,12 @@
-ghost use Rattle.std.specs.Prelude.{◌≡◌, ◌==◌, ◌-◌, ◌<◌, ◌≤◌, ◌++◌, true, false, length, slice_get, vec_capacity, IfOk, IfSome, IsSome, if◌then◌else◌};
+ghost use Rattle.std.specs.Prelude.{◌≡◌, ◌==◌, ◌-◌, ◌<◌, ◌≤◌, ◌++◌, true, false, length, slice_get, vec_capacity, IfOk};
+ghost use Rattle.std.specs.Prelude.{IfSome, IsSome, if◌then◌else◌};
 ghost use Rattle.std.specs.Option.{option_copied, option_map, option_map_or};
 ghost use Rattle.std.specs.List.{find, position};
 ghost use Rattle.plain_lists.specs.Edits.{dropped};
 ghost use Rattle.operations.specs.Statuses.{is_live, is_pending, cancel_of};
-ghost use Rattle.operations.specs.Kept.{no_operations, has_number, live_at, kept_at, live_status, first_pending_of, by_number, enter_answer, after_enter, with_work, moved, ends, cancel_answer, after_cancel};
+ghost use Rattle.operations.specs.Kept.{no_operations, has_number, live_at, kept_at, live_status, first_pending_of};
+ghost use Rattle.operations.specs.Kept.{by_number, enter_answer, after_enter, with_work, moved, ends, cancel_answer};
+ghost use Rattle.operations.specs.Kept.{after_cancel};
 ghost use Rattle.operations.specs.Facts.{AreKept};
 ghost use Rattle.size_values.specs.Moments.{moment_limit};
 ghost use Rattle.operations.specs.declared.status.Status.TheVariants as status;
@@ -207,7 +210,8 @@ fn found_in<'x, W>(
 
 /// The number of the first that is `Pending`.
 fn pending_in<W>(operations: &[Operation<W>]) -> Option<u64>
-    ensures { result ≡ option_map (λ (o : Operation W). o.number) (find (λ (o : Operation W). is_pending o.status) operations.now) }
+    ensures { result
+        ≡ option_map (λ (o : Operation W). o.number) (find (λ (o : Operation W). is_pending o.status) operations.now) }
 {
     let pending = operations
         .iter()
@@ -234,7 +238,8 @@ fn cancel_of(may_cancel: bool, status: Status) -> Result<Status, CancelFault>
 
 /// Takes a number that is no longer kept out of the index.
 fn forget(numbers: &mut Vec<u64>, gone: Option<u64>)
-    ensures rest { numbers.new.items ≡ option_map_or (λ number. dropped (λ n. n == number) numbers.old.items) gone numbers.old.items }
+    ensures rest { numbers.new.items
+        ≡ option_map_or (λ number. dropped (λ n. n == number) numbers.old.items) gone numbers.old.items }
     ensures capacity { vec_capacity numbers.old ≤ vec_capacity numbers.new }
 {
     let Some(number) = gone else {

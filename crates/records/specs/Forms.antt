@@ -1,11 +1,13 @@
 -- The commands that requests can ask for: which request there is for which kind of object, which fields its body may
 -- have and in which form. What a request does not use is empty.
-use Rattle.std.specs.Prelude.{ℕ, ℤ, pos, negsuc, Bool, true, false, ◌&&◌, ◌||◌, ◌==◌, nat_le, not, List, [], ◌∷◌, length, is_some}
+use Rattle.std.specs.Prelude.{ℕ, ℤ, pos, negsuc, Bool, true, false, ◌&&◌, ◌||◌, ◌==◌, nat_le, not, List, [], ◌∷◌}
+use Rattle.std.specs.Prelude.{length, is_some}
 use Rattle.std.specs.List.{list_all, list_any}
 use Rattle.std.specs.Option.{option_map_or}
 use Rattle.std.specs.Str.{bytes_eq}
 use Rattle.size_values.specs.declared.kinds.ObjectKind.{ObjectKind}
-use Rattle.size_values.specs.declared.kinds.ObjectKind.TheVariants.{Project, Profile, Network, Pool, Volume, Instance, Snapshot, Operation}
+use Rattle.size_values.specs.declared.kinds.ObjectKind.TheVariants.{Project, Profile, Network, Pool, Volume, Instance}
+use Rattle.size_values.specs.declared.kinds.ObjectKind.TheVariants.{Snapshot, Operation}
 use Rattle.config_lists.specs.Settings.{Settings}
 use Rattle.config_lists.specs.Devices.{NamedDevices}
 use Rattle.records.specs.declared.commands.Target.{Target}
@@ -110,7 +112,15 @@ pub record Fields : Type 0 where
 
 -- a body that says nothing of the object
 abbrev pub no_fields : Fields
-no_fields = record { description = false; config = false; devices = false; profiles = false; ephemeral = false; kind = false; driver = false }
+no_fields = record {
+  description = false;
+  config = false;
+  devices = false;
+  profiles = false;
+  ephemeral = false;
+  kind = false;
+  driver = false;
+}
 
 -- what every body has but that of a new snapshot
 abbrev pub plain_fields : Fields
@@ -134,9 +144,12 @@ created_fields Profile from = record plain_fields { devices = true }
 created_fields Network from = plain_fields
 created_fields Pool from = record plain_fields { driver = true }
 created_fields Volume from = plain_fields
-created_fields Instance origin.None = record plain_fields { devices = true; profiles = true; ephemeral = true; kind = true }
-created_fields Instance (origin.Image alias) = record plain_fields { devices = true; profiles = true; ephemeral = true; kind = true }
-created_fields Instance (origin.Copy from snapshot pool) = record plain_fields { devices = true; profiles = true; ephemeral = true }
+created_fields Instance origin.None =
+    record plain_fields { devices = true; profiles = true; ephemeral = true; kind = true }
+created_fields Instance (origin.Image alias) =
+    record plain_fields { devices = true; profiles = true; ephemeral = true; kind = true }
+created_fields Instance (origin.Copy from snapshot pool) =
+    record plain_fields { devices = true; profiles = true; ephemeral = true }
 created_fields Snapshot from = no_fields
 created_fields Operation from = no_fields
 
@@ -200,7 +213,8 @@ is_none_origin (origin.Copy from snapshot pool) = false
 abbrev pub may_come_from : ObjectKind → Origin → Bool
 may_come_from Instance origin.None = true
 may_come_from Instance (origin.Image alias) = true
-may_come_from Instance (origin.Copy from snapshot pool) = not (is_empty from) && not (has_slash from) && not (has_slash snapshot) && is_empty pool
+may_come_from Instance (origin.Copy from snapshot pool) =
+    not (is_empty from) && not (has_slash from) && not (has_slash snapshot) && is_empty pool
 may_come_from Volume origin.None = true
 may_come_from Volume (origin.Image alias) = false
 may_come_from Volume (origin.Copy from snapshot pool) = is_empty snapshot
@@ -214,7 +228,8 @@ has_needed kind body = true
 -- the body of a new object of this kind
 abbrev pub is_creation : ObjectKind → Body → Bool
 is_creation kind body =
-    has_only (created_fields kind body.origin) body && has_forms body && may_come_from kind body.origin && has_needed kind body
+    has_only (created_fields kind body.origin) body && has_forms body && may_come_from kind body.origin
+    && has_needed kind body
 
 -- the body of PUT or PATCH of an object of this kind
 abbrev pub is_change : ObjectKind → Body → Bool

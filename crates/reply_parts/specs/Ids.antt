@@ -1,5 +1,6 @@
 -- The ids of operations: UUIDs of version 8 that hold the boot word and the number of the operation.
-use Rattle.std.specs.Prelude.{◌≡◌, ◌<◌, ℕ, ◌+◌, ◌-◌, ◌*◌, ◌/◌, ◌%◌, ◌^◌, ◌==◌, nat_lt, nat_le, ◌&&◌, if◌then◌else◌, List, ◌++◌, Option, Some, None, option_and_then, codes}
+use Rattle.std.specs.Prelude.{◌≡◌, ◌<◌, ℕ, ◌+◌, ◌-◌, ◌*◌, ◌/◌, ◌%◌, ◌^◌, ◌==◌, nat_lt, nat_le, ◌&&◌, if◌then◌else◌}
+use Rattle.std.specs.Prelude.{List, ◌++◌, Option, Some, None, option_and_then, codes}
 use Rattle.std.specs.Int.{w128, to_be_bytes, from_be_bytes}
 use Rattle.uuid.specs.Text.{lower, hyphenated_text, parsed}
 
@@ -25,7 +26,8 @@ operation_link boot number = codes "/1.0/operations/" ++ id_text boot number
 
 -- the number that two halves name, where they are those of an id of this boot
 unfoldable pub number_in : ℕ → ℕ → ℕ → Option ℕ
-number_in boot high low = if high == high_half boot && (nat_le (2 ^ 63) low && nat_lt low (2 ^ 63 + 2 ^ 62)) then Some (low - 2 ^ 63) else None
+number_in boot high low = if high == high_half boot
+    && (nat_le (2 ^ 63) low && nat_lt low (2 ^ 63 + 2 ^ 62)) then Some (low - 2 ^ 63) else None
 
 -- the number that sixteen bytes name
 unfoldable pub number_in_bytes : ℕ → List ℕ → Option ℕ

@@ -3,10 +3,12 @@ use Rattle.std.specs.Prelude.{ℕ, zero, suc, ◌+◌, ◌-◌, ◌/◌, ◌%◌
 use Rattle.jiff_core.specs.Calendar.{days_in_year, days_in_month}
 use Rattle.jiff_fmt.specs.Text.{pad2, pad4}
 
--- the year that holds a day, and the days of it that lie before: the day is counted from a year on, and so many years are tried at most
+-- the year that holds a day, and the days of it that lie before: the day is counted from a year on, and so many years
+-- are tried at most
 unfoldable pub year_of : ℕ → ℕ → ℕ → ℕ × ℕ
 year_of zero year days = (year, days)
-year_of (suc turns) year days = if nat_lt days (days_in_year (pos year)) then (year, days) else year_of turns (year + 1) (days - days_in_year (pos year))
+year_of (suc turns) year days = if nat_lt days (days_in_year (pos year))
+    then (year, days) else year_of turns (year + 1) (days - days_in_year (pos year))
 
 -- the same for a day that is counted from 1970 on
 unfoldable pub year_at : ℕ → ℕ × ℕ
@@ -15,7 +17,8 @@ year_at day = year_of day 1970 day
 -- the month of a year that holds a day, and the days of it that lie before: the day is counted from a month on
 unfoldable pub month_of : ℕ → ℕ → ℕ → ℕ → ℕ × ℕ
 month_of zero year month days = (month, days)
-month_of (suc turns) year month days = if nat_lt days (days_in_month (pos year) month) then (month, days) else month_of turns year (month + 1) (days - days_in_month (pos year) month)
+month_of (suc turns) year month days = if nat_lt days (days_in_month (pos year) month)
+    then (month, days) else month_of turns year (month + 1) (days - days_in_month (pos year) month)
 
 -- the same for a day that is counted from 1970 on
 unfoldable pub month_at : ℕ → ℕ × ℕ

@@ -1,6 +1,7 @@
 //! The ids of operations: UUIDs of version 8 that hold the boot word and the number of the operation.
 ghost use Rattle.std.specs.Prelude.{◌≡◌, IfOk};
-ghost use Rattle.reply_parts.specs.Ids.{high_half, low_half, id_bytes, id_text, operation_link, number_in, number_in_bytes, number_of};
+ghost use Rattle.reply_parts.specs.Ids.{high_half, low_half, id_bytes, id_text, operation_link, number_in};
+ghost use Rattle.reply_parts.specs.Ids.{number_in_bytes, number_of};
 
 use size_values::{NoMemory, Text};
 use std::alloc::Global;

@@ -100,7 +100,8 @@ impl Object {
 
     /// The object with the link of an operation more.
     pub fn with_link(self, key: &str, boot: u64, number: u64) -> Result<Object, NoMemory>
-        ensures { IfOk result (λ o. members_in o ≡ put key.now (string (operation_link boot number)) (members_in self)) }
+        ensures { IfOk result (λ o. members_in o
+            ≡ put key.now (string (operation_link boot number)) (members_in self)) }
     {
         let link = operation_link(self.alloc, boot, number)?;
         self.with_text(key, link.view())

@@ -8,7 +8,8 @@ use Rattle.reservations.specs.Holdings.{Holdings, all_part}
 -- what is true of a ledger at all times: every share granted was converted or returned or is still held, part by part;
 -- each operation holds at most once; and no more was granted than a share of the most for each operation
 pub record AreHoldings (l : Holdings) : Type 0 where
-  pub balanced : (k : Part) → part k l.books.granted ≡ part k l.books.converted + part k l.books.returned + all_part k l.held
+  pub balanced : (k : Part)
+      → part k l.books.granted ≡ part k l.books.converted + part k l.books.returned + all_part k l.held
   pub distinct : Distinct (λ (h : Hold). h.op) l.held
   pub up_to : Each (λ (h : Hold). h.op ≤ l.greatest) l.held
   pub limit : l.greatest < 2 ^ 40

@@ -5,7 +5,12 @@ use Rattle.reservations.specs.Facts.{AreHoldings}
 
 -- what contracts see
 abbrev pub holdings_in : Inside → Holdings
-holdings_in l = record { held = l.holds.items; greatest = l.greatest; books = l.books; spare = vec_capacity l.holds - vec_len l.holds }
+holdings_in l = record {
+  held = l.holds.items;
+  greatest = l.greatest;
+  books = l.books;
+  spare = vec_capacity l.holds - vec_len l.holds;
+}
 
 -- what is true of the fields
 abbrev pub IsLedger : Inside → Type 0

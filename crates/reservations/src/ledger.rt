@@ -1,10 +1,12 @@
-ghost use Rattle.std.specs.Prelude.{◌≡◌, ◌+◌, ◌-◌, ◌<◌, ◌≤◌, ◌^◌, ◌∷◌, ◌++◌, [], Some, IsSome, IfSome, OnOk, length, vec_len, vec_capacity};
+ghost use Rattle.std.specs.Prelude.{◌≡◌, ◌+◌, ◌-◌, ◌<◌, ◌≤◌, ◌^◌, ◌∷◌, ◌++◌, [], Some, IsSome, IfSome, OnOk, length};
+ghost use Rattle.std.specs.Prelude.{vec_len, vec_capacity};
 ghost use Rattle.std.specs.List.{find, position};
 ghost use Rattle.std.specs.Option.{option_map};
 ghost use Rattle.plain_lists.specs.Edits.{dropped};
 ghost use Rattle.size_values.specs.declared.amounts.Part.{Part};
 ghost use Rattle.size_values.specs.Amounts.{part};
-ghost use Rattle.reservations.specs.Holdings.{no_books, has_op, share_at, counted, held_part, all_part, granted_more, converted_more, returned_more};
+ghost use Rattle.reservations.specs.Holdings.{no_books, has_op, share_at, counted, held_part, all_part, granted_more};
+ghost use Rattle.reservations.specs.Holdings.{converted_more, returned_more};
 ghost use Rattle.reservations.specs.Facts.{AreHoldings};
 ghost use Rattle.reservations.specs.declared.books.Hold.{Hold as HoldValue};
 

@@ -1,5 +1,6 @@
 -- The bodies of requests as JSON objects, and their members.
-use Rattle.std.specs.Prelude.{ℕ, Bool, false, List, [], Option, Some, None, option_and_then, is_some, unwrap_or, if◌then◌else◌, codes}
+use Rattle.std.specs.Prelude.{ℕ, Bool, false, List, [], Option, Some, None, option_and_then, is_some, unwrap_or}
+use Rattle.std.specs.Prelude.{if◌then◌else◌, codes}
 use Rattle.std.specs.Option.{option_map_or}
 use Rattle.std.specs.Str.{bytes_eq, is_utf8}
 use Rattle.serde_json.specs.Data.{Data}

@@ -1,5 +1,6 @@
 -- Settings and devices in a body: which values have their form, and what they say.
-use Rattle.std.specs.Prelude.{ℕ, ◌==◌, ◌&&◌, ◌||◌, Bool, true, false, not, List, [], length, Option, Some, None, is_some, if◌then◌else◌}
+use Rattle.std.specs.Prelude.{ℕ, ◌==◌, ◌&&◌, ◌||◌, Bool, true, false, not, List, [], length, Option, Some, None}
+use Rattle.std.specs.Prelude.{is_some, if◌then◌else◌}
 use Rattle.std.specs.Option.{option_map_or}
 use Rattle.serde_json.specs.Data.{Data, Members, no_members, member}
 use Rattle.serde_json.specs.Find.{as_object, as_str}
@@ -51,8 +52,8 @@ changes_after changes (member key value more) = changes_after (with_change chang
 unfoldable pub changes_of : Data → Settings
 changes_of value = option_map_or (changes_after []) (as_object value) []
 
--- The settings of a device with one more key, if its value is a text. An empty text stands for an absent key, so that it
--- sets nothing.
+-- The settings of a device with one more key, if its value is a text. An empty text stands for an absent key, so that
+-- it sets nothing.
 abbrev pub with_setting : Settings → List ℕ → Option (List ℕ) → Settings
 with_setting config key None = config
 with_setting config key (Some text) = if is_empty key || is_empty text then config else put config key text

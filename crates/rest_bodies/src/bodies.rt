@@ -1,6 +1,7 @@
 ghost use Rattle.std.specs.Prelude.{◌≡◌, IfOk, option_map};
 ghost use Rattle.serde_json.specs.View.{view};
-ghost use Rattle.rest_bodies.specs.Bodies.{config_at, devices_at, part_of, has_config, has_devices, has_driver, is_of_instances, origin_of, body_of};
+ghost use Rattle.rest_bodies.specs.Bodies.{config_at, devices_at, part_of, has_config, has_devices, has_driver};
+ghost use Rattle.rest_bodies.specs.Bodies.{is_of_instances, origin_of, body_of};
 ghost use Rattle.rest_bodies.specs.Drivers.{driver_at};
 ghost use Rattle.rest_bodies.specs.Fields.{fields_of, first_fault};
 ghost use Rattle.rest_bodies.specs.Instances.{kind_at, ephemeral_at};

@@ -10,11 +10,11 @@ use crate::profiles::fits_profiles;
 use crate::settings::{fits_devices, fits_settings};
 use serde_json::Value;
 
-/// The fields of bodies, each in its form: a name is a text that has to be there, the driver of a pool one of four words
-/// that has to be there, the type of a network `bridge` and that of a volume `custom`, a description a text, `config` an
-/// object of texts, `devices` an object of such objects, and the source of a volume an object that names a volume. The
-/// type of an instance is one of two words, its source an object that has to be there, `profiles` a list of texts,
-/// `ephemeral` a truth value, and `start` may only be `false`.
+/// The fields of bodies, each in its form: a name is a text that has to be there, the driver of a pool one of four
+/// words that has to be there, the type of a network `bridge` and that of a volume `custom`, a description a text,
+/// `config` an object of texts, `devices` an object of such objects, and the source of a volume an object that names a
+/// volume. The type of an instance is one of two words, its source an object that has to be there, `profiles` a list of
+/// texts, `ephemeral` a truth value, and `start` may only be `false`.
 #[derive(Clone, Copy)]
 pub enum Field {
     Name,

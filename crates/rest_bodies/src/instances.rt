@@ -1,6 +1,8 @@
 ghost use Rattle.std.specs.Prelude.{◌≡◌, IfOk, option_map};
 ghost use Rattle.serde_json.specs.View.{view};
-ghost use Rattle.rest_bodies.specs.Instances.{kind_of, kind_in, kind_at, is_false, ephemeral_at, text_fault, needed_fault, named_fault, image_fault, typed_fault, source_fault, image_name, instance_made, instance_origin};
+ghost use Rattle.rest_bodies.specs.Instances.{kind_of, kind_in, kind_at, is_false, ephemeral_at, text_fault};
+ghost use Rattle.rest_bodies.specs.Instances.{needed_fault, named_fault, image_fault, typed_fault, source_fault};
+ghost use Rattle.rest_bodies.specs.Instances.{image_name, instance_made, instance_origin};
 
 use crate::members::{given, is_word, str_at};
 use crate::origins::has_word;
@@ -89,7 +91,8 @@ fn needed_fault(key: &'static str, field: Option<&Value>) -> Option<&'static str
 /// The fault of the names of an image. A fingerprint that is given is the one that counts, and then the alias is not
 /// looked at.
 fn named_fault(fingerprint: Option<&Value>, source: &Value) -> Option<&'static str>
-    ensures { option_map (λ k. k.now) result ≡ named_fault (option_map (λ m. view m.now) fingerprint.entry) (view source.now) }
+    ensures { option_map (λ k. k.now) result
+        ≡ named_fault (option_map (λ m. view m.now) fingerprint.entry) (view source.now) }
 {
     match fingerprint {
         Some(value) => text_fault("fingerprint", value),

@@ -6,5 +6,6 @@ ghost use Rattle.rest_bodies.specs.declared.fields.Field.{Field};
 
 /// The key that a refusal names is that of a field at fault, and no field before it is at fault.
 pub fn names_first_bad()
-    ensures { (fields : List Field) (body : Data) (key : List ℕ) → first_fault fields body ≡ Some key → IsFirstBad fields body key }
+    ensures { (fields : List Field) (body : Data) (key : List ℕ) → first_fault fields body ≡ Some key
+        → IsFirstBad fields body key }
 {}

@@ -1,6 +1,7 @@
 ghost use Rattle.std.specs.Prelude.{◌≡◌, IfOk, Some, option_map};
 ghost use Rattle.serde_json.specs.View.{view};
-ghost use Rattle.rest_bodies.specs.Origins.{may_be_text, has_word, is_copy_source, asks_for_copy, fits_source, source_pool, volume_copied, volume_origin};
+ghost use Rattle.rest_bodies.specs.Origins.{may_be_text, has_word, is_copy_source, asks_for_copy, fits_source};
+ghost use Rattle.rest_bodies.specs.Origins.{source_pool, volume_copied, volume_origin};
 
 use crate::members::{given, is_word, name_at, str_at};
 use records::Origin;

@@ -2,7 +2,8 @@ ghost use Rattle.std.specs.Prelude.{◌≡◌, ◌++◌, IfOk, OnOk, option_map,
 ghost use Rattle.serde_json.specs.View.{view, items_view};
 ghost use Rattle.serde_json.specs.Find.{as_str};
 ghost use Rattle.records.specs.Forms.{most_profiles};
-ghost use Rattle.rest_bodies.specs.Profiles.{is_text, are_texts, is_here, is_among, comes_again, are_distinct, are_names, fits_profiles, text_in, texts_in, profiles_in, profiles_at};
+ghost use Rattle.rest_bodies.specs.Profiles.{is_text, are_texts, is_here, is_among, comes_again, are_distinct};
+ghost use Rattle.rest_bodies.specs.Profiles.{are_names, fits_profiles, text_in, texts_in, profiles_in, profiles_at};
 
 use crate::members::given;
 use serde_json::Value;

@@ -1,7 +1,9 @@
 ghost use Rattle.std.specs.Prelude.{◌≡◌, [], IfOk, OnOk};
 ghost use Rattle.serde_json.specs.View.{view, members_view};
 ghost use Rattle.serde_json.specs.Find.{as_str};
-ghost use Rattle.rest_bodies.specs.Settings.{is_setting, all_settings, fits_settings, all_devices, fits_devices, with_change, changes_after, changes_of, with_setting, settings_after, device_of, devices_after, devices_of};
+ghost use Rattle.rest_bodies.specs.Settings.{is_setting, all_settings, fits_settings, all_devices, fits_devices};
+ghost use Rattle.rest_bodies.specs.Settings.{with_change, changes_after, changes_of, with_setting, settings_after};
+ghost use Rattle.rest_bodies.specs.Settings.{device_of, devices_after, devices_of};
 
 use config_lists::{Changes, Device, Devices};
 use serde_json::{Map, Value};

@@ -15,7 +15,8 @@ use Rattle.rest_paths.specs.declared.places.Place.TheVariants as place
 abbrev pub filled : List ℕ → List (List ℕ) → List ℕ
 filled [] parts = []
 filled (token ∷ more) [] = token ∷ filled more []
-filled (token ∷ more) (part ∷ parts) = if token == param_token then part ++ filled more parts else token ∷ filled more (part ∷ parts)
+filled (token ∷ more) (part ∷ parts) =
+    if token == param_token then part ++ filled more parts else token ∷ filled more (part ∷ parts)
 
 -- the names that requests at a place read off its path
 abbrev pub names_in : Place → List ℕ → List (List ℕ)
@@ -35,5 +36,6 @@ is_of_snapshots other = false
 -- each listed path is the pattern that the router finds for it, with the names read off it in place of the parameters
 abbrev pub NamesFill : Type 0
 NamesFill =
-    (path : List ℕ) (route : RouteOf Line) → IsText path → first rows path ≡ Some route → is_of_snapshots route.value.place ≡ false
+    (path : List ℕ) (route : RouteOf Line) → IsText path → first rows path ≡ Some route
+    → is_of_snapshots route.value.place ≡ false
     → path ≡ filled route.pattern (names_in route.value.place path)

@@ -1,5 +1,6 @@
 -- The paths of the REST API, what stands at each, and which methods are offered there.
-use Rattle.std.specs.Prelude.{ℕ, Bool, true, false, ◌&&◌, List, [], ◌∷◌, map, Option, Some, None, Result, Ok, Err, is_none, option_map, option_and_then, if◌then◌else◌, codes}
+use Rattle.std.specs.Prelude.{ℕ, Bool, true, false, ◌&&◌, List, [], ◌∷◌, map, Option, Some, None, Result, Ok, Err}
+use Rattle.std.specs.Prelude.{is_none, option_map, option_and_then, if◌then◌else◌, codes}
 use Rattle.std.specs.Str.{bytes_eq}
 use Rattle.matchit.specs.Order.{placed}
 use Rattle.matchit.specs.Route.{Scan, parse_route}
@@ -50,7 +51,8 @@ is_taken (Err error) rows = false
 -- each of these paths can be added to the rows, in this order
 abbrev pub are_taken : List (List ℕ × Line) → PathRows → Bool
 are_taken [] rows = true
-are_taken (route ∷ more) rows = is_taken (parse_route route.0) rows && are_taken more (row_added (parse_route route.0) route.1 rows)
+are_taken (route ∷ more) rows =
+    is_taken (parse_route route.0) rows && are_taken more (row_added (parse_route route.0) route.1 rows)
 
 -- the rows of the router that knows the listed paths
 unfoldable pub rows : PathRows

@@ -1,5 +1,7 @@
 -- What the query of a target says.
-use Rattle.std.specs.Prelude.{ℕ, ◌==◌, ◌&&◌, ◌||◌, ℤ, pos, negsuc, nat_lt, Bool, true, false, not, List, [], ◌∷◌, length, slice_index, Option, Some, None, Result, Ok, ok_or, option_map, unwrap_or, is_some, if◌then◌else◌, codes}
+use Rattle.std.specs.Prelude.{ℕ, ◌==◌, ◌&&◌, ◌||◌, ℤ, pos, negsuc, nat_lt, Bool, true, false, not, List, [], ◌∷◌}
+use Rattle.std.specs.Prelude.{length, slice_index, Option, Some, None, Result, Ok, ok_or, option_map, unwrap_or}
+use Rattle.std.specs.Prelude.{is_some, if◌then◌else◌, codes}
 use Rattle.std.specs.List.{list_all, slice_split}
 use Rattle.std.specs.Result.{result_ok}
 use Rattle.std.specs.Str.{bytes_eq}
@@ -49,18 +51,24 @@ are_types value = list_all is_type (slice_split (λ byte. byte == 44) value)
 abbrev pub no_query : Query
 no_query = record { project = None; flags = record { recursion = None; timeout = None; has_types = false } }
 
--- The flags after one more pair, or none if the pair is bad. The first of equal keys counts, and other keys say nothing.
+-- The flags after one more pair, or none if the pair is bad. The first of equal keys counts, and other keys say
+-- nothing.
 unfoldable pub flags_after : Flags → List ℕ → List ℕ → Option Flags
 flags_after flags key value =
-    if bytes_eq key (codes "recursion") && not (is_some flags.recursion) then option_map (λ (r : Bool). record flags { recursion = Some r }) (recursion_of value)
-    else (if bytes_eq key (codes "timeout") && not (is_some flags.timeout) then option_map (λ (t : ℤ). record flags { timeout = Some t }) (timeout_of value)
-    else (if bytes_eq key (codes "type") && not flags.has_types then (if are_types value then Some (record flags { has_types = true }) else None)
+    if bytes_eq key (codes "recursion")
+    && not (is_some flags.recursion)
+    then option_map (λ (r : Bool). record flags { recursion = Some r }) (recursion_of value)
+    else (if bytes_eq key (codes "timeout")
+    && not (is_some flags.timeout) then option_map (λ (t : ℤ). record flags { timeout = Some t }) (timeout_of value)
+    else (if bytes_eq key (codes "type")
+    && not flags.has_types then (if are_types value then Some (record flags { has_types = true }) else None)
     else (if bytes_eq key (codes "all-projects") || bytes_eq key (codes "filter") then None
     else Some flags)))
 
 -- the project after one more pair: the first that is named
 unfoldable pub project_after : Option (List ℕ) → List ℕ → List ℕ → Option (List ℕ)
-project_after project key value = if bytes_eq key (codes "project") && not (is_some project) then Some value else project
+project_after project key value =
+    if bytes_eq key (codes "project") && not (is_some project) then Some value else project
 
 -- the query after one more pair; a bad pair is refused by its key
 unfoldable pub query_after : Query → List ℕ → List ℕ → Result Query Refusal
@@ -71,7 +79,8 @@ query_after query key value =
 -- the query with all these pairs
 abbrev pub query_in : Query → List (List ℕ × List ℕ) → Result Query Refusal
 query_in query [] = Ok query
-query_in query ((key, value) ∷ pairs) = followed (query_after query (text_of key) (text_of value)) (λ next. query_in next pairs)
+query_in query ((key, value) ∷ pairs) =
+    followed (query_after query (text_of key) (text_of value)) (λ next. query_in next pairs)
 
 -- what a query says, or the refusal of its first bad pair
 unfoldable pub query_said : List ℕ → Result Query Refusal

@@ -9,8 +9,8 @@ pub fn paths_do_not_conflict()
     ensures { are_taken routes [] ≡ true }
 {}
 
-/// The names that requests read off a path are what stands in it in place of the braces of its line in the table, where the
-/// router finds one, but for snapshots, whose requests are not read yet.
+/// The names that requests read off a path are what stands in it in place of the braces of its line in the table, where
+/// the router finds one, but for snapshots, whose requests are not read yet.
 pub fn names_fill_the_braces()
     ensures { NamesFill }
 {}

@@ -1,5 +1,5 @@
-//! The targets of requests to the REST API: which place a path names (RFC 3986, section 3.3), which methods it offers, and
-//! what the query says; with the refusals of requests by their form.
+//! The targets of requests to the REST API: which place a path names (RFC 3986, section 3.3), which methods it offers,
+//! and what the query says; with the refusals of requests by their form.
 #![tactic(auto)]
 
 mod laws;

@@ -1,7 +1,9 @@
 ghost use Rattle.std.specs.Prelude.{◌≡◌, ◌≤◌, IfOk, IfSome};
 ghost use Rattle.records.specs.Forms.{longest_wait};
 ghost use Rattle.rest_paths.specs.Answers.{Gives};
-ghost use Rattle.rest_paths.specs.Queries.{recursion_of, has_leading_zero, seconds_of, timeout_of, is_type, are_types, no_query, flags_after, project_after, query_after, query_said, project_of, recursion_asked, timeout_asked};
+ghost use Rattle.rest_paths.specs.Queries.{recursion_of, has_leading_zero, seconds_of, timeout_of, is_type, are_types};
+ghost use Rattle.rest_paths.specs.Queries.{no_query, flags_after, project_after, query_after, query_said, project_of};
+ghost use Rattle.rest_paths.specs.Queries.{recursion_asked, timeout_asked};
 
 use crate::refusals::refused;
 use form_urlencoded::parse;
@@ -9,8 +11,8 @@ use records::{Refusal, Rule};
 use size_values::{NoMemory, Or, Text, read_count};
 use std::alloc::Global;
 
-/// What a query says besides the project: whether objects are listed and not their links alone, how many seconds to wait
-/// for an operation, with -1 for no end, and that a `type` was there.
+/// What a query says besides the project: whether objects are listed and not their links alone, how many seconds to
+/// wait for an operation, with -1 for no end, and that a `type` was there.
 #[derive(Clone, Copy)]
 pub struct Flags {
     pub recursion: Option<bool>,

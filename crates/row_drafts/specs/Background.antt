@@ -1,5 +1,6 @@
 -- What contracts see of the operations of a draft.
-use Rattle.std.specs.Prelude.{ℕ, ◌+◌, ◌-◌, ◌<◌, ◌^◌, List, [], ◌∷◌, ◌++◌, find, Option, Some, None, IfSome, is_some, length, take, option_and_then, option_map}
+use Rattle.std.specs.Prelude.{ℕ, ◌+◌, ◌-◌, ◌<◌, ◌^◌, List, [], ◌∷◌, ◌++◌, find, Option, Some, None, IfSome, is_some}
+use Rattle.std.specs.Prelude.{length, take, option_and_then, option_map}
 use Rattle.host_model.specs.declared.call.HostCall.{HostCall}
 use Rattle.instance_states.specs.Plans.{undo_of}
 use Rattle.operations.specs.declared.operation.Operation.{Operation}
@@ -18,8 +19,8 @@ use Rattle.size_values.specs.declared.amounts.Amounts.{Amounts}
 use Rattle.std.specs.Option.{option_map_or}
 use Rattle.row_machine.specs.machine.Work.{handing_out, one_more_done, undone}
 
--- how many operations can be entered, and how many shares held, without taking memory; and the greatest operation that ever
--- held a share, 0 where none did
+-- how many operations can be entered, and how many shares held, without taking memory; and the greatest operation that
+-- ever held a share, 0 where none did
 pub record Backing : Type 0 where
   pub claim_room : ℕ
   pub hold_room : ℕ
@@ -69,8 +70,8 @@ before_claim k = record { live = take (length k.live - 1) k.live; ended = k.ende
 
 -- ---- calls
 
--- the call that a task hands out, and the task after it: the first call that is left, the same once one more was done, or the
--- call that takes the deed back
+-- the call that a task hands out, and the task after it: the first call that is left, the same once one more was done,
+-- or the call that takes the deed back
 abbrev pub handed : Handing → Task → Option (HostCall × Task)
 handed handing.First task = by_calls task.calls where
   by_calls : List HostCall → Option (HostCall × Task)

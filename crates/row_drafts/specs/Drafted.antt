@@ -10,15 +10,16 @@ use Rattle.row_drafts.specs.Background.{Backing}
 use Rattle.row_drafts.specs.declared.lists.Undone.{Undone}
 use Rattle.row_drafts.specs.Steps.{before_changes}
 
--- the state with the rows of all kinds and the operations, how many rows of each kind can be put in without taking memory, and
--- what there is memory for beside the operations
+-- the state with the rows of all kinds and the operations, how many rows of each kind can be put in without taking
+-- memory, and what there is memory for beside the operations
 pub record Listed : Type 0 where
   pub state : State
   pub room : ℕ
   pub backing : Backing
 
--- The state; what takes back the changes that are not settled yet; how many rows of each kind and how many changes there is
--- memory for; the statuses that are kept ready for new instances; and what there is memory for beside the operations.
+-- The state; what takes back the changes that are not settled yet; how many rows of each kind and how many changes
+-- there is memory for; the statuses that are kept ready for new instances; and what there is memory for beside the
+-- operations.
 pub record Drafted : Type 0 where
   pub state : State
   pub log : List Undone

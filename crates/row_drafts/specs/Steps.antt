@@ -33,7 +33,8 @@ before_change (undone.Profile p) s = record s { profiles = before_step p s.profi
 before_change (undone.Network p) s = record s { networks = before_step p s.networks }
 before_change (undone.Pool p) s = record s { pools = before_step p s.pools }
 before_change (undone.Volume p) s = record s { volumes = before_step p s.volumes }
-before_change (undone.Instance p power) s = record s { instances = before_step p s.instances; powers = before_step power s.powers }
+before_change (undone.Instance p power) s =
+    record s { instances = before_step p s.instances; powers = before_step power s.powers }
 before_change (undone.Snapshot p) s = record s { snapshots = before_step p s.snapshots }
 before_change undone.Claimed s = record s { operations = before_claim s.operations }
 before_change undone.Nothing s = s

@@ -1,12 +1,14 @@
 //! Background operations and their shares: entered, moved and ended without taking memory.
-ghost use Rattle.std.specs.Prelude.{◌≡◌, ◌+◌, ◌-◌, ◌^◌, ◌≤◌, ◌<◌, ◌++◌, [], ◌∷◌, Some, IsSome, IfSome, OnOk, IfOk, is_some, find, length, take, vec_capacity};
+ghost use Rattle.std.specs.Prelude.{◌≡◌, ◌+◌, ◌-◌, ◌^◌, ◌≤◌, ◌<◌, ◌++◌, [], ◌∷◌, Some, IsSome, IfSome, OnOk, IfOk};
+ghost use Rattle.std.specs.Prelude.{is_some, find, length, take, vec_capacity};
 ghost use Rattle.host_model.specs.declared.call.HostCall.{HostCall as HostCallValue};
 ghost use Rattle.instance_states.specs.Plans.{undo_of};
 ghost use Rattle.operations.specs.Kept.{no_operations, entered, has_number, live_at, with_work, moved, ends};
 ghost use Rattle.operations.specs.declared.operation.Operation.{Operation as OperationValue};
 ghost use Rattle.plain_lists.specs.Edits.{changed_first, dropped};
 ghost use Rattle.reservations.specs.Holdings.{no_books, has_op, granted_more, converted_more, returned_more};
-ghost use Rattle.row_drafts.specs.Background.{before_claim, pending_of, share_in, handed, handed_at, HasCount, HasCountAt};
+ghost use Rattle.row_drafts.specs.Background.{before_claim, pending_of, share_in, handed, handed_at, HasCount};
+ghost use Rattle.row_drafts.specs.Background.{HasCountAt};
 ghost use Rattle.row_machine.specs.machine.Task.{Task};
 ghost use Rattle.size_values.specs.Amounts.{part};
 ghost use Rattle.size_values.specs.declared.amounts.Part.{Part};
@@ -123,7 +125,8 @@ impl Background {
     pub(crate) fn claim(&mut self, work: Work, moment: u64) -> u64
         requires room { 1 ≤ self.old.backing.claim_room }
         requires number { self.old.operations.next ≤ 2 ^ 40 }
-        ensures operations { self.new.operations ≡ entered (is_some (undo_of work.deed)) work moment self.old.operations }
+        ensures operations { self.new.operations
+            ≡ entered (is_some (undo_of work.deed)) work moment self.old.operations }
         ensures number { result ≡ self.old.operations.next }
         ensures held { self.new.held ≡ self.old.held }
         ensures books { self.new.books ≡ self.old.books }
@@ -178,7 +181,8 @@ impl Background {
     pub(crate) fn hand_out(&mut self, number: u64, which: Handing) -> HostCall
         requires call { IsSome (handed_at which self.old.operations number) }
         requires count { HasCountAt which self.old.operations number }
-        ensures operations { (call : HostCallValue) (task : Task) → handed_at which self.old.operations number ≡ Some (call, task) →
+        ensures operations { (call : HostCallValue) (task : Task)
+            → handed_at which self.old.operations number ≡ Some (call, task) →
             (result ≡ call) × (self.new.operations ≡ with_work number task self.old.operations) }
         ensures held { self.new.held ≡ self.old.held }
         ensures books { self.new.books ≡ self.old.books }
@@ -255,12 +259,17 @@ fn drop_last<T: Drop>(items: &mut Vec<T>)
 /// The operation of this number hands out a call.
 fn hand_out_of(operations: &mut Vec<Operation<Work>>, number: u64, which: Handing) -> HostCall
     requires there { IsSome (find (has_number number) operations.old.items) }
-    requires call { IfSome (find (has_number number) operations.old.items) (λ (o : OperationValue Task). IsSome (handed which o.work)) }
-    requires count { IfSome (find (has_number number) operations.old.items) (λ (o : OperationValue Task). HasCount which o.work) }
+    requires call { IfSome (find (has_number number) operations.old.items)
+        (λ (o : OperationValue Task). IsSome (handed which o.work)) }
+    requires count { IfSome (find (has_number number) operations.old.items)
+        (λ (o : OperationValue Task). HasCount which o.work) }
     ensures items { (o : OperationValue Task) (task : Task) → find (has_number number) operations.old.items ≡ Some o →
         handed which o.work ≡ Some (result, task) →
-        operations.new.items ≡ changed_first (has_number number) (λ (x : OperationValue Task). record x { work = task }) operations.old.items }
-    ensures call { (o : OperationValue Task) (call : HostCallValue) (task : Task) → find (has_number number) operations.old.items ≡ Some o →
+        operations.new.items
+        ≡ changed_first (has_number number)
+        (λ (x : OperationValue Task). record x { work = task }) operations.old.items }
+    ensures call { (o : OperationValue Task) (call : HostCallValue) (task : Task)
+        → find (has_number number) operations.old.items ≡ Some o →
         handed which o.work ≡ Some (call, task) → result ≡ call }
 {
     let place = known_place(operations, number);

@@ -6,8 +6,8 @@ ghost use Rattle.row_drafts.specs.declared.calls.Handing.TheVariants as handing;
 use host_model::HostCall;
 use row_machine::Work;
 
-/// Which call of a task is handed out: the first that is left; the same, once the one before it was done; or the one that
-/// takes the deed back.
+/// Which call of a task is handed out: the first that is left; the same, once the one before it was done; or the one
+/// that takes the deed back.
 #[derive(Clone, Copy)]
 pub enum Handing {
     First,

@@ -1,4 +1,5 @@
-ghost use Rattle.std.specs.Prelude.{◌≡◌, ◌+◌, ◌*◌, ◌-◌, ◌^◌, ◌<◌, ◌≤◌, ◌∷◌, ◌++◌, [], true, Some, IsSome, length, take, drop, find, IfOk, OnOk};
+ghost use Rattle.std.specs.Prelude.{◌≡◌, ◌+◌, ◌*◌, ◌-◌, ◌^◌, ◌<◌, ◌≤◌, ◌∷◌, ◌++◌, [], true, Some, IsSome, length, take};
+ghost use Rattle.std.specs.Prelude.{drop, find, IfOk, OnOk};
 ghost use Rattle.host_model.specs.declared.call.HostCall.{HostCall as HostCallValue};
 ghost use Rattle.operations.specs.Kept.{live_at};
 ghost use Rattle.operations.specs.declared.operation.Operation.{Operation as OperationValue};
@@ -6,7 +7,8 @@ ghost use Rattle.row_machine.specs.declared.changes.RowChange.TheVariants as cha
 ghost use Rattle.row_machine.specs.machine.Changes.{changed, applied};
 ghost use Rattle.row_machine.specs.machine.State.{empty_state};
 ghost use Rattle.row_machine.specs.machine.Task.{Task};
-ghost use Rattle.row_machine.specs.machine.Work.{claiming, moved, with_task, with_power, ended, is_held_by, converted, returned};
+ghost use Rattle.row_machine.specs.machine.Work.{claiming, moved, with_task, with_power, ended, is_held_by, converted};
+ghost use Rattle.row_machine.specs.machine.Work.{returned};
 ghost use Rattle.row_drafts.specs.Background.{holding, handed_at, HasCountAt};
 ghost use Rattle.row_drafts.specs.Drafted.{former, stopped, spares_for, spares_of, IsReady, CanClaim};
 ghost use Rattle.row_drafts.specs.declared.calls.Handing.TheVariants as handing;
@@ -25,9 +27,9 @@ use size_values::{Amounts, NoMemory, Power, Seq, Text};
 use std::alloc::Global;
 use std::marker::Model;
 
-/// Rows of which no facts are known: in the middle of a list of changes they need not hold. Changes stay in a log until they are
-/// settled, and those in the log can be taken back: neither takes memory. Contracts see the state, the log, and what
-/// there is memory for.
+/// Rows of which no facts are known: in the middle of a list of changes they need not hold. Changes stay in a log until
+/// they are settled, and those in the log can be taken back: neither takes memory. Contracts see the state, the log,
+/// and what there is memory for.
 #[derive(Drop)]
 pub struct Draft {
     lists: Lists,
@@ -218,8 +220,8 @@ impl Draft {
         Ok(())
     }
 
-    /// Enters an operation with the next number, which is answered. It is taken back as every other change is. It takes no
-    /// memory.
+    /// Enters an operation with the next number, which is answered. It is taken back as every other change is. It takes
+    /// no memory.
     pub fn claim(&mut self, work: Work, moment: u64) -> u64
         requires ready { CanClaim self.old }
         requires number { self.old.state.operations.next ≤ 2 ^ 40 }
@@ -263,7 +265,8 @@ impl Draft {
     pub fn hand_out(&mut self, number: u64) -> HostCall
         requires settled { self.old.log ≡ [] }
         requires call { IsSome (handed_at handing.First self.old.state.operations number) }
-        ensures state { (call : HostCallValue) (task : Task) → handed_at handing.First self.old.state.operations number ≡ Some (call, task) →
+        ensures state { (call : HostCallValue) (task : Task)
+            → handed_at handing.First self.old.state.operations number ≡ Some (call, task) →
             (result ≡ call) × (self.new.state ≡ with_task number task self.old.state) }
         ensures log { self.new.log ≡ [] }
         ensures greatest { self.new.backing.greatest ≡ self.old.backing.greatest }
@@ -277,7 +280,8 @@ impl Draft {
         requires settled { self.old.log ≡ [] }
         requires call { IsSome (handed_at handing.Next self.old.state.operations number) }
         requires count { HasCountAt handing.Next self.old.state.operations number }
-        ensures state { (call : HostCallValue) (task : Task) → handed_at handing.Next self.old.state.operations number ≡ Some (call, task) →
+        ensures state { (call : HostCallValue) (task : Task)
+            → handed_at handing.Next self.old.state.operations number ≡ Some (call, task) →
             (result ≡ call) × (self.new.state ≡ with_task number task self.old.state) }
         ensures log { self.new.log ≡ [] }
         ensures greatest { self.new.backing.greatest ≡ self.old.backing.greatest }
@@ -290,7 +294,8 @@ impl Draft {
     pub fn hand_out_undo(&mut self, number: u64) -> HostCall
         requires settled { self.old.log ≡ [] }
         requires call { IsSome (handed_at handing.Undo self.old.state.operations number) }
-        ensures state { (call : HostCallValue) (task : Task) → handed_at handing.Undo self.old.state.operations number ≡ Some (call, task) →
+        ensures state { (call : HostCallValue) (task : Task)
+            → handed_at handing.Undo self.old.state.operations number ≡ Some (call, task) →
             (result ≡ call) × (self.new.state ≡ with_task number task self.old.state) }
         ensures log { self.new.log ≡ [] }
         ensures greatest { self.new.backing.greatest ≡ self.old.backing.greatest }
@@ -311,8 +316,8 @@ impl Draft {
         self.lists.set_power_of(number, power);
     }
 
-    /// A live operation ends, at this moment; the oldest of those that ended goes where there would be too many. It takes no
-    /// memory.
+    /// A live operation ends, at this moment; the oldest of those that ended goes where there would be too many. It
+    /// takes no memory.
     #[tactic(auto, using(crate::proofs::Settled::settled_is))]
     pub fn end(&mut self, number: u64, status: Status, fault: OpFault, moment: u64)
         requires settled { self.old.log ≡ [] }

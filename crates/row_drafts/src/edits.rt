@@ -1,5 +1,6 @@
 //! Rows put and removed in the order of their names, without taking memory, with what takes it back.
-ghost use Rattle.std.specs.Prelude.{◌≡◌, ◌<◌, ◌≤◌, ◌+◌, ◌-◌, ◌∷◌, [], length, set, if◌then◌else◌, unwrap_or, vec_len, vec_capacity};
+ghost use Rattle.std.specs.Prelude.{◌≡◌, ◌<◌, ◌≤◌, ◌+◌, ◌-◌, ◌∷◌, [], length, set, if◌then◌else◌, unwrap_or, vec_len};
+ghost use Rattle.std.specs.Prelude.{vec_capacity};
 ghost use Rattle.std.specs.List.{position, insert, list_any};
 ghost use Rattle.plain_lists.specs.Edits.{dropped, replaced};
 ghost use Rattle.row_drafts.specs.Steps.{before_step, FitsStep};
@@ -7,8 +8,8 @@ ghost use Rattle.row_drafts.specs.Steps.{before_step, FitsStep};
 use crate::placed::Placed;
 use std::mem;
 
-/// What a change did to one list: nothing; or a row took the place of this one; or a row was put in at a place; or this one
-/// was taken out of a place.
+/// What a change did to one list: nothing; or a row took the place of this one; or a row was put in at a place; or this
+/// one was taken out of a place.
 #[derive(Drop)]
 pub(crate) enum Step<T> {
     Kept,
@@ -91,7 +92,9 @@ pub(crate) fn put<T: Placed + Drop>(rows: &mut Vec<T>, row: T) -> Step<T>
 /// A row at its place in the order, unless one of its names is there. It takes no memory.
 pub(crate) fn put_new<T: Placed + Drop>(rows: &mut Vec<T>, row: T) -> Step<T>
     requires room { vec_len rows.old < vec_capacity rows.old }
-    ensures rows { rows.new.items ≡ (if list_any (T.same row) rows.old.items then rows.old.items else replaced (T.same row) (T.before row) row rows.old.items) }
+    ensures rows { rows.new.items
+        ≡ (if list_any (T.same row) rows.old.items
+        then rows.old.items else replaced (T.same row) (T.before row) row rows.old.items) }
     ensures back { before_step result rows.new.items ≡ rows.old.items }
     ensures fits { FitsStep result rows.new.items }
     ensures room { vec_capacity rows.old - vec_len rows.old ≤ (vec_capacity rows.new - vec_len rows.new) + 1 }

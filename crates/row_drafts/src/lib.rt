@@ -1,5 +1,5 @@
-//! The rows of the server as plain lists in the order of their names: lent to be read, changed without taking memory, and
-//! taken back to what they were before the changes.
+//! The rows of the server as plain lists in the order of their names: lent to be read, changed without taking memory,
+//! and taken back to what they were before the changes.
 #![tactic(auto)]
 
 mod background;

@@ -1,4 +1,5 @@
-ghost use Rattle.std.specs.Prelude.{◌≡◌, ◌+◌, ◌-◌, ◌^◌, ◌<◌, ◌≤◌, ◌∷◌, [], true, Some, IsSome, length, take, drop, find, if◌then◌else◌, OnOk, IfOk};
+ghost use Rattle.std.specs.Prelude.{◌≡◌, ◌+◌, ◌-◌, ◌^◌, ◌<◌, ◌≤◌, ◌∷◌, [], true, Some, IsSome, length, take, drop};
+ghost use Rattle.std.specs.Prelude.{find, if◌then◌else◌, OnOk, IfOk};
 ghost use Rattle.std.specs.List.{list_any, position};
 ghost use Rattle.host_model.specs.declared.call.HostCall.{HostCall as HostCallValue};
 ghost use Rattle.operations.specs.Kept.{live_at};
@@ -10,7 +11,8 @@ ghost use Rattle.row_machine.specs.machine.Rows.{is_standing, with_standing};
 ghost use Rattle.row_machine.specs.machine.Changes.{with_row, without_row, changed};
 ghost use Rattle.row_machine.specs.machine.State.{Standing, empty_state};
 ghost use Rattle.row_machine.specs.machine.Task.{Task};
-ghost use Rattle.row_machine.specs.machine.Work.{claiming, moved, with_task, with_power, ended, is_held_by, converted, returned};
+ghost use Rattle.row_machine.specs.machine.Work.{claiming, moved, with_task, with_power, ended, is_held_by, converted};
+ghost use Rattle.row_machine.specs.machine.Work.{returned};
 ghost use Rattle.row_drafts.specs.Background.{holding, handed_at, HasCountAt};
 ghost use Rattle.row_drafts.specs.declared.lists.Undone.TheVariants as undone_of;
 ghost use Rattle.size_values.specs.Amounts.{part};
@@ -30,8 +32,8 @@ use size_values::{Amounts, NoMemory, ObjectKind, Power, Text};
 use std::alloc::Global;
 use std::marker::Model;
 
-/// What takes one change back: what it did to the list of its kind, and for an instance to the statuses too; or that an operation
-/// was entered.
+/// What takes one change back: what it did to the list of its kind, and for an instance to the statuses too; or that an
+/// operation was entered.
 #[derive(Drop)]
 pub(crate) enum Undone {
     Project(Step<Project>),
@@ -45,9 +47,9 @@ pub(crate) enum Undone {
     Nothing,
 }
 
-/// The rows of each kind in the order of their names, the status of each instance, the kept operations, and whether the server was
-/// told to close. Contracts see
-/// the state with them, and how many rows of each kind can be put in without taking memory.
+/// The rows of each kind in the order of their names, the status of each instance, the kept operations, and whether the
+/// server was told to close. Contracts see the state with them, and how many rows of each kind can be put in without
+/// taking memory.
 #[derive(Drop)]
 pub(crate) struct Lists {
     projects: Vec<Project>,
@@ -157,7 +159,8 @@ impl Lists {
     /// Puts a row, with the status that stands ready for it where it is an instance. It takes no memory.
     pub(crate) fn put(&mut self, row: Row, spares: &mut Vec<InstancePower>) -> Undone
         requires room { 1 ≤ self.old.room }
-        requires spares { take (length (spares_for (change_of.Put row))) spares.old.items ≡ spares_for (change_of.Put row) }
+        requires spares { take (length (spares_for (change_of.Put row))) spares.old.items
+            ≡ spares_for (change_of.Put row) }
         ensures state { self.new.state ≡ with_row row self.old.state }
         ensures room { self.old.room ≤ self.new.room + 1 }
         ensures spares { spares.new.items ≡ drop (length (spares_for (change_of.Put row))) spares.old.items }
@@ -293,7 +296,8 @@ impl Lists {
     pub(crate) fn hand_out(&mut self, number: u64, which: Handing) -> HostCall
         requires call { IsSome (handed_at which self.old.state.operations number) }
         requires count { HasCountAt which self.old.state.operations number }
-        ensures state { (call : HostCallValue) (task : Task) → handed_at which self.old.state.operations number ≡ Some (call, task) →
+        ensures state { (call : HostCallValue) (task : Task)
+            → handed_at which self.old.state.operations number ≡ Some (call, task) →
             (result ≡ call) × (self.new.state ≡ with_task number task self.old.state) }
         ensures greatest { self.new.backing.greatest ≡ self.old.backing.greatest }
     {
@@ -351,7 +355,8 @@ fn place_of_power(powers: &[InstancePower], project: &Text, name: &Text) -> Opti
 /// The instance of a project and name has this status from now on, where it has one.
 fn set_power(powers: &mut Vec<InstancePower>, project: &Text, name: &Text, power: Power)
     ensures { powers.new.items ≡
-        changed_first (is_standing project.now name.now) (λ (p : Standing). record p { power = power }) powers.old.items }
+        changed_first (is_standing project.now name.now)
+        (λ (p : Standing). record p { power = power }) powers.old.items }
 {
     match place_of_power(powers, project, name) {
         Some(place) => powers[place].power = power,

@@ -3,8 +3,10 @@ ghost use Rattle.std.specs.Prelude.{◌≡◌, ◌∷◌, [], ℕ, List, Bool};
 ghost use Rattle.std.specs.Str.{bytes_eq};
 ghost use Rattle.records.specs.declared.rows.Row.TheVariants as row;
 ghost use Rattle.row_codec.specs.Spelling.{two_names};
-ghost use Rattle.row_machine.specs.machine.Rows.{is_project, is_profile, is_network, is_pool, is_volume, is_instance, is_snapshot, is_standing};
-ghost use Rattle.row_machine.specs.machine.Rows.{project_names, profile_names, network_names, pool_names, volume_names, instance_names, snapshot_names, standing_names, texts_before};
+ghost use Rattle.row_machine.specs.machine.Rows.{is_project, is_profile, is_network, is_pool, is_volume, is_instance};
+ghost use Rattle.row_machine.specs.machine.Rows.{is_snapshot, is_standing};
+ghost use Rattle.row_machine.specs.machine.Rows.{project_names, profile_names, network_names, pool_names, volume_names};
+ghost use Rattle.row_machine.specs.machine.Rows.{instance_names, snapshot_names, standing_names, texts_before};
 ghost use Rattle.row_machine.specs.machine.Changes.{has_key};
 
 use crate::keys::{is_three_names, is_two_names, one_before, three_before, two_before};

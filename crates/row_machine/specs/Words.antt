@@ -5,7 +5,9 @@ pub use Rattle.std.specs.List.{filter_map, list_any, sum_by}
 pub use Rattle.std.specs.Map.{keys_of, values_of}
 pub use Rattle.std.specs.Option.{option_map_or, option_to_list, option_or}
 pub use Rattle.std.specs.Ordering.{nat_cmp, is_lt}
-pub use Rattle.std.specs.Prelude.{ℕ, Bool, false, not, Result, Ok, Err, ℤ, pos, negsuc, is_some, true, List, length, Option, Some, None, codes, unwrap_or, filter, fold, [], option_and_then, is_none, map, find, option_map, nat_lt, slice_get, min}
+pub use Rattle.std.specs.Prelude.{ℕ, Bool, false, not, Result, Ok, Err, ℤ, pos, negsuc, is_some, true, List, length}
+pub use Rattle.std.specs.Prelude.{Option, Some, None, codes, unwrap_or, filter, fold, [], option_and_then, is_none, map}
+pub use Rattle.std.specs.Prelude.{find, option_map, nat_lt, slice_get, min}
 pub use Rattle.std.specs.Result.{result_ok, result_err}
 pub use Rattle.std.specs.Str.{bytes_eq}
 pub use Rattle.config_lists.specs.Changes.{patched, settled}
@@ -18,7 +20,8 @@ pub use Rattle.estate_rules.specs.Uses.{names_network, names_pool, names_volume}
 pub use Rattle.expansion.specs.Layers.{expanded, nothing as no_layer}
 pub use Rattle.expansion.specs.declared.expanded.Expanded.{Expanded}
 pub use Rattle.host_model.specs.declared.call.HostCall.{HostCall}
-pub use Rattle.host_model.specs.declared.call.HostCall.TheVariants.{Clear, CopyRoot, Freeze, MakeRoot, Start, Stop, Thaw}
+pub use Rattle.host_model.specs.declared.call.HostCall.TheVariants.{Clear, CopyRoot, Freeze, MakeRoot, Start, Stop}
+pub use Rattle.host_model.specs.declared.call.HostCall.TheVariants.{Thaw}
 pub use Rattle.host_model.specs.declared.place.Place.{Place}
 pub use Rattle.host_model.specs.declared.report.Report.{Report}
 pub use Rattle.host_model.specs.declared.root.Spec.{Spec}
@@ -26,7 +29,8 @@ pub use Rattle.instance_states.specs.Numbers.{next_name, seen, unseen}
 pub use Rattle.instance_states.specs.Plans.{calls_of, name_of, undo_of}
 pub use Rattle.instance_states.specs.States.{after_of, is_allowed}
 pub use Rattle.operations.specs.Facts.{AreKept}
-pub use Rattle.operations.specs.Kept.{by_number, cancel_answer, enter_fault, has_number, kept_at, live_at, no_operations}
+pub use Rattle.operations.specs.Kept.{by_number, cancel_answer, enter_fault, has_number, kept_at, live_at}
+pub use Rattle.operations.specs.Kept.{no_operations}
 pub use Rattle.operations.specs.Limits.{most_live, number_limit}
 pub use Rattle.operations.specs.Statuses.{is_pending}
 pub use Rattle.operations.specs.declared.faults.CancelFault.{CancelFault}
@@ -36,7 +40,8 @@ pub use Rattle.operations.specs.declared.operation.OpFault.{OpFault}
 pub use Rattle.operations.specs.declared.operation.Operation.{Operation}
 pub use Rattle.operations.specs.declared.status.Status.{Status}
 pub use Rattle.operations.specs.declared.status.Status.TheVariants.{Cancelled, Cancelling, Failure, Pending, Success}
-pub use Rattle.option_tables.specs.Checks.{devices_fault, instance_fault, network_fault, pool_fault, project_fault, volume_fault}
+pub use Rattle.option_tables.specs.Checks.{devices_fault, instance_fault, network_fault, pool_fault, project_fault}
+pub use Rattle.option_tables.specs.Checks.{volume_fault}
 pub use Rattle.option_tables.specs.declared.faults.DeviceFault.{DeviceFault}
 pub use Rattle.option_tables.specs.declared.faults.SettingFault.{SettingFault}
 pub use Rattle.option_tables.specs.declared.tables.Scope.{Scope}
@@ -49,7 +54,8 @@ pub use Rattle.project_limits.specs.Countable.{first_uncounted, volume_uncounted
 pub use Rattle.project_limits.specs.Instance.{instance_amounts, volume_amounts}
 pub use Rattle.project_limits.specs.Limits.{limits_of}
 pub use Rattle.project_limits.specs.declared.admission.LimitKey.{LimitKey}
-pub use Rattle.project_limits.specs.declared.admission.LimitKey.TheVariants.{Containers, Cpu, Disk, Instances, Machines, Memory, Networks, Processes}
+pub use Rattle.project_limits.specs.declared.admission.LimitKey.TheVariants.{Containers, Cpu, Disk, Instances, Machines}
+pub use Rattle.project_limits.specs.declared.admission.LimitKey.TheVariants.{Memory, Networks, Processes}
 pub use Rattle.project_limits.specs.declared.admission.Over.{Over}
 pub use Rattle.project_limits.specs.declared.sums.SumKey.{SumKey}
 pub use Rattle.records.specs.Forms.{are_profiles}

@@ -1,5 +1,6 @@
 //! Laws of the machine: functions that do nothing, whose contracts are the laws.
-ghost use Rattle.row_machine.specs.facts.Laws.{EmptyRunStays, RunsJoin, RefusedStays, EndedStays, EndsOnce, NewIsWhole, DeletesInstances, SuccessIsFixed};
+ghost use Rattle.row_machine.specs.facts.Laws.{EmptyRunStays, RunsJoin, RefusedStays, EndedStays, EndsOnce, NewIsWhole};
+ghost use Rattle.row_machine.specs.facts.Laws.{DeletesInstances, SuccessIsFixed};
 ghost use Rattle.row_machine.specs.examples.Worked.{AreWorked, BusyIsWhole};
 ghost use Rattle.row_machine.specs.examples.Openings.{AreOpened};
 ghost use Rattle.row_machine.specs.examples.Faults.{AreTold};

@@ -29,7 +29,17 @@ impl Model for Work {
 
     ghost Value = { Task };
 
-    ghost view = { λ w. record { deed = w.deed; project = w.project; target = w.target; claim = w.claim; replaces = w.replaces; source = w.source; calls = w.calls; undo = w.undo; done = w.done } };
+    ghost view = { λ w. record {
+      deed = w.deed;
+      project = w.project;
+      target = w.target;
+      claim = w.claim;
+      replaces = w.replaces;
+      source = w.source;
+      calls = w.calls;
+      undo = w.undo;
+      done = w.done;
+    } };
 }
 
 /// The kind of object that a deed is about.

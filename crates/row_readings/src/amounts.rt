@@ -4,7 +4,8 @@ ghost use Rattle.std.specs.List.{filter_map, sum_by};
 ghost use Rattle.std.specs.Option.{option_copied, option_to_list};
 ghost use Rattle.size_values.specs.Amounts.{part};
 ghost use Rattle.size_values.specs.declared.amounts.Part.{Part};
-ghost use Rattle.row_machine.specs.machine.Claims.{amounts_of_instance, amounts_of, project_of_row, share_over, share_of, of_live};
+ghost use Rattle.row_machine.specs.machine.Claims.{amounts_of_instance, amounts_of, project_of_row, share_over};
+ghost use Rattle.row_machine.specs.machine.Claims.{share_of, of_live};
 ghost use Rattle.row_machine.specs.machine.Usage.{loads, instance_load, volume_load, claim_load, counted};
 ghost use Rattle.row_readings.specs.Loads.{AreSmall};
 

@@ -1,7 +1,8 @@
 //! The rows that live operations would put, and those that they replace.
 ghost use Rattle.std.specs.Prelude.{◌≡◌};
 ghost use Rattle.std.specs.Option.{option_copied};
-ghost use Rattle.row_machine.specs.machine.Claims.{claimed_instance, claimed_volume, claimed_snapshot, replaced_instance};
+ghost use Rattle.row_machine.specs.machine.Claims.{claimed_instance, claimed_volume, claimed_snapshot};
+ghost use Rattle.row_machine.specs.machine.Claims.{replaced_instance};
 
 use crate::lookups::instance_named;
 use crate::view::View;

@@ -1,5 +1,5 @@
-//! The state of the row machine, lent as slices, and its readings: rows by their names, what an instance has, and what a
-//! project uses, searched and summed anew each time. No row is copied.
+//! The state of the row machine, lent as slices, and its readings: rows by their names, what an instance has, and what
+//! a project uses, searched and summed anew each time. No row is copied.
 #![tactic(auto)]
 
 mod amounts;

@@ -2,7 +2,8 @@
 ghost use Rattle.std.specs.Prelude.{◌≡◌, find};
 ghost use Rattle.std.specs.Option.{option_copied};
 ghost use Rattle.operations.specs.Kept.{has_number, kept_at};
-ghost use Rattle.row_machine.specs.machine.Rows.{is_standing, project_named, profile_named, network_named, pool_named, volume_named, instance_named, snapshot_named};
+ghost use Rattle.row_machine.specs.machine.Rows.{is_standing, project_named, profile_named, network_named, pool_named};
+ghost use Rattle.row_machine.specs.machine.Rows.{volume_named, instance_named, snapshot_named};
 ghost use Rattle.row_machine.specs.machine.StandingRules.{power_of};
 
 use crate::view::{InstancePower, View};

@@ -43,7 +43,8 @@ fn profiles_laid(
     home: &str,
     names: &[Text],
 ) -> Result<Expanded, NoMemory>
-    ensures { IfOk result (λ e. e ≡ expanded (map (λ name. layer_of (profile_named profiles.now home.now name)) names.now)) }
+    ensures { IfOk result (λ e. e
+        ≡ expanded (map (λ name. layer_of (profile_named profiles.now home.now name)) names.now)) }
 {
     let mut expanded = Expanded::new(alloc);
     for name in names {

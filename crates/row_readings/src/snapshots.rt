@@ -23,7 +23,9 @@ fn pattern_in(config: &Config) -> &str
 }
 
 fn is_of(snapshot: &Snapshot, row: &Instance) -> bool
-    ensures { result ≡ (if bytes_eq snapshot.now.project row.now.project then bytes_eq snapshot.now.instance row.now.name else false) }
+    ensures { result
+        ≡ (if bytes_eq snapshot.now.project row.now.project
+        then bytes_eq snapshot.now.instance row.now.name else false) }
 {
     snapshot.project.is(&row.project) && snapshot.instance.is(&row.name)
 }
@@ -35,7 +37,10 @@ fn next_of(
     row: &Instance,
     pattern: &str,
 ) -> Result<Text, NoMemory>
-    ensures { IfOk result (λ t. t ≡ next_name (fold (λ numbers r. seen r.name numbers) (unseen pattern.now) (filter (λ r. if bytes_eq r.project row.now.project then bytes_eq r.instance row.now.name else false) snapshots.now))) }
+    ensures { IfOk result (λ t. t
+        ≡ next_name (fold (λ numbers r. seen r.name numbers) (unseen pattern.now)
+        (filter (λ r. if bytes_eq r.project row.now.project
+        then bytes_eq r.instance row.now.name else false) snapshots.now))) }
 {
     let mut numbers = SnapshotNumbers::new(pattern);
     for snapshot in snapshots {

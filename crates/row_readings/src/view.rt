@@ -21,10 +21,10 @@ impl Model for InstancePower {
     ghost view = { λ p. record { project = p.project; name = p.name; power = p.power } };
 }
 
-/// The rows of each kind, in the order of project, pool or instance, and name, the status of each instance, and the kept
-/// operations: those that live in the order of their numbers, those that ended in the order of their ends, and the
-/// number of the next one; the shares that live operations hold, and the books; and whether the server was told to close. The
-/// lists are lent. Contracts see the state of the row machine with all of it, in which nothing was told yet.
+/// The rows of each kind, in the order of project, pool or instance, and name, the status of each instance, and the
+/// kept operations: those that live in the order of their numbers, those that ended in the order of their ends, and the
+/// number of the next one; the shares that live operations hold, and the books; and whether the server was told to
+/// close. The lists are lent. Contracts see the state of the row machine with all of it, in which nothing was told yet.
 #[derive(Drop)]
 pub struct View<'a> {
     pub projects: &'a [Project],

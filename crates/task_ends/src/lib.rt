@@ -1,5 +1,5 @@
-//! What the end of a background operation makes: the changes of rows and the status of its target at its success, and the
-//! notices that tell of it. The rows are lent.
+//! What the end of a background operation makes: the changes of rows and the status of its target at its success, and
+//! the notices that tell of it. The rows are lent.
 #![tactic(auto)]
 
 mod changes;

@@ -8,8 +8,8 @@ use row_machine::Work;
 use row_readings::{View, power_of};
 use size_values::{Deed, Power};
 
-/// The status that the target of an operation has after its success, where the deed is a change of state that the present
-/// status allows.
+/// The status that the target of an operation has after its success, where the deed is a change of state that the
+/// present status allows.
 pub fn power_after(view: &View<'_>, work: &Work) -> Option<Power>
     ensures { result ≡ power_after view.now work.now }
 {

@@ -47,7 +47,8 @@ fn remove_snapshots(
 ) -> Result<(), NoMemory>
     ensures { OnOk result (changes.new ≡ changes.old
         ++ map removal (map row_of.Snapshot
-        (filter (λ r. if bytes_eq r.project project.now then bytes_eq r.instance instance.now else false) snapshots.now))) }
+        (filter (λ r. if bytes_eq r.project project.now
+        then bytes_eq r.instance instance.now else false) snapshots.now))) }
 {
     for row in snapshots {
         if is_of(row, project, instance) {

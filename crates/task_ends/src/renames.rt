@@ -58,7 +58,8 @@ fn put_moved(
     ensures { OnOk result (changes.new ≡ changes.old
         ++ map change.Put (row_of.Instance to.now
         ∷ map (λ r. row_of.Snapshot (record r { instance = to.now.name; project = to.now.project }))
-        (filter (λ r. if bytes_eq r.project project.now then bytes_eq r.instance instance.now else false) snapshots.now))) }
+        (filter (λ r. if bytes_eq r.project project.now
+        then bytes_eq r.instance instance.now else false) snapshots.now))) }
 {
     put_instance(alloc, to, changes)?;
     for row in snapshots {

@@ -1,6 +1,7 @@
--- Examples of failures and notices, which the machine itself computes: lists of events from a new server with what the outside
--- made of each, and the exact answer, state or notices.
-use Rattle.std.specs.Prelude.{◌≡◌, ℕ, true, List, [], ◌∷◌, ◌++◌, map, Option, Some, None, option_map, option_and_then, codes}
+-- Examples of failures and notices, which the machine itself computes: lists of events from a new server with what the
+-- outside made of each, and the exact answer, state or notices.
+use Rattle.std.specs.Prelude.{◌≡◌, ℕ, true, List, [], ◌∷◌, ◌++◌, map, Option, Some, None, option_map, option_and_then}
+use Rattle.std.specs.Prelude.{codes}
 use Rattle.row_machine.specs.Words.{Rise, OpFault, Status, kept_at, What, Filter, Life, Notice, Told}
 use Rattle.row_machine.specs.Words.action
 use Rattle.row_machine.specs.Words.report
@@ -23,14 +24,17 @@ use Rattle.row_machine.specs.machine.Accept.{After}
 use Rattle.row_machine.specs.machine.Refusals.{plainly}
 use Rattle.row_machine.specs.machine.Step.{well, keeper_failed, step}
 use Rattle.row_machine.specs.machine.Runs.{run}
-use Rattle.row_machine.specs.examples.Scenes.{Events, default, named, no_body, make_pool, put_default, make_instance, act, take, done, work_twice, begin, last_answer, last_refusal, state_after, usage_after}
+use Rattle.row_machine.specs.examples.Scenes.{Events, default, named, no_body, make_pool, put_default, make_instance}
+use Rattle.row_machine.specs.examples.Scenes.{act, take, done, work_twice, begin, last_answer, last_refusal}
+use Rattle.row_machine.specs.examples.Scenes.{state_after, usage_after}
 use Rattle.row_machine.specs.examples.Worked.{a, status_after}
 
 -- ---- what is read of a run
 
 -- the fault of an operation after all events
 abbrev pub fault_after : Events → ℕ → Option OpFault
-fault_after events number = option_and_then (λ s. option_map (λ (o : Operation Task). o.fault) (kept_at s.operations number)) (state_after events)
+fault_after events number = option_and_then
+    (λ s. option_map (λ (o : Operation Task). o.fault) (kept_at s.operations number)) (state_after events)
 
 -- how many instances there are after all events, by their names
 abbrev pub instances_after : Events → Option (List (List ℕ))
@@ -46,7 +50,8 @@ failed number rise = (event.Done number (report.Failed rise) 0, well) ∷ []
 abbrev pub half_made : Events
 half_made = make_pool ++ put_default default ++ make_instance default a [] ++ take ++ done 1
 
--- Its second call fails: the operation keeps the number of the call and the counts, no row is put, and its share is returned.
+-- Its second call fails: the operation keeps the number of the call and the counts, no row is put, and its share is
+-- returned.
 pub record HostCallFails (rise : Rise) : Type 0 where
   pub answered : last_answer (half_made ++ failed 1 rise) ≡ Some (answer.Ended 1)
   pub status : status_after (half_made ++ failed 1 rise) 1 ≡ Some status.Failure
@@ -70,10 +75,11 @@ new_project = what.Create (named kind.Project (codes "lab")) no_body
 
 -- the instance `a` is there, and is being started
 abbrev pub starting : Events
-starting = make_pool ++ put_default default ++ make_instance default a [] ++ work_twice 1 ++ act default a action.Start ++ take
+starting =
+    make_pool ++ put_default default ++ make_instance default a [] ++ work_twice 1 ++ act default a action.Start ++ take
 
--- A change at once is refused and changes nothing; an operation fails at its last report, and no row is put. A start commits
--- nothing, so that the store cannot fail there.
+-- A change at once is refused and changes nothing; an operation fails at its last report, and no row is put. A start
+-- commits nothing, so that the store cannot fail there.
 pub record StoreFails (rise : Rise) : Type 0 where
   pub at_once : last_refusal (ask_in_vain new_project rise) ≡ Some (plainly rule.K1)
   pub nothing_changed : state_after (ask_in_vain new_project rise) ≡ Some begin
@@ -120,7 +126,12 @@ all_of_default = record { life = true; op = true; project = default }
 
 -- the notice of a new pool
 abbrev pub pool_made : ℕ → Notice
-pool_made number = record { number = number; moment = 0; project = default; told = told.Life life.PoolCreated (codes "/1.0/storage-pools/p0") }
+pool_made number = record {
+  number = number;
+  moment = 0;
+  project = default;
+  told = told.Life life.PoolCreated (codes "/1.0/storage-pools/p0");
+}
 
 -- a server whose notices before the fifth are no longer kept
 abbrev pub from_the_fifth : State
@@ -128,7 +139,8 @@ from_the_fifth = record begin { notices = pool_made 5 ∷ pool_made 6 ∷ []; ne
 
 -- what a listener is answered that asks from this number on
 abbrev pub fetched_from : ℕ → Option Answer
-fetched_from cursor = option_map (λ (x : After). x.answer) (step from_the_fifth (event.Fetch cursor all_of_default) well)
+fetched_from cursor =
+    option_map (λ (x : After). x.answer) (step from_the_fifth (event.Fetch cursor all_of_default) well)
 
 -- A listener that asks for what is no longer kept has lagged; one that asks from a kept number on gets the rest.
 pub record ListenersLag : Type 0 where

@@ -1,4 +1,5 @@
--- Examples of opening, which the machine itself computes: rows, and the exact state, rule or damage to which their entries open.
+-- Examples of opening, which the machine itself computes: rows, and the exact state, rule or damage to which their
+-- entries open.
 use Rattle.std.specs.Prelude.{◌≡◌, ℕ, zero, suc, false, List, [], ◌∷◌, ◌++◌, map, codes}
 use Rattle.std.specs.List.{flat_map}
 use Rattle.row_machine.specs.Words.{Entry, Kind, Container, Machine, Settings, NamedDevices, Row, entry_of}
@@ -7,7 +8,8 @@ use Rattle.row_machine.specs.Words.driver
 use Rattle.row_machine.specs.Words.row
 use Rattle.row_machine.specs.opening.Records.{records_of}
 use Rattle.row_machine.specs.machine.NewRows.{default_profile}
-use Rattle.row_machine.specs.opening.Opening.{Opening, opened, damaged, broken, default_project, first_rows, with_rows, opening_of}
+use Rattle.row_machine.specs.opening.Opening.{Opening, opened, damaged, broken, default_project, first_rows, with_rows}
+use Rattle.row_machine.specs.opening.Opening.{opening_of}
 use Rattle.row_machine.specs.examples.Scenes.{default, root_disk}
 use Rattle.row_machine.specs.examples.Worked.{lab, a, b, setting_of}
 
@@ -19,7 +21,8 @@ project name config = row.Project (record { name = name; description = []; confi
 
 -- a profile
 abbrev pub profile : List ℕ → List ℕ → Settings → NamedDevices → Row
-profile of name config devices = row.Profile (record { project = of; name = name; description = []; config = config; devices = devices })
+profile of name config devices = row.Profile
+    (record { project = of; name = name; description = []; config = config; devices = devices })
 
 -- a network without settings
 abbrev pub network : List ℕ → List ℕ → Row
@@ -31,7 +34,14 @@ pool name = row.Pool (record { name = name; driver = driver.Dir; description = [
 
 -- a volume in the pool `p0`
 abbrev pub volume : List ℕ → List ℕ → Row
-volume of name = row.Volume (record { project = of; pool = codes "p0"; name = name; description = []; config = []; created = 0 })
+volume of name = row.Volume (record {
+  project = of;
+  pool = codes "p0";
+  name = name;
+  description = [];
+  config = [];
+  created = 0;
+})
 
 -- an instance of this kind, with these profiles and settings
 abbrev pub instance : Kind → List ℕ → List ℕ → List (List ℕ) → Settings → Row
@@ -94,9 +104,10 @@ pub record OpensAgain : Type 0 where
 
 -- the first rows' entries, the second with a byte after its end
 abbrev pub with_a_byte_more : List Entry
-with_a_byte_more = entry_of (row.Project default_project) ∷ longer (entry_of (row.Profile (default_profile default))) ∷ [] where
-  longer : Entry → Entry
-  longer e = record e { body = e.body ++ 0 ∷ [] }
+with_a_byte_more =
+    entry_of (row.Project default_project) ∷ longer (entry_of (row.Profile (default_profile default))) ∷ [] where
+      longer : Entry → Entry
+      longer e = record e { body = e.body ++ 0 ∷ [] }
 
 -- an entry that spells no row is told by its kind and key
 abbrev pub DamageIsTold : Type 0
@@ -121,21 +132,28 @@ with_devices devices = row.Project default_project ∷ profile default default [
 pub record OpensByNames : Type 0 where
   pub n1_default : opens (project lab [] ∷ []) ≡ broken rule.N1 1 default
   pub n1 : opens (first_rows ++ profile lab a [] [] ∷ []) ≡ broken rule.N1 2 (codes "lab/a")
-  pub n1_home : opens (row.Project default_project ∷ project lab [] ∷ row.Profile (default_profile default) ∷ network lab (codes "br0") ∷ []) ≡ broken rule.N1 3 (codes "lab/br0")
+  pub n1_home : opens (row.Project default_project ∷ project lab [] ∷ row.Profile (default_profile default)
+      ∷ network lab (codes "br0") ∷ []) ≡ broken rule.N1 3 (codes "lab/br0")
   pub n2 : opens (first_rows ++ volume default (codes "v") ∷ []) ≡ broken rule.N2 5 (codes "default/p0/v")
   pub n2_snapshot : opens (first_rows ++ snapshot default a b ∷ []) ≡ broken rule.N2 7 (codes "default/a/b")
-  pub n3 : opens (first_rows ++ instance Container default a (default ∷ default ∷ []) [] ∷ []) ≡ broken rule.N3 6 (codes "default/a")
-  pub b3 : opens (row.Project default_project ∷ project lab (own_profiles []) ∷ row.Profile (default_profile default) ∷ []) ≡ broken rule.B3 1 lab
-  pub b3_default : opens (project default (own_profiles []) ∷ row.Profile (default_profile default) ∷ []) ≡ broken rule.B3 1 default
+  pub n3 : opens (first_rows ++ instance Container default a (default ∷ default ∷ []) [] ∷ [])
+      ≡ broken rule.N3 6 (codes "default/a")
+  pub b3 : opens (row.Project default_project ∷ project lab (own_profiles []) ∷ row.Profile (default_profile default)
+      ∷ []) ≡ broken rule.B3 1 lab
+  pub b3_default : opens (project default (own_profiles []) ∷ row.Profile (default_profile default) ∷ [])
+      ≡ broken rule.B3 1 default
 
 -- settings and devices
 pub record OpensBySettings : Type 0 where
   pub v1 : opens (lab_rows (setting_of (codes "none") (codes "x")) [] []) ≡ broken rule.V1 1 lab
   pub v2 : opens (lab_rows (setting_of (codes "limits.instances") (codes "x")) [] []) ≡ broken rule.V2 1 lab
-  pub v3 : opens (with_devices ((codes "root", (codes "path", codes "/") ∷ []) ∷ [])) ≡ broken rule.V3 2 (codes "default/default")
-  pub v4 : opens (first_rows ++ instance Container default a (default ∷ []) [] ∷ []) ≡ broken rule.V4 6 (codes "default/a")
+  pub v3 : opens (with_devices ((codes "root", (codes "path", codes "/") ∷ []) ∷ []))
+      ≡ broken rule.V3 2 (codes "default/default")
+  pub v4 : opens (first_rows ++ instance Container default a (default ∷ []) [] ∷ [])
+      ≡ broken rule.V4 6 (codes "default/a")
   pub v5 : opens (with_devices root_disk) ≡ broken rule.V5 2 (codes "default/default")
-  pub v5_profile : opens (with_devices root_disk ++ pool (codes "p0") ∷ instance Container default a (default ∷ b ∷ []) [] ∷ []) ≡ broken rule.V5 6 (codes "default/a")
+  pub v5_profile : opens (with_devices root_disk ++ pool (codes "p0")
+      ∷ instance Container default a (default ∷ b ∷ []) [] ∷ []) ≡ broken rule.V5 6 (codes "default/a")
 
 -- the project `lab` is restricted, and besides says this
 abbrev pub restricted_rows : Settings → Settings → NamedDevices → List Row
@@ -147,13 +165,20 @@ on_br0 = (codes "eth0", (codes "network", codes "br0") ∷ (codes "type", codes 
 
 -- policy
 pub record OpensByPolicy : Type 0 where
-  pub f1 : opens (restricted_rows [] (setting_of (codes "security.nesting") (codes "true")) []) ≡ broken rule.F1 2 (codes "lab/default")
-  pub f2 : opens (restricted_rows [] (setting_of (codes "security.privileged") (codes "true")) []) ≡ broken rule.F2 2 (codes "lab/default")
-  pub f3 : opens (restricted_rows [] (setting_of (codes "raw.lxc") (codes "x")) []) ≡ broken rule.F3 2 (codes "lab/default")
-  pub f4 : opens (restricted_rows [] (setting_of (codes "raw.qemu") (codes "x")) []) ≡ broken rule.F4 2 (codes "lab/default")
-  pub f5 : opens (restricted_rows [] (setting_of (codes "security.syscalls.intercept.mknod") (codes "true")) []) ≡ broken rule.F5 2 (codes "lab/default")
-  pub f6 : opens (restricted_rows [] [] ((codes "gpu0", (codes "type", codes "gpu") ∷ []) ∷ [])) ≡ broken rule.F6 2 (codes "lab/default")
-  pub f7 : opens (restricted_rows (setting_of (codes "restricted.networks.access") (codes "br1")) [] on_br0 ++ network lab (codes "br0") ∷ []) ≡ broken rule.F7 2 (codes "lab/default")
+  pub f1 : opens (restricted_rows [] (setting_of (codes "security.nesting") (codes "true")) [])
+      ≡ broken rule.F1 2 (codes "lab/default")
+  pub f2 : opens (restricted_rows [] (setting_of (codes "security.privileged") (codes "true")) [])
+      ≡ broken rule.F2 2 (codes "lab/default")
+  pub f3 : opens (restricted_rows [] (setting_of (codes "raw.lxc") (codes "x")) [])
+      ≡ broken rule.F3 2 (codes "lab/default")
+  pub f4 : opens (restricted_rows [] (setting_of (codes "raw.qemu") (codes "x")) [])
+      ≡ broken rule.F4 2 (codes "lab/default")
+  pub f5 : opens (restricted_rows [] (setting_of (codes "security.syscalls.intercept.mknod") (codes "true")) [])
+      ≡ broken rule.F5 2 (codes "lab/default")
+  pub f6 : opens (restricted_rows [] [] ((codes "gpu0", (codes "type", codes "gpu") ∷ []) ∷ []))
+      ≡ broken rule.F6 2 (codes "lab/default")
+  pub f7 : opens (restricted_rows (setting_of (codes "restricted.networks.access") (codes "br1")) [] on_br0
+      ++ network lab (codes "br0") ∷ []) ≡ broken rule.F7 2 (codes "lab/default")
 
 -- an instance in `lab`, which has one limit, with a root disk of 1 GiB from its profile
 abbrev pub limited : List ℕ → List ℕ → Kind → Settings → List Row
@@ -166,11 +191,15 @@ pub record OpensByLimits : Type 0 where
   pub l1 : opens (limited (codes "limits.instances") (codes "0") Container []) ≡ broken rule.L1 1 lab
   pub l2 : opens (limited (codes "limits.containers") (codes "0") Container []) ≡ broken rule.L2 1 lab
   pub l3 : opens (limited (codes "limits.virtual-machines") (codes "0") Machine []) ≡ broken rule.L3 1 lab
-  pub l4 : opens (limited (codes "limits.cpu") (codes "1") Container (setting_of (codes "limits.cpu") (codes "2"))) ≡ broken rule.L4 1 lab
-  pub l5 : opens (limited (codes "limits.memory") (codes "1GiB") Container (setting_of (codes "limits.memory") (codes "2GiB"))) ≡ broken rule.L5 1 lab
-  pub l6 : opens (limited (codes "limits.processes") (codes "1") Container (setting_of (codes "limits.processes") (codes "2"))) ≡ broken rule.L6 1 lab
+  pub l4 : opens (limited (codes "limits.cpu") (codes "1") Container (setting_of (codes "limits.cpu") (codes "2")))
+      ≡ broken rule.L4 1 lab
+  pub l5 : opens (limited (codes "limits.memory") (codes "1GiB") Container
+      (setting_of (codes "limits.memory") (codes "2GiB"))) ≡ broken rule.L5 1 lab
+  pub l6 : opens (limited (codes "limits.processes") (codes "1") Container
+      (setting_of (codes "limits.processes") (codes "2"))) ≡ broken rule.L6 1 lab
   pub l7 : opens (limited (codes "limits.disk") (codes "1MiB") Container []) ≡ broken rule.L7 1 lab
-  pub l8 : opens (lab_rows (setting_of (codes "limits.networks") (codes "0")) [] [] ++ network lab (codes "br0") ∷ []) ≡ broken rule.L8 1 lab
+  pub l8 : opens (lab_rows (setting_of (codes "limits.networks") (codes "0")) [] [] ++ network lab (codes "br0") ∷ [])
+      ≡ broken rule.L8 1 lab
 
 -- the digits
 abbrev pub digits : List ℕ
@@ -187,7 +216,8 @@ doubled (suc n) text = doubled n (text ++ text)
 
 -- the first rows, with a description of 65,536 bytes in the profile
 abbrev pub too_large_profile : List Row
-too_large_profile = row.Project default_project ∷ row.Profile (record (default_profile default) { description = doubled 16 a }) ∷ []
+too_large_profile =
+    row.Project default_project ∷ row.Profile (record (default_profile default) { description = doubled 16 a }) ∷ []
 
 -- the 65th pool is one too many, and a body of more than 65,536 bytes is too large
 pub record OpensByTables : Type 0 where

@@ -33,7 +33,16 @@ named of name = record { kind = of; pool = []; instance = []; name = name }
 
 -- a body without fields
 abbrev pub no_body : Body
-no_body = record { description = None; config = None; devices = None; profiles = None; kind = None; ephemeral = None; driver = None; origin = origin.None }
+no_body = record {
+  description = None;
+  config = None;
+  devices = None;
+  profiles = None;
+  kind = None;
+  ephemeral = None;
+  driver = None;
+  origin = origin.None;
+}
 
 -- a body with settings alone
 abbrev pub with_config : Settings → Body
@@ -57,12 +66,17 @@ make_pool = ask default (what.Create (named kind.Pool (codes "p0")) (record no_b
 
 -- a root disk of 1 GiB in that pool
 abbrev pub root_disk : NamedDevices
-root_disk = (codes "root", (codes "path", codes "/") ∷ (codes "pool", codes "p0") ∷ (codes "size", codes "1GiB") ∷ (codes "type", codes "disk") ∷ []) ∷ []
+root_disk = (
+  codes "root",
+  (codes "path", codes "/") ∷ (codes "pool", codes "p0") ∷ (codes "size", codes "1GiB")
+      ∷ (codes "type", codes "disk") ∷ [],
+) ∷ []
 
 -- a creation of a profile
 abbrev pub make_profile : List ℕ → List ℕ → Settings → NamedDevices → Events
 make_profile project name config devices =
-    ask project (what.Create (named kind.Profile name) (record no_body { config = Some config; devices = Some devices }))
+    ask project (what.Create (named kind.Profile name)
+    (record no_body { config = Some config; devices = Some devices }))
 
 -- a profile gets these settings and devices
 abbrev pub put_profile : List ℕ → List ℕ → Settings → NamedDevices → Events
@@ -79,11 +93,13 @@ make_instance project name config = ask project (what.Create (named kind.Instanc
 
 -- a snapshot without a name is made
 abbrev pub make_snapshot : List ℕ → List ℕ → Events
-make_snapshot project instance = ask project (what.Create (record { kind = kind.Snapshot; pool = []; instance = instance; name = [] }) no_body)
+make_snapshot project instance = ask project
+    (what.Create (record { kind = kind.Snapshot; pool = []; instance = instance; name = [] }) no_body)
 
 -- a snapshot is deleted
 abbrev pub delete_snapshot : List ℕ → List ℕ → List ℕ → Events
-delete_snapshot project instance name = ask project (what.Delete (record { kind = kind.Snapshot; pool = []; instance = instance; name = name }))
+delete_snapshot project instance name = ask project
+    (what.Delete (record { kind = kind.Snapshot; pool = []; instance = instance; name = name }))
 
 -- the state of an instance is changed
 abbrev pub act : List ℕ → List ℕ → Action → Events

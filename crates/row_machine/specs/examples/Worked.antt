@@ -1,6 +1,8 @@
 -- Examples that the machine itself computes: lists of events from a new server, and the exact answer, refusal or usage.
-use Rattle.std.specs.Prelude.{◌≡◌, ℕ, true, false, List, [], ◌∷◌, ◌++◌, map, Option, Some, None, IfSome, codes, option_map, option_and_then}
-use Rattle.row_machine.specs.Words.{Amounts, Deed, Container, Settings, NamedDevices, names_volume, Expanded, Status, kept_at, Target, Rule, Refusal}
+use Rattle.std.specs.Prelude.{◌≡◌, ℕ, true, false, List, [], ◌∷◌, ◌++◌, map, Option, Some, None, IfSome, codes}
+use Rattle.std.specs.Prelude.{option_map, option_and_then}
+use Rattle.row_machine.specs.Words.{Amounts, Deed, Container, Settings, NamedDevices, names_volume, Expanded, Status}
+use Rattle.row_machine.specs.Words.{kept_at, Target, Rule, Refusal}
 use Rattle.row_machine.specs.Words.action
 use Rattle.row_machine.specs.Words.deed
 use Rattle.row_machine.specs.Words.kind
@@ -25,7 +27,11 @@ use Rattle.row_machine.specs.machine.Work.{entered}
 use Rattle.row_machine.specs.machine.Runs.{run}
 use Rattle.row_machine.specs.facts.Whole.{IsWhole}
 use Rattle.row_machine.specs.machine.Expansions.{expanded_of}
-use Rattle.row_machine.specs.examples.Scenes.{Events, default, named, no_body, ask, make_project, patch_project, make_pool, root_disk, make_profile, put_profile, put_default, make_instance, make_snapshot, delete_snapshot, act, cancel, take, done, work, work_twice, begin, last_answer, last_refusal, last_started, state_after, usage_after}
+use Rattle.row_machine.specs.examples.Scenes.{Events, default, named, no_body, ask, make_project, patch_project}
+use Rattle.row_machine.specs.examples.Scenes.{make_pool, root_disk, make_profile, put_profile, put_default}
+use Rattle.row_machine.specs.examples.Scenes.{make_instance, make_snapshot, delete_snapshot, act, cancel, take, done}
+use Rattle.row_machine.specs.examples.Scenes.{work, work_twice, begin, last_answer, last_refusal, last_started}
+use Rattle.row_machine.specs.examples.Scenes.{state_after, usage_after}
 
 -- ---- what an instance has
 
@@ -36,7 +42,10 @@ layered =
     ++ make_profile default (codes "a") ((codes "limits.cpu", codes "1") ∷ (codes "user.x", codes "1") ∷ []) root_disk
     ++ make_profile default (codes "b") ((codes "user.x", codes "2") ∷ []) []
     ++ ask default (what.Create (named kind.Instance (codes "i"))
-    (record no_body { config = Some ((codes "limits.cpu", codes "4") ∷ []); profiles = Some (codes "a" ∷ codes "b" ∷ []) }))
+    (record no_body {
+      config = Some ((codes "limits.cpu", codes "4") ∷ []);
+      profiles = Some (codes "a" ∷ codes "b" ∷ []);
+    }))
     ++ work_twice 1
     ++ ask default (what.Get (named kind.Instance (codes "i")))
 
@@ -47,7 +56,8 @@ shown_config other = None
 
 -- of each setting the last layer that has it counts
 abbrev pub LastLayerFirst : Type 0
-LastLayerFirst = option_and_then shown_config (last_answer layered) ≡ Some ((codes "limits.cpu", codes "4") ∷ (codes "user.x", codes "2") ∷ [])
+LastLayerFirst = option_and_then shown_config (last_answer layered)
+    ≡ Some ((codes "limits.cpu", codes "4") ∷ (codes "user.x", codes "2") ∷ [])
 
 -- a disk of a profile on the volume `v`
 abbrev pub extra : Settings → NamedDevices
@@ -128,16 +138,19 @@ over_limit why key used asked limit =
 
 -- two instances may be there: one is made, one is claimed by an operation that waits
 abbrev pub two_of_two : Events
-two_of_two = lab_with (setting_of (codes "limits.instances") (codes "2")) ++ make_instance lab a [] ++ work_twice 1 ++ make_instance lab b []
+two_of_two = lab_with (setting_of (codes "limits.instances") (codes "2")) ++ make_instance lab a [] ++ work_twice 1
+    ++ make_instance lab b []
 
 -- a second instance that is only claimed counts, and a third is above the limit
 pub record ClaimsCount : Type 0 where
   pub second : last_started two_of_two ≡ Some 2
-  pub third : last_refusal (two_of_two ++ make_instance lab c []) ≡ Some (over_limit rule.L1 (codes "limits.instances") 2 1 2)
+  pub third : last_refusal (two_of_two ++ make_instance lab c [])
+      ≡ Some (over_limit rule.L1 (codes "limits.instances") 2 1 2)
 
 -- the status of an operation after all events
 abbrev pub status_after : Events → ℕ → Option Status
-status_after events number = option_and_then (λ s. option_map (λ o. o.status) (kept_at s.operations number)) (state_after events)
+status_after events number =
+    option_and_then (λ s. option_map (λ o. o.status) (kept_at s.operations number)) (state_after events)
 
 -- a waiting operation is cancelled at once, and what it claimed is free again
 pub record CancelFrees : Type 0 where
@@ -151,7 +164,8 @@ of_eight config = lab_with (setting_of (codes "limits.cpu") (codes "8")) ++ make
 
 -- what counts for a limited sum needs a number
 pub record NumbersAreNeeded : Type 0 where
-  pub pinned : last_refusal (of_eight (setting_of (codes "limits.cpu") (codes "0-3"))) ≡ Some (on_key_of rule.L0 (codes "limits.cpu") a lab)
+  pub pinned : last_refusal (of_eight (setting_of (codes "limits.cpu") (codes "0-3")))
+      ≡ Some (on_key_of rule.L0 (codes "limits.cpu") a lab)
   pub absent : last_refusal (of_eight []) ≡ Some (on_key_of rule.L0 (codes "limits.cpu") a lab)
   pub four : last_started (of_eight (setting_of (codes "limits.cpu") (codes "4"))) ≡ Some 1
 
@@ -161,12 +175,14 @@ memory size = setting_of (codes "limits.memory") size
 
 -- a sum that equals the limit is allowed, one byte more is not
 abbrev pub two_gibibytes : Events
-two_gibibytes = lab_with (memory (codes "2GiB")) ++ make_instance lab a (memory (codes "1GiB")) ++ make_instance lab b (memory (codes "1GiB"))
+two_gibibytes = lab_with (memory (codes "2GiB")) ++ make_instance lab a (memory (codes "1GiB"))
+    ++ make_instance lab b (memory (codes "1GiB"))
 
 -- the limit itself is reached by two instances, and one byte more is refused
 pub record LimitIsMost : Type 0 where
   pub equal : last_started two_gibibytes ≡ Some 2
-  pub above : last_refusal (two_gibibytes ++ make_instance lab c (memory (codes "1B"))) ≡ Some (over_limit rule.L5 (codes "limits.memory") 2147483648 1 2147483648)
+  pub above : last_refusal (two_gibibytes ++ make_instance lab c (memory (codes "1B")))
+      ≡ Some (over_limit rule.L5 (codes "limits.memory") 2147483648 1 2147483648)
 
 -- a changed limit is judged against what is used, and asks for nothing
 abbrev pub one_gibibyte : Events
@@ -175,7 +191,8 @@ one_gibibyte = lab_with (memory (codes "1GiB")) ++ make_instance lab a (memory (
 -- a limit may stay at what is used, and not fall below it
 pub record LimitChanges : Type 0 where
   pub same : last_answer (one_gibibyte ++ patch_project lab (memory (codes "1GiB"))) ≡ Some (answer.Reply reply.Empty)
-  pub lower : last_refusal (one_gibibyte ++ patch_project lab (memory (codes "1023MiB"))) ≡ Some (over_limit rule.L5 (codes "limits.memory") 1073741824 0 1072693248)
+  pub lower : last_refusal (one_gibibyte ++ patch_project lab (memory (codes "1023MiB")))
+      ≡ Some (over_limit rule.L5 (codes "limits.memory") 1073741824 0 1072693248)
 
 -- ---- policy
 
@@ -196,7 +213,8 @@ restricted_r =
 
 -- what a profile forbids counts, unless the instance says otherwise
 pub record PolicyIsOfTheExpansion : Type 0 where
-  pub forbidden : last_refusal (restricted_r ++ make_instance r a []) ≡ Some (on_key_of rule.F2 (codes "security.privileged") a r)
+  pub forbidden : last_refusal (restricted_r ++ make_instance r a [])
+      ≡ Some (on_key_of rule.F2 (codes "security.privileged") a r)
   pub allowed : last_started (restricted_r ++ make_instance r a (privileged (codes "false"))) ≡ Some 1
 
 -- a policy goes before a limit that is exceeded too
@@ -205,7 +223,8 @@ restricted_and_full = restricted_r ++ patch_project r (setting_of (codes "limits
 
 -- of both rules, the policy is answered
 abbrev pub PolicyGoesBeforeLimits : Type 0
-PolicyGoesBeforeLimits = last_refusal (restricted_and_full ++ make_instance r a []) ≡ Some (on_key_of rule.F2 (codes "security.privileged") a r)
+PolicyGoesBeforeLimits = last_refusal (restricted_and_full ++ make_instance r a [])
+    ≡ Some (on_key_of rule.F2 (codes "security.privileged") a r)
 
 -- the profile of a restricted project, and a project that becomes restricted
 abbrev pub nesting_and_privileged : Settings
@@ -217,9 +236,14 @@ nests = on_key_of rule.F1 (codes "security.nesting") default r
 
 -- the profile of a restricted project is judged, and so is that of one that becomes restricted
 pub record ProfilesAreJudged : Type 0 where
-  pub of_restricted : last_refusal (make_project r (setting_of (codes "restricted") (codes "true")) ++ put_profile r default nesting_and_privileged []) ≡ Some nests
-  pub of_free : last_answer (make_project r [] ++ put_profile r default nesting_and_privileged []) ≡ Some (answer.Reply reply.Empty)
-  pub restricted_later : last_refusal (make_project r [] ++ put_profile r default nesting_and_privileged [] ++ patch_project r (setting_of (codes "restricted") (codes "true"))) ≡ Some nests
+  pub of_restricted : last_refusal
+      (make_project r (setting_of (codes "restricted") (codes "true"))
+      ++ put_profile r default nesting_and_privileged []) ≡ Some nests
+  pub of_free : last_answer (make_project r [] ++ put_profile r default nesting_and_privileged [])
+      ≡ Some (answer.Reply reply.Empty)
+  pub restricted_later : last_refusal
+      (make_project r [] ++ put_profile r default nesting_and_privileged []
+      ++ patch_project r (setting_of (codes "restricted") (codes "true"))) ≡ Some nests
 
 -- ---- profiles that an operation holds
 
@@ -241,9 +265,11 @@ enlarged = put_profile default small (memory (codes "1GiB")) []
 
 -- while an operation claims a row with the profile, it is held; then it changes, and what it counts for with it
 pub record ProfilesAreHeld : Type 0 where
-  pub held : last_refusal (small_is_held ++ enlarged) ≡ Some (record { rule = rule.B6; kept = record untold { name = small; number = 1 } })
+  pub held : last_refusal (small_is_held ++ enlarged)
+      ≡ Some (record { rule = rule.B6; kept = record untold { name = small; number = 1 } })
   pub free : last_answer (small_is_held ++ work_twice 1 ++ enlarged) ≡ Some (answer.Reply reply.Empty)
-  pub used : option_map (λ u. u.memory) (usage_after (small_is_held ++ work_twice 1 ++ enlarged) default) ≡ Some 1073741824
+  pub used : option_map (λ u. u.memory) (usage_after (small_is_held ++ work_twice 1 ++ enlarged) default)
+      ≡ Some 1073741824
 
 -- ---- states and snapshots
 
@@ -273,7 +299,8 @@ delete_instance project name = ask project (what.Delete (named kind.Instance nam
 
 -- an ephemeral instance that stops goes with its snapshots; while it runs it is not deleted
 pub record EphemeralGoes : Type 0 where
-  pub running : last_refusal (running_e ++ delete_instance default e) ≡ Some (record { rule = rule.B2; kept = record untold { key = codes "Running"; name = e } })
+  pub running : last_refusal (running_e ++ delete_instance default e)
+      ≡ Some (record { rule = rule.B2; kept = record untold { key = codes "Running"; name = e } })
   pub instances : option_map (λ s. s.instances) (state_after stopped_e) ≡ Some []
   pub snapshots : option_map (λ s. s.snapshots) (state_after stopped_e) ≡ Some []
   pub used : usage_after stopped_e default ≡ Some nothing
@@ -302,7 +329,8 @@ two_snapshots =
 -- the next number is one above the greatest
 pub record SnapshotsAreNumbered : Type 0 where
   pub two : snapshots_after two_snapshots ≡ Some (codes "snap0" ∷ codes "snap1" ∷ [])
-  pub next : snapshots_after (two_snapshots ++ delete_snapshot default a (codes "snap0") ++ work 4 ++ make_snapshot default a ++ work 5)
+  pub next : snapshots_after (two_snapshots ++ delete_snapshot default a (codes "snap0") ++ work 4
+      ++ make_snapshot default a ++ work 5)
       ≡ Some (codes "snap1" ∷ codes "snap2" ∷ [])
 
 -- a restricted project blocks snapshots unless it says otherwise
@@ -312,7 +340,8 @@ restricted_lab = lab_with (setting_of (codes "restricted") (codes "true")) ++ ma
 -- snapshots are refused until the project allows them
 pub record SnapshotsAreBlocked : Type 0 where
   pub blocked : last_refusal (restricted_lab ++ make_snapshot lab a) ≡ Some (on_project rule.F8 lab)
-  pub allowed : last_started (restricted_lab ++ patch_project lab (setting_of (codes "restricted.snapshots") (codes "allow")) ++ make_snapshot lab a) ≡ Some 2
+  pub allowed : last_started (restricted_lab
+      ++ patch_project lab (setting_of (codes "restricted.snapshots") (codes "allow")) ++ make_snapshot lab a) ≡ Some 2
 
 -- ---- changes of instances
 
@@ -322,12 +351,14 @@ sized cpus size = (codes "limits.cpu", cpus) ∷ (codes "limits.memory", size) �
 
 -- an instance gets these settings and the profile `default`
 abbrev pub put_instance : List ℕ → List ℕ → Settings → Events
-put_instance project name config = ask project (what.Put (named kind.Instance name) (record no_body { config = Some config; profiles = Some (default ∷ []) }))
+put_instance project name config = ask project
+    (what.Put (named kind.Instance name) (record no_body { config = Some config; profiles = Some (default ∷ []) }))
 
 -- an instance with 2 CPUs and 2 GiB runs, and a change asks for 4 and 1 GiB
 abbrev pub changing : Events
 changing =
-    lab_with (setting_of (codes "limits.cpu") (codes "4")) ++ make_instance lab a (sized (codes "2") (codes "2GiB")) ++ work_twice 1
+    lab_with (setting_of (codes "limits.cpu") (codes "4")) ++ make_instance lab a (sized (codes "2") (codes "2GiB"))
+    ++ work_twice 1
     ++ act lab a action.Start ++ work 2
     ++ put_instance lab a (sized (codes "4") (codes "1GiB"))
 
@@ -349,7 +380,8 @@ grown =
 
 -- the snapshot becomes a new instance
 abbrev pub copy_snapshot : Events
-copy_snapshot = ask lab (what.Create (named kind.Instance b) (record no_body { origin = origin.Copy a (codes "snap0") [] }))
+copy_snapshot =
+    ask lab (what.Create (named kind.Instance b) (record no_body { origin = origin.Copy a (codes "snap0") [] }))
 
 -- the instance is taken back to it
 abbrev pub restore_snapshot : Events
@@ -357,7 +389,8 @@ restore_snapshot = ask lab (what.Restore (named kind.Instance a) (codes "snap0")
 
 -- a copy of the snapshot is above the limit until the instance is restored
 pub record RestoreFrees : Type 0 where
-  pub above : last_refusal (grown ++ copy_snapshot) ≡ Some (over_limit rule.L5 (codes "limits.memory") 1073741824 536870912 1073741824)
+  pub above : last_refusal (grown ++ copy_snapshot)
+      ≡ Some (over_limit rule.L5 (codes "limits.memory") 1073741824 536870912 1073741824)
   pub restoring : last_started (grown ++ restore_snapshot) ≡ Some 4
   pub restored : option_map (λ u. u.memory) (usage_after (grown ++ restore_snapshot ++ work 4) lab) ≡ Some 536870912
   pub copied : last_started (grown ++ restore_snapshot ++ work 4 ++ copy_snapshot) ≡ Some 5
@@ -390,7 +423,8 @@ pub record CancelUndoes : Type 0 where
   pub cancelling : status_after crossing 1 ≡ Some status.Cancelling
   pub undone : status_after (crossing ++ done 1 ++ done 1) 1 ≡ Some status.Cancelled
   pub no_row : option_map (λ s. s.instances) (state_after (crossing ++ done 1 ++ done 1)) ≡ Some []
-  pub ended : last_refusal (crossing ++ done 1 ++ done 1 ++ cancel 1) ≡ Some (record { rule = rule.O1; kept = record untold { key = codes "Cancelled"; number = 1 } })
+  pub ended : last_refusal (crossing ++ done 1 ++ done 1 ++ cancel 1)
+      ≡ Some (record { rule = rule.O1; kept = record untold { key = codes "Cancelled"; number = 1 } })
 
 -- ---- a deletion whose target is a snapshot
 
@@ -401,7 +435,8 @@ s = codes "s"
 -- the instances `a` and `s`, the snapshot `s` of `a`, and a snapshot of `s` that is being made
 abbrev pub snapshot_of_s : Events
 snapshot_of_s =
-    make_pool ++ put_default default ++ make_instance default a [] ++ work_twice 1 ++ make_instance default s [] ++ work_twice 2
+    make_pool ++ put_default default ++ make_instance default a [] ++ work_twice 1 ++ make_instance default s []
+    ++ work_twice 2
     ++ ask default (what.Create (snapshot_target a s) no_body) ++ work 3
     ++ make_snapshot default s
 
@@ -417,7 +452,8 @@ gone_astray = option_and_then (λ before. option_map (λ ran. ran.state) (run be
 abbrev pub targets_in : State → List Target
 targets_in now = map (λ (o : Operation Task). o.work.target) now.operations.live
 
--- The facts do not hold where such a deletion is live: it removes the instance `s` while a snapshot of `s` is being made.
+-- The facts do not hold where such a deletion is live: it removes the instance `s` while a snapshot of `s` is being
+-- made.
 pub record DeletionGoesAstray : Type 0 where
   pub not_whole : (before : State) → astray ≡ Some before → IsWhole before → ⊥
   pub removed : option_map (λ now. map (λ i. i.name) now.instances) gone_astray ≡ Some (a ∷ [])
@@ -429,11 +465,12 @@ pub record DeletionGoesAstray : Type 0 where
 abbrev pub d : List ℕ
 d = codes "d"
 
--- The instances `a` and `b` are there. An instance `c` is being made, and its second call is out; `a` is copied to `d`, and `b`
--- is to be deleted, both of which wait.
+-- The instances `a` and `b` are there. An instance `c` is being made, and its second call is out; `a` is copied to `d`,
+-- and `b` is to be deleted, both of which wait.
 abbrev pub busy_server : Events
 busy_server =
-    make_pool ++ put_default default ++ make_instance default a [] ++ work_twice 1 ++ make_instance default b [] ++ work_twice 2
+    make_pool ++ put_default default ++ make_instance default a [] ++ work_twice 1 ++ make_instance default b []
+    ++ work_twice 2
     ++ make_instance default c [] ++ take ++ done 3
     ++ ask default (what.Create (named kind.Instance d) (record no_body { origin = origin.Copy a [] [] }))
     ++ delete_instance default b
@@ -444,7 +481,8 @@ deeds_in now = map (λ (o : Operation Task). (o.work.deed, o.status)) now.operat
 
 -- all facts hold while a creation, a copy and a deletion are live
 pub record BusyIsWhole : Type 0 where
-  pub live : option_map deeds_in (state_after busy_server) ≡ Some ((deed.Create, status.Running) ∷ (deed.Copy, status.Pending) ∷ (deed.Delete, status.Pending) ∷ [])
+  pub live : option_map deeds_in (state_after busy_server)
+      ≡ Some ((deed.Create, status.Running) ∷ (deed.Copy, status.Pending) ∷ (deed.Delete, status.Pending) ∷ [])
   pub whole : IfSome (state_after busy_server) IsWhole
 
 -- ---- all of them

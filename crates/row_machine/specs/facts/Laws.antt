@@ -24,7 +24,11 @@ EmptyRunStays = (s : State) → run s [] ≡ Some (record { answers = []; ends =
 
 -- a run, and another one from the state that it leaves
 abbrev pub joined : Ran → Ran → Ran
-joined first second = record { answers = first.answers ++ second.answers; ends = first.ends ++ second.ends; state = second.state }
+joined first second = record {
+  answers = first.answers ++ second.answers;
+  ends = first.ends ++ second.ends;
+  state = second.state;
+}
 
 -- the run of two lists of events is the run of the first and then of the second
 abbrev pub RunsJoin : Type 0
@@ -34,12 +38,14 @@ RunsJoin = (s : State) (events more : List (Event × Outcome)) →
 -- a request that is refused leaves the state
 abbrev pub RefusedStays : Type 0
 RefusedStays = (s : State) (c : Command) (moment : ℕ) (outcome : Outcome) (after : After) (refusal : Refusal) →
-    step s (event.Ask c moment) outcome ≡ Some after → after.answer ≡ answer.Reply (reply.Refused refusal) → after.state ≡ s
+    step s (event.Ask c moment) outcome ≡ Some after → after.answer ≡ answer.Reply (reply.Refused refusal)
+    → after.state ≡ s
 
 -- an operation that has ended is the same in each later state that keeps it
 abbrev pub EndedStays : Type 0
 EndedStays = (s : State) (events : List (Event × Outcome)) (r : Ran) (o later : Operation Task) →
-    AreKept s.operations → run s events ≡ Some r → Mem o s.operations.ended → kept_at r.state.operations o.number ≡ Some later → later ≡ o
+    AreKept s.operations → run s events ≡ Some r → Mem o s.operations.ended
+    → kept_at r.state.operations o.number ≡ Some later → later ≡ o
 
 -- no operation ends twice
 abbrev pub EndsOnce : Type 0
@@ -63,4 +69,5 @@ at_moment moment n = record n { moment = moment }
 -- then, beside the operation, and no call that is handed out or done changes it.
 abbrev pub SuccessIsFixed : Type 0
 SuccessIsFixed = (task : Task) (calls : List HostCall) (undo : Option HostCall) (done moment : ℕ) →
-    success_notices (record task { calls = calls; undo = undo; done = done }) moment ≡ map (at_moment moment) (success_notices task 0)
+    success_notices (record task { calls = calls; undo = undo; done = done }) moment
+    ≡ map (at_moment moment) (success_notices task 0)

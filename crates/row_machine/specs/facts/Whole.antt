@@ -1,21 +1,29 @@
 -- What is true of the state at all times: ten facts, each kept by every step.
-use Rattle.std.specs.Prelude.{◌≡◌, ◌≢◌, ℕ, ◌+◌, ◌<◌, ◌≤◌, ◌^◌, true, List, [], ◌∷◌, ◌++◌, map, length, Option, Some, None, is_some, IfSome, if◌then◌else◌, codes, filter, drop, option_map}
+use Rattle.std.specs.Prelude.{◌≡◌, ◌≢◌, ℕ, ◌+◌, ◌<◌, ◌≤◌, ◌^◌, true, List, [], ◌∷◌, ◌++◌, map, length, Option, Some}
+use Rattle.std.specs.Prelude.{None, is_some, IfSome, if◌then◌else◌, codes, filter, drop, option_map}
 use Rattle.std.specs.List.{sum_by}
-use Rattle.row_machine.specs.Words.{Each, Distinct, part, Part, Deed, ObjectKind, calls_of, undo_of, name_of, limit_on, limits_of, Status, AreKept, are_profiles, Target, Notice, Row, HasGoodKey, HasMoments}
+use Rattle.row_machine.specs.Words.{Each, Distinct, part, Part, Deed, ObjectKind, calls_of, undo_of, name_of, limit_on}
+use Rattle.row_machine.specs.Words.{limits_of, Status, AreKept, are_profiles, Target, Notice, Row, HasGoodKey}
+use Rattle.row_machine.specs.Words.{HasMoments}
 use Rattle.row_machine.specs.Words.deed
 use Rattle.row_machine.specs.Words.kind
 use Rattle.row_machine.specs.Words.status
-use Rattle.row_machine.specs.machine.Deeds.{keeps_name, has_target, claim_kind, replaces_target, target_kind, has_source}
+use Rattle.row_machine.specs.machine.Deeds.{keeps_name, has_target, claim_kind, replaces_target, target_kind}
+use Rattle.row_machine.specs.machine.Deeds.{has_source}
 use Rattle.operations.specs.declared.operation.Operation.{Operation}
 use Rattle.records.specs.declared.rows.Project.{Project}
 use Rattle.records.specs.declared.rows.Instance.{Instance}
 use Rattle.row_machine.specs.machine.Task.{Task}
 use Rattle.reservations.specs.declared.books.Hold.{Hold}
 use Rattle.row_machine.specs.machine.State.{State}
-use Rattle.row_machine.specs.machine.Rows.{default_name, project_named, profile_named, pool_named, instance_named, texts_before, project_names, profile_names, network_names, pool_names, volume_names, instance_names, snapshot_names, standing_names}
+use Rattle.row_machine.specs.machine.Rows.{default_name, project_named, profile_named, pool_named, instance_named}
+use Rattle.row_machine.specs.machine.Rows.{texts_before, project_names, profile_names, network_names, pool_names}
+use Rattle.row_machine.specs.machine.Rows.{volume_names, instance_names, snapshot_names, standing_names}
 use Rattle.row_machine.specs.machine.Homes.{is_on}
 use Rattle.row_machine.specs.machine.Expansions.{expanded_of}
-use Rattle.row_machine.specs.machine.Claims.{of_live, claimed_instance, claimed_volume, claimed_snapshot, judged_instances, judged_volumes, share_of, project_of_row, replaced_instance}
+use Rattle.row_machine.specs.machine.Claims.{of_live, claimed_instance, claimed_volume, claimed_snapshot}
+use Rattle.row_machine.specs.machine.Claims.{judged_instances, judged_volumes, share_of, project_of_row}
+use Rattle.row_machine.specs.machine.Claims.{replaced_instance}
 use Rattle.row_machine.specs.machine.Usage.{used, networks_of}
 use Rattle.row_machine.specs.shown.Links.{target_of}
 use Rattle.row_machine.specs.machine.Holders.{keeps_busy}
@@ -84,7 +92,8 @@ instance_there s project of = there of.kind where
 abbrev pub IsRenamed : State → Task → Type 0
 IsRenamed s task = renamed task.deed where
   renamed : Deed → Type 0
-  renamed deed.Rename = option_map (λ (i : Instance). record i { name = task.target.name }) (claimed_instance task) ≡ replaced_instance s task
+  renamed deed.Rename = option_map (λ (i : Instance). record i { name = task.target.name }) (claimed_instance task)
+      ≡ replaced_instance s task
   renamed other = Unit {0}
 
 -- a live operation: its project, its target, the source of a copy, and what its claimed row stands in
@@ -94,8 +103,10 @@ pub record IsPlaced (s : State) (task : Task) : Type 0 where
   pub source : (of : Target) → task.source ≡ Some of → is_there s task.project of ≡ true
   pub claim_project : (r : Row) → task.claim ≡ Some r → project_of_row r ≡ task.project
   pub claim_home : (r : Row) → task.claim ≡ Some r → homeless s r ≡ None
-  pub pool : (r : Row) → task.claim ≡ Some r → (target_of r).kind ≡ kind.Volume → is_some (pool_named s.pools (target_of r).pool) ≡ true
-  pub instance : (r : Row) → task.claim ≡ Some r → (target_of r).kind ≡ kind.Snapshot → instance_there s task.project (target_of r)
+  pub pool : (r : Row) → task.claim ≡ Some r → (target_of r).kind ≡ kind.Volume
+      → is_some (pool_named s.pools (target_of r).pool) ≡ true
+  pub instance : (r : Row) → task.claim ≡ Some r → (target_of r).kind ≡ kind.Snapshot
+      → instance_there s task.project (target_of r)
   pub renamed : IsRenamed s task
 
 -- all that rows, claims and operations name exists
@@ -113,7 +124,8 @@ pub record AreLinked (s : State) : Type 0 where
 -- the project `default` has all features, and each project with profiles of its own has a profile `default`
 pub record HasDefaults (s : State) : Type 0 where
   pub project : option_map has_all_features (project_named s.projects default_name) ≡ Some true
-  pub profiles : Each (λ p. is_on p.config (codes "features.profiles") ≡ true → is_some (profile_named s.profiles p.name default_name) ≡ true) s.projects
+  pub profiles : Each (λ p. is_on p.config (codes "features.profiles") ≡ true
+      → is_some (profile_named s.profiles p.name default_name) ≡ true) s.projects
 
 -- ---- 4: settings
 
@@ -135,7 +147,8 @@ pub record IsByDeed (task : Task) : Type 0 where
 
 -- an instance is kept busy by at most one live operation
 abbrev pub IsBusyOnce : State → Type 0
-IsBusyOnce s = (project instance : List ℕ) → length (filter (λ o. keeps_busy project instance o.work) s.operations.live) ≤ 1
+IsBusyOnce s =
+    (project instance : List ℕ) → length (filter (λ o. keeps_busy project instance o.work) s.operations.live) ≤ 1
 
 -- operations are numbered, few, and are about, copy from and claim what their deeds do
 pub record AreOperations (s : State) : Type 0 where
@@ -179,7 +192,8 @@ pub record IsWithin (s : State) (p : Project) : Type 0 where
 -- a restricted project forbids nothing that its profiles and instances have
 pub record IsClean (s : State) (p : Project) : Type 0 where
   pub profiles : Each (λ r. r.project ≡ p.name → (number : ℕ) → forbids_profile p number r ≡ None) s.profiles
-  pub instances : Each (λ i. i.project ≡ p.name → (number : ℕ) → forbids_instance s p number i ≡ None) (judged_instances s)
+  pub instances : Each (λ i. i.project ≡ p.name → (number : ℕ) → forbids_instance s p number i ≡ None)
+      (judged_instances s)
 
 -- each project stands within its limits and its policy
 pub record AreWithin (s : State) : Type 0 where
@@ -190,7 +204,8 @@ pub record AreWithin (s : State) : Type 0 where
 
 -- what was granted was converted or returned or is still held
 abbrev pub AreBalanced : State → Type 0
-AreBalanced s = (k : Part) → part k s.books.granted ≡ part k s.books.converted + part k s.books.returned + sum_by (λ h. part k h.share) s.held
+AreBalanced s = (k : Part)
+    → part k s.books.granted ≡ part k s.books.converted + part k s.books.returned + sum_by (λ h. part k h.share) s.held
 
 -- ---- 10: sizes, and the numbers of notices
 
@@ -210,10 +225,10 @@ pub record AreFew (s : State) : Type 0 where
 
 -- ---- all of them
 
--- What is true of the state at all times: names are good and distinct; what is named exists; the defaults are there; the
--- tables accept all settings; operations are numbered, few, by their deeds, and keep their instances to themselves; the
--- calls of each are in order; each holds the share that its claim needs; each project stands within its limits and its
--- policy; the books balance; and nothing is too large.
+-- What is true of the state at all times: names are good and distinct; what is named exists; the defaults are there;
+-- the tables accept all settings; operations are numbered, few, by their deeds, and keep their instances to themselves;
+-- the calls of each are in order; each holds the share that its claim needs; each project stands within its limits and
+-- its policy; the books balance; and nothing is too large.
 pub record IsWhole (s : State) : Type 0 where
   pub names : AreNamed s
   pub links : AreLinked s

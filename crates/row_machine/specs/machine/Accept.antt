@@ -1,9 +1,12 @@
 -- What an accepted command makes of the state, and what it is answered.
 use Rattle.std.specs.Prelude.{◌==◌, ◌&&◌, if◌then◌else◌}
-use Rattle.row_machine.specs.Words.{ℕ, Bool, false, not, Result, Ok, Err, ℤ, pos, negsuc, is_some, option_map_or, Status, CancelFault, kept_at, live_at, cancel_answer, Command, What, Reply, Status as status, What as what, Reply as reply, Answer, Answer as answer}
+use Rattle.row_machine.specs.Words.{ℕ, Bool, false, not, Result, Ok, Err, ℤ, pos, negsuc, is_some, option_map_or}
+use Rattle.row_machine.specs.Words.{Status, CancelFault, kept_at, live_at, cancel_answer, Command, What, Reply}
+use Rattle.row_machine.specs.Words.{Status as status, What as what, Reply as reply, Answer, Answer as answer}
 use Rattle.row_machine.specs.Estate.{Task, State}
 use Rattle.row_machine.specs.Readings.{applied}
-use Rattle.row_machine.specs.Doings.{Plan, nothing, changes, starts, plan_of, entered, moved, cancelled, telling, change_notices, operation_notice, view_of, read}
+use Rattle.row_machine.specs.Doings.{Plan, nothing, changes, starts, plan_of, entered, moved, cancelled, telling}
+use Rattle.row_machine.specs.Doings.{change_notices, operation_notice, view_of, read}
 
 pub record After : Type 0 where
   pub answer : Answer

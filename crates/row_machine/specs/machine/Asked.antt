@@ -1,6 +1,9 @@
 -- What a command speaks of: its object, the name that it gives, the instance that it would change or copy from.
 use Rattle.std.specs.Prelude.{◌==◌, if◌then◌else◌}
-use Rattle.row_machine.specs.Words.{ℕ, Bool, true, false, List, length, Option, Some, None, codes, unwrap_or, filter, fold, option_map_or, bytes_eq, ObjectKind, setting, unseen, seen, next_name, Target, Origin, Body, What, ObjectKind as kind, Origin as origin, What as what, Instance, Snapshot}
+use Rattle.row_machine.specs.Words.{ℕ, Bool, true, false, List, length, Option, Some, None, codes, unwrap_or, filter}
+use Rattle.row_machine.specs.Words.{fold, option_map_or, bytes_eq, ObjectKind, setting, unseen, seen, next_name, Target}
+use Rattle.row_machine.specs.Words.{Origin, Body, What, ObjectKind as kind, Origin as origin, What as what, Instance}
+use Rattle.row_machine.specs.Words.{Snapshot}
 use Rattle.row_machine.specs.Estate.{State, instance_named, expanded_of, is_of_kind}
 
 -- the object that a command speaks of, or the objects of a list

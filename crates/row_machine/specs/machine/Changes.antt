@@ -1,7 +1,10 @@
 -- Changes of rows: what the state is after each change of a list.
 use Rattle.std.specs.Prelude.{◌∷◌, if◌then◌else◌}
-use Rattle.row_machine.specs.Words.{ℕ, Bool, List, [], Option, Some, None, filter_map, list_any, bytes_eq, dropped, ObjectKind, Stopped, Row, two_names, ObjectKind as kind, Row as row, Instance, key_of, RowChange, RowChange as change}
-use Rattle.row_machine.specs.Estate.{State, Standing, with_project, with_profile, with_network, with_pool, with_volume, with_instance, with_snapshot, with_standing, is_standing}
+use Rattle.row_machine.specs.Words.{ℕ, Bool, List, [], Option, Some, None, filter_map, list_any, bytes_eq, dropped}
+use Rattle.row_machine.specs.Words.{ObjectKind, Stopped, Row, two_names, ObjectKind as kind, Row as row, Instance}
+use Rattle.row_machine.specs.Words.{key_of, RowChange, RowChange as change}
+use Rattle.row_machine.specs.Estate.{State, Standing, with_project, with_profile, with_network, with_pool, with_volume}
+use Rattle.row_machine.specs.Estate.{with_instance, with_snapshot, with_standing, is_standing}
 use Rattle.row_machine.specs.shown.Links.{target_of}
 
 abbrev pub has_key : List ℕ → Row → Bool

@@ -1,6 +1,8 @@
 -- What live operations claim: the rows that they would put, and the shares of limits that they hold for them.
 use Rattle.std.specs.Prelude.{◌++◌, if◌then◌else◌}
-use Rattle.row_machine.specs.Words.{ℕ, List, [], Option, Some, None, option_and_then, filter_map, option_map_or, bytes_eq, excess_of, Amounts, Expanded, instance_amounts, volume_amounts, Row, Row as row, no_amounts, Volume, Instance, Snapshot}
+use Rattle.row_machine.specs.Words.{ℕ, List, [], Option, Some, None, option_and_then, filter_map, option_map_or}
+use Rattle.row_machine.specs.Words.{bytes_eq, excess_of, Amounts, Expanded, instance_amounts, volume_amounts, Row}
+use Rattle.row_machine.specs.Words.{Row as row, no_amounts, Volume, Instance, Snapshot}
 use Rattle.row_machine.specs.Estate.{Task, State, instance_named, expanded_of}
 
 -- the instance, the volume or the snapshot that an operation would put

@@ -1,6 +1,7 @@
 -- The deeds of background operations, as a table.
 use Rattle.std.specs.Prelude.{◌||◌}
-use Rattle.row_machine.specs.Words.{Bool, true, false, Option, Some, None, is_none, option_map_or, Deed, ObjectKind, Target, Deed as deed, ObjectKind as kind}
+use Rattle.row_machine.specs.Words.{Bool, true, false, Option, Some, None, is_none, option_map_or, Deed, ObjectKind}
+use Rattle.row_machine.specs.Words.{Target, Deed as deed, ObjectKind as kind}
 use Rattle.row_machine.specs.machine.Kinds.{is_of_kind}
 
 -- The kind of object that a deed is about, and whether that object is there before it; the kind of row that it would

@@ -1,6 +1,7 @@
 -- What an instance has: its profiles in their order, and then its own settings and devices.
 use Rattle.std.specs.Prelude.{◌∷◌, ◌++◌}
-use Rattle.row_machine.specs.Words.{ℕ, List, [], map, Option, Some, None, Expanded, expanded, ObjectKind as kind, no_layer, Project, Profile, Instance}
+use Rattle.row_machine.specs.Words.{ℕ, List, [], map, Option, Some, None, Expanded, expanded, ObjectKind as kind}
+use Rattle.row_machine.specs.Words.{no_layer, Project, Profile, Instance}
 use Rattle.row_machine.specs.machine.Rows.{profile_named}
 use Rattle.row_machine.specs.machine.Homes.{home_of}
 

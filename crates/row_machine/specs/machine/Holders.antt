@@ -1,7 +1,10 @@
 -- Who holds what: the operation that keeps an instance busy, the one that holds a profile, and the first user of a
 -- profile, network, pool or volume.
 use Rattle.std.specs.Prelude.{◌&&◌, ◌||◌, ◌∷◌, ◌++◌, if◌then◌else◌}
-use Rattle.row_machine.specs.Words.{ℕ, Bool, false, List, [], filter, find, Option, Some, None, list_any, option_map_or, option_to_list, bytes_eq, first, first_of, ObjectKind, NamedDevices, names_network, names_pool, names_volume, Row, Target, ObjectKind as kind, Row as row, Operation, Profile, Volume, Instance}
+use Rattle.row_machine.specs.Words.{ℕ, Bool, false, List, [], filter, find, Option, Some, None, list_any, option_map_or}
+use Rattle.row_machine.specs.Words.{option_to_list, bytes_eq, first, first_of, ObjectKind, NamedDevices, names_network}
+use Rattle.row_machine.specs.Words.{names_pool, names_volume, Row, Target, ObjectKind as kind, Row as row, Operation}
+use Rattle.row_machine.specs.Words.{Profile, Volume, Instance}
 use Rattle.row_machine.specs.Estate.{Task, State, home_of, expanded_of, is_of_kind}
 use Rattle.row_machine.specs.machine.Claims.{claimed_instance, claimed_volume, replaced_instance, project_of_row}
 use Rattle.row_machine.specs.shown.Links.{link_of, target_of}

@@ -1,6 +1,7 @@
 -- The project that an object asked for in a project belongs to.
 use Rattle.std.specs.Prelude.{if◌then◌else◌}
-use Rattle.row_machine.specs.Words.{ℕ, Bool, false, List, codes, option_map_or, ObjectKind, Settings, setting, is_true, Project, ObjectKind as kind}
+use Rattle.row_machine.specs.Words.{ℕ, Bool, false, List, codes, option_map_or, ObjectKind, Settings, setting, is_true}
+use Rattle.row_machine.specs.Words.{Project, ObjectKind as kind}
 use Rattle.row_machine.specs.machine.Rows.{default_name, project_named}
 
 -- a setting that reads as true; an absent one does not

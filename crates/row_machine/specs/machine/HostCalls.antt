@@ -1,6 +1,7 @@
 -- The calls on the host that each operation makes, fixed when it begins.
 use Rattle.std.specs.Prelude.{◌∷◌}
-use Rattle.row_machine.specs.Words.{ℕ, Bool, true, false, List, [], Action, Expanded, Place, Spec, HostCall, Clear, MakeRoot, CopyRoot, Start, Stop, Freeze, Thaw, Action as action}
+use Rattle.row_machine.specs.Words.{ℕ, Bool, true, false, List, [], Action, Expanded, Place, Spec, HostCall, Clear}
+use Rattle.row_machine.specs.Words.{MakeRoot, CopyRoot, Start, Stop, Freeze, Thaw, Action as action}
 
 abbrev pub place_of : List ℕ → List ℕ → Place
 place_of project name = record { volume = false; project = project; pool = []; name = name }

@@ -1,6 +1,10 @@
 -- Rules on limits: L0 to L8. Each project's usage, with what live operations claim, stands within its limits.
 use Rattle.std.specs.Prelude.{◌∷◌}
-use Rattle.row_machine.specs.Words.{Expanded, ℕ, List, [], filter, Option, codes, option_map, option_to_list, bytes_eq, first, first_of, amount_above, Part, LimitKey, Instances, Containers, Machines, Cpu, Memory, Processes, Disk, Networks, Over, SumKey, over, limit_on, parts, first_uncounted, volume_uncounted, limits_of, Rule, Refusal, Rule as rule, SumKey as sum, key_of_part, Project, Volume, Instance}
+use Rattle.row_machine.specs.Words.{Expanded, ℕ, List, [], filter, Option, codes, option_map, option_to_list, bytes_eq}
+use Rattle.row_machine.specs.Words.{first, first_of, amount_above, Part, LimitKey, Instances, Containers, Machines, Cpu}
+use Rattle.row_machine.specs.Words.{Memory, Processes, Disk, Networks, Over, SumKey, over, limit_on, parts}
+use Rattle.row_machine.specs.Words.{first_uncounted, volume_uncounted, limits_of, Rule, Refusal, Rule as rule}
+use Rattle.row_machine.specs.Words.{SumKey as sum, key_of_part, Project, Volume, Instance}
 use Rattle.row_machine.specs.Estate.{Task, State, expanded_of, untold, on_key_of}
 use Rattle.row_machine.specs.Readings.{claimed_instance, claimed_volume, used, networks_of}
 

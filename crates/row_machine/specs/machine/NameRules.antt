@@ -1,7 +1,12 @@
 -- Rules on names: N1 to N5.
 use Rattle.std.specs.Prelude.{◌==◌, ◌&&◌, ◌∷◌, if◌then◌else◌}
-use Rattle.row_machine.specs.Words.{ℕ, Bool, false, List, [], length, find, Option, Some, None, is_some, is_none, option_and_then, option_map, decimal, option_map_or, bytes_eq, first, ObjectKind, good_name_of, kept_at, Refusal, Target, Origin, Command, What, ObjectKind as kind, Rule as rule, Origin as origin, What as what}
-use Rattle.row_machine.specs.Estate.{kind_number, is_in_project, Task, State, project_named, profile_named, network_named, pool_named, volume_named, instance_named, snapshot_named, home_of, on_project, on_object, on_held}
+use Rattle.row_machine.specs.Words.{ℕ, Bool, false, List, [], length, find, Option, Some, None, is_some, is_none}
+use Rattle.row_machine.specs.Words.{option_and_then, option_map, decimal, option_map_or, bytes_eq, first, ObjectKind}
+use Rattle.row_machine.specs.Words.{good_name_of, kept_at, Refusal, Target, Origin, Command, What, ObjectKind as kind}
+use Rattle.row_machine.specs.Words.{Rule as rule, Origin as origin, What as what}
+use Rattle.row_machine.specs.Estate.{kind_number, is_in_project, Task, State, project_named, profile_named}
+use Rattle.row_machine.specs.Estate.{network_named, pool_named, volume_named, instance_named, snapshot_named, home_of}
+use Rattle.row_machine.specs.Estate.{on_project, on_object, on_held}
 use Rattle.row_machine.specs.Readings.{project_of_row, target_of, object_of}
 
 -- N1: the project is missing, of a command on what belongs to a project.

@@ -1,6 +1,9 @@
 -- The rows that commands make: of a creation, a PUT, a PATCH, a rename, a restore and a snapshot.
 use Rattle.std.specs.Prelude.{◌∷◌, if◌then◌else◌}
-use Rattle.row_machine.specs.Words.{ℕ, false, List, [], is_none, codes, unwrap_or, fold, option_map_or, Kind, Container, Settings, setting, settled, patched, put, NamedDevices, Target, Origin, Body, Driver as driver, Origin as origin, put_each, Project, Profile, Network, Pool, Volume, Instance, Snapshot}
+use Rattle.row_machine.specs.Words.{ℕ, false, List, [], is_none, codes, unwrap_or, fold, option_map_or, Kind, Container}
+use Rattle.row_machine.specs.Words.{Settings, setting, settled, patched, put, NamedDevices, Target, Origin, Body}
+use Rattle.row_machine.specs.Words.{Driver as driver, Origin as origin, put_each, Project, Profile, Network, Pool}
+use Rattle.row_machine.specs.Words.{Volume, Instance, Snapshot}
 use Rattle.row_machine.specs.Estate.{default_name}
 
 -- ---- parts of a body; a creation and a PUT take an absent part as empty, a PATCH leaves it

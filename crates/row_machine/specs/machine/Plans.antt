@@ -1,10 +1,15 @@
 -- What each command makes of the state: nothing, changes of rows at once, or a background operation.
 use Rattle.std.specs.Prelude.{◌==◌, ◌∷◌, ◌++◌, if◌then◌else◌}
-use Rattle.row_machine.specs.Words.{ℕ, Bool, true, false, List, [], map, length, Option, Some, None, codes, option_map, option_map_or, option_to_list, ObjectKind, Row, Target, Origin, Body, Command, What, ObjectKind as kind, Row as row, Origin as origin, What as what, Project, Profile, Instance, Snapshot, RowChange, RowChange as change}
-use Rattle.row_machine.specs.Estate.{Task, State, default_name, project_named, profile_named, network_named, pool_named, volume_named, instance_named, snapshot_named, home_of, is_on}
+use Rattle.row_machine.specs.Words.{ℕ, Bool, true, false, List, [], map, length, Option, Some, None, codes, option_map}
+use Rattle.row_machine.specs.Words.{option_map_or, option_to_list, ObjectKind, Row, Target, Origin, Body, Command, What}
+use Rattle.row_machine.specs.Words.{ObjectKind as kind, Row as row, Origin as origin, What as what, Project, Profile}
+use Rattle.row_machine.specs.Words.{Instance, Snapshot, RowChange, RowChange as change}
+use Rattle.row_machine.specs.Estate.{Task, State, default_name, project_named, profile_named, network_named, pool_named}
+use Rattle.row_machine.specs.Estate.{volume_named, instance_named, snapshot_named, home_of, is_on}
 use Rattle.row_machine.specs.Readings.{removal, rows_put, with_name}
 use Rattle.row_machine.specs.machine.NameRules.{volume_source}
-use Rattle.row_machine.specs.machine.Tasks.{creation, copy, volume_copy, snapshot_creation, update, restoring, renaming, deletion, snapshot_deletion, acting}
+use Rattle.row_machine.specs.machine.Tasks.{creation, copy, volume_copy, snapshot_creation, update, restoring, renaming}
+use Rattle.row_machine.specs.machine.Tasks.{deletion, snapshot_deletion, acting}
 use Rattle.row_machine.specs.machine.NewRows as new
 
 pub data Plan : Type 0 where

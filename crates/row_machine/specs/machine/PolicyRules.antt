@@ -1,7 +1,11 @@
 -- Rules on policy: F1 to F8. What a restricted project forbids of its profiles, its instances, and those that live
 -- operations would put.
 use Rattle.std.specs.Prelude.{◌==◌, ◌∷◌, if◌then◌else◌}
-use Rattle.row_machine.specs.Words.{ℕ, nat_lt, List, [], filter, find, length, Option, Some, None, option_and_then, keys_of, option_map_or, bytes_eq, first, first_of, Kind, Settings, NamedDevices, Expanded, Forbidden, Subject, policy_of, demands, setting_lines, first_forbidden, snapshots_forbidden, Rule, Refusal, Command, What, ObjectKind as kind, Rule as rule, What as what, Kind as kind_of, Subject as subject, Project, Profile, Instance}
+use Rattle.row_machine.specs.Words.{ℕ, nat_lt, List, [], filter, find, length, Option, Some, None, option_and_then}
+use Rattle.row_machine.specs.Words.{keys_of, option_map_or, bytes_eq, first, first_of, Kind, Settings, NamedDevices}
+use Rattle.row_machine.specs.Words.{Expanded, Forbidden, Subject, policy_of, demands, setting_lines, first_forbidden}
+use Rattle.row_machine.specs.Words.{snapshots_forbidden, Rule, Refusal, Command, What, ObjectKind as kind, Rule as rule}
+use Rattle.row_machine.specs.Words.{What as what, Kind as kind_of, Subject as subject, Project, Profile, Instance}
 use Rattle.row_machine.specs.Estate.{State, project_named, expanded_of, on_project, on_key_of, is_of_kind}
 use Rattle.row_machine.specs.Readings.{judged_instances}
 use Rattle.row_machine.specs.machine.SettingRules.{text_at}

@@ -1,6 +1,7 @@
 -- Rows by their names, and the order in which they stand.
 use Rattle.std.specs.Prelude.{◌&&◌, ◌∷◌}
-use Rattle.row_machine.specs.Words.{ℕ, Bool, true, false, List, [], Option, find, codes, slice_cmp, nat_cmp, is_lt, bytes_eq, replaced, Project, Profile, Network, Pool, Volume, Instance, Snapshot}
+use Rattle.row_machine.specs.Words.{ℕ, Bool, true, false, List, [], Option, find, codes, slice_cmp, nat_cmp, is_lt}
+use Rattle.row_machine.specs.Words.{bytes_eq, replaced, Project, Profile, Network, Pool, Volume, Instance, Snapshot}
 use Rattle.row_machine.specs.machine.State.{Standing}
 
 -- the project and the profile that every server has

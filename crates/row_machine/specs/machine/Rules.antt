@@ -5,7 +5,8 @@ use Rattle.row_machine.specs.Estate.{State}
 use Rattle.row_machine.specs.Readings.{applied, named_anew}
 use Rattle.row_machine.specs.Doings.{Plan, nothing, changes, starts, plan_of, rows_of_plan, claiming}
 use Rattle.row_machine.specs.machine.NameRules.{project_missing, what_is_missing, name_broken}
-use Rattle.row_machine.specs.machine.StandingRules.{instance_busy, wrong_state, object_protected, object_used, project_occupied, profile_held}
+use Rattle.row_machine.specs.machine.StandingRules.{instance_busy, wrong_state, object_protected, object_used}
+use Rattle.row_machine.specs.machine.StandingRules.{project_occupied, profile_held}
 use Rattle.row_machine.specs.machine.SettingRules.{settings_broken}
 use Rattle.row_machine.specs.machine.PolicyRules.{policy_broken, snapshot_blocked}
 use Rattle.row_machine.specs.machine.LimitRules.{counts_broken, limits_broken}

@@ -1,6 +1,7 @@
 -- Runs: steps one after the other, with their answers and the operations that ended.
 use Rattle.std.specs.Prelude.{◌∷◌, ◌++◌, if◌then◌else◌}
-use Rattle.row_machine.specs.Words.{ℕ, List, [], Option, Some, None, find, is_none, option_map, option_and_then, filter_map, Status, has_number, live_at, Operation, Event, Answer}
+use Rattle.row_machine.specs.Words.{ℕ, List, [], Option, Some, None, find, is_none, option_map, option_and_then}
+use Rattle.row_machine.specs.Words.{filter_map, Status, has_number, live_at, Operation, Event, Answer}
 use Rattle.row_machine.specs.Estate.{Task, State}
 use Rattle.row_machine.specs.machine.Accept.{After}
 use Rattle.row_machine.specs.machine.Step.{Outcome, step}

@@ -1,7 +1,15 @@
 -- Rules on settings: V1 to V5, of the rows that a command would put.
 use Rattle.std.specs.Prelude.{◌∷◌, if◌then◌else◌}
-use Rattle.row_machine.specs.Words.{ℕ, Bool, true, false, List, [], filter, find, Option, Some, None, is_none, codes, option_and_then, slice_get, unwrap_or, option_map, keys_of, values_of, option_or, first, first_of, fault_number, Kind, Container, Machine, Settings, setting, has_setting, NamedDevices, root_of, Root, Scope, SettingFault, DeviceFault, instance_fault, project_fault, network_fault, pool_fault, volume_fault, devices_fault, Refusal, Row, ObjectKind as kind, Scope as scope, Rule as rule, Row as row, Root as root, SettingFault as fault, DeviceFault as device, Project, Profile, Instance}
-use Rattle.row_machine.specs.Estate.{State, default_name, profile_named, network_named, pool_named, volume_named, home_of, expanded_of, untold, on_name, on_object}
+use Rattle.row_machine.specs.Words.{ℕ, Bool, true, false, List, [], filter, find, Option, Some, None, is_none, codes}
+use Rattle.row_machine.specs.Words.{option_and_then, slice_get, unwrap_or, option_map, keys_of, values_of, option_or}
+use Rattle.row_machine.specs.Words.{first, first_of, fault_number, Kind, Container, Machine, Settings, setting}
+use Rattle.row_machine.specs.Words.{has_setting, NamedDevices, root_of, Root, Scope, SettingFault, DeviceFault}
+use Rattle.row_machine.specs.Words.{instance_fault, project_fault, network_fault, pool_fault, volume_fault}
+use Rattle.row_machine.specs.Words.{devices_fault, Refusal, Row, ObjectKind as kind, Scope as scope, Rule as rule}
+use Rattle.row_machine.specs.Words.{Row as row, Root as root, SettingFault as fault, DeviceFault as device, Project}
+use Rattle.row_machine.specs.Words.{Profile, Instance}
+use Rattle.row_machine.specs.Estate.{State, default_name, profile_named, network_named, pool_named, volume_named}
+use Rattle.row_machine.specs.Estate.{home_of, expanded_of, untold, on_name, on_object}
 use Rattle.row_machine.specs.Readings.{judged_instances, names_profile}
 
 abbrev pub text_at : List (List ℕ) → ℕ → List ℕ

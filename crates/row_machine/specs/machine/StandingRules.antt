@@ -1,7 +1,12 @@
 -- Rules on what stands in the way: B1 to B6.
 use Rattle.std.specs.Prelude.{◌&&◌, ◌||◌, ◌∷◌, if◌then◌else◌}
-use Rattle.row_machine.specs.Words.{ℕ, Bool, true, false, not, List, [], Option, Some, None, codes, option_and_then, find, option_map, list_any, option_map_or, result_ok, bytes_eq, truth_of, Power, Stopped, Frozen, Error, Deed, ObjectKind, Settings, setting, is_allowed, Refusal, Target, Command, What, Deed as deed, ObjectKind as kind, Rule as rule, What as what, Project}
-use Rattle.row_machine.specs.Estate.{State, default_name, project_named, instance_named, is_standing, home_of, is_on, expanded_of, kind_text, untold, on_name, on_object, is_of_kind}
+use Rattle.row_machine.specs.Words.{ℕ, Bool, true, false, not, List, [], Option, Some, None, codes, option_and_then}
+use Rattle.row_machine.specs.Words.{find, option_map, list_any, option_map_or, result_ok, bytes_eq, truth_of, Power}
+use Rattle.row_machine.specs.Words.{Stopped, Frozen, Error, Deed, ObjectKind, Settings, setting, is_allowed, Refusal}
+use Rattle.row_machine.specs.Words.{Target, Command, What, Deed as deed, ObjectKind as kind, Rule as rule, What as what}
+use Rattle.row_machine.specs.Words.{Project}
+use Rattle.row_machine.specs.Estate.{State, default_name, project_named, instance_named, is_standing, home_of, is_on}
+use Rattle.row_machine.specs.Estate.{expanded_of, kind_text, untold, on_name, on_object, is_of_kind}
 use Rattle.row_machine.specs.Readings.{power_line, busy_with, holder_of, first_user_of, instance_changed, is_parting}
 use Rattle.row_machine.specs.machine.NewRows.{put_project, patched_project}
 

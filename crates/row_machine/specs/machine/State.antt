@@ -19,9 +19,9 @@ pub record Standing : Type 0 where
   pub power : Power
 
 -- The rows of each kind, in the order of project, pool or instance, and name; the status of each instance; the kept
--- operations and the next number; the shares that live operations hold of the limits of projects, each as it was when its
--- operation began, and the books over all shares; the last 1,024 notices and the number of the next one; and whether the
--- server was told to close.
+-- operations and the next number; the shares that live operations hold of the limits of projects, each as it was when
+-- its operation began, and the books over all shares; the last 1,024 notices and the number of the next one; and
+-- whether the server was told to close.
 pub record State : Type 0 where
   pub projects : List Project
   pub profiles : List Profile

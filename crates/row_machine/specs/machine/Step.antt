@@ -1,8 +1,12 @@
 -- One step of the machine: what each event is answered, with each outcome of the outside, and the state after it.
 use Rattle.std.specs.Prelude.{◌+◌, ◌∷◌, if◌then◌else◌}
-use Rattle.row_machine.specs.Words.{ℕ, true, List, [], Option, Some, None, find, is_some, Rise, HostCall, Report, OpFault, Status, Cancelling, is_pending, live_at, Command, Filter, Refusal, Report as report, Rule as rule, Reply as reply, Operation, OpFault as fault, RowChange, Event, Event as event, Answer, Answer as answer}
+use Rattle.row_machine.specs.Words.{ℕ, true, List, [], Option, Some, None, find, is_some, Rise, HostCall, Report}
+use Rattle.row_machine.specs.Words.{OpFault, Status, Cancelling, is_pending, live_at, Command, Filter, Refusal}
+use Rattle.row_machine.specs.Words.{Report as report, Rule as rule, Reply as reply, Operation, OpFault as fault}
+use Rattle.row_machine.specs.Words.{RowChange, Event, Event as event, Answer, Answer as answer}
 use Rattle.row_machine.specs.Estate.{Task, State, plainly}
-use Rattle.row_machine.specs.Doings.{Plan, changes, plan_of, telling, success_notices, since, with_task, moved, handing_out, one_more_done, undone, succeeded, failed, cancelled, success_changes}
+use Rattle.row_machine.specs.Doings.{Plan, changes, plan_of, telling, success_notices, since, with_task, moved}
+use Rattle.row_machine.specs.Doings.{handing_out, one_more_done, undone, succeeded, failed, cancelled, success_changes}
 use Rattle.row_machine.specs.machine.Rules.{broken}
 use Rattle.row_machine.specs.machine.Accept.{After, and_then, accepted, told}
 

@@ -1,8 +1,13 @@
 -- Rules on the size of tables and rows (C1, C2), and on the number of operations (O1 to O5).
 use Rattle.std.specs.Prelude.{◌+◌, ◌∷◌, ◌-◌, ◌^◌, if◌then◌else◌}
-use Rattle.row_machine.specs.Words.{ℕ, nat_lt, List, [], length, min, Option, Some, None, option_and_then, codes, option_map, result_err, first, first_of, ObjectKind, Status, Pending, Cancelling, Success, Failure, Cancelled, CancelFault, EnterFault, Full, Spent, kept_at, enter_fault, cancel_answer, most_live, number_limit, Refusal, Row, What, body_of, ObjectKind as kind, Rule as rule, What as what, CancelFault as cancel_fault}
+use Rattle.row_machine.specs.Words.{ℕ, nat_lt, List, [], length, min, Option, Some, None, option_and_then, codes}
+use Rattle.row_machine.specs.Words.{option_map, result_err, first, first_of, ObjectKind, Status, Pending, Cancelling}
+use Rattle.row_machine.specs.Words.{Success, Failure, Cancelled, CancelFault, EnterFault, Full, Spent, kept_at}
+use Rattle.row_machine.specs.Words.{enter_fault, cancel_answer, most_live, number_limit, Refusal, Row, What, body_of}
+use Rattle.row_machine.specs.Words.{ObjectKind as kind, Rule as rule, What as what, CancelFault as cancel_fault}
 use Rattle.row_machine.specs.Estate.{State, kind_text, cap_of, untold, on_number}
-use Rattle.row_machine.specs.Readings.{status_line, of_live, claimed_instance, claimed_volume, claimed_snapshot, target_of}
+use Rattle.row_machine.specs.Readings.{status_line, of_live, claimed_instance, claimed_volume, claimed_snapshot}
+use Rattle.row_machine.specs.Readings.{target_of}
 
 abbrev pub status_text : Status → List ℕ
 status_text status = (status_line status).text

@@ -1,6 +1,8 @@
 -- The background operations that commands begin: what each is about, claims and asks of the host.
 use Rattle.std.specs.Prelude.{◌∷◌, if◌then◌else◌}
-use Rattle.row_machine.specs.Words.{ℕ, Bool, true, false, List, [], Some, None, Action, Deed, ObjectKind, Place, HostCall, Target, Body, Deed as deed, ObjectKind as kind, Row as row, HostCall as call, Volume, Instance, Snapshot}
+use Rattle.row_machine.specs.Words.{ℕ, Bool, true, false, List, [], Some, None, Action, Deed, ObjectKind, Place}
+use Rattle.row_machine.specs.Words.{HostCall, Target, Body, Deed as deed, ObjectKind as kind, Row as row}
+use Rattle.row_machine.specs.Words.{HostCall as call, Volume, Instance, Snapshot}
 use Rattle.row_machine.specs.Estate.{Task, State, expanded_of}
 use Rattle.row_machine.specs.machine.HostCalls.{place_of, volume_place, spec_of, create_calls, copy_calls, act_calls}
 use Rattle.row_machine.specs.machine.NewRows as new

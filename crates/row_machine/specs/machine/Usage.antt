@@ -1,6 +1,7 @@
 -- How much of its limits a project uses, summed anew from its rows and from what live operations claim.
 use Rattle.std.specs.Prelude.{◌++◌, if◌then◌else◌}
-use Rattle.row_machine.specs.Words.{ℕ, List, map, filter, length, Option, option_map, sum_by, bytes_eq, part, Amounts, Part, Part as part_of, Volume, Instance}
+use Rattle.row_machine.specs.Words.{ℕ, List, map, filter, length, Option, option_map, sum_by, bytes_eq, part, Amounts}
+use Rattle.row_machine.specs.Words.{Part, Part as part_of, Volume, Instance}
 use Rattle.row_machine.specs.Estate.{Task, State}
 use Rattle.row_machine.specs.machine.Claims.{of_live, amounts_of_instance, amounts_of_volume, share_of, project_of_row}
 

@@ -1,6 +1,11 @@
 -- Background operations: how one is entered, what each status becomes, and how one ends.
 use Rattle.std.specs.Prelude.{◌+◌, ◌==◌, ◌&&◌, ◌∷◌, ◌++◌, if◌then◌else◌}
-use Rattle.row_machine.specs.Words.{ℕ, nat_lt, Bool, true, List, [], map, find, Option, Some, None, is_some, option_and_then, option_map_or, option_to_list, result_ok, dropped, changed_first, Amounts, Action, Deed, Power, Error, HostCall, undo_of, after_of, OpFault, Status, granted_more, converted_more, returned_more, Action as action, Deed as deed, Status as status, Row as row, no_amounts, Operation, OpFault as op_fault, Instance, RowChange, RowChange as change}
+use Rattle.row_machine.specs.Words.{ℕ, nat_lt, Bool, true, List, [], map, find, Option, Some, None, is_some}
+use Rattle.row_machine.specs.Words.{option_and_then, option_map_or, option_to_list, result_ok, dropped, changed_first}
+use Rattle.row_machine.specs.Words.{Amounts, Action, Deed, Power, Error, HostCall, undo_of, after_of, OpFault, Status}
+use Rattle.row_machine.specs.Words.{granted_more, converted_more, returned_more, Action as action, Deed as deed}
+use Rattle.row_machine.specs.Words.{Status as status, Row as row, no_amounts, Operation, OpFault as op_fault, Instance}
+use Rattle.row_machine.specs.Words.{RowChange, RowChange as change}
 use Rattle.row_machine.specs.Estate.{breaks_instance, Task, instance_named, snapshot_named, is_standing}
 use Rattle.row_machine.specs.Readings.{share_of, project_of_row, claimed_instance, applied, removal, snapshots_of}
 use Rattle.operations.specs.Kept as kept

@@ -1,8 +1,11 @@
 -- Opening: the state that kept entries give, or why they give none.
-use Rattle.std.specs.Prelude.{ℕ, ◌==◌, Bool, false, not, ◌&&◌, ◌||◌, List, [], ◌∷◌, filter, slice_get, fold, Option, Some, None, is_none, Result, Ok, Err, if◌then◌else◌, codes, unwrap_or, option_map, option_and_then}
+use Rattle.std.specs.Prelude.{ℕ, ◌==◌, Bool, false, not, ◌&&◌, ◌||◌, List, [], ◌∷◌, filter, slice_get, fold, Option}
+use Rattle.std.specs.Prelude.{Some, None, is_none, Result, Ok, Err, if◌then◌else◌, codes, unwrap_or, option_map}
+use Rattle.std.specs.Prelude.{option_and_then}
 use Rattle.std.specs.List.{list_all}
 use Rattle.std.specs.Str.{bytes_eq}
-use Rattle.row_machine.specs.Words.{first, first_of, Entry, ObjectKind, instance_fault, project_fault, network_fault, pool_fault, volume_fault, parts, are_profiles, Rule, Refusal, Row, Damaged}
+use Rattle.row_machine.specs.Words.{first, first_of, Entry, ObjectKind, instance_fault, project_fault, network_fault}
+use Rattle.row_machine.specs.Words.{pool_fault, volume_fault, parts, are_profiles, Rule, Refusal, Row, Damaged}
 use Rattle.row_machine.specs.Words.kind
 use Rattle.row_machine.specs.Words.scope
 use Rattle.row_machine.specs.Words.rule
@@ -79,7 +82,8 @@ homeless s r = if_so (is_homeless (target_of r).kind) rule.N1 where
   is_homeless kind.Project = false
   is_homeless kind.Pool = false
   is_homeless kind =
-      is_none (project_named s.projects (project_of_row r)) || not (bytes_eq (home_of s.projects (project_of_row r) kind) (project_of_row r))
+      is_none (project_named s.projects (project_of_row r))
+      || not (bytes_eq (home_of s.projects (project_of_row r) kind) (project_of_row r))
 
 -- a volume's pool or a snapshot's instance is missing
 abbrev pub orphaned : State → Row → Option Rule
@@ -134,19 +138,23 @@ rootless s other = None
 -- what a profile or an instance names is missing
 abbrev pub unlinked : State → Row → Option Rule
 unlinked s (row.Profile r) = rule_of (devices_miss s r.project r.devices)
-unlinked s (row.Instance i) = rule_of (first (profile_missing s i ∷ devices_miss s i.project (expanded_of s.projects s.profiles i).devices ∷ []))
+unlinked s (row.Instance i) =
+    rule_of (first (profile_missing s i ∷ devices_miss s i.project (expanded_of s.projects s.profiles i).devices ∷ []))
 unlinked s other = None
 
 -- the policy of its project forbids a profile or an instance something
 abbrev pub forbidden : ℕ → State → Row → Option Rule
-forbidden number s (row.Profile r) = rule_of (option_and_then (λ p. forbids_profile p number r) (project_named s.projects r.project))
-forbidden number s (row.Instance i) = rule_of (option_and_then (λ p. forbids_instance s p number i) (project_named s.projects i.project))
+forbidden number s (row.Profile r) =
+    rule_of (option_and_then (λ p. forbids_profile p number r) (project_named s.projects r.project))
+forbidden number s (row.Instance i) =
+    rule_of (option_and_then (λ p. forbids_instance s p number i) (project_named s.projects i.project))
 forbidden number s other = None
 
 -- an instance or a volume is not countable for the limits of its project
 abbrev pub uncountable : State → Row → Option Rule
 uncountable s (row.Volume v) = rule_of (option_and_then (λ p. volume_uncounts p v) (project_named s.projects v.project))
-uncountable s (row.Instance i) = rule_of (option_and_then (λ p. instance_uncounted s p i) (project_named s.projects i.project))
+uncountable s (row.Instance i) =
+    rule_of (option_and_then (λ p. instance_uncounted s p i) (project_named s.projects i.project))
 uncountable s other = None
 
 -- the rules in their order
@@ -178,7 +186,8 @@ broken_at r why = broken why (kind_of r) (key_of r)
 
 -- the project `default` is missing
 abbrev pub default_missing : State → Option Opening
-default_missing s = if is_none (project_named s.projects default_name) then Some (broken rule.N1 1 default_name) else None
+default_missing s =
+    if is_none (project_named s.projects default_name) then Some (broken rule.N1 1 default_name) else None
 
 -- the first row that breaks this rule
 abbrev pub row_breaks : State → List Row → (State → Row → Option Rule) → Option Opening
@@ -195,7 +204,8 @@ limit_breaks s rows = first
 
 -- the first row of a kind after the last one that there may be
 abbrev pub past_cap : List Row → ObjectKind → Option Opening
-past_cap rows which = option_map (λ r. broken_at r rule.C1) (slice_get (filter (λ r. kind_of r == kind_number which) rows) (cap_of which))
+past_cap rows which =
+    option_map (λ r. broken_at r rule.C1) (slice_get (filter (λ r. kind_of r == kind_number which) rows) (cap_of which))
 
 -- the first row that is too large
 abbrev pub size_breaks : List Row → Option Opening

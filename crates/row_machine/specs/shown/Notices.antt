@@ -1,8 +1,10 @@
 -- Notices: what each change and each operation tells.
-use Rattle.std.specs.Prelude.{ℕ, ◌+◌, ◌-◌, ◌^◌, ◌==◌, Bool, true, ◌&&◌, nat_lt, nat_le, List, [], ◌∷◌, map, filter, Option, Some, None, if◌then◌else◌, option_map}
+use Rattle.std.specs.Prelude.{ℕ, ◌+◌, ◌-◌, ◌^◌, ◌==◌, Bool, true, ◌&&◌, nat_lt, nat_le, List, [], ◌∷◌, map, filter}
+use Rattle.std.specs.Prelude.{Option, Some, None, if◌then◌else◌, option_map}
 use Rattle.std.specs.Option.{option_map_or, option_to_list}
 use Rattle.std.specs.Str.{bytes_eq}
-use Rattle.row_machine.specs.Words.{ring_push, Action, Deed, ObjectKind, kept_at, Notice, Filter, Life, Told, Untold, OpView, Target, Command, What}
+use Rattle.row_machine.specs.Words.{ring_push, Action, Deed, ObjectKind, kept_at, Notice, Filter, Life, Told, Untold}
+use Rattle.row_machine.specs.Words.{OpView, Target, Command, What}
 use Rattle.row_machine.specs.Words.action
 use Rattle.row_machine.specs.Words.deed
 use Rattle.row_machine.specs.Words.kind
@@ -29,7 +31,8 @@ abbrev pub push_notice : Untold → State → State
 push_notice n s =
     if s.next_notice == 2 ^ 64 - 1 then s
     else record s {
-      notices = ring_push kept_notices (record { number = s.next_notice; moment = n.moment; project = n.project; told = n.told }) s.notices;
+      notices = ring_push kept_notices
+          (record { number = s.next_notice; moment = n.moment; project = n.project; told = n.told }) s.notices;
       next_notice = s.next_notice + 1;
     }
 
@@ -70,7 +73,8 @@ view_of o = record {
 -- an operation as it now stands
 abbrev pub operation_notice : State → ℕ → ℕ → List Untold
 operation_notice s number moment =
-    option_to_list (option_map (λ o. record { moment = moment; project = o.work.project; told = told.Op (view_of o) }) (kept_at s.operations number))
+    option_to_list (option_map (λ o. record { moment = moment; project = o.work.project; told = told.Op (view_of o) })
+    (kept_at s.operations number))
 
 -- ---- changes at once
 

@@ -1,8 +1,11 @@
 -- What a read answers: the objects as they are shown, their links, and the links of their users.
-use Rattle.std.specs.Prelude.{if◌then◌else◌, ℕ, ◌==◌, Bool, true, false, ◌&&◌, List, [], ◌∷◌, ◌++◌, map, filter, Option, Some, None, unwrap_or, codes, option_map, option_and_then}
+use Rattle.std.specs.Prelude.{if◌then◌else◌, ℕ, ◌==◌, Bool, true, false, ◌&&◌, List, [], ◌∷◌, ◌++◌, map, filter, Option}
+use Rattle.std.specs.Prelude.{Some, None, unwrap_or, codes, option_map, option_and_then}
 use Rattle.std.specs.List.{filter_map}
 use Rattle.std.specs.Str.{bytes_eq}
-use Rattle.row_machine.specs.Words.{Part, ObjectKind, Stopped, limit_on, parts, limits_of, Status, Pending, Cancelling, Success, Failure, Cancelled, kept_at, by_number, LimitKeyName, UsageLine, View, Reply, Row, Target, What}
+use Rattle.row_machine.specs.Words.{Part, ObjectKind, Stopped, limit_on, parts, limits_of, Status, Pending, Cancelling}
+use Rattle.row_machine.specs.Words.{Success, Failure, Cancelled, kept_at, by_number, LimitKeyName, UsageLine, View}
+use Rattle.row_machine.specs.Words.{Reply, Row, Target, What}
 use Rattle.row_machine.specs.Words.part_of
 use Rattle.row_machine.specs.Words.kind
 use Rattle.row_machine.specs.Words.view
@@ -67,7 +70,8 @@ used_by s (row.Snapshot r) = []
 -- an instance with what it has and its status
 abbrev pub instance_view : State → Instance → View
 instance_view s i =
-    view.Instance i (expanded_of s.projects s.profiles i).config (expanded_of s.projects s.profiles i).devices (unwrap_or (power_of s i.project i.name) Stopped)
+    view.Instance i (expanded_of s.projects s.profiles i).config (expanded_of s.projects s.profiles i).devices
+    (unwrap_or (power_of s i.project i.name) Stopped)
 
 -- how a row is shown
 abbrev pub row_view : State → Row → View
@@ -116,7 +120,8 @@ listed s project of = rows of.kind where
   rows kind.Profile = map row.Profile (filter (λ r. bytes_eq r.project (home kind.Profile)) s.profiles)
   rows kind.Network = map row.Network (filter (λ r. bytes_eq r.project (home kind.Network)) s.networks)
   rows kind.Pool = map row.Pool s.pools
-  rows kind.Volume = map row.Volume (filter (λ r. bytes_eq r.project (home kind.Volume) && bytes_eq r.pool of.pool) s.volumes)
+  rows kind.Volume =
+      map row.Volume (filter (λ r. bytes_eq r.project (home kind.Volume) && bytes_eq r.pool of.pool) s.volumes)
   rows kind.Instance = map row.Instance (filter (λ r. bytes_eq r.project project) s.instances)
   rows kind.Snapshot = map row.Snapshot (snapshots_of s project of.instance)
   rows kind.Operation = []
