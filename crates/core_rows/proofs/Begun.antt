@@ -1,15 +1,13 @@
 -- The first operation that waits has calls, and one that is handed out makes it run.
-use Rattle.std.proofs.Common.{◌≡◌, ℕ, ◌+◌, ◌≤◌, ◌<◌, Bool, true, false, List, [], ◌∷◌, ◌++◌, length, map, Option, Some, None, IsSome, refl, ap, sym, subst, ◌∙◌, arith}
+use Rattle.std.proofs.Common.{◌≡◌, ℕ, ◌≤◌, ◌<◌, true, false, List, [], ◌∷◌, ◌++◌, length, map, Option, Some, None, IsSome, refl, ap, sym, subst, ◌∙◌, arith}
 use Rattle.std.specs.Option.{option_map, option_and_then, option_to_list}
 use Rattle.size_values.specs.Moments.{moment_limit}
-use Rattle.size_values.specs.declared.kinds.Action.{Action}
 use Rattle.size_values.specs.declared.kinds.Action.TheVariants as action
 use Rattle.size_values.specs.declared.kinds.Deed.{Deed}
 use Rattle.size_values.specs.declared.kinds.Deed.TheVariants as deed
 use Rattle.row_machine.specs.Words.{calls_of}
 use Rattle.host_model.specs.declared.call.HostCall.{HostCall}
 use Rattle.operations.specs.declared.operation.Operation.{Operation}
-use Rattle.operations.specs.declared.status.Status.{Status}
 use Rattle.operations.specs.declared.status.Status.TheVariants as status
 use Rattle.operations.specs.Kept.{Kept, live_at, kept_at, first_pending_of}
 use Rattle.records.specs.declared.notices.Untold.{Untold}

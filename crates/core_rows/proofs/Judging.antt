@@ -110,7 +110,7 @@ accepted-so s c moment cs n whole d none = record {
 -- ---- what is accepted can be committed
 
 -- rows that have good keys and moments and are small have entries
-entries-of : (cs : List RowChange) → Each HasGoodKey (rows_put cs) → Each HasMoments (rows_put cs) → Each HasShortParts (rows_put cs) → AllByRecursion HasEntry cs
+pub entries-of : (cs : List RowChange) → Each HasGoodKey (rows_put cs) → Each HasMoments (rows_put cs) → Each HasShortParts (rows_put cs) → AllByRecursion HasEntry cs
 entries-of [] keyed timely short = tt
 entries-of (change.Put r ∷ cs) keyed timely short =
     ((Each-head keyed, Each-head timely, Each-head short), entries-of cs (Each-tail keyed) (Each-tail timely) (Each-tail short))

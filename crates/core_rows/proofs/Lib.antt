@@ -1,5 +1,7 @@
 mod Begun
 mod Changed
+mod Comings
+mod Completions
 mod Failing
 mod FirstEntries
 pub mod Following
@@ -12,4 +14,5 @@ mod Reports
 mod Silent
 pub mod Started
 pub mod Stepping
+mod Successes
 mod Turning

@@ -1,5 +1,5 @@
 -- Changes of rows tell nothing.
-use Rattle.std.proofs.Common.{◌≡◌, List, [], ◌∷◌, ◌++◌, map, refl, ◌∙◌, ap}
+use Rattle.std.proofs.Common.{◌≡◌, true, List, [], ◌∷◌, ◌++◌, map, refl, ◌∙◌, ap}
 use Rattle.row_machine.specs.declared.changes.RowChange.{RowChange}
 use Rattle.row_machine.specs.machine.State.{State}
 use Rattle.row_machine.specs.machine.Changes.{applied}
@@ -7,7 +7,11 @@ use Rattle.machine_laws.proofs.SizesSteps.{applied-notices}
 use Rattle.core_rows.specs.Kept.{IsSilent}
 
 pub applied-silent : (cs : List RowChange) (s : State) → IsSilent s → IsSilent (applied s cs)
-applied-silent cs s h = record { notices = ap (λ told. told.0) (applied-notices cs s) ∙ h.notices; next = ap (λ told. told.1) (applied-notices cs s) ∙ h.next }
+applied-silent cs s h = record {
+  notices = ap (λ told. told.0) (applied-notices cs s)
+      ∙ h.notices;
+  next = ap (λ told. told.1) (applied-notices cs s) ∙ h.next;
+}
 
 -- where no notices wait, none do as read over other operations
 pub still-quiet : {X Y : Type 0} (f g : X → Y) (xs : List X) → map f xs ≡ [] → map g xs ≡ []
@@ -15,7 +19,8 @@ still-quiet f g [] e = refl
 still-quiet f g (x ∷ xs) e = cc
 
 -- one that waits behind none is the only one
-pub only-one : {X Y : Type 0} (f g : X → Y) (xs ys : List X) (x : X) → map f xs ≡ [] → ys ≡ xs ++ x ∷ [] → map g ys ≡ g x ∷ []
+pub only-one : {X Y : Type 0} (f g : X → Y) (xs ys : List X) (x : X) → map f xs ≡ [] → ys ≡ xs ++ x ∷ []
+    → map g ys ≡ g x ∷ []
 only-one f g [] ys x e is = ap (map g) is
 only-one f g (y ∷ xs) ys x e is = cc
 
@@ -23,3 +28,7 @@ only-one f g (y ∷ xs) ys x e is = cc
 pub none-wait : {X Y : Type 0} (f : X → Y) (xs : List X) → map f xs ≡ [] → xs ≡ []
 none-wait f [] e = refl
 none-wait f (x ∷ xs) e = cc
+
+-- neither does the end of the server's work
+pub closed-silent : (s : State) → IsSilent s → IsSilent (record s { closed = true })
+closed-silent s h = record { notices = h.notices; next = h.next }

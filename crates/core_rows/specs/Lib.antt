@@ -3,6 +3,7 @@ pub mod Jobs
 pub mod Kept
 pub mod Opening
 pub mod Planned
+pub mod Reported
 pub mod Stores
 pub mod View
 pub mod Waiting

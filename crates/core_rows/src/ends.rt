@@ -25,8 +25,8 @@ fn breaks_at(view: &View<'_>, number: u64) -> bool
     }
 }
 
-/// After a failure of an operation, of which so many calls were done, its instance is in an unknown state where the host has
-/// begun to change it.
+/// After a failure of an operation, of which so many calls were done, its instance is in an unknown state where the
+/// host has begun to change it.
 fn break_instance(draft: &mut Draft, number: u64, done: u32)
     requires settled { draft.old.log ≡ [] }
     requires live { IsSome (live_at draft.old.state.operations number) }
@@ -35,6 +35,7 @@ fn break_instance(draft: &mut Draft, number: u64, done: u32)
     ensures operations { draft.new.state.operations ≡ draft.old.state.operations }
     ensures held { draft.new.state.held ≡ draft.old.state.held }
     ensures log { draft.new.log ≡ [] }
+    ensures greatest { draft.new.backing.greatest ≡ draft.old.backing.greatest }
 {
     if 0 < done && breaks_at(&draft.view(), number) {
         draft.set_power_of(number, Power::Error);
@@ -49,6 +50,7 @@ pub(crate) fn fail(draft: &mut Draft, number: u64, why: OpFault, done: u32, mome
     ensures state { (o : OperationValue Task) → live_at draft.old.state.operations number ≡ Some o →
         draft.new.state ≡ failed draft.old.state o why done moment }
     ensures log { draft.new.log ≡ [] }
+    ensures greatest { draft.new.backing.greatest ≡ draft.old.backing.greatest }
 {
     break_instance(draft, number, done);
     draft.end(number, Status::Failure, why, moment);
@@ -63,6 +65,7 @@ pub(crate) fn cancel(draft: &mut Draft, number: u64, moment: u64)
     requires held { IsSome (find (is_held_by number) draft.old.state.held) }
     ensures state { draft.new.state ≡ cancelled draft.old.state number moment }
     ensures log { draft.new.log ≡ [] }
+    ensures greatest { draft.new.backing.greatest ≡ draft.old.backing.greatest }
 {
     draft.end(number, Status::Cancelled, OpFault::None, moment);
     draft.give_back(number);

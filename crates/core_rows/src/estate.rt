@@ -1,20 +1,21 @@
-ghost use Rattle.std.specs.Prelude.{◌≡◌, ◌<◌, ◌∷◌, [], IfOk, IfSome, IfNone, OnOk, OnErr};
+ghost use Rattle.std.specs.Prelude.{◌≡◌, ◌<◌, ◌∷◌, [], true, IfOk, IfSome, IfNone, OnOk, OnErr};
 ghost use Rattle.limit_rules.specs.Exceeding.{Serves};
 ghost use Rattle.row_drafts.specs.Drafted.{IsReady};
 ghost use Rattle.row_machine.specs.machine.Changes.{applied};
 ghost use Rattle.row_machine.specs.facts.Whole.{IsWhole};
 ghost use Rattle.size_values.specs.Moments.{moment_limit};
-ghost use Rattle.core_rows.specs.Jobs.{IsTaken};
+ghost use Rattle.core_rows.specs.Jobs.{IsReported, IsTaken};
 ghost use Rattle.core_rows.specs.Kept.{IsSilent};
 ghost use Rattle.core_rows.specs.Planned.{Follows, IsToDo, IsToStart};
 ghost use Rattle.core_rows.specs.Asked.{IsAsked};
 ghost use Rattle.record_keeper.specs.Store.{Store};
 
 use crate::changing::{commit, copy_changes, give_up, judge};
-use crate::jobs::{begin, first_pending, tell};
+use crate::jobs::{Turned, begin, first_pending, tell};
+use crate::reported::take_report;
 use crate::starting::{judge_claim, make_beginning, settle_beginning};
 use crate::waiting::{Waiting, told_by};
-use host_model::HostCall;
+use host_model::{HostCall, Report};
 use limit_rules::{Usage, usage_before_changes};
 use plain_lists::push_reserved;
 use record_keeper::Keeper;
@@ -26,8 +27,8 @@ use size_values::{NoMemory, Seq};
 use std::alloc::Global;
 use std::marker::Model;
 
-/// The rows of the server, of which the facts hold at all times, and what is to be told. Contracts see the state of the row
-/// machine with these rows, and the notices that were not yet taken.
+/// The rows of the server, of which the facts hold at all times, and what is to be told. Contracts see the state of the
+/// row machine with these rows, and the notices that were not yet taken.
 #[derive(Drop)]
 pub struct Estate {
     draft: Draft,
@@ -91,9 +92,9 @@ impl Estate {
         self.draft.view()
     }
 
-    /// Carries out the changes of a command that breaks no rule on names and on what stands in the way. They are made, judged by the
-    /// state after them, and committed to the keeper in one call; where a rule is broken, the keeper fails or memory is refused,
-    /// they are taken back. What was done is left to be told.
+    /// Carries out the changes of a command that breaks no rule on names and on what stands in the way. They are made,
+    /// judged by the state after them, and committed to the keeper in one call; where a rule is broken, the keeper
+    /// fails or memory is refused, they are taken back. What was done is left to be told.
     pub fn change_rows<R: Keeper>(
         &mut self,
         alloc: Global,
@@ -105,7 +106,8 @@ impl Estate {
     ) -> Reply
         requires quiet { self.old.untold ≡ [] }
         requires planned { IsToDo self.old.state command.now moment changes notice }
-        ensures { Follows self.old.state command.now moment self.new.state self.new.untold result (R.store keeper.old) (R.store keeper.new) }
+        ensures { Follows self.old.state command.now moment self.new.state self.new.untold result (R.store keeper.old)
+            (R.store keeper.new) }
     {
         let Ok(ready) = make_ready(alloc, &mut self.draft, &changes) else {
             drop(changes);
@@ -135,8 +137,8 @@ impl Estate {
         Reply::Empty
     }
 
-    /// Hands out the first call of the lowest-numbered operation that waits for it, which runs from then on and is left to be
-    /// told; or tells that none waits. The moment is in seconds since 1970. It takes no memory.
+    /// Hands out the first call of the lowest-numbered operation that waits for it, which runs from then on and is left
+    /// to be told; or tells that none waits. The moment is in seconds since 1970. It takes no memory.
     pub fn take_job(&mut self, moment: u64) -> Option<(u64, HostCall)>
         requires quiet { self.old.untold ≡ [] }
         requires early { moment < moment_limit }
@@ -150,13 +152,52 @@ impl Estate {
         Some((number, call))
     }
 
-    /// Begins the background operation of a command that breaks no rule on names and on what stands in the way. The operation is
-    /// entered and judged by the state with its claim; where a rule is broken or memory is refused, it is taken back. Else it
-    /// holds its share from then on, and its notice is left to be told. The store is not asked.
+    /// Takes the report of a call that an operation handed out: the next call is handed out, or the one that takes the
+    /// deed back; or the operation ends and is left to be told, after what its success tells. A success commits the
+    /// changes of its rows in one call to the keeper; where that fails, or memory is refused before it or in it, the
+    /// operation fails and no row changes. Nothing else takes memory. Where no call of the operation is out, nothing
+    /// changes. The moment is in seconds since 1970.
+    pub fn done_job<R: Keeper>(
+        &mut self,
+        alloc: Global,
+        keeper: &mut R,
+        number: u64,
+        report: Report,
+        moment: u64,
+    ) -> Turned
+        requires quiet { self.old.untold ≡ [] }
+        requires early { moment < moment_limit }
+        ensures { IsReported self.old.state number report moment self.new.state self.new.untold result
+            (R.store keeper.old) (R.store keeper.new) }
+    {
+        take_report(
+            alloc,
+            &mut self.draft,
+            &mut self.untold,
+            keeper,
+            number,
+            report,
+            moment,
+        )
+    }
+
+    /// The server is told to close: a worker that finds no job is then told so. It takes no memory.
+    pub fn close(&mut self)
+        requires quiet { self.old.untold ≡ [] }
+        ensures state { self.new.state ≡ record self.old.state { closed = true } }
+        ensures untold { self.new.untold ≡ [] }
+    {
+        self.draft.close();
+    }
+
+    /// Begins the background operation of a command that breaks no rule on names and on what stands in the way. The
+    /// operation is entered and judged by the state with its claim; where a rule is broken or memory is refused, it is
+    /// taken back. Else it holds its share from then on, and its notice is left to be told. The store is not asked.
     pub fn start(&mut self, alloc: Global, command: &Command, moment: u64, work: Work) -> Reply
         requires quiet { self.old.untold ≡ [] }
         requires planned { IsToStart self.old.state command.now moment work }
-        ensures { (store : Store) → IsAsked self.old.state command.now moment self.new.state self.new.untold result store store }
+        ensures { (store : Store)
+            → IsAsked self.old.state command.now moment self.new.state self.new.untold result store store }
     {
         let Ok(beginning) = make_beginning(alloc, &mut self.draft, &work, moment) else {
             drop(work);

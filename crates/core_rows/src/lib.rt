@@ -8,7 +8,9 @@ mod entries;
 mod estate;
 mod jobs;
 mod opening;
+mod reported;
 mod starting;
+mod success;
 mod turns;
 mod waiting;
 
