@@ -80,7 +80,7 @@ live-busy number s live none = live (ap (find (has_number number)) none)
 
 pub finishes : (a b : Site) (count : ℕ) → EndsSoon IsBusy a b count → count ≤ most_steps → b.serial.state.operations.live ≡ []
     → (steps : List Step) × Finishes a steps b × (length steps ≤ most_steps)
-finishes a b count e few none = (e.far.steps, record { steps = e.far.leads; done = none }, subst (λ n. n ≤ most_steps) (sym e.far.counted) few)
+finishes a b count e few none = (e.far.steps, record { made = e.far.leads; done = none }, subst (λ n. n ≤ most_steps) (sym e.far.counted) few)
 
 pub finishes-over : (a b : Site) → EndsSoon IsBusy a b most_steps → (steps : List Step) × Finishes a steps b × (length steps ≤ most_steps)
 finishes-over a b e = finishes a b most_steps e (omega arith) (over IsBusy a b e)
@@ -91,7 +91,7 @@ busy-sooner a b c count e h alone busy next = sooner IsBusy a b c count e h alon
 
 pub waits : (number : ℕ) (a b : Site) (count : ℕ) → EndsSoon (IsLive number) a b count → count ≤ most_steps → live_at b.serial.state.operations number ≡ None
     → (steps : List Step) × WaitsFor number a steps b × (length steps ≤ most_steps)
-waits number a b count e few ended = (e.far.steps, record { steps = e.far.leads; done = ended }, subst (λ n. n ≤ most_steps) (sym e.far.counted) few)
+waits number a b count e few ended = (e.far.steps, record { made = e.far.leads; done = ended }, subst (λ n. n ≤ most_steps) (sym e.far.counted) few)
 
 pub waits-over : (number : ℕ) (a b : Site) → EndsSoon (IsLive number) a b most_steps → (steps : List Step) × WaitsFor number a steps b × (length steps ≤ most_steps)
 waits-over number a b e = waits number a b most_steps e (omega arith) (ap (find (has_number number)) (over (IsLive number) a b e))

@@ -121,10 +121,10 @@ StepsTo = StepsWhile (λ s. Unit {0})
 
 -- steps until nothing is live
 pub record Finishes (w : Site) (steps : List Step) (w' : Site) : Type 0 where
-  pub steps : StepsWhile (λ s. s.operations.live ≢ []) w steps w'
+  pub made : StepsWhile (λ s. s.operations.live ≢ []) w steps w'
   pub done : w'.serial.state.operations.live ≡ []
 
 -- steps until an operation has ended
 pub record WaitsFor (number : ℕ) (w : Site) (steps : List Step) (w' : Site) : Type 0 where
-  pub steps : StepsWhile (λ s. live_at s.operations number ≢ None) w steps w'
+  pub made : StepsWhile (λ s. live_at s.operations number ≢ None) w steps w'
   pub done : live_at w'.serial.state.operations number ≡ None
