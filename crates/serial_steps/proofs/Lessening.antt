@@ -1,5 +1,5 @@
 -- Each step of a worker that serves alone leaves less to do.
-use Rattle.std.proofs.Common.{◌≡◌, ◌≢◌, ◌⊎◌, inl, inr, ℕ, suc, ◌+◌, ◌-◌, ◌*◌, ◌<◌, ◌≤◌, true, false, Option, Some, None, List, [], ◌∷◌, length, refl, sym, ap, subst, ◌∙◌, arith}
+use Rattle.std.proofs.Common.{◌≡◌, ◌≢◌, ◌⊎◌, inl, inr, ℕ, suc, ◌+◌, ◌-◌, ◌*◌, ◌≤◌, true, false, Option, Some, None, List, [], ◌∷◌, length, refl, sym, ap, subst, ◌∙◌, arith}
 use Rattle.std.specs.List.{find, sum_by}
 use Rattle.std.specs.Option.{option_to_list}
 use Rattle.std.proofs.lemmas.List.Sums.{sum_by-cons}
@@ -31,7 +31,7 @@ use Rattle.machine_laws.proofs.Base.{first-live, live-mem, taken-live, Each-foun
 use Rattle.machine_laws.proofs.WaitsSteps.{Does}
 use Rattle.machine_laws.proofs.WaitsSteps.Does.{idles, idles_on, takes, goes_on, takes_back, ends}
 use Rattle.serial_steps.specs.Steps.{most_steps}
-use Rattle.serial_steps.proofs.Requests.{WaitsOr}
+
 -- ---- how many steps an operation needs
 
 abbrev pub steps_in : Status → Task → ℕ

@@ -1,16 +1,15 @@
 -- Steps that are made one after the other.
-use Rattle.std.proofs.Common.{◌≡◌, ◌≢◌, ◌≤◌, ◌<◌, ◌+◌, ◌-◌, ◌++◌, ℕ, zero, suc, List, [], ◌∷◌, length, Option, Some, None, refl, ap, sym, ◌∙◌, subst, arith}
-use Rattle.std.specs.List.{find, sum_by}
+use Rattle.std.proofs.Common.{◌≡◌, ◌≢◌, ◌≤◌, ◌+◌, ◌++◌, ℕ, zero, suc, List, [], ◌∷◌, length, Bool, true, false, IsTrue, None, refl, ap, sym, ◌∙◌, subst, arith}
+use Rattle.std.specs.List.{find}
+use Rattle.std.specs.Option.{is_some}
 use Rattle.std.proofs.lemmas.List.{length-append}
-use Rattle.operations.specs.declared.operation.Operation.{Operation}
 use Rattle.operations.specs.Kept.{has_number, live_at}
 use Rattle.row_machine.specs.machine.State.{State}
-use Rattle.row_machine.specs.machine.Task.{Task}
 use Rattle.row_machine.specs.facts.Whole.{IsWhole}
 use Rattle.machine_laws.specs.Waits.{IsAlone}
-use Rattle.serial_steps.specs.Steps.{Site, Step, Steps, StepsWhile, StepsTo, Finishes, WaitsFor, most_steps, number_in}
+use Rattle.serial_steps.specs.Steps.{Site, Step, Steps, StepsWhile, Finishes, WaitsFor, most_steps, number_in}
 use Rattle.serial_steps.proofs.Lessening.{steps_of, few-left, none-left}
-use Rattle.serial_steps.proofs.Stepping.{StaysAlone, step-lessens}
+use Rattle.serial_steps.proofs.Stepping.{step-lessens}
 
 -- so far so many steps were made, each where the state before it was such
 pub record SoFar (such : State → Type 0) (w w' : Site) (count : ℕ) : Type 0 where
@@ -63,8 +62,8 @@ sooner such a b c count e h alone is some next = record {
 }
 
 -- after the most steps nothing is live
-pub over : (such : State → Type 0) (a b : Site) → EndsSoon such a b most_steps → b.serial.state.operations.live ≡ []
-over such a b e = none-live b.serial.state (omega (arith, e.left))
+pub over : (such : State → Type 0) (a b : Site) (count : ℕ) → EndsSoon such a b count → most_steps ≤ count → b.serial.state.operations.live ≡ []
+over such a b count e most = none-live b.serial.state (omega (arith, e.left, most))
 
 -- ---- until nothing is live, and until an operation has ended
 
@@ -82,8 +81,9 @@ pub finishes : (a b : Site) (count : ℕ) → EndsSoon IsBusy a b count → coun
     → (steps : List Step) × Finishes a steps b × (length steps ≤ most_steps)
 finishes a b count e few none = (e.far.steps, record { made = e.far.leads; done = none }, subst (λ n. n ≤ most_steps) (sym e.far.counted) few)
 
-pub finishes-over : (a b : Site) → EndsSoon IsBusy a b most_steps → (steps : List Step) × Finishes a steps b × (length steps ≤ most_steps)
-finishes-over a b e = finishes a b most_steps e (omega arith) (over IsBusy a b e)
+pub finishes-over : (a b : Site) (count : ℕ) → EndsSoon IsBusy a b count → most_steps ≤ count → count ≤ most_steps
+    → (steps : List Step) × Finishes a steps b × (length steps ≤ most_steps)
+finishes-over a b count e most few = finishes a b count e few (over IsBusy a b count e most)
 
 pub busy-sooner : (a b c : Site) (count : ℕ) → EndsSoon IsBusy a b count → IsWhole b.serial.state → IsAlone b.serial.state (number_in b.serial.hand) → IsBusy b.serial.state
     → (s : Step) × Steps b s c → EndsSoon IsBusy a c (count + 1)
@@ -93,9 +93,22 @@ pub waits : (number : ℕ) (a b : Site) (count : ℕ) → EndsSoon (IsLive numbe
     → (steps : List Step) × WaitsFor number a steps b × (length steps ≤ most_steps)
 waits number a b count e few ended = (e.far.steps, record { made = e.far.leads; done = ended }, subst (λ n. n ≤ most_steps) (sym e.far.counted) few)
 
-pub waits-over : (number : ℕ) (a b : Site) → EndsSoon (IsLive number) a b most_steps → (steps : List Step) × WaitsFor number a steps b × (length steps ≤ most_steps)
-waits-over number a b e = waits number a b most_steps e (omega arith) (ap (find (has_number number)) (over (IsLive number) a b e))
+pub waits-over : (number : ℕ) (a b : Site) (count : ℕ) → EndsSoon (IsLive number) a b count → most_steps ≤ count → count ≤ most_steps
+    → (steps : List Step) × WaitsFor number a steps b × (length steps ≤ most_steps)
+waits-over number a b count e most few = waits number a b count e few (ap (find (has_number number)) (over (IsLive number) a b count e most))
 
 pub live-sooner : (number : ℕ) (a b c : Site) (count : ℕ) → EndsSoon (IsLive number) a b count → IsWhole b.serial.state → IsAlone b.serial.state (number_in b.serial.hand)
     → IsLive number b.serial.state → (s : Step) × Steps b s c → EndsSoon (IsLive number) a c (count + 1)
 live-sooner number a b c count e h alone live next = sooner (IsLive number) a b c count e h alone live (live-busy number b.serial.state live) next
+
+-- ---- what the tests of the loops say
+
+pub not-idle : (idle : Bool) (s : State) → (s.operations.live ≡ [] → IsTrue idle) → idle ≡ false → IsBusy s
+not-idle idle s is isnt none = never (sym isnt ∙ is none) where
+  never : false ≡ true → ⊥
+  never e = cc
+
+pub is-live : (number : ℕ) (s : State) (live : Bool) → live ≡ is_some (live_at s.operations number) → live ≡ true → IsLive number s
+is-live number s live is it_is none = never (sym it_is ∙ is ∙ ap is_some none) where
+  never : true ≡ false → ⊥
+  never e = cc

@@ -1,15 +1,13 @@
 -- A step of a serial server, from what its parts ensure; and what it keeps and lessens.
-use Rattle.std.proofs.Common.{◌≡◌, ◌<◌, ◌≤◌, ◌-◌, ℕ, List, [], ◌∷◌, Option, Some, None, refl, ap, sym, ◌∙◌, subst, arith}
+use Rattle.std.proofs.Common.{◌≡◌, ◌<◌, ◌≤◌, ◌-◌, ℕ, [], ◌∷◌, Option, Some, None, refl, ap, sym, ◌∙◌, subst, arith}
 use Rattle.std.specs.List.{sum_by}
 use Rattle.std.specs.Option.{option_map}
 use Rattle.size_values.specs.Moments.{moment_limit}
 use Rattle.host_model.specs.declared.call.HostCall.{HostCall}
 use Rattle.host_model.specs.declared.report.Report.{Report}
 use Rattle.host_model.specs.declared.report.Report.TheVariants as report
-use Rattle.host_model.specs.declared.root.HostRoot.{HostRoot}
 use Rattle.host_model.specs.Reports.{roots_after, CarriesCounts}
 use Rattle.http_front.specs.Clocks.{Readings, Reads}
-use Rattle.operations.specs.declared.operation.Operation.{Operation}
 use Rattle.operations.specs.Kept.{Kept}
 use Rattle.record_keeper.specs.Store.{Store}
 use Rattle.records.specs.declared.commands.Command.{Command}
@@ -24,7 +22,7 @@ use Rattle.row_machine.specs.facts.Whole.{IsWhole}
 use Rattle.core_turns.specs.Turns.{IsTurn, Turns, turned}
 use Rattle.machine_laws.specs.Waits.{Round, Served, served, event_of, hand_of, IsAlone}
 use Rattle.machine_laws.proofs.WaitsSteps.{served-does}
-use Rattle.serial_steps.specs.Steps.{Site, site, serial, Hosted, Step, took, reported, Steps, HasCause, Takes, Reports, job_of, number_in}
+use Rattle.serial_steps.specs.Steps.{Site, site, serial, Hosted, Step, took, reported, Steps, HasCause, job_of, number_in}
 use Rattle.serial_steps.proofs.Lessening.{Lessens, lessens, steps, steps_of}
 use Rattle.serial_steps.proofs.Requests.{same-alone, request-alone}
 use Rattle.serial_steps.proofs.Turning.{IsStep, turned-step}
@@ -47,17 +45,19 @@ pub take-steps : {s s' : State} {told told' : Readings} {moment : ℕ} {a : Answ
     → ((store : Store) → IsTurn s store (event.Take moment) a s' store) → Reads told (moment ∷ []) told' → moment < moment_limit → hand ≡ job_of a
     → (store : Store) (host : Hosted) → (step : Step) × Steps (site (serial s None) store host told) step (site (serial s' hand) store host told')
 take-steps {s} {s'} {told} {told'} {moment} {a} {hand} turn reads early is store host =
-    let t : IsTurn s store (event.Take moment) a s' store = turn store in
-    (took moment, record {
-      answer = a;
-      idle = refl;
-      turn = took-well s store moment t.outcome a s' store t.turns;
-      hand = is;
-      host = refl;
-      clock = reads;
-      early = early;
-      kept = t.kept;
-    })
+    let t : IsTurn s store (event.Take moment) a s' store = turn store in (
+      took moment,
+      record {
+        answer = a;
+        idle = refl;
+        turn = took-well s store moment t.outcome a s' store t.turns;
+        hand = is;
+        host = refl;
+        clock = reads;
+        early = early;
+        kept = t.kept;
+      },
+    )
 
 -- ---- a call is made
 
@@ -143,6 +143,16 @@ step-lessens w (took moment) w' h alone t =
 step-lessens w (reported r moment outcome) w' h alone t =
     turn-lessens w w' (Some t.number) (record { moment = moment; report = r; outcome = outcome }) t.answer h
     (subst (λ hand. IsAlone w.serial.state (number_in hand)) t.busy alone) t.turn.is t.hand
+
+-- the worker of a server stays alone, where the call in hand was taken out and the next one put in
+pub step-alone : {s s' : State} {hand taken next hand' : Option (ℕ × HostCall)} {store store' : Store} {host host' : Hosted} {told told' : Readings}
+    → IsWhole s → IsAlone s (number_in hand) → taken ≡ hand
+    → (step : Step) × Steps (site (serial s taken) store host told) step (site (serial s' next) store' host' told') → hand' ≡ next
+    → IsAlone s' (number_in hand')
+step-alone {s} {s'} {hand} {taken} {next} {hand'} {store} {store'} {host} {host'} {told} {told'} h alone out made put =
+    subst (λ x. IsAlone s' (number_in x)) (sym put)
+    (step-lessens (site (serial s taken) store host told) made.0 (site (serial s' next) store' host' told') h
+    (subst (λ x. IsAlone s (number_in x)) (sym out) alone) made.1).alone
 
 -- ---- a request
 

@@ -15,6 +15,7 @@ use records::Command;
 use row_machine::Answer;
 use std::alloc::Global;
 use std::marker::Model;
+use std::mem;
 
 /// So many steps end all operations that can be live at once: at most 1,024, of at most four steps
 /// each.
@@ -104,7 +105,9 @@ impl SerialDaemon {
     {
         facts_hold(&self.daemon);
         let hand = self.hand.take();
-        self.hand = go_on(alloc, &mut self.daemon, keeper, host, clock, hand);
+        let next = go_on(alloc, &mut self.daemon, keeper, host, clock, hand);
+        // One call lets the empty hand go; an assignment would write that out for each kind of call.
+        drop(mem::replace(&mut self.hand, next));
     }
 
     /// So many steps of the worker.
