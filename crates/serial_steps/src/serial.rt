@@ -4,7 +4,8 @@ ghost use Rattle.operations.specs.Kept.{live_at};
 ghost use Rattle.row_machine.specs.declared.events.Event.TheVariants as event;
 ghost use Rattle.row_machine.specs.facts.Whole.{IsWhole};
 ghost use Rattle.core_turns.specs.Turns.{IsServed, IsTurn};
-ghost use Rattle.serial_steps.specs.Steps.{Finishes, Step, Steps, StepsTo, WaitsFor, hosted, most_steps, number_in, serial, site};
+ghost use Rattle.serial_steps.specs.Steps.{Finishes, Step, Steps, StepsTo, WaitsFor, most_steps};
+ghost use Rattle.serial_steps.specs.Steps.{hosted, number_in, serial, site};
 
 use crate::worker::{facts_hold, go_on};
 use core_turns::Daemon;
@@ -69,8 +70,8 @@ impl SerialDaemon {
         moment: u64,
     ) -> Answer
         requires served { IsServed (event.Ask command.now moment) }
-        ensures turn { IsTurn self.old.state (R.store keeper.old) (event.Ask command.now moment) result self.new.state
-            (R.store keeper.new) }
+        ensures turn { IsTurn self.old.state (R.store keeper.old)
+            (event.Ask command.now moment) result self.new.state (R.store keeper.new) }
         ensures hand { self.new.hand ≡ self.old.hand }
     {
         facts_hold(&self.daemon);
@@ -100,13 +101,16 @@ impl SerialDaemon {
         clock: &mut C,
     )
         ensures { (s : Step) × Steps
-            (site self.old (R.store keeper.old) (hosted H.told H.failures host.old) (C.readings clock.old)) s
-            (site self.new (R.store keeper.new) (hosted H.told H.failures host.new) (C.readings clock.new)) }
+            (site self.old (R.store keeper.old) (hosted H.told H.failures host.old)
+            (C.readings clock.old))
+            s
+            (site self.new (R.store keeper.new) (hosted H.told H.failures host.new)
+            (C.readings clock.new)) }
     {
         facts_hold(&self.daemon);
         let hand = self.hand.take();
         let next = go_on(alloc, &mut self.daemon, keeper, host, clock, hand);
-        // One call lets the empty hand go; an assignment would write that out for each kind of call.
+        // One call lets the empty hand go; an assignment would do so for each kind of call.
         drop(mem::replace(&mut self.hand, next));
     }
 
@@ -120,8 +124,11 @@ impl SerialDaemon {
         count: u32,
     )
         ensures { (steps : List Step) × (length steps ≡ count) × StepsTo
-            (site self.old (R.store keeper.old) (hosted H.told H.failures host.old) (C.readings clock.old)) steps
-            (site self.new (R.store keeper.new) (hosted H.told H.failures host.new) (C.readings clock.new)) }
+            (site self.old (R.store keeper.old) (hosted H.told H.failures host.old)
+            (C.readings clock.old))
+            steps
+            (site self.new (R.store keeper.new) (hosted H.told H.failures host.new)
+            (C.readings clock.new)) }
     {
         for made in 0..count {
             self.step(alloc, keeper, host, clock);
@@ -137,8 +144,11 @@ impl SerialDaemon {
         clock: &mut C,
     )
         ensures { (steps : List Step) × Finishes
-            (site self.old (R.store keeper.old) (hosted H.told H.failures host.old) (C.readings clock.old)) steps
-            (site self.new (R.store keeper.new) (hosted H.told H.failures host.new) (C.readings clock.new))
+            (site self.old (R.store keeper.old) (hosted H.told H.failures host.old)
+            (C.readings clock.old))
+            steps
+            (site self.new (R.store keeper.new) (hosted H.told H.failures host.new)
+            (C.readings clock.new))
             × (length steps ≤ most_steps) }
     {
         self.works_alone();
@@ -161,8 +171,11 @@ impl SerialDaemon {
         number: u64,
     )
         ensures { (steps : List Step) × WaitsFor number
-            (site self.old (R.store keeper.old) (hosted H.told H.failures host.old) (C.readings clock.old)) steps
-            (site self.new (R.store keeper.new) (hosted H.told H.failures host.new) (C.readings clock.new))
+            (site self.old (R.store keeper.old) (hosted H.told H.failures host.old)
+            (C.readings clock.old))
+            steps
+            (site self.new (R.store keeper.new) (hosted H.told H.failures host.new)
+            (C.readings clock.new))
             × (length steps ≤ most_steps) }
     {
         self.works_alone();

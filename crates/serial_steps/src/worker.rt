@@ -55,8 +55,8 @@ fn make_call<R: Keeper, H: Host, C: Clock>(
     call: HostCall,
 ) -> Option<(u64, HostCall)>
     ensures { (s : Step) × Steps
-        (site (serial daemon.old (Some (number, call))) (R.store keeper.old) (hosted H.told H.failures host.old)
-        (C.readings clock.old))
+        (site (serial daemon.old (Some (number, call))) (R.store keeper.old)
+        (hosted H.told H.failures host.old) (C.readings clock.old))
         s
         (site (serial daemon.new result) (R.store keeper.new) (hosted H.told H.failures host.new)
         (C.readings clock.new)) }
