@@ -25,6 +25,7 @@ pub record Serial : Type 0 where
   pub state : State
   pub hand : Option (ℕ × HostCall)
 
+-- this state, and this call in hand
 abbrev pub serial : State → Option (ℕ × HostCall) → Serial
 serial state hand = record { state = state; hand = hand }
 
