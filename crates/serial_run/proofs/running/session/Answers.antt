@@ -7,7 +7,7 @@ returns g c =
     let session = rw c.requires at c.serve.ensures in
     record {
       held = c.serve.new.buffer;
-      few = session_few _ _ _ (omega arith) session;
-      state = c.serve.new.service;
+      few = session_few _ _ _ _ _ (omega arith) session;
+      serial = c.serve.new.service;
       session = session;
     }
