@@ -94,7 +94,7 @@ fn session<S: Source, K: Sink, R: Keeper, H: Host, C: Clock>(
         (outside (inlet S.left S.ended S.failures source.new) (outlet K.held K.failures sink.new)
         (R.store keeper.new) (hosted H.told H.failures host.new) (C.readings clock.new)) result }
 {
-    serve(
+    let ends = serve(
         alloc,
         &mut buffer,
         source,
@@ -105,7 +105,10 @@ fn session<S: Source, K: Sink, R: Keeper, H: Host, C: Clock>(
         &mut service,
         boot,
         pace,
-    )
+    );
+    drop(service);
+    drop(buffer);
+    ends
 }
 
 /// A run whose words are read, over its clock.

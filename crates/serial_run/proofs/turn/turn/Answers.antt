@@ -55,7 +55,7 @@ returns-in-Cut g c = (
 
 pub returns-in-Malformed : goal.returns-in-Malformed
 returns-in-Malformed g c =
-    turn_refuses _ _ _ _ c.in-Malformed.fault c.refuse.result (record {
+    turn_refuses _ c.args.pace _ _ c.in-Malformed.fault c.refuse.result (record {
       next = c.in-Malformed.ensures.next;
       held = c.in-Malformed.ensures.held;
       ahead = unread (inlet g.S.Source.left g.S.Source.ended g.S.Source.failures) _ _ _ c.in-Malformed.ensures.ahead;
