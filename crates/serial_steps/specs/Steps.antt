@@ -1,6 +1,6 @@
--- The steps of the one worker of a serial server. It asks for a call where it has none in hand, and else makes the call that it
--- has on the host and reports of it.
-use Rattle.std.specs.Prelude.{◌≡◌, ◌≢◌, ◌<◌, ◌≤◌, ℕ, List, [], ◌∷◌, Option, Some, None}
+-- The steps of the one worker of a serial server. It asks for a call where it has none in hand, and else makes the call
+-- that it has on the host and reports of it.
+use Rattle.std.specs.Prelude.{◌≡◌, ◌≢◌, ◌<◌, ◌≤◌, ℕ, List, [], ◌∷◌, Option, Some, None, option_map}
 use Rattle.size_values.specs.Causes.{Rose}
 use Rattle.size_values.specs.Moments.{moment_limit}
 use Rattle.host_model.specs.declared.call.HostCall.{HostCall}
@@ -19,10 +19,19 @@ use Rattle.row_machine.specs.machine.Step.{Outcome, well}
 use Rattle.core_rows.specs.Stores.{IsCaused, KeepsRecords}
 use Rattle.core_turns.specs.Turns.{Turns}
 
--- the rows and operations of a serial server, and the call that its worker has in hand, with the number of its operation
+-- the rows and operations of a serial server, and the call that its worker has in hand, with the number of its
+-- operation
 pub record Serial : Type 0 where
   pub state : State
   pub hand : Option (ℕ × HostCall)
+
+-- this state, and this call in hand
+abbrev pub serial : State → Option (ℕ × HostCall) → Serial
+serial state hand = record { state = state; hand = hand }
+
+-- the number of the operation whose call is in hand
+abbrev pub number_in : Option (ℕ × HostCall) → Option ℕ
+number_in hand = option_map (λ call. call.0) hand
 
 -- what is seen of a host at one moment: the roots, where it tells them, and how many calls failed
 pub record Hosted : Type 0 where
@@ -33,8 +42,8 @@ pub record Hosted : Type 0 where
 abbrev pub hosted : {H : Type 0} → (H → Option (List HostRoot)) → (H → ℕ) → H → Hosted
 hosted roots failures host = record { roots = roots host; failures = failures host }
 
--- what a serial server is and works on at one moment: its rows and the call in hand, the store, the host, and what its clock
--- tells of its readings to come
+-- what a serial server is and works on at one moment: its rows and the call in hand, the store, the host, and what its
+-- clock tells of its readings to come
 pub record Site : Type 0 where
   pub serial : Serial
   pub store : Store
@@ -46,8 +55,8 @@ site serial store host clock = record { serial = serial; store = store; host = h
 
 -- ---- one step
 
--- What a step was. No call was in hand, and at this moment one was asked for; or the call in hand was made on the host, with this
--- report, which the server took at this moment with this outcome.
+-- What a step was. No call was in hand, and at this moment one was asked for; or the call in hand was made on the host,
+-- with this report, which the server took at this moment with this outcome.
 pub data Step : Type 0 where
   took : ℕ → Step
   reported : Report → ℕ → Outcome → Step
@@ -68,11 +77,11 @@ pub record Takes (w : Site) (moment : ℕ) (w' : Site) : Type 0 where
   pub early : moment < moment_limit
   pub kept : KeepsRecords w.store.told w.serial.state w'.store.told w'.serial.state
 
--- a report of a failed call has its cause in the host's count
+-- a failed call has its cause in the host's count, which rose
 abbrev pub HasCause : Report → ℕ → ℕ → Type 0
-HasCause report.Done before after = before ≤ after
+HasCause report.Done before after = Unit {0}
 HasCause (report.Failed rise) before after = Rose before after
-HasCause report.NoMemory before after = before ≤ after
+HasCause report.NoMemory before after = Unit {0}
 
 -- the call in hand was made, and its report was taken
 pub record Reports (w : Site) (r : Report) (moment : ℕ) (outcome : Outcome) (w' : Site) : Type 0 where
@@ -85,6 +94,7 @@ pub record Reports (w : Site) (r : Report) (moment : ℕ) (outcome : Outcome) (w
   pub roots : w'.host.roots ≡ roots_after r call w.host.roots
   pub counts : CarriesCounts r w.host.failures w'.host.failures
   pub cause : HasCause r w.host.failures w'.host.failures
+  pub later : w.host.failures ≤ w'.host.failures
   pub clock : Reads w.clock (moment ∷ []) w'.clock
   pub early : moment < moment_limit
   pub caused : IsCaused outcome w.store.failures w'.store.failures
@@ -97,6 +107,10 @@ Steps w (reported r moment outcome) w' = Reports w r moment outcome w'
 
 -- ---- several steps
 
+-- So many end all operations that can be live at once.
+abbrev pub most_steps : ℕ
+most_steps = 4096
+
 -- steps lead from one moment to another, each made where the state before it is such
 abbrev pub StepsWhile : (State → Type 0) → Site → List Step → Site → Type 0
 StepsWhile such w [] w' = w ≡ w'
@@ -108,10 +122,10 @@ StepsTo = StepsWhile (λ s. Unit {0})
 
 -- steps until nothing is live
 pub record Finishes (w : Site) (steps : List Step) (w' : Site) : Type 0 where
-  pub steps : StepsWhile (λ s. s.operations.live ≢ []) w steps w'
+  pub made : StepsWhile (λ s. s.operations.live ≢ []) w steps w'
   pub done : w'.serial.state.operations.live ≡ []
 
 -- steps until an operation has ended
 pub record WaitsFor (number : ℕ) (w : Site) (steps : List Step) (w' : Site) : Type 0 where
-  pub steps : StepsWhile (λ s. live_at s.operations number ≢ None) w steps w'
+  pub made : StepsWhile (λ s. live_at s.operations number ≢ None) w steps w'
   pub done : live_at w'.serial.state.operations number ≡ None

@@ -1,0 +1,10 @@
+//! A server on one thread, whose background operations have one worker: it makes their calls on a
+//! host, one step after the other.
+#![tactic(auto)]
+
+mod laws;
+mod serial;
+mod worker;
+
+pub use laws::steps_come_to;
+pub use serial::{MOST_STEPS, SerialDaemon};
