@@ -1,10 +1,12 @@
-//! `incus_run`: answers the requests on standard input on standard output, over rows in memory, by the clock of the system.
+//! `incus_run`: answers the requests on standard input on standard output, over rows and a modelled host in memory, by the clock of
+//! the system.
 #![tactic(auto)]
 
-use http_front::{ReaderSource, SystemClock, WriterSink};
+use host_model::ModelHost;
+use http_front::{Clock, ReaderSource, SystemClock, WriterSink};
 use record_keeper::MapKeeper;
+use run_words::setup_of;
 use serial_run::{StartFault, run_main};
-use size_values::Seq;
 use std::io::ErrorKind;
 use std::process::ExitCode;
 use std::{env, io};
@@ -31,17 +33,25 @@ fn main(rt: HostRuntime) -> ExitCode {
         Ok(words) => words,
         Err(error) => return ExitCode::from(fault_of(&error).status()),
     };
+    let Ok(setup) = setup_of(rt.alloc(), &words) else {
+        return ExitCode::from(StartFault::NoMemory.status());
+    };
+    let mut host = ModelHost::new(rt.alloc(), setup.fail_host);
+    let keeper = MapKeeper::new(rt.alloc(), setup.fail_keeper);
     let mut source = ReaderSource::new(rt.stdin());
     let mut sink = WriterSink::new(rt.stdout());
-    let keeper = MapKeeper::new(rt.alloc(), Seq::new(rt.alloc()));
+    let alloc = rt.alloc();
     let mut clock = SystemClock::new(rt);
+    let boot = clock.now();
     let (status, _keeper) = run_main(
-        rt.alloc(),
+        alloc,
         &words,
         &mut source,
         &mut sink,
         keeper,
+        &mut host,
         &mut clock,
+        boot,
     );
     ExitCode::from(status)
 }

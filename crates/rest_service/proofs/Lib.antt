@@ -1,2 +1,3 @@
+pub mod Along
 mod Answering
-mod Dropping
+mod ForClients

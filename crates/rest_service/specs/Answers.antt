@@ -1,33 +1,83 @@
 -- How a service opens and answers.
-use Rattle.std.specs.Prelude.{◌≡◌, ◌≢◌, ◌<◌, ℕ, List, [], ◌∷◌, Bool, Option, Some, IfSome, Result, Ok, Err}
-use Rattle.std.specs.Option.{option_to_list}
+use Rattle.std.specs.Prelude.{◌≡◌, ◌≢◌, ◌<◌, ℕ, List, [], ◌∷◌, Bool, Option, Some, None, IfSome, Result, Ok, Err}
 use Rattle.size_values.specs.Moments.{moment_limit}
 use Rattle.record_keeper.specs.Store.{Store}
 use Rattle.http_heads.specs.declared.request.Request.{Request}
 use Rattle.http_front.specs.Clocks.{Readings, Reads}
 use Rattle.http_front.specs.Replies.{reply_text, no_memory_body}
-use Rattle.records.specs.declared.notices.Untold.{Untold}
+use Rattle.records.specs.declared.commands.Command.{Command}
+use Rattle.records.specs.declared.commands.What.TheVariants as what
+use Rattle.records.specs.declared.refusals.Refusal.{Refusal}
 use Rattle.records.specs.declared.replies.Reply.{Reply}
 use Rattle.records.specs.declared.replies.Reply.TheVariants as reply
-use Rattle.row_machine.specs.machine.State.{State}
-use Rattle.row_machine.specs.shown.Notices.{telling}
-use Rattle.row_machine.specs.machine.Accept.{and_then}
+use Rattle.row_machine.specs.declared.events.Answer.{Answer}
+use Rattle.row_machine.specs.declared.events.Answer.TheVariants as answer
+use Rattle.row_machine.specs.declared.events.Event.TheVariants as event
 use Rattle.row_machine.specs.machine.Step.{Outcome}
+use Rattle.core_rows.specs.Asked.{answered}
 use Rattle.core_rows.specs.Opening.{Refuses, first_state, opened_store}
 use Rattle.core_rows.specs.declared.opening.OpenFault.{OpenFault}
-use Rattle.core_rows.specs.Stores.{IsCaused, KeepsRecords, Stores}
-use Rattle.core_rows.specs.Asked.{answered}
+use Rattle.core_turns.specs.Turns.{IsTurn}
 use Rattle.rest_routes.specs.Commands.{command_of}
-use Rattle.rest_service.specs.Exchanges.{exchange, carried_out, request_changes, LeadTo, printed}
+use Rattle.serial_steps.specs.Steps.{Serial, Site}
+use Rattle.rest_service.specs.Exchanges.{IsAnswered, Held, printed}
 use Rattle.rest_service.specs.declared.answers.Answered.{Answered}
 use Rattle.rest_service.specs.declared.answers.Answered.TheVariants as written
+use Rattle.rest_service.specs.declared.asking.Asked.{Asked}
+use Rattle.rest_service.specs.declared.asking.Asked.TheVariants as asked
+
+-- ---- opening
+
+-- the first rows, and no call in hand
+abbrev pub first_serial : Serial
+first_serial = record { state = first_state; hand = None }
 
 -- The keeper had no entries, and has those of the first rows now, after one load and one commit; or the opening was
 -- refused.
-abbrev pub Opens : Result State OpenFault → Store → Store → Type 0
-Opens (Ok s) store store' = (s ≡ first_state) × IfSome store.told (λ entries. entries ≡ [])
+abbrev pub OpensService : Result Serial OpenFault → Store → Store → Type 0
+OpensService (Ok s) store store' = (s ≡ first_serial) × IfSome store.told (λ entries. entries ≡ [])
     × (store' ≡ opened_store store)
-Opens (Err fault) store store' = Refuses fault store store'
+OpensService (Err fault) store store' = Refuses fault store store'
+
+-- ---- what a command is answered
+
+-- The answers that a command can have: a reply, that it waits, or that memory was refused, which is no reply of its own.
+abbrev pub IsForClient : Answer → Type 0
+IsForClient (answer.Reply r) = r ≢ reply.NoMemory
+IsForClient (answer.Hold op) = Unit {0}
+IsForClient answer.NoMemory = Unit {0}
+IsForClient other = ⊥
+
+-- the same without a wait
+abbrev pub IsAtOnce : Answer → Type 0
+IsAtOnce (answer.Reply r) = r ≢ reply.NoMemory
+IsAtOnce answer.NoMemory = Unit {0}
+IsAtOnce other = ⊥
+
+-- the answer that this is
+abbrev pub answer_of : Asked → Answer
+answer_of (asked.Reply r) = answered r
+answer_of (asked.Hold op) = answer.Hold op
+
+-- In a project an operation was asked for, at the next moment of a clock, and was answered by this reply. The call in hand
+-- is as before.
+pub record Shows (project : List ℕ) (op : ℕ) (s : Serial) (store : Store) (told : Readings) (r : Reply) (s' : Serial)
+    (store' : Store) (told' : Readings) : Type 0 where
+  pub moment : ℕ
+  pub turn : IsTurn s.state store (event.Ask (record { project = project; what = what.GetOp op }) moment) (answered r) s'.state
+      store'
+  pub hand : s'.hand ≡ s.hand
+  pub read : Reads told (moment ∷ []) told'
+  pub early : moment < moment_limit
+
+-- What was asked for came to a reply.
+pub record Reaches (w : Site) (asks : Result Command Refusal) (r : Reply) (w' : Site) : Type 0 where
+  pub moment : Option ℕ
+  pub outcome : Outcome
+  pub held : Option Held
+  pub comes : IsAnswered w asks moment outcome held r w'
+
+-- ---- what is to be written
 
 -- the bytes of the reply that takes no memory
 abbrev pub no_memory_text : Bool → List ℕ
@@ -35,39 +85,13 @@ no_memory_text last = reply_text (record { code = 500; body = no_memory_body; lo
 
 -- What is to be written is the text of the reply, unless memory for it was refused. The reply that tells of memory
 -- refused takes none, and is always written.
-abbrev pub HasText : Answered → Reply → Bool → Type 0
-HasText (written.Printed bytes) r last = bytes ≡ printed r last
-HasText written.NoMemory r last = no_memory_text last ≡ printed r last
-HasText written.Unprinted r last = r ≢ reply.NoMemory
+abbrev pub HasText : Answered → Reply → ℕ → Bool → Type 0
+HasText (written.Printed bytes) r boot last = bytes ≡ printed r boot last
+HasText written.NoMemory r boot last = no_memory_text last ≡ printed r boot last
+HasText written.Unprinted r boot last = r ≢ reply.NoMemory
 
--- The clock was read for a command that was asked at this moment, before the year 10000, or for none it was not read.
-pub record AsksAt (moment : Option ℕ) (told told' : Readings) : Type 0 where
-  pub read : Reads told (option_to_list moment) told'
-  pub early : IfSome moment (λ at. at < moment_limit)
-
--- One request was carried out, its command at the moment that the clock gave, with an outcome that the keeper's count
--- bears out; its changes went to the store, and these notices are left untold. Entries that were the records of the
--- rows are so afterwards.
-pub record Replies (s s' : State) (untold : List Untold) (store store' : Store) (told told' : Readings)
-    (request : Request) (r : Reply) : Type 0 where
-  pub moment : Option ℕ
-  pub outcome : Outcome
-  pub clock : AsksAt moment told told'
-  pub caused : IsCaused outcome store.failures store'.failures
-  pub stored : Stores (request_changes s request moment) outcome store store'
-  pub is : carried_out s moment outcome (command_of request 0) ≡ Some (and_then (answered r) (telling untold s'))
-  pub kept : KeepsRecords store.told s store'.told s'
-
--- One request was answered: it came to a reply and to the rows and the store afterwards, its command at the moment
--- that the clock gave, with an outcome that the keeper's count bears out, and what is to be written is that reply.
--- Entries that were the records of the rows are so afterwards.
-pub record Answers (s s' : State) (store store' : Store) (told told' : Readings) (request : Request)
-    (result : Answered) : Type 0 where
-  pub moment : Option ℕ
-  pub outcome : Outcome
+-- One request was answered: it came to a reply, and what is to be written is that reply.
+pub record Answers (boot : ℕ) (w w' : Site) (request : Request) (result : Answered) : Type 0 where
   pub reply : Reply
-  pub clock : AsksAt moment told told'
-  pub caused : IsCaused outcome store.failures store'.failures
-  pub leads : LeadTo s store (exchange request moment outcome reply ∷ []) s' store'
-  pub text : HasText result reply request.last
-  pub kept : KeepsRecords store.told s store'.told s'
+  pub reaches : Reaches w (command_of request boot) reply w'
+  pub text : HasText result reply boot request.last

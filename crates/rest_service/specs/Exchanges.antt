@@ -1,43 +1,59 @@
--- Requests one after the other, each carried out by the row machine, while nobody listens to what is told.
-use Rattle.std.specs.Prelude.{◌≡◌, ℕ, List, [], ◌∷◌, Bool, true, Option, Some, None, option_map, Result, Ok, Err}
+-- Requests one after the other, each with its reply, and the steps that the worker makes between them: while the answer of a
+-- wait is held back, and after each reply.
+use Rattle.std.specs.Prelude.{◌≡◌, ◌≤◌, ◌+◌, ◌++◌, ◌<◌, ℕ, List, [], ◌∷◌, length, Bool, true, Option, Some, None, IfSome}
+use Rattle.std.specs.Prelude.{Result, Ok, Err}
 use Rattle.std.specs.List.{flat_map, sum_by}
 use Rattle.std.specs.Option.{option_to_list}
+use Rattle.size_values.specs.Moments.{moment_limit}
 use Rattle.http_heads.specs.declared.request.Request.{Request}
 use Rattle.http_heads.specs.declared.request.HeadFault.{HeadFault}
 use Rattle.http_heads.specs.declared.request.HeadFault.TheVariants as fault
+use Rattle.http_front.specs.Clocks.{Readings, Reads}
 use Rattle.http_front.specs.Replies.{reply_text}
-use Rattle.record_keeper.specs.Store.{Store}
 use Rattle.records.specs.declared.commands.Command.{Command}
+use Rattle.records.specs.declared.commands.What.TheVariants as what
 use Rattle.records.specs.declared.refusals.Rule.{Rule}
 use Rattle.records.specs.declared.refusals.Rule.TheVariants as rule
 use Rattle.records.specs.declared.refusals.Refusal.{Refusal}
 use Rattle.records.specs.declared.replies.Reply.{Reply}
 use Rattle.records.specs.declared.replies.Reply.TheVariants as reply
 use Rattle.row_machine.specs.declared.changes.RowChange.{RowChange}
+use Rattle.row_machine.specs.declared.events.Answer.{Answer}
 use Rattle.row_machine.specs.declared.events.Answer.TheVariants as answer
 use Rattle.row_machine.specs.declared.events.Event.TheVariants as event
 use Rattle.row_machine.specs.machine.State.{State}
 use Rattle.row_machine.specs.machine.Refusals.{plainly}
 use Rattle.row_machine.specs.machine.Accept.{After, and_then}
-use Rattle.row_machine.specs.machine.Step.{Outcome, well, keeper_failed, no_memory, step}
-use Rattle.core_rows.specs.Stores.{Stores}
+use Rattle.row_machine.specs.machine.Step.{Outcome, well, keeper_failed, no_memory}
+use Rattle.core_rows.specs.Stores.{IsCaused, KeepsRecords, Stores}
 use Rattle.core_rows.specs.Asked.{answered, changes_of}
+use Rattle.core_turns.specs.Turns.{turned}
+use Rattle.serial_steps.specs.Steps.{Site, Step, StepsTo, Finishes, WaitsFor, most_steps}
+use Rattle.serial_steps.specs.Counts.{moments_in, failed_commits, keeper_failures_in, host_failures_in}
 use Rattle.rest_replies.specs.Replies.{printed_of}
 use Rattle.rest_routes.specs.Commands.{command_of}
+use Rattle.run_words.specs.declared.words.Pace.{Pace}
+use Rattle.run_words.specs.declared.words.Pace.TheVariants as pace
 
--- A request that was taken, the moment at which its command was asked, how the outside fared with it, and its reply.
--- There is no moment where no command was asked.
+-- The answer of a wait that was held back: the steps that were made until the operation had ended, and then the moment
+-- at which the operation was asked for, and how the outside fared with that.
+pub record Held : Type 0 where
+  pub steps : List Step
+  pub moment : ℕ
+  pub outcome : Outcome
+
+-- A request that was taken, the moment at which its command was asked, how the outside fared with it, what was done
+-- while its answer was held back, if it was, its reply, and the steps that were made after the reply. There is no moment
+-- where no command was asked.
 pub record Exchange : Type 0 where
   pub request : Request
   pub moment : Option ℕ
   pub outcome : Outcome
+  pub held : Option Held
   pub reply : Reply
+  pub steps : List Step
 
--- this request, with this moment, this outcome and this reply
-abbrev pub exchange : Request → Option ℕ → Outcome → Reply → Exchange
-exchange request moment outcome reply = record { request = request; moment = moment; outcome = outcome; reply = reply }
-
--- ---- one request
+-- ---- what a request asks for
 
 -- a request that is refused by its form asks for no command: the keeper is not called, and nothing changes
 abbrev pub refused : State → Refusal → Outcome → Option After
@@ -51,24 +67,14 @@ unasked s well = None
 unasked s (keeper_failed rise) = None
 unasked s no_memory = Some (and_then answer.NoMemory s)
 
--- The command that a request asks for is one step of the machine, at the moment at which it was asked. A request
--- without a moment was refused by its form, or memory was refused before its command was known; one that is refused
--- by its form has no moment.
+-- The command that a request asks for is one turn of the server, at the moment at which it was asked. A request without
+-- a moment was refused by its form, or memory was refused before its command was known; one that is refused by its form
+-- has no moment. None where the outcome is not possible with it.
 abbrev pub carried_out : State → Option ℕ → Outcome → Result Command Refusal → Option After
-carried_out s (Some moment) outcome (Ok command) = step s (event.Ask command moment) outcome
+carried_out s (Some moment) outcome (Ok command) = turned s (event.Ask command moment) outcome
 carried_out s (Some moment) outcome (Err refusal) = None
 carried_out s None outcome (Ok command) = unasked s outcome
 carried_out s None outcome (Err refusal) = refused s refusal outcome
-
--- nobody listens: the notices are dropped
-abbrev pub unheard : State → State
-unheard s = record s { notices = []; next_notice = 1 }
-
--- What a request comes to: its answer, and the state after it. None where the outcome is not possible with it.
-unfoldable pub served : State → Request → Option ℕ → Outcome → Option After
-served s request moment outcome =
-    option_map (λ after. and_then after.answer (unheard after.state))
-    (carried_out s moment outcome (command_of request 0))
 
 -- the changes of rows that a request is to commit: those of the command that was asked, and none where no command was
 abbrev pub asked_changes : State → Option ℕ → Result Command Refusal → List RowChange
@@ -76,46 +82,117 @@ asked_changes s (Some moment) (Ok command) = changes_of s command moment
 asked_changes s (Some moment) (Err refusal) = []
 asked_changes s None asked = []
 
-unfoldable pub request_changes : State → Request → Option ℕ → List RowChange
-request_changes s request moment = asked_changes s moment (command_of request 0)
+-- The clock was read for a command that was asked at this moment, before the year 10000, or for none it was not read.
+pub record AsksAt (moment : Option ℕ) (told told' : Readings) : Type 0 where
+  pub read : Reads told (option_to_list moment) told'
+  pub early : IfSome moment (λ at. at < moment_limit)
 
--- ---- one after the other
+-- What was asked for at one moment was answered so, with an outcome that the keeper's count bears out. Its changes went
+-- to the store in one call, and without changes the keeper was not called. The call in hand and the host are as before.
+-- Entries that were the records of the rows are so afterwards.
+pub record Carries (w : Site) (asked : Result Command Refusal) (moment : Option ℕ) (outcome : Outcome) (a : Answer) (w' : Site)
+    : Type 0 where
+  pub is : carried_out w.serial.state moment outcome asked ≡ Some (and_then a w'.serial.state)
+  pub stored : Stores (asked_changes w.serial.state moment asked) outcome w.store w'.store
+  pub caused : IsCaused outcome w.store.failures w'.store.failures
+  pub kept : KeepsRecords w.store.told w.serial.state w'.store.told w'.serial.state
+  pub hand : w'.serial.hand ≡ w.serial.hand
+  pub host : w'.host ≡ w.host
+  pub clock : AsksAt moment w.clock w'.clock
 
--- One request comes to its reply, and from one state and store to the next: its changes go to the store in one call,
--- and without changes the keeper is not called.
-pub record Leads (s : State) (store : Store) (e : Exchange) (s' : State) (store' : Store) : Type 0 where
-  pub comes : served s e.request e.moment e.outcome ≡ Some (and_then (answered e.reply) s')
-  pub stored : Stores (request_changes s e.request e.moment) e.outcome store store'
+-- ---- one request comes to its reply
 
--- Exchanges lead from one state and store to another: each request comes to its reply, and to the state and the store
--- in which the next one is taken.
-abbrev pub LeadTo : State → Store → List Exchange → State → Store → Type 0
-LeadTo s store [] s' store' = (s ≡ s') × (store ≡ store')
-LeadTo s store (e ∷ more) s' store' = (next : State) × (kept : Store) × Leads s store e next kept
-    × LeadTo next kept more s' store'
+-- in the project of a command, an operation is asked for
+abbrev pub showing : ℕ → Command → Command
+showing op c = record { project = c.project; what = what.GetOp op }
 
--- the moments at which commands were asked, in their order: one for each command
+-- The command was a wait for an operation that was live, so its answer was held back; steps were made until the operation
+-- had ended; and then it was asked for in the same project, and was answered by this reply.
+pub record HeldBack (w : Site) (asked : Result Command Refusal) (moment : Option ℕ) (outcome : Outcome) (h : Held) (r : Reply)
+    (w' : Site) : Type 0 where
+  pub command : Command
+  pub op : ℕ
+  pub waiting : Site
+  pub ended : Site
+  pub asks : asked ≡ Ok command
+  pub holds : Carries w asked moment outcome (answer.Hold op) waiting
+  pub waits : WaitsFor op waiting h.steps ended
+  pub few : length h.steps ≤ most_steps
+  pub shows : Carries ended (Ok (showing op command)) (Some h.moment) h.outcome (answered r) w'
+
+-- What was asked for was answered by this reply, at once or after its answer was held back.
+abbrev pub IsAnswered : Site → Result Command Refusal → Option ℕ → Outcome → Option Held → Reply → Site → Type 0
+IsAnswered w asked moment outcome None r w' = Carries w asked moment outcome (answered r) w'
+IsAnswered w asked moment outcome (Some h) r w' = HeldBack w asked moment outcome h r w'
+
+-- a request came to its reply; the daemon's boot word is that of the ids of operations
+abbrev pub Comes : ℕ → Site → Exchange → Site → Type 0
+Comes boot w e w' = IsAnswered w (command_of e.request boot) e.moment e.outcome e.held e.reply w'
+
+-- ---- and steps follow
+
+-- the steps that follow a reply: so many, or all until nothing is live
+abbrev pub IsPaced : Pace → Site → List Step → Site → Type 0
+IsPaced (pace.Steps count) w steps w' = StepsTo w steps w' × (length steps ≡ count)
+IsPaced pace.All w steps w' = Finishes w steps w' × (length steps ≤ most_steps)
+
+-- a request came to its reply, and the steps of the pace followed
+pub record Leads (boot : ℕ) (follows : Pace) (w : Site) (e : Exchange) (w' : Site) : Type 0 where
+  pub replied : Site
+  pub comes : Comes boot w e replied
+  pub paced : IsPaced follows replied e.steps w'
+
+-- Exchanges lead from one moment of the server to another: each request comes to its reply, and with the steps after it to
+-- the moment at which the next one is taken.
+abbrev pub LeadTo : ℕ → Pace → Site → List Exchange → Site → Type 0
+LeadTo boot follows w [] w' = w ≡ w'
+LeadTo boot follows w (e ∷ more) w' = (next : Site) × Leads boot follows w e next × LeadTo boot follows next more w'
+
+-- ---- what they read, and what failed in them
+
+-- the moments while an answer was held back: those of the steps, and the one at which the operation was asked for
+abbrev pub held_moments : Option Held → List ℕ
+held_moments None = []
+held_moments (Some h) = moments_in h.steps ++ h.moment ∷ []
+
+-- all moments of an exchange, in their order: one for each command, each call that was asked for and each report
+abbrev pub moments_at : Exchange → List ℕ
+moments_at e = option_to_list e.moment ++ held_moments e.held ++ moments_in e.steps
+
 abbrev pub moments_of : List Exchange → List ℕ
-moments_of exchanges = flat_map (λ e. option_to_list e.moment) exchanges
+moments_of exchanges = flat_map moments_at exchanges
 
--- how often the keeper failed: at most once for a request
-abbrev pub failure_of : Outcome → ℕ
-failure_of well = 0
-failure_of (keeper_failed rise) = 1
-failure_of no_memory = 0
+-- how often the keeper failed: at most once for each command and each report
+abbrev pub held_keeper_failures : Option Held → ℕ
+held_keeper_failures None = 0
+held_keeper_failures (Some h) = keeper_failures_in h.steps + failed_commits h.outcome
 
-abbrev pub failures_in : List Exchange → ℕ
-failures_in exchanges = sum_by (λ e. failure_of e.outcome) exchanges
+abbrev pub keeper_failures_at : Exchange → ℕ
+keeper_failures_at e = failed_commits e.outcome + held_keeper_failures e.held + keeper_failures_in e.steps
+
+abbrev pub keeper_failures_of : List Exchange → ℕ
+keeper_failures_of exchanges = sum_by keeper_failures_at exchanges
+
+-- how many calls of the host failed
+abbrev pub held_host_failures : Option Held → ℕ
+held_host_failures None = 0
+held_host_failures (Some h) = host_failures_in h.steps
+
+abbrev pub host_failures_at : Exchange → ℕ
+host_failures_at e = held_host_failures e.held + host_failures_in e.steps
+
+abbrev pub host_failures_of : List Exchange → ℕ
+host_failures_of exchanges = sum_by host_failures_at exchanges
 
 -- ---- their bytes
 
--- the bytes of a reply, which says where the connection ends after it; no operation is begun yet, so the boot word is 0
-unfoldable pub printed : Reply → Bool → List ℕ
-printed r last = reply_text (printed_of r 0 last)
+-- the bytes of a reply, which says where the connection ends after it
+unfoldable pub printed : Reply → ℕ → Bool → List ℕ
+printed r boot last = reply_text (printed_of r boot last)
 
 -- the bytes of the replies, in their order
-abbrev pub printed_replies : List Exchange → List ℕ
-printed_replies exchanges = flat_map (λ e. printed e.reply e.request.last) exchanges
+abbrev pub printed_replies : ℕ → List Exchange → List ℕ
+printed_replies boot exchanges = flat_map (λ e. printed e.reply boot e.request.last) exchanges
 
 -- the rule that a malformed place breaks
 abbrev pub rule_of : HeadFault → Rule
@@ -124,6 +201,7 @@ rule_of fault.H2 = rule.H2
 rule_of fault.H3 = rule.H3
 rule_of fault.H4 = rule.H4
 
--- the bytes that answer a malformed place, after which the connection ends
+-- The bytes that answer a malformed place, after which the connection ends. A refusal tells no id, so the boot word does
+-- not matter.
 abbrev pub malformed_text : HeadFault → List ℕ
-malformed_text fault = printed (reply.Refused (plainly (rule_of fault))) true
+malformed_text fault = printed (reply.Refused (plainly (rule_of fault))) 0 true

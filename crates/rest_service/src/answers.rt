@@ -13,9 +13,6 @@ use rule_refusals::untold;
 use size_values::{NoMemory, Seq};
 use std::alloc::Global;
 
-/// The boot word of this service: no operation is begun yet, so no id is told.
-pub(crate) const BOOT: u64 = 0;
-
 /// What is to be written for a request.
 #[derive(Drop)]
 pub enum Answered {
@@ -27,25 +24,25 @@ pub enum Answered {
     Unprinted,
 }
 
-/// The bytes of a reply.
+/// The bytes of a reply. The boot word is that of the ids of operations.
 #[tactic(auto, unfolding(crate::specs::Exchanges::printed))]
-fn text_of(alloc: Global, reply: &Reply, last: bool) -> Result<Seq<u8>, NoMemory>
-    ensures { IfOk result (λ bytes. bytes ≡ printed reply.now last) }
+fn text_of(alloc: Global, reply: &Reply, boot: u64, last: bool) -> Result<Seq<u8>, NoMemory>
+    ensures { IfOk result (λ bytes. bytes ≡ printed reply.now boot last) }
 {
-    let printed = print(alloc, reply, BOOT, last)?;
+    let printed = print(alloc, reply, boot, last)?;
     reply_bytes(alloc, &printed)
 }
 
 /// What is to be written for a reply.
-pub(crate) fn answer_for(alloc: Global, reply: &Reply, last: bool) -> Answered
-    ensures { HasText result reply.now last }
+pub(crate) fn answer_for(alloc: Global, reply: &Reply, boot: u64, last: bool) -> Answered
+    ensures { HasText result reply.now boot last }
 {
     match reply {
         Reply::NoMemory => {
             no_memory_is_known();
             Answered::NoMemory
         }
-        _ => match text_of(alloc, reply, last) {
+        _ => match text_of(alloc, reply, boot, last) {
             Ok(bytes) => Answered::Printed(bytes),
             Err(NoMemory) => Answered::Unprinted,
         },
@@ -75,12 +72,12 @@ fn refusal_of(alloc: Global, fault: HeadFault) -> Refusal
 }
 
 /// The bytes that answer a place in which no request can begin: its rule, and that the connection ends
-/// (RFC 9112, section 9.6).
+/// (RFC 9112, section 9.6). A refusal tells no id, so any boot word serves.
 pub fn print_malformed(alloc: Global, fault: HeadFault) -> Result<Seq<u8>, NoMemory>
     ensures { IfOk result (λ bytes. bytes ≡ malformed_text fault) }
 {
     let reply = Reply::Refused(refusal_of(alloc, fault));
-    let text = text_of(alloc, &reply, true);
+    let text = text_of(alloc, &reply, 0, true);
     drop(reply);
     text
 }

@@ -3,6 +3,7 @@
 #![tactic(auto)]
 
 mod answers;
+mod asking;
 mod service;
 
 pub use answers::{Answered, print_malformed};

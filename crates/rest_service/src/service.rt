@@ -1,96 +1,101 @@
-ghost use Rattle.std.specs.Prelude.{◌≡◌, []};
-ghost use Rattle.row_machine.specs.machine.State.{State};
-ghost use Rattle.rest_service.specs.Answers.{Answers, Opens, Replies};
+ghost use Rattle.std.specs.Prelude.{List};
+ghost use Rattle.serial_steps.specs.Steps.{hosted, site, Step};
+ghost use Rattle.rest_service.specs.Answers.{Answers, OpensService};
+ghost use Rattle.rest_service.specs.Exchanges.{IsPaced};
 
-use crate::answers::{Answered, BOOT, answer_for};
-use core_objects::do_object;
-use core_rows::{Estate, OpenFault, load_rows, refused_reply};
+use crate::answers::{Answered, answer_for};
+use crate::asking::reply_to;
+use core_rows::OpenFault;
+use core_turns::Daemon;
+use host_model::Host;
 use http_front::{Clock, Request};
 use record_keeper::Keeper;
-use records::Reply;
 use rest_routes::Router;
+use run_words::Pace;
+use serial_steps::SerialDaemon;
 use std::alloc::Global;
 use std::marker::Model;
 
-/// Takes one request after the other. Contracts see the state of the row machine that its rows are.
+/// Takes one request after the other, and has one worker for its background operations. Contracts see the state of the row
+/// machine that its rows are, and the call that the worker has in hand.
 #[derive(Drop)]
 pub struct Service {
     router: Router,
-    estate: Estate,
+    daemon: SerialDaemon,
 }
 
 impl Model for Service {
-    ghost use Rattle.row_machine.specs.machine.State.{State};
+    ghost use Rattle.serial_steps.specs.Steps.{Serial};
 
-    ghost Value = { State };
+    ghost Value = { Serial };
 
-    ghost use Rattle.rest_service.specs.View.{rows_of, IsQuiet};
-
-    ghost view = { rows_of };
-
-    ghost invariant = { IsQuiet };
-}
-
-/// Carries a request out, its command at the next moment of the clock. The notices of its change are left in the
-/// estate.
-fn reply_to<R: Keeper, C: Clock>(
-    alloc: Global,
-    router: &Router,
-    estate: &mut Estate,
-    keeper: &mut R,
-    clock: &mut C,
-    request: &Request,
-) -> Reply
-    requires quiet { estate.old.untold ≡ [] }
-    ensures { Replies estate.old.state estate.new.state estate.new.untold (R.store keeper.old) (R.store keeper.new)
-        (C.readings clock.old) (C.readings clock.new) request.now result }
-{
-    match router.route(alloc, request, BOOT) {
-        Ok(command) => {
-            let reply = do_object(alloc, estate, keeper, &command, clock.now());
-            drop(command);
-            reply
-        }
-        Err(why) => refused_reply(why),
-    }
+    ghost view = { λ s. s.daemon };
 }
 
 impl Service {
     /// A service over the rows of a keeper, which must have no entries yet: it gets the project `default` and its
     /// profile `default`, in one commit.
     pub fn new<R: Keeper>(alloc: Global, keeper: &mut R) -> Result<Service, OpenFault>
-        ensures { Opens result (R.store keeper.old) (R.store keeper.new) }
+        ensures { OpensService result (R.store keeper.old) (R.store keeper.new) }
     {
         let Ok(router) = Router::new(alloc) else {
             return Err(OpenFault::NoMemory);
         };
-        let estate = load_rows(alloc, keeper)?;
-        Ok(Service { router, estate })
+        let daemon = Daemon::begin(alloc, keeper)?;
+        Ok(Service {
+            router,
+            daemon: SerialDaemon::of(daemon),
+        })
     }
 
-    /// Answers one request: routes it, carries its command out, and prints the reply. The clock is read once for a
-    /// command that is asked, and not otherwise. What the keeper did not commit is not done.
-    pub fn answer<R: Keeper, C: Clock>(
+    /// Answers one request: routes it, asks for its command, and prints the reply. Where the command waits for an operation,
+    /// the worker makes its steps until that has ended. The clock is read once for each command that is asked, each call
+    /// that is asked for and each report. The boot word is that of the ids of operations.
+    pub fn answer<R: Keeper, H: Host, C: Clock>(
         &mut self,
         alloc: Global,
         keeper: &mut R,
+        host: &mut H,
         clock: &mut C,
         request: &Request,
+        boot: u64,
     ) -> Answered
-        ensures { Answers self.old self.new (R.store keeper.old) (R.store keeper.new)
-            (C.readings clock.old) (C.readings clock.new) request.now result }
+        ensures { Answers boot
+            (site self.old (R.store keeper.old) (hosted H.told H.failures host.old) (C.readings clock.old))
+            (site self.new (R.store keeper.new) (hosted H.told H.failures host.new) (C.readings clock.new))
+            request.now result }
     {
         let reply = reply_to(
             alloc,
             &self.router,
-            &mut self.estate,
+            &mut self.daemon,
             keeper,
+            host,
             clock,
             request,
+            boot,
         );
-        self.estate.forget_told();
-        let answered = answer_for(alloc, &reply, request.last);
+        let answered = answer_for(alloc, &reply, boot, request.last);
         drop(reply);
         answered
+    }
+
+    /// The steps of the worker that follow a reply.
+    pub fn go_on<R: Keeper, H: Host, C: Clock>(
+        &mut self,
+        alloc: Global,
+        keeper: &mut R,
+        host: &mut H,
+        clock: &mut C,
+        pace: Pace,
+    )
+        ensures { (steps : List Step) × IsPaced pace
+            (site self.old (R.store keeper.old) (hosted H.told H.failures host.old) (C.readings clock.old)) steps
+            (site self.new (R.store keeper.new) (hosted H.told H.failures host.new) (C.readings clock.new)) }
+    {
+        match pace {
+            Pace::Steps(count) => self.daemon.make_steps(alloc, keeper, host, clock, count),
+            Pace::All => self.daemon.finish(alloc, keeper, host, clock),
+        }
     }
 }

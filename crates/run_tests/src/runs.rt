@@ -1,5 +1,6 @@
 //! Runs of the program over objects in memory.
 
+use host_model::ModelHost;
 use http_front::{ByteSink, ByteSource, StillClock};
 use record_keeper::{Keeper, MapKeeper};
 use serial_run::run_main;
@@ -102,7 +103,11 @@ fn end_over(
     keeper: MapKeeper,
 ) -> End {
     let mut clock = StillClock::new(0);
-    let (status, mut keeper) = run_main(alloc, words, source, sink, keeper, &mut clock);
+    let mut host = ModelHost::new(alloc, Seq::new(alloc));
+    let (status, mut keeper) = run_main(
+        alloc, words, source, sink, keeper, &mut host, &mut clock, 0,
+    );
+    drop(host);
     let kept = kept_in(&mut keeper);
     drop(keeper);
     End { status, kept }

@@ -1,5 +1,4 @@
 pub mod Beginning
-pub mod Reading
 pub mod Served
 pub mod Tops
 pub mod Turning

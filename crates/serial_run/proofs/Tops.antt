@@ -3,37 +3,36 @@ use Rattle.std.proofs.Common.{◌≡◌, ◌≢◌, ◌<◌, ◌≤◌, ◌++◌
 use Rattle.std.proofs.lemmas.List.{length-take}
 use Rattle.std.proofs.lemmas.Bool.{false≢true}
 use Rattle.std.specs.Io.KnownBytes.{Appends, prepend_known}
-use Rattle.size_values.specs.Causes.{Rose, RoseBy}
+use Rattle.size_values.specs.Causes.{Rose}
 use Rattle.size_values.specs.declared.entry.Entry.{Entry}
 use Rattle.http_heads.specs.Messages.{Splits, Ending, ended}
-use Rattle.http_front.specs.Clocks.{Reads}
 use Rattle.http_heads.specs.declared.request.Request.{Request}
-use Rattle.row_machine.specs.opening.Records.{records_of}
-use Rattle.core_rows.specs.Opening.{Refuses, first_state, opened_store}
+use Rattle.core_rows.specs.Opening.{Refuses}
 use Rattle.core_rows.specs.declared.opening.OpenFault.TheVariants as fault
 use Rattle.record_keeper.specs.Store.{Store}
-use Rattle.rest_service.specs.Exchanges.{LeadTo, moments_of, printed_replies, failures_in}
+use Rattle.serial_steps.specs.Steps.{Serial}
+use Rattle.run_words.specs.Words.{are_read, now_of, pace_of}
+use Rattle.run_words.specs.declared.words.Pace.{Pace}
+use Rattle.rest_service.specs.Exchanges.{LeadTo, moments_of, printed_replies, keeper_failures_of, host_failures_of}
+use Rattle.rest_service.proofs.Along.{IsAlong}
 use Rattle.serial_run.specs.declared.running.StartFault.{StartFault}
 use Rattle.serial_run.specs.declared.running.StartFault.TheVariants as start
 use Rattle.serial_run.specs.declared.session.SessionEnd.{SessionEnd}
 use Rattle.serial_run.specs.declared.session.SessionEnd.TheVariants as end
 use Rattle.serial_run.specs.Most.{most_requests}
-use Rattle.serial_run.specs.Runs.{status_of, start_status, clock_of, seen_with, IsUnread, Ran, Runs, HasCauseToRefuse}
+use Rattle.serial_run.specs.Runs.{status_of, start_status, begun, boot_with, seen_with, IsUnread, Ran, Runs, HasCauseToRefuse}
 use Rattle.serial_run.specs.Sessions.{Session, Stops, StopsBehindFinal, AllGoOn, OnlyFinalEnds}
 use Rattle.serial_run.specs.Texts.{through_last, has_last, answered, end_due, RunsText, is_fault}
-use Rattle.serial_run.specs.Words.{are_read, now_of}
-use Rattle.serial_run.specs.Worlds.{Outside, World, world}
+use Rattle.serial_run.specs.Worlds.{Outside, World, within, world}
 use Rattle.serial_run.proofs.Served.{Together, together, appends_nothing, appends_twice}
 use Rattle.serial_run.proofs.Whole.{IsSettled, IsDue, session_due, text_at, not_full}
 
 -- ---- what a settled session did
 
--- what a settled stop wrote after the replies; the rows, the store and the clock are as before
+-- what a settled stop wrote after the replies; the server is as before
 record StopsQuietly (ends : SessionEnd) (w w' : World) : Type 0 where
   written : Appends w.sink.held w'.sink.held (text_at ends)
-  keeper : w'.keeper ≡ w.keeper
-  clock : w'.clock ≡ w.clock
-  state : w'.state ≡ w.state
+  site : w'.site ≡ w.site
 
 -- where nothing is written
 nothing_written : (w w' : World) → w'.sink ≡ w.sink → Appends w.sink.held w'.sink.held []
@@ -43,20 +42,18 @@ nothing_written w w' same = subst (λ sink. Appends w.sink.held sink.held []) (s
 same_quietly : (ends : SessionEnd) (w w' : World) → w' ≡ w → text_at ends ≡ [] → StopsQuietly ends w w'
 same_quietly ends w w' same none = subst (λ v. StopsQuietly ends w v) (sym same) (record {
   written = subst (Appends w.sink.held w.sink.held) (sym none) (appends_nothing w.sink.held);
-  keeper = refl;
-  clock = refl;
-  state = refl;
+  site = refl;
 })
 
 -- where it stops after requests that go on
-stops_quietly : (ends : SessionEnd) (w w' : World) → Stops ends w w' → IsSettled ends → StopsQuietly ends w w'
-stops_quietly end.Ended w w' stops settled = record { written = nothing_written w w' stops.2; keeper = stops.1.keeper; clock = stops.1.clock; state = stops.1.state }
-stops_quietly end.Cut w w' stops settled = record { written = nothing_written w w' stops.3; keeper = stops.2.keeper; clock = stops.2.clock; state = stops.2.state }
-stops_quietly (end.Malformed fault) w w' stops settled = record { written = stops.2.written; keeper = stops.1.keeper; clock = stops.1.clock; state = stops.1.state }
-stops_quietly end.Spent w w' stops settled = same_quietly end.Spent w w' stops refl
-stops_quietly end.ReadFault w w' stops settled = absurd settled
-stops_quietly end.WriteFault w w' stops settled = absurd settled
-stops_quietly end.NoMemory w w' stops settled = absurd settled
+stops_quietly : (boot : ℕ) (ends : SessionEnd) (w w' : World) → Stops boot ends w w' → IsSettled ends → StopsQuietly ends w w'
+stops_quietly boot end.Ended w w' stops settled = record { written = nothing_written w w' stops.2; site = stops.1 }
+stops_quietly boot end.Cut w w' stops settled = record { written = nothing_written w w' stops.3; site = stops.2 }
+stops_quietly boot (end.Malformed fault) w w' stops settled = record { written = stops.2.written; site = stops.1 }
+stops_quietly boot end.Spent w w' stops settled = same_quietly end.Spent w w' stops refl
+stops_quietly boot end.ReadFault w w' stops settled = absurd settled
+stops_quietly boot end.WriteFault w w' stops settled = absurd settled
+stops_quietly boot end.NoMemory w w' stops settled = absurd settled
 
 -- where it stops after a final request
 behind_final : (ends : SessionEnd) (w w' : World) → StopsBehindFinal ends → w' ≡ w → StopsQuietly ends w w'
@@ -69,41 +66,41 @@ behind_final end.WriteFault w w' is same = absurd is
 behind_final end.NoMemory w w' is same = absurd is
 
 -- where it stops in either way
-session_quietly : (w w' : World) (ends : SessionEnd) (s : Session w w' ends) → IsSettled ends → StopsQuietly ends s.behind w'
-session_quietly w w' ends s settled = by s.stops where
-  by : (AllGoOn s.exchanges × Stops ends s.behind w') ⊎ (OnlyFinalEnds s.exchanges × StopsBehindFinal ends × (w' ≡ s.behind)) → StopsQuietly ends s.behind w'
-  by (inl (going, stops)) = stops_quietly ends s.behind w' stops settled
+session_quietly : (boot : ℕ) (pace : Pace) (w w' : World) (ends : SessionEnd) (s : Session boot pace w w' ends) → IsSettled ends → StopsQuietly ends s.behind w'
+session_quietly boot pace w w' ends s settled = by s.stops where
+  by : (AllGoOn s.exchanges × Stops boot ends s.behind w') ⊎ (OnlyFinalEnds s.exchanges × StopsBehindFinal ends × (w' ≡ s.behind)) → StopsQuietly ends s.behind w'
+  by (inl (going, stops)) = stops_quietly boot ends s.behind w' stops settled
   by (inr (only, is, same)) = behind_final ends s.behind w' is same
 
--- the world of a session at its begin, after an opening
-abbrev opened : Outside → World
-opened before = world [] (record before { keeper = opened_store before.keeper }) first_state
-
 -- a settled session over a known text, from the first rows and their records on, does what the text asks
-session_text : (before : Outside) (w' : World) (ends : SessionEnd) (text : List ℕ) (messages : List Request) (ending : Ending) → Session (opened before) w' ends
-    → before.source.left ≡ Some text → Splits text messages ending → IsSettled ends → RunsText messages ending (status_of ends) before.sink.held w'.sink.held before.clock w'.clock before.keeper w'.keeper
-session_text before w' ends text messages ending s known splits settled = record {
+session_text : (boot : ℕ) (pace : Pace) (before after : Outside) (held : List ℕ) (serial : Serial) (ends : SessionEnd) (text : List ℕ) (messages : List Request) (ending : Ending)
+    → Session boot pace (begun before) (world held after serial) ends
+    → before.source.left ≡ Some text → Splits text messages ending → IsSettled ends → RunsText boot pace messages ending (status_of ends) before after
+session_text boot pace before after held serial ends text messages ending s known splits settled = record {
   exchanges = s.exchanges;
-  state = w'.state;
+  serial = serial;
   requests_are = due.requests_are;
-  moments = subst (Reads before.clock (moments_of s.exchanges)) (sym quiet.clock) all.clock;
-  early = all.early;
-  leads = subst (λ kept. LeadTo first_state (opened_store before.keeper) s.exchanges w'.state kept) (sym quiet.keeper)
-      (subst (λ rows. LeadTo first_state (opened_store before.keeper) s.exchanges rows s.behind.keeper) (sym quiet.state) all.leads);
+  leads = subst (LeadTo boot pace (begun before).site s.exchanges) (sym quiet.site) all.leads;
+  moments = along.clock;
+  early = along.early;
   status_is = sym (ap (λ e. e.status) due.end_is);
-  written = subst (λ t. Appends before.sink.held w'.sink.held (printed_replies s.exchanges ++ t)) (sym (ap (λ e. e.text) due.end_is))
-      (appends_twice before.sink.held s.behind.sink.held w'.sink.held (printed_replies s.exchanges) (text_at ends) all.written quiet.written);
-  kept = ap (λ kept. kept.told) quiet.keeper ∙ all.kept before.keeper.told refl ∙ ap (λ rows. option_map (λ _. records_of rows) before.keeper.told) (sym quiet.state);
-  failed = subst (λ kept. RoseBy (failures_in s.exchanges) before.keeper.failures kept.failures) (sym quiet.keeper) all.failed;
+  written = subst (λ t. Appends before.sink.held after.sink.held (printed_replies boot s.exchanges ++ t)) (sym (ap (λ e. e.text) due.end_is))
+      (appends_twice before.sink.held s.behind.sink.held after.sink.held (printed_replies boot s.exchanges) (text_at ends) all.written quiet.written);
+  kept = along.kept before.keeper.told refl;
+  keeper_failed = along.keeper_failed;
+  host_failed = along.host_failed;
 } where
-  all : Together (opened before) s.exchanges s.behind
-  all = together (opened before) s.behind s.exchanges s.serves
+  all : Together boot pace (begun before) s.exchanges s.behind
+  all = together boot pace (begun before) s.behind s.exchanges s.serves
 
   due : IsDue messages ending ends s.exchanges
-  due = session_due (opened before) w' ends text messages ending s (ap (prepend_known []) known) splits settled
+  due = session_due boot pace (begun before) (world held after serial) ends text messages ending s (ap (prepend_known []) known) splits settled
 
-  quiet : StopsQuietly ends s.behind w'
-  quiet = session_quietly (opened before) w' ends s settled
+  quiet : StopsQuietly ends s.behind (world held after serial)
+  quiet = session_quietly boot pace (begun before) (world held after serial) ends s settled
+
+  along : IsAlong (begun before).site (moments_of s.exchanges) (keeper_failures_of s.exchanges) (host_failures_of s.exchanges) (within after serial)
+  along = subst (IsAlong (begun before).site (moments_of s.exchanges) (keeper_failures_of s.exchanges) (host_failures_of s.exchanges)) (sym quiet.site) all.along
 
 -- ---- what the exit status tells
 
@@ -121,15 +118,15 @@ Tells end.NoMemory w w' = Unit {0}
 rose_from : (a b c : ℕ) → a ≤ b → Rose b c → Rose a c
 rose_from a b c later rose = omega (arith, later, rose)
 
-stop_tells : (ends : SessionEnd) (w v w' : World) → w.source.failures ≤ v.source.failures → w.sink.failures ≤ v.sink.failures → Stops ends v w' → Tells ends w w'
-stop_tells end.Ended w v w' reads writes stops = tt
-stop_tells end.Cut w v w' reads writes stops = stops.1.ended
-stop_tells (end.Malformed fault) w v w' reads writes stops = tt
-stop_tells end.ReadFault w v w' reads writes stops = rose_from _ _ _ reads stops.0.fault
-stop_tells end.WriteFault w v w' reads writes (inl stops) = rose_from _ _ _ writes stops.2.rose
-stop_tells end.WriteFault w v w' reads writes (inr stops) = rose_from _ _ _ writes stops.3.rose
-stop_tells end.Spent w v w' reads writes stops = tt
-stop_tells end.NoMemory w v w' reads writes stops = tt
+stop_tells : (boot : ℕ) (ends : SessionEnd) (w v w' : World) → w.source.failures ≤ v.source.failures → w.sink.failures ≤ v.sink.failures → Stops boot ends v w' → Tells ends w w'
+stop_tells boot end.Ended w v w' reads writes stops = tt
+stop_tells boot end.Cut w v w' reads writes stops = stops.1.ended
+stop_tells boot (end.Malformed fault) w v w' reads writes stops = tt
+stop_tells boot end.ReadFault w v w' reads writes stops = rose_from _ _ _ reads stops.0.fault
+stop_tells boot end.WriteFault w v w' reads writes (inl stops) = rose_from _ _ _ writes stops.2.rose
+stop_tells boot end.WriteFault w v w' reads writes (inr stops) = rose_from _ _ _ writes stops.3.rose
+stop_tells boot end.Spent w v w' reads writes stops = tt
+stop_tells boot end.NoMemory w v w' reads writes stops = tt
 
 final_tells : (ends : SessionEnd) (w w' : World) → StopsBehindFinal ends → Tells ends w w'
 final_tells end.Ended w w' is = tt
@@ -140,13 +137,13 @@ final_tells end.ReadFault w w' is = absurd is
 final_tells end.WriteFault w w' is = absurd is
 final_tells end.NoMemory w w' is = absurd is
 
-session_tells : (w w' : World) (ends : SessionEnd) → Session w w' ends → Tells ends w w'
-session_tells w w' ends s = by s.stops where
-  all : Together w s.exchanges s.behind
-  all = together w s.behind s.exchanges s.serves
+session_tells : (boot : ℕ) (pace : Pace) (w w' : World) (ends : SessionEnd) → Session boot pace w w' ends → Tells ends w w'
+session_tells boot pace w w' ends s = by s.stops where
+  all : Together boot pace w s.exchanges s.behind
+  all = together boot pace w s.behind s.exchanges s.serves
 
-  by : (AllGoOn s.exchanges × Stops ends s.behind w') ⊎ (OnlyFinalEnds s.exchanges × StopsBehindFinal ends × (w' ≡ s.behind)) → Tells ends w w'
-  by (inl (going, stops)) = stop_tells ends w s.behind w' all.reads all.writes stops
+  by : (AllGoOn s.exchanges × Stops boot ends s.behind w') ⊎ (OnlyFinalEnds s.exchanges × StopsBehindFinal ends × (w' ≡ s.behind)) → Tells ends w w'
+  by (inl (going, stops)) = stop_tells boot ends w s.behind w' all.reads all.writes stops
   by (inr (only, is, same)) = final_tells ends w w' is
 
 -- none of these statuses is that of a run without a session
@@ -157,10 +154,10 @@ no_start start.HasEntries n is small = let none : ⊥ = omega (arith, is, small)
 no_start start.NoMemory n is small = let none : ⊥ = omega (arith, is, small) in absurd none
 
 -- status 2: the source has ended
-pub top_cut : (words : List (List ℕ)) (before after : Outside) (status : ℕ) → Runs words before after status → status ≡ 2 → after.source.ended ≡ true
-top_cut words before after status (inr refused) two = no_start refused.why 2 (sym refused.status_is ∙ two) (omega arith)
-top_cut words before after status (inl ran) two = by ran.opened.ends (session_tells (opened (seen_with words before)) (world ran.opened.follows.held (seen_with words after) ran.opened.follows.state) ran.opened.ends ran.opened.follows.session) (sym ran.opened.status_is ∙ two) where
-  by : (ends : SessionEnd) → Tells ends (opened (seen_with words before)) (world ran.opened.follows.held (seen_with words after) ran.opened.follows.state) → status_of ends ≡ 2 → after.source.ended ≡ true
+pub top_cut : (words : List (List ℕ)) (handed : ℕ) (before after : Outside) (status : ℕ) → Runs words handed before after status → status ≡ 2 → after.source.ended ≡ true
+top_cut words handed before after status (inr refused) two = no_start refused.why 2 (sym refused.status_is ∙ two) (omega arith)
+top_cut words handed before after status (inl ran) two = by ran.opened.ends (session_tells (boot_with words handed) (pace_of words) (begun (seen_with words before)) (world ran.opened.follows.held (seen_with words after) ran.opened.follows.serial) ran.opened.ends ran.opened.follows.session) (sym ran.opened.status_is ∙ two) where
+  by : (ends : SessionEnd) → Tells ends (begun (seen_with words before)) (world ran.opened.follows.held (seen_with words after) ran.opened.follows.serial) → status_of ends ≡ 2 → after.source.ended ≡ true
   by end.Cut tells is = tells
   by end.Ended tells is = let none : ⊥ = omega (arith, is) in absurd none
   by (end.Malformed fault) tells is = let none : ⊥ = omega (arith, is) in absurd none
@@ -170,10 +167,10 @@ top_cut words before after status (inl ran) two = by ran.opened.ends (session_te
   by end.NoMemory tells is = let none : ⊥ = omega (arith, is) in absurd none
 
 -- status 4: a read failed
-pub top_read_fault : (words : List (List ℕ)) (before after : Outside) (status : ℕ) → Runs words before after status → status ≡ 4 → Rose before.source.failures after.source.failures
-top_read_fault words before after status (inr refused) four = no_start refused.why 4 (sym refused.status_is ∙ four) (omega arith)
-top_read_fault words before after status (inl ran) four = by ran.opened.ends (session_tells (opened (seen_with words before)) (world ran.opened.follows.held (seen_with words after) ran.opened.follows.state) ran.opened.ends ran.opened.follows.session) (sym ran.opened.status_is ∙ four) where
-  by : (ends : SessionEnd) → Tells ends (opened (seen_with words before)) (world ran.opened.follows.held (seen_with words after) ran.opened.follows.state) → status_of ends ≡ 4 → Rose before.source.failures after.source.failures
+pub top_read_fault : (words : List (List ℕ)) (handed : ℕ) (before after : Outside) (status : ℕ) → Runs words handed before after status → status ≡ 4 → Rose before.source.failures after.source.failures
+top_read_fault words handed before after status (inr refused) four = no_start refused.why 4 (sym refused.status_is ∙ four) (omega arith)
+top_read_fault words handed before after status (inl ran) four = by ran.opened.ends (session_tells (boot_with words handed) (pace_of words) (begun (seen_with words before)) (world ran.opened.follows.held (seen_with words after) ran.opened.follows.serial) ran.opened.ends ran.opened.follows.session) (sym ran.opened.status_is ∙ four) where
+  by : (ends : SessionEnd) → Tells ends (begun (seen_with words before)) (world ran.opened.follows.held (seen_with words after) ran.opened.follows.serial) → status_of ends ≡ 4 → Rose before.source.failures after.source.failures
   by end.ReadFault tells is = tells
   by end.Ended tells is = let none : ⊥ = omega (arith, is) in absurd none
   by end.Cut tells is = let none : ⊥ = omega (arith, is) in absurd none
@@ -183,10 +180,10 @@ top_read_fault words before after status (inl ran) four = by ran.opened.ends (se
   by end.NoMemory tells is = let none : ⊥ = omega (arith, is) in absurd none
 
 -- status 5: a write failed
-pub top_write_fault : (words : List (List ℕ)) (before after : Outside) (status : ℕ) → Runs words before after status → status ≡ 5 → Rose before.sink.failures after.sink.failures
-top_write_fault words before after status (inr refused) five = no_start refused.why 5 (sym refused.status_is ∙ five) (omega arith)
-top_write_fault words before after status (inl ran) five = by ran.opened.ends (session_tells (opened (seen_with words before)) (world ran.opened.follows.held (seen_with words after) ran.opened.follows.state) ran.opened.ends ran.opened.follows.session) (sym ran.opened.status_is ∙ five) where
-  by : (ends : SessionEnd) → Tells ends (opened (seen_with words before)) (world ran.opened.follows.held (seen_with words after) ran.opened.follows.state) → status_of ends ≡ 5 → Rose before.sink.failures after.sink.failures
+pub top_write_fault : (words : List (List ℕ)) (handed : ℕ) (before after : Outside) (status : ℕ) → Runs words handed before after status → status ≡ 5 → Rose before.sink.failures after.sink.failures
+top_write_fault words handed before after status (inr refused) five = no_start refused.why 5 (sym refused.status_is ∙ five) (omega arith)
+top_write_fault words handed before after status (inl ran) five = by ran.opened.ends (session_tells (boot_with words handed) (pace_of words) (begun (seen_with words before)) (world ran.opened.follows.held (seen_with words after) ran.opened.follows.serial) ran.opened.ends ran.opened.follows.session) (sym ran.opened.status_is ∙ five) where
+  by : (ends : SessionEnd) → Tells ends (begun (seen_with words before)) (world ran.opened.follows.held (seen_with words after) ran.opened.follows.serial) → status_of ends ≡ 5 → Rose before.sink.failures after.sink.failures
   by end.WriteFault tells is = tells
   by end.Ended tells is = let none : ⊥ = omega (arith, is) in absurd none
   by end.Cut tells is = let none : ⊥ = omega (arith, is) in absurd none
@@ -229,9 +226,9 @@ refuses_rose store store' (inl fails) = fails.rose
 refuses_rose store store' (inr fails) = fails.rose
 
 -- status 6: the keeper failed
-pub top_keeper_fault : (words : List (List ℕ)) (before after : Outside) (status : ℕ) → Runs words before after status → status ≡ 6 → Rose before.keeper.failures after.keeper.failures
-top_keeper_fault words before after status (inl ran) six = not_of_session ran.opened.ends 6 (sym ran.opened.status_is ∙ six) (omega arith) six≢nine six≢ten
-top_keeper_fault words before after status (inr refused) six = by refused.why refused.cause (sym refused.status_is ∙ six) where
+pub top_keeper_fault : (words : List (List ℕ)) (handed : ℕ) (before after : Outside) (status : ℕ) → Runs words handed before after status → status ≡ 6 → Rose before.keeper.failures after.keeper.failures
+top_keeper_fault words handed before after status (inl ran) six = not_of_session ran.opened.ends 6 (sym ran.opened.status_is ∙ six) (omega arith) six≢nine six≢ten
+top_keeper_fault words handed before after status (inr refused) six = by refused.why refused.cause (sym refused.status_is ∙ six) where
   by : (why : StartFault) → HasCauseToRefuse why words before.keeper after.keeper → start_status why ≡ 6 → Rose before.keeper.failures after.keeper.failures
   by start.KeeperFailed cause is = refuses_rose before.keeper after.keeper cause.1
   by start.Words cause is = let none : ⊥ = omega (arith, is) in absurd none
@@ -239,9 +236,9 @@ top_keeper_fault words before after status (inr refused) six = by refused.why re
   by start.NoMemory cause is = let none : ⊥ = omega (arith, is) in absurd none
 
 -- status 8: the words are not read
-pub top_words : (words : List (List ℕ)) (before after : Outside) (status : ℕ) → Runs words before after status → status ≡ 8 → are_read words ≡ false
-top_words words before after status (inl ran) eight = not_of_session ran.opened.ends 8 (sym ran.opened.status_is ∙ eight) (omega arith) eight≢nine eight≢ten
-top_words words before after status (inr refused) eight = by refused.why refused.cause (sym refused.status_is ∙ eight) where
+pub top_words : (words : List (List ℕ)) (handed : ℕ) (before after : Outside) (status : ℕ) → Runs words handed before after status → status ≡ 8 → are_read words ≡ false
+top_words words handed before after status (inl ran) eight = not_of_session ran.opened.ends 8 (sym ran.opened.status_is ∙ eight) (omega arith) eight≢nine eight≢ten
+top_words words handed before after status (inr refused) eight = by refused.why refused.cause (sym refused.status_is ∙ eight) where
   by : (why : StartFault) → HasCauseToRefuse why words before.keeper after.keeper → start_status why ≡ 8 → are_read words ≡ false
   by start.Words cause is = cause.0
   by start.KeeperFailed cause is = let none : ⊥ = omega (arith, is) in absurd none
@@ -249,9 +246,9 @@ top_words words before after status (inr refused) eight = by refused.why refused
   by start.NoMemory cause is = let none : ⊥ = omega (arith, is) in absurd none
 
 -- and where they are not read, that is the status
-pub top_not_read : (words : List (List ℕ)) (before after : Outside) (status : ℕ) → Runs words before after status → are_read words ≡ false → status ≡ 8
-top_not_read words before after status (inl ran) other = absurd (false≢true (sym other ∙ ran.read))
-top_not_read words before after status (inr refused) other = by refused.why refused.cause refused.status_is where
+pub top_not_read : (words : List (List ℕ)) (handed : ℕ) (before after : Outside) (status : ℕ) → Runs words handed before after status → are_read words ≡ false → status ≡ 8
+top_not_read words handed before after status (inl ran) other = absurd (false≢true (sym other ∙ ran.read))
+top_not_read words handed before after status (inr refused) other = by refused.why refused.cause refused.status_is where
   by : (why : StartFault) → HasCauseToRefuse why words before.keeper after.keeper → status ≡ start_status why → status ≡ 8
   by start.Words cause is = is
   by start.KeeperFailed cause is = absurd (false≢true (sym other ∙ cause.0))
@@ -259,9 +256,9 @@ top_not_read words before after status (inr refused) other = by refused.why refu
   by start.NoMemory cause is = absurd (false≢true (sym other ∙ cause.0))
 
 -- status 13: the keeper has entries
-pub top_has_entries : (words : List (List ℕ)) (before after : Outside) (status : ℕ) → Runs words before after status → status ≡ 13 → IfSome before.keeper.told (λ entries. entries ≢ [])
-top_has_entries words before after status (inl ran) thirteen = not_of_session ran.opened.ends 13 (sym ran.opened.status_is ∙ thirteen) (omega arith) thirteen≢nine thirteen≢ten
-top_has_entries words before after status (inr refused) thirteen = by refused.why refused.cause (sym refused.status_is ∙ thirteen) where
+pub top_has_entries : (words : List (List ℕ)) (handed : ℕ) (before after : Outside) (status : ℕ) → Runs words handed before after status → status ≡ 13 → IfSome before.keeper.told (λ entries. entries ≢ [])
+top_has_entries words handed before after status (inl ran) thirteen = not_of_session ran.opened.ends 13 (sym ran.opened.status_is ∙ thirteen) (omega arith) thirteen≢nine thirteen≢ten
+top_has_entries words handed before after status (inr refused) thirteen = by refused.why refused.cause (sym refused.status_is ∙ thirteen) where
   by : (why : StartFault) → HasCauseToRefuse why words before.keeper after.keeper → start_status why ≡ 13 → IfSome before.keeper.told (λ entries. entries ≢ [])
   by start.HasEntries cause is = cause.1.0
   by start.Words cause is = let none : ⊥ = omega (arith, is) in absurd none
@@ -278,13 +275,13 @@ start_fault_is start.HasEntries = refl
 start_fault_is start.NoMemory = refl
 
 -- a run with a session ends with a fault, or does what its text asks
-ran_text : (words : List (List ℕ)) (before after : Outside) (status : ℕ) → Ran words before after status → (text : List ℕ) (messages : List Request) (ending : Ending) → before.source.left ≡ Some text → Splits text messages ending
-    → (is_fault status ≡ true) ⊎ RunsText messages ending status before.sink.held after.sink.held (clock_of (now_of words) before.clock) (clock_of (now_of words) after.clock) before.keeper after.keeper
-ran_text words before after status r text messages ending known splits = subst (λ n. (is_fault n ≡ true) ⊎ RunsText messages ending n before.sink.held after.sink.held (clock_of (now_of words) before.clock) (clock_of (now_of words) after.clock) before.keeper after.keeper) (sym r.opened.status_is) (by r.opened.ends r.opened.follows.session) where
-  does : (ends : SessionEnd) → Session (opened (seen_with words before)) (world r.opened.follows.held (seen_with words after) r.opened.follows.state) ends → IsSettled ends → RunsText messages ending (status_of ends) before.sink.held after.sink.held (clock_of (now_of words) before.clock) (clock_of (now_of words) after.clock) before.keeper after.keeper
-  does ends s settled = session_text (seen_with words before) (world r.opened.follows.held (seen_with words after) r.opened.follows.state) ends text messages ending s known splits settled
+ran_text : (words : List (List ℕ)) (handed : ℕ) (before after : Outside) (status : ℕ) → Ran words handed before after status → (text : List ℕ) (messages : List Request) (ending : Ending) → before.source.left ≡ Some text → Splits text messages ending
+    → (is_fault status ≡ true) ⊎ RunsText (boot_with words handed) (pace_of words) messages ending status (seen_with words before) (seen_with words after)
+ran_text words handed before after status r text messages ending known splits = subst (λ n. (is_fault n ≡ true) ⊎ RunsText (boot_with words handed) (pace_of words) messages ending n (seen_with words before) (seen_with words after)) (sym r.opened.status_is) (by r.opened.ends r.opened.follows.session) where
+  does : (ends : SessionEnd) → Session (boot_with words handed) (pace_of words) (begun (seen_with words before)) (world r.opened.follows.held (seen_with words after) r.opened.follows.serial) ends → IsSettled ends → RunsText (boot_with words handed) (pace_of words) messages ending (status_of ends) (seen_with words before) (seen_with words after)
+  does ends s settled = session_text (boot_with words handed) (pace_of words) (seen_with words before) (seen_with words after) r.opened.follows.held r.opened.follows.serial ends text messages ending s known splits settled
 
-  by : (ends : SessionEnd) → Session (opened (seen_with words before)) (world r.opened.follows.held (seen_with words after) r.opened.follows.state) ends → (is_fault (status_of ends) ≡ true) ⊎ RunsText messages ending (status_of ends) before.sink.held after.sink.held (clock_of (now_of words) before.clock) (clock_of (now_of words) after.clock) before.keeper after.keeper
+  by : (ends : SessionEnd) → Session (boot_with words handed) (pace_of words) (begun (seen_with words before)) (world r.opened.follows.held (seen_with words after) r.opened.follows.serial) ends → (is_fault (status_of ends) ≡ true) ⊎ RunsText (boot_with words handed) (pace_of words) messages ending (status_of ends) (seen_with words before) (seen_with words after)
   by end.Ended s = inr (does end.Ended s tt)
   by end.Cut s = inr (does end.Cut s tt)
   by (end.Malformed fault) s = inr (does (end.Malformed fault) s tt)
@@ -294,11 +291,11 @@ ran_text words before after status r text messages ending known splits = subst (
   by end.NoMemory s = inl refl
 
 -- any run over a known text
-pub top_text : (words : List (List ℕ)) (before after : Outside) (status : ℕ) (known : Option (List ℕ)) → Runs words before after status → before.source.left ≡ known
-    → IfSome known (λ text. (messages : List Request) (ending : Ending) → Splits text messages ending → (is_fault status ≡ true) ⊎ RunsText messages ending status before.sink.held after.sink.held (clock_of (now_of words) before.clock) (clock_of (now_of words) after.clock) before.keeper after.keeper)
-top_text words before after status None done is = tt
-top_text words before after status (Some text) (inl ran) is = λ messages ending splits. ran_text words before after status ran text messages ending is splits
-top_text words before after status (Some text) (inr refused) is = λ messages ending splits. inl (ap is_fault refused.status_is ∙ start_fault_is refused.why)
+pub top_text : (words : List (List ℕ)) (handed : ℕ) (before after : Outside) (status : ℕ) (known : Option (List ℕ)) → Runs words handed before after status → before.source.left ≡ known
+    → IfSome known (λ text. (messages : List Request) (ending : Ending) → Splits text messages ending → (is_fault status ≡ true) ⊎ RunsText (boot_with words handed) (pace_of words) messages ending status (seen_with words before) (seen_with words after))
+top_text words handed before after status None done is = tt
+top_text words handed before after status (Some text) (inl ran) is = λ messages ending splits. ran_text words handed before after status ran text messages ending is splits
+top_text words handed before after status (Some text) (inr refused) is = λ messages ending splits. inl (ap is_fault refused.status_is ∙ start_fault_is refused.why)
 
 -- no more requests than there are come up to the first last one
 through_last_few : (ms : List Request) → length (through_last ms) ≤ length ms
@@ -319,28 +316,28 @@ due_whole messages few = by (has_last (answered messages)) refl where
   by false is = rw (not_full (length (answered messages)) fewer, is) refl
 
 -- a run over whole messages, in which nothing failed, answered all of them or was refused memory
-ran_complete : (words : List (List ℕ)) (before after : Outside) (status : ℕ) → Ran words before after status → (text : List ℕ) (messages : List Request) → before.source.left ≡ Some text → Splits text messages ended → length messages < most_requests
+ran_complete : (words : List (List ℕ)) (handed : ℕ) (before after : Outside) (status : ℕ) → Ran words handed before after status → (text : List ℕ) (messages : List Request) → before.source.left ≡ Some text → Splits text messages ended → length messages < most_requests
     → ¬ (Rose before.source.failures after.source.failures) → ¬ (Rose before.sink.failures after.sink.failures) → (status ≡ 0) ⊎ (status ≡ 9)
-ran_complete words before after status r text messages known splits few reads writes = subst (λ n. (n ≡ 0) ⊎ (n ≡ 9)) (sym r.opened.status_is) (by r.opened.ends r.opened.follows.session) where
-  settled : (ends : SessionEnd) → Session (opened (seen_with words before)) (world r.opened.follows.held (seen_with words after) r.opened.follows.state) ends → IsSettled ends → (status_of ends ≡ 0) ⊎ (status_of ends ≡ 9)
-  settled ends s is = inl ((session_text (seen_with words before) (world r.opened.follows.held (seen_with words after) r.opened.follows.state) ends text messages ended s known splits is).status_is ∙ due_whole messages few)
+ran_complete words handed before after status r text messages known splits few reads writes = subst (λ n. (n ≡ 0) ⊎ (n ≡ 9)) (sym r.opened.status_is) (by r.opened.ends r.opened.follows.session) where
+  settled : (ends : SessionEnd) → Session (boot_with words handed) (pace_of words) (begun (seen_with words before)) (world r.opened.follows.held (seen_with words after) r.opened.follows.serial) ends → IsSettled ends → (status_of ends ≡ 0) ⊎ (status_of ends ≡ 9)
+  settled ends s is = inl ((session_text (boot_with words handed) (pace_of words) (seen_with words before) (seen_with words after) r.opened.follows.held r.opened.follows.serial ends text messages ended s known splits is).status_is ∙ due_whole messages few)
 
-  by : (ends : SessionEnd) → Session (opened (seen_with words before)) (world r.opened.follows.held (seen_with words after) r.opened.follows.state) ends → (status_of ends ≡ 0) ⊎ (status_of ends ≡ 9)
+  by : (ends : SessionEnd) → Session (boot_with words handed) (pace_of words) (begun (seen_with words before)) (world r.opened.follows.held (seen_with words after) r.opened.follows.serial) ends → (status_of ends ≡ 0) ⊎ (status_of ends ≡ 9)
   by end.Ended s = inl refl
   by end.Cut s = settled end.Cut s tt
   by (end.Malformed fault) s = settled (end.Malformed fault) s tt
   by end.Spent s = settled end.Spent s tt
   by end.NoMemory s = inr refl
-  by end.ReadFault s = absurd (reads (session_tells (opened (seen_with words before)) (world r.opened.follows.held (seen_with words after) r.opened.follows.state) end.ReadFault s))
-  by end.WriteFault s = absurd (writes (session_tells (opened (seen_with words before)) (world r.opened.follows.held (seen_with words after) r.opened.follows.state) end.WriteFault s))
+  by end.ReadFault s = absurd (reads (session_tells (boot_with words handed) (pace_of words) (begun (seen_with words before)) (world r.opened.follows.held (seen_with words after) r.opened.follows.serial) end.ReadFault s))
+  by end.WriteFault s = absurd (writes (session_tells (boot_with words handed) (pace_of words) (begun (seen_with words before)) (world r.opened.follows.held (seen_with words after) r.opened.follows.serial) end.WriteFault s))
 
 -- the same of any run
-pub top_complete : (words : List (List ℕ)) (before after : Outside) (status : ℕ) (known : Option (List ℕ)) → Runs words before after status → before.source.left ≡ known
+pub top_complete : (words : List (List ℕ)) (handed : ℕ) (before after : Outside) (status : ℕ) (known : Option (List ℕ)) → Runs words handed before after status → before.source.left ≡ known
     → IfSome known (λ text. (messages : List Request) → Splits text messages ended → length messages < most_requests → are_read words ≡ true → before.keeper.told ≡ Some []
     → ¬ (Rose before.source.failures after.source.failures) → ¬ (Rose before.sink.failures after.sink.failures) → ¬ (Rose before.keeper.failures after.keeper.failures) → (status ≡ 0) ⊎ (status ≡ 9))
-top_complete words before after status None done is = tt
-top_complete words before after status (Some text) (inl ran) is = λ messages splits few read none reads writes keeps. ran_complete words before after status ran text messages is splits few reads writes
-top_complete words before after status (Some text) (inr refused) is = λ messages splits few read none reads writes keeps. by refused.why refused.cause refused.status_is read none keeps where
+top_complete words handed before after status None done is = tt
+top_complete words handed before after status (Some text) (inl ran) is = λ messages splits few read none reads writes keeps. ran_complete words handed before after status ran text messages is splits few reads writes
+top_complete words handed before after status (Some text) (inr refused) is = λ messages splits few read none reads writes keeps. by refused.why refused.cause refused.status_is read none keeps where
   by : (why : StartFault) → HasCauseToRefuse why words before.keeper after.keeper → status ≡ start_status why → are_read words ≡ true → before.keeper.told ≡ Some [] → ¬ (Rose before.keeper.failures after.keeper.failures) → (status ≡ 0) ⊎ (status ≡ 9)
   by start.Words cause is read none keeps = absurd (false≢true (sym cause.0 ∙ read))
   by start.KeeperFailed cause is read none keeps = absurd (keeps (refuses_rose before.keeper after.keeper cause.1))
@@ -349,11 +346,11 @@ top_complete words before after status (Some text) (inr refused) is = λ message
   by start.NoMemory cause is read none keeps = inr is
 
 -- a run over a keeper that has entries ends with the status that says so, or is refused memory, and writes nothing
-pub top_entries : (words : List (List ℕ)) (before after : Outside) (status : ℕ) (known : Option (List Entry)) → Runs words before after status → before.keeper.told ≡ known
+pub top_entries : (words : List (List ℕ)) (handed : ℕ) (before after : Outside) (status : ℕ) (known : Option (List Entry)) → Runs words handed before after status → before.keeper.told ≡ known
     → IfSome known (λ entries. entries ≢ [] → are_read words ≡ true → ¬ (Rose before.keeper.failures after.keeper.failures) → (after.sink.held ≡ before.sink.held) × ((status ≡ 13) ⊎ (status ≡ 9)))
-top_entries words before after status None done is = tt
-top_entries words before after status (Some entries) (inl ran) is = λ some read keeps. absurd (some (subst (λ known. IfSome known (λ es. es ≡ [])) is ran.opened.empty))
-top_entries words before after status (Some entries) (inr refused) is = λ some read keeps. (ap (λ sink. sink.held) refused.sink, by refused.why refused.cause refused.status_is read keeps) where
+top_entries words handed before after status None done is = tt
+top_entries words handed before after status (Some entries) (inl ran) is = λ some read keeps. absurd (some (subst (λ known. IfSome known (λ es. es ≡ [])) is ran.opened.empty))
+top_entries words handed before after status (Some entries) (inr refused) is = λ some read keeps. (ap (λ sink. sink.held) refused.sink, by refused.why refused.cause refused.status_is read keeps) where
   by : (why : StartFault) → HasCauseToRefuse why words before.keeper after.keeper → status ≡ start_status why → are_read words ≡ true → ¬ (Rose before.keeper.failures after.keeper.failures) → (status ≡ 13) ⊎ (status ≡ 9)
   by start.Words cause is read keeps = absurd (false≢true (sym cause.0 ∙ read))
   by start.KeeperFailed cause is read keeps = absurd (keeps (refuses_rose before.keeper after.keeper cause.1))
@@ -361,12 +358,12 @@ top_entries words before after status (Some entries) (inr refused) is = λ some 
   by start.NoMemory cause is read keeps = inr is
 
 -- where the words say a moment, the clock that is handed in is not read
-pub top_still : (words : List (List ℕ)) (before after : Outside) (status : ℕ) → Runs words before after status → IfSome (now_of words) (λ _. after.clock ≡ before.clock)
-top_still words before after status (inl ran) = by (now_of words) ran.unread where
+pub top_still : (words : List (List ℕ)) (handed : ℕ) (before after : Outside) (status : ℕ) → Runs words handed before after status → IfSome (now_of words) (λ _. after.clock ≡ before.clock)
+top_still words handed before after status (inl ran) = by (now_of words) ran.unread where
   by : (now : Option ℕ) → IsUnread now before.clock after.clock → IfSome now (λ _. after.clock ≡ before.clock)
   by None unread = tt
   by (Some moment) unread = unread
-top_still words before after status (inr refused) = by (now_of words) where
+top_still words handed before after status (inr refused) = by (now_of words) where
   by : (now : Option ℕ) → IfSome now (λ _. after.clock ≡ before.clock)
   by None = tt
   by (Some moment) = refused.clock

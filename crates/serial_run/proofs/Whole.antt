@@ -8,6 +8,7 @@ use Rattle.http_heads.specs.declared.request.Request.{Request}
 use Rattle.http_heads.proofs.MessageLemmas.{message_unique, ending_message, ending_unique}
 use Rattle.http_front.specs.Reading.{ReadsNext}
 use Rattle.http_front.specs.declared.read.Got.TheVariants as got
+use Rattle.run_words.specs.declared.words.Pace.{Pace}
 use Rattle.rest_service.specs.Exchanges.{Exchange, malformed_text}
 use Rattle.serial_run.specs.Most.{most_requests}
 use Rattle.serial_run.specs.declared.session.SessionEnd.{SessionEnd}
@@ -139,10 +140,10 @@ due_at_end rest exchanges messages ending other ends far stands is going few =
     due_by messages ending ends exchanges (answered_going exchanges messages far.more far.messages_are none.0 going few) (due_going exchanges ending going few ∙ ap end_at none.1 ∙ is)
 
 -- a session that settled did what its input is due
-pub session_due : (w w' : World) (ends : SessionEnd) (text : List ℕ) (messages : List Request) (ending : Ending) (s : Session w w' ends) → input w ≡ Some text → Splits text messages ending → IsSettled ends → IsDue messages ending ends s.exchanges
-session_due w w' ends text messages ending s is splits settled = by ends s.counted s.stops settled where
+pub session_due : (boot : ℕ) (pace : Pace) (w w' : World) (ends : SessionEnd) (text : List ℕ) (messages : List Request) (ending : Ending) (s : Session boot pace w w' ends) → input w ≡ Some text → Splits text messages ending → IsSettled ends → IsDue messages ending ends s.exchanges
+session_due boot pace w w' ends text messages ending s is splits settled = by ends s.counted s.stops settled where
   taken : (rest : List ℕ) × Begins text (requests_of s.exchanges) rest × (input s.behind ≡ Some rest)
-  taken = subst (λ known. IfSome known (λ bytes. (rest : List ℕ) × Begins bytes (requests_of s.exchanges) rest × (input s.behind ≡ Some rest))) is (together w s.behind s.exchanges s.serves).read
+  taken = subst (λ known. IfSome known (λ bytes. (rest : List ℕ) × Begins bytes (requests_of s.exchanges) rest × (input s.behind ≡ Some rest))) is (together boot pace w s.behind s.exchanges s.serves).read
 
   far : GoesOn taken.0 (requests_of s.exchanges) messages ending
   far = splits_behind text taken.0 (requests_of s.exchanges) messages ending taken.1 splits
@@ -150,7 +151,7 @@ session_due w w' ends text messages ending s is splits settled = by ends s.count
   at_rest : (P : List ℕ → Type 0) → IfSome (input s.behind) P → P taken.0
   at_rest P known = subst (λ input. IfSome input P) taken.2 known
 
-  by : (ends : SessionEnd) → CountsAt ends (length s.exchanges) → (AllGoOn s.exchanges × Stops ends s.behind w') ⊎ (OnlyFinalEnds s.exchanges × StopsBehindFinal ends × (w' ≡ s.behind)) → IsSettled ends → IsDue messages ending ends s.exchanges
+  by : (ends : SessionEnd) → CountsAt ends (length s.exchanges) → (AllGoOn s.exchanges × Stops boot ends s.behind w') ⊎ (OnlyFinalEnds s.exchanges × StopsBehindFinal ends × (w' ≡ s.behind)) → IsSettled ends → IsDue messages ending ends s.exchanges
   by end.Ended few (inl (going, stops)) settled =
       let answered : ReadsNext taken.0 (input w') w'.held got.End = at_rest (λ bytes. ReadsNext bytes (input w') w'.held got.End) stops.0.next in
       due_at_end taken.0 s.exchanges messages ending ended end.Ended far answered.0 refl going few

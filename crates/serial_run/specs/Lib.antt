@@ -2,5 +2,4 @@ pub mod Most
 pub mod Runs
 pub mod Sessions
 pub mod Texts
-pub mod Words
 pub mod Worlds

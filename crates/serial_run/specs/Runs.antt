@@ -1,18 +1,20 @@
 -- A run of the program: its words are read, the rows are opened, and one session follows.
-use Rattle.std.specs.Prelude.{◌≡◌, ◌≤◌, ◌⊎◌, ℕ, List, [], length, true, false, Option, Some, None, IfSome}
+use Rattle.std.specs.Prelude.{◌≡◌, ◌≤◌, ◌⊎◌, ℕ, List, [], length, true, false, Option, Some, None, IfSome, unwrap_or}
 use Rattle.http_front.specs.Clocks.{Readings, standing_still}
 use Rattle.http_front.specs.Held.{most_held}
 use Rattle.record_keeper.specs.Store.{Store}
-use Rattle.row_machine.specs.machine.State.{State}
-use Rattle.core_rows.specs.Opening.{Refuses, first_state, opened_store}
+use Rattle.core_rows.specs.Opening.{Refuses, opened_store}
 use Rattle.core_rows.specs.declared.opening.OpenFault.{OpenFault}
 use Rattle.core_rows.specs.declared.opening.OpenFault.TheVariants as fault
+use Rattle.serial_steps.specs.Steps.{Serial}
+use Rattle.run_words.specs.Words.{are_read, boot_of, now_of, pace_of}
+use Rattle.run_words.specs.declared.words.Pace.{Pace}
+use Rattle.rest_service.specs.Answers.{first_serial}
 use Rattle.serial_run.specs.declared.running.StartFault.{StartFault}
 use Rattle.serial_run.specs.declared.running.StartFault.TheVariants as start
 use Rattle.serial_run.specs.declared.session.SessionEnd.{SessionEnd}
 use Rattle.serial_run.specs.declared.session.SessionEnd.TheVariants as end
 use Rattle.serial_run.specs.Sessions.{Session}
-use Rattle.serial_run.specs.Words.{are_read, now_of}
 use Rattle.serial_run.specs.Worlds.{Outside, World, world}
 
 -- the readings of the clock of a run: one that stands still at the moment that the words say, or the one that is
@@ -53,25 +55,34 @@ start_fault fault.KeeperFailed = start.KeeperFailed
 start_fault fault.HasEntries = start.HasEntries
 start_fault fault.NoMemory = start.NoMemory
 
+-- the boot word of a run: the one that the words say, or the one that is handed in
+abbrev pub boot_with : List (List ℕ) → ℕ → ℕ
+boot_with words handed = unwrap_or (boot_of words) handed
+
 -- A session from this world on, with the outside seen so at its end, and rows that nobody sees. What is still to come
 -- is what its buffer holds, at most one head, one body and one piece, and what the source has left.
-pub record SessionFrom (w : World) (after : Outside) (ends : SessionEnd) : Type 0 where
+pub record SessionFrom (boot : ℕ) (pace : Pace) (w : World) (after : Outside) (ends : SessionEnd) : Type 0 where
   pub held : List ℕ
   pub few : length held ≤ most_held
-  pub state : State
-  pub session : Session w (world held after state) ends
+  pub serial : Serial
+  pub session : Session boot pace w (world held after serial) ends
+
+-- what a session sees at its begin of an outside whose keeper had no entries: the first rows, which are its entries now
+abbrev pub begun : Outside → World
+begun before = world [] (record before { keeper = opened_store before.keeper }) first_serial
 
 -- the rows of a keeper without entries were opened, and there was one session, from an empty buffer on
-pub record Opened (before after : Outside) (status : ℕ) : Type 0 where
+pub record Opened (boot : ℕ) (pace : Pace) (before after : Outside) (status : ℕ) : Type 0 where
   pub empty : IfSome before.keeper.told (λ entries. entries ≡ [])
   pub ends : SessionEnd
-  pub follows : SessionFrom (world [] (record before { keeper = opened_store before.keeper }) first_state) after ends
+  pub follows : SessionFrom boot pace (begun before) after ends
   pub status_is : status ≡ status_of ends
 
--- the words were read, and there was one session over the clock of the run
-pub record Ran (words : List (List ℕ)) (before after : Outside) (status : ℕ) : Type 0 where
+-- The words were read, and there was one session over the clock of the run, with its boot word, at the pace that the words
+-- say.
+pub record Ran (words : List (List ℕ)) (handed : ℕ) (before after : Outside) (status : ℕ) : Type 0 where
   pub read : are_read words ≡ true
-  pub opened : Opened (seen_with words before) (seen_with words after) status
+  pub opened : Opened (boot_with words handed) (pace_of words) (seen_with words before) (seen_with words after) status
   pub unread : IsUnread (now_of words) before.clock after.clock
 
 -- Why there was no session. Words that are not read leave the keeper as it was, and a refused opening does what it may
@@ -84,28 +95,30 @@ HasCauseToRefuse start.HasEntries words keeper keeper' = (are_read words ≡ tru
     × Refuses fault.HasEntries keeper keeper'
 HasCauseToRefuse start.NoMemory words keeper keeper' = (are_read words ≡ true) × Refuses fault.NoMemory keeper keeper'
 
--- The run had no session. No call of the source, of the sink or of the clock was made.
+-- The run had no session. No call of the source, of the sink, of the host or of the clock was made.
 pub record Refused (words : List (List ℕ)) (before after : Outside) (status : ℕ) : Type 0 where
   pub why : StartFault
   pub cause : HasCauseToRefuse why words before.keeper after.keeper
   pub status_is : status ≡ start_status why
   pub source : after.source ≡ before.source
   pub sink : after.sink ≡ before.sink
+  pub host : after.host ≡ before.host
   pub clock : after.clock ≡ before.clock
 
 -- there was a session, or there was none
-abbrev pub Runs : List (List ℕ) → Outside → Outside → ℕ → Type 0
-Runs words before after status = Ran words before after status ⊎ Refused words before after status
+abbrev pub Runs : List (List ℕ) → ℕ → Outside → Outside → ℕ → Type 0
+Runs words handed before after status = Ran words handed before after status ⊎ Refused words before after status
 
--- The rows were not opened. No call of the source, of the sink or of the clock was made.
+-- The rows were not opened. No call of the source, of the sink, of the host or of the clock was made.
 pub record Unopened (before after : Outside) (status : ℕ) : Type 0 where
   pub why : OpenFault
   pub refuses : Refuses why before.keeper after.keeper
   pub status_is : status ≡ start_status (start_fault why)
   pub source : after.source ≡ before.source
   pub sink : after.sink ≡ before.sink
+  pub host : after.host ≡ before.host
   pub clock : after.clock ≡ before.clock
 
 -- once the words are read, the rows were opened and there was a session, or they were not
-abbrev pub RunsOver : Outside → Outside → ℕ → Type 0
-RunsOver before after status = Opened before after status ⊎ Unopened before after status
+abbrev pub RunsOver : ℕ → Pace → Outside → Outside → ℕ → Type 0
+RunsOver boot pace before after status = Opened boot pace before after status ⊎ Unopened before after status

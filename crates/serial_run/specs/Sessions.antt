@@ -1,4 +1,5 @@
--- A session: it serves requests, and then it stops for one reason.
+-- A session: it serves requests, and then it stops for one reason. The boot word is that of the ids of operations, and the
+-- pace says how many steps of the worker follow each reply.
 use Rattle.std.specs.Prelude.{◌≡◌, ◌≢◌, ◌<◌, ◌≤◌, ◌⊎◌, ℕ, List, [], ◌∷◌, Bool, true, false, length, take, IfSome}
 use Rattle.std.specs.Prelude.{Result, Ok, Err, ◌+◌, ◌==◌, if◌then◌else◌}
 use Rattle.std.specs.Io.KnownBytes.{Appends}
@@ -9,9 +10,10 @@ use Rattle.http_front.specs.Reading.{IsUnfinished, KeepsHeld, OnEnd, OnReadFault
 use Rattle.http_front.specs.declared.read.Got.{Got}
 use Rattle.http_front.specs.declared.read.Got.TheVariants as got
 use Rattle.records.specs.declared.replies.Reply.TheVariants as reply
-use Rattle.core_rows.specs.Stores.{IsCaused, KeepsRecords}
-use Rattle.rest_service.specs.Exchanges.{Exchange, Leads, printed, malformed_text}
-use Rattle.rest_service.specs.Answers.{AsksAt, no_memory_text}
+use Rattle.serial_steps.specs.Steps.{Site, Step}
+use Rattle.run_words.specs.declared.words.Pace.{Pace}
+use Rattle.rest_service.specs.Exchanges.{Comes, Exchange, IsPaced, Leads, printed, malformed_text}
+use Rattle.rest_service.specs.Answers.{no_memory_text}
 use Rattle.rest_service.specs.declared.answers.Answered.{Answered}
 use Rattle.rest_service.specs.declared.answers.Answered.TheVariants as written
 use Rattle.serial_run.specs.declared.session.SessionEnd.{SessionEnd}
@@ -47,59 +49,55 @@ pub record BreaksOff (sink sink' : Outlet) (text : List ℕ) : Type 0 where
   pub later : sink.failures ≤ sink'.failures
   pub rose : Rose sink.failures sink'.failures
 
--- the rows are as before, the keeper was not called, and the clock was not read
-pub record KeepsRows (w w' : World) : Type 0 where
-  pub keeper : w'.keeper ≡ w.keeper
-  pub clock : w'.clock ≡ w.clock
-  pub state : w'.state ≡ w.state
+-- the server is as before, and no call of the keeper, of the host or of the clock was made
+abbrev pub KeepsRows : World → World → Type 0
+KeepsRows w w' = w'.site ≡ w.site
 
--- The next request was taken and carried out, its command at the moment that the clock gave, which led from the rows
--- and the store before to those after. Entries that were the records of the rows are so afterwards.
-pub record CarriesOut (w w' : World) (e : Exchange) : Type 0 where
+-- The next request was taken and came to its reply. No steps follow it yet.
+pub record CarriesOut (boot : ℕ) (w w' : World) (e : Exchange) : Type 0 where
   pub asked : Asks w w' (got.Request e.request)
-  pub clock : AsksAt e.moment w.clock w'.clock
-  pub leads : Leads w.state w.keeper e w'.state w'.keeper
-  pub caused : IsCaused e.outcome w.keeper.failures w'.keeper.failures
-  pub kept : KeepsRecords w.keeper.told w.state w'.keeper.told w'.state
+  pub comes : Comes boot w.site e w'.site
+  pub still : e.steps ≡ []
 
--- the next request was carried out, and its reply was written whole
-pub record Serves (w w' : World) (e : Exchange) : Type 0 where
-  pub carried : CarriesOut w w' e
-  pub replied : Takes w.sink w'.sink (printed e.reply e.request.last)
+-- The next request was taken and came to its reply, which was written whole, and the steps of the pace followed.
+pub record Serves (boot : ℕ) (pace : Pace) (w w' : World) (e : Exchange) : Type 0 where
+  pub asked : Asks w w' (got.Request e.request)
+  pub leads : Leads boot pace w.site e w'.site
+  pub replied : Takes w.sink w'.sink (printed e.reply boot e.request.last)
 
 -- ---- stops
 
 -- What stands next where a session stops before another request was answered whole, and what was done of it: nothing
 -- after the end of the input and at a failed read; its reply at a malformed place; a part of a reply where a write
 -- failed; and where memory was refused, nothing is written, after a request was carried out or before.
-abbrev pub Stops : SessionEnd → World → World → Type 0
-Stops end.Ended w w' = Asks w w' got.End × KeepsRows w w' × (w'.sink ≡ w.sink)
-Stops end.Cut w w' = (count : ℕ) × Asks w w' (got.Cut count) × KeepsRows w w' × (w'.sink ≡ w.sink)
-Stops (end.Malformed fault) w w' = Asks w w' (got.Malformed fault) × KeepsRows w w'
+abbrev pub Stops : ℕ → SessionEnd → World → World → Type 0
+Stops boot end.Ended w w' = Asks w w' got.End × KeepsRows w w' × (w'.sink ≡ w.sink)
+Stops boot end.Cut w w' = (count : ℕ) × Asks w w' (got.Cut count) × KeepsRows w w' × (w'.sink ≡ w.sink)
+Stops boot (end.Malformed fault) w w' = Asks w w' (got.Malformed fault) × KeepsRows w w'
     × Takes w.sink w'.sink (malformed_text fault)
-Stops end.ReadFault w w' = Asks w w' got.ReadFault × KeepsRows w w' × (w'.sink ≡ w.sink)
-Stops end.WriteFault w w' =
-    ((e : Exchange) × CarriesOut w w' e × BreaksOff w.sink w'.sink (printed e.reply e.request.last))
+Stops boot end.ReadFault w w' = Asks w w' got.ReadFault × KeepsRows w w' × (w'.sink ≡ w.sink)
+Stops boot end.WriteFault w w' =
+    ((e : Exchange) × CarriesOut boot w w' e × BreaksOff w.sink w'.sink (printed e.reply boot e.request.last))
     ⊎ ((fault : HeadFault) × Asks w w' (got.Malformed fault) × KeepsRows w w'
     × BreaksOff w.sink w'.sink (malformed_text fault))
-Stops end.Spent w w' = w' ≡ w
-Stops end.NoMemory w w' =
+Stops boot end.Spent w w' = w' ≡ w
+Stops boot end.NoMemory w w' =
     (Asks w w' got.NoMemory × KeepsRows w w' × (w'.sink ≡ w.sink))
     ⊎ ((fault : HeadFault) × Asks w w' (got.Malformed fault) × KeepsRows w w' × (w'.sink ≡ w.sink))
-    ⊎ ((e : Exchange) × CarriesOut w w' e × (e.reply ≢ reply.NoMemory) × (w'.sink ≡ w.sink))
+    ⊎ ((e : Exchange) × CarriesOut boot w w' e × (e.reply ≢ reply.NoMemory) × (w'.sink ≡ w.sink))
 
 -- one turn: the next request was answered, or the session stops
-abbrev pub Turns : Turn → World → World → Type 0
-Turns turn.GoOn w w' = (e : Exchange) × Serves w w' e × (e.request.last ≡ false)
-Turns turn.Final w w' = (e : Exchange) × Serves w w' e × (e.request.last ≡ true)
-Turns (turn.Stop ends) w w' = Stops ends w w' × (ends ≢ end.Spent)
+abbrev pub Turns : ℕ → Pace → Turn → World → World → Type 0
+Turns boot pace turn.GoOn w w' = (e : Exchange) × Serves boot pace w w' e × (e.request.last ≡ false)
+Turns boot pace turn.Final w w' = (e : Exchange) × Serves boot pace w w' e × (e.request.last ≡ true)
+Turns boot pace (turn.Stop ends) w w' = Stops boot ends w w' × (ends ≢ end.Spent)
 
 -- ---- a session
 
 -- requests were answered one after the other
-abbrev pub ServesAll : World → List Exchange → World → Type 0
-ServesAll w [] w' = w ≡ w'
-ServesAll w (e ∷ more) w' = (next : World) × Serves w next e × ServesAll next more w'
+abbrev pub ServesAll : ℕ → Pace → World → List Exchange → World → Type 0
+ServesAll boot pace w [] w' = w ≡ w'
+ServesAll boot pace w (e ∷ more) w' = (next : World) × Serves boot pace w next e × ServesAll boot pace next more w'
 
 -- no request of these is the last one on its connection
 abbrev pub AllGoOn : List Exchange → Type 0
@@ -135,12 +133,12 @@ StopsBehindFinal end.NoMemory = ⊥
 
 -- A session from w to w': the requests that it answered whole, the world after them, and how it stopped there. Either
 -- none of them was the last on its connection, or the final one alone was.
-pub record Session (w w' : World) (ends : SessionEnd) : Type 0 where
+pub record Session (boot : ℕ) (pace : Pace) (w w' : World) (ends : SessionEnd) : Type 0 where
   pub exchanges : List Exchange
   pub behind : World
-  pub serves : ServesAll w exchanges behind
+  pub serves : ServesAll boot pace w exchanges behind
   pub counted : CountsAt ends (length exchanges)
-  pub stops : (AllGoOn exchanges × Stops ends behind w')
+  pub stops : (AllGoOn exchanges × Stops boot ends behind w')
       ⊎ (OnlyFinalEnds exchanges × StopsBehindFinal ends × (w' ≡ behind))
 
 -- ---- the parts of a turn, one by one
@@ -175,6 +173,12 @@ WritesAnswer turn.Final a last sink sink' = (last ≡ true) × ¬ IsUnprinted a 
 WritesAnswer (turn.Stop end.WriteFault) a last sink sink' = ¬ IsUnprinted a × BreaksOff sink sink' (text_for a last)
 WritesAnswer (turn.Stop end.NoMemory) a last sink sink' = IsUnprinted a × (sink' ≡ sink)
 WritesAnswer (turn.Stop other) a last sink sink' = ⊥
+
+-- After an answer that was written whole the steps of the pace were made, and where the session stops none were.
+abbrev pub GoesOn : Pace → Turn → Site → Site → Type 0
+GoesOn pace turn.GoOn w w' = (steps : List Step) × IsPaced pace w steps w'
+GoesOn pace turn.Final w w' = (steps : List Step) × IsPaced pace w steps w'
+GoesOn pace (turn.Stop ends) w w' = w' ≡ w
 
 -- A malformed place was answered by its rule, or of that reply some first bytes were written, or memory was refused
 -- before it.

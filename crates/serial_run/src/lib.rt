@@ -5,7 +5,6 @@ mod running;
 mod serving;
 mod session;
 mod turn;
-mod words;
 
 pub use running::{StartFault, run_main};
 pub use session::{MOST_REQUESTS, SessionEnd, Turn, sessions_end_after_a_million_requests};

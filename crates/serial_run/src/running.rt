@@ -3,18 +3,20 @@ ghost use Rattle.std.specs.Prelude.{string_bytes};
 ghost use Rattle.size_values.specs.Causes.{Rose};
 ghost use Rattle.http_heads.specs.Messages.{Ending, ended, Splits};
 ghost use Rattle.http_heads.specs.declared.request.Request.{Request};
+ghost use Rattle.run_words.specs.Words.{are_read, now_of, pace_of};
+ghost use Rattle.serial_steps.specs.Steps.{hosted};
 ghost use Rattle.serial_run.specs.Most.{most_requests};
-ghost use Rattle.serial_run.specs.Runs.{Runs, RunsOver, SessionFrom, clock_of, start_fault, start_status, status_of};
+ghost use Rattle.serial_run.specs.Runs.{Runs, RunsOver, SessionFrom, boot_with, seen_with, start_fault, start_status, status_of};
 ghost use Rattle.serial_run.specs.Texts.{RunsText, is_fault};
-ghost use Rattle.serial_run.specs.Words.{are_read, now_of};
 ghost use Rattle.serial_run.specs.Worlds.{inlet, outlet, outside, world};
 
 use crate::serving::serve;
 use crate::session::SessionEnd;
-use crate::words::setup_of;
+use host_model::Host;
 use http_front::{Buffer, Clock, Sink, Source, StillClock};
 use record_keeper::Keeper;
 use rest_service::{OpenFault, Service};
+use run_words::{Pace, read_words};
 use std::alloc::Global;
 
 /// Why a run has no session.
@@ -72,54 +74,77 @@ impl StartFault {
 }
 
 /// One session, from an empty buffer on.
-fn session<S: Source, K: Sink, R: Keeper, C: Clock>(
+fn session<S: Source, K: Sink, R: Keeper, H: Host, C: Clock>(
     alloc: Global,
     source: &mut S,
     sink: &mut K,
     keeper: &mut R,
+    host: &mut H,
     clock: &mut C,
     mut buffer: Buffer,
     mut service: Service,
+    boot: u64,
+    pace: Pace,
 ) -> SessionEnd
     requires { buffer ≡ [] }
-    ensures { SessionFrom
+    ensures { SessionFrom boot pace
         (world []
         (outside (inlet S.left S.ended S.failures source.old) (outlet K.held K.failures sink.old)
-        (R.store keeper.old) (C.readings clock.old)) service)
-        (outside (inlet S.left S.ended S.failures source.new) (outlet K.held K.failures sink.new) (R.store keeper.new)
-        (C.readings clock.new)) result }
+        (R.store keeper.old) (hosted H.told H.failures host.old) (C.readings clock.old)) service)
+        (outside (inlet S.left S.ended S.failures source.new) (outlet K.held K.failures sink.new)
+        (R.store keeper.new) (hosted H.told H.failures host.new) (C.readings clock.new)) result }
 {
-    serve(
+    let ends = serve(
         alloc,
         &mut buffer,
         source,
         sink,
         keeper,
+        host,
         clock,
         &mut service,
-    )
+        boot,
+        pace,
+    );
+    drop(service);
+    drop(buffer);
+    ends
 }
 
 /// A run whose words are read, over its clock.
-fn run_over<S: Source, K: Sink, R: Keeper, C: Clock>(
+fn run_over<S: Source, K: Sink, R: Keeper, H: Host, C: Clock>(
     alloc: Global,
     source: &mut S,
     sink: &mut K,
     mut keeper: R,
+    host: &mut H,
     clock: &mut C,
+    boot: u64,
+    pace: Pace,
 ) -> (u8, R)
-    ensures { RunsOver
+    ensures { RunsOver boot pace
         (outside (inlet S.left S.ended S.failures source.old) (outlet K.held K.failures sink.old) (R.store keeper)
-        (C.readings clock.old))
+        (hosted H.told H.failures host.old) (C.readings clock.old))
         (outside (inlet S.left S.ended S.failures source.new) (outlet K.held K.failures sink.new) (R.store result.1)
-        (C.readings clock.new)) result.0 }
+        (hosted H.told H.failures host.new) (C.readings clock.new)) result.0 }
 {
     let Ok(buffer) = Buffer::new(alloc) else {
         return (StartFault::NoMemory.status(), keeper);
     };
     match Service::new(alloc, &mut keeper) {
         Ok(service) => {
-            let ends = session(alloc, source, sink, &mut keeper, clock, buffer, service);
+            let ends = session(
+                alloc,
+                source,
+                sink,
+                &mut keeper,
+                host,
+                clock,
+                buffer,
+                service,
+                boot,
+                pace,
+            );
             (ends.status(), keeper)
         }
         Err(fault) => (StartFault::of(fault).status(), keeper),
@@ -127,55 +152,73 @@ fn run_over<S: Source, K: Sink, R: Keeper, C: Clock>(
 }
 
 /// A run of the program.
-fn run<S: Source, K: Sink, R: Keeper, C: Clock>(
+fn run<S: Source, K: Sink, R: Keeper, H: Host, C: Clock>(
     alloc: Global,
     words: &[String],
     source: &mut S,
     sink: &mut K,
     keeper: R,
+    host: &mut H,
     clock: &mut C,
+    boot: u64,
 ) -> (u8, R)
-    ensures { Runs (map (λ w. string_bytes w) words.now)
+    ensures { Runs (map (λ w. string_bytes w) words.now) boot
         (outside (inlet S.left S.ended S.failures source.old) (outlet K.held K.failures sink.old) (R.store keeper)
-        (C.readings clock.old))
+        (hosted H.told H.failures host.old) (C.readings clock.old))
         (outside (inlet S.left S.ended S.failures source.new) (outlet K.held K.failures sink.new) (R.store result.1)
-        (C.readings clock.new)) result.0 }
+        (hosted H.told H.failures host.new) (C.readings clock.new)) result.0 }
 {
-    let Some(setup) = setup_of(words) else {
+    let Some(said) = read_words(words) else {
         return (StartFault::Words.status(), keeper);
     };
-    match setup.now {
-        Some(moment) => run_over(alloc, source, sink, keeper, &mut StillClock::new(moment)),
-        None => run_over(alloc, source, sink, keeper, clock),
+    let boot = said.boot.unwrap_or(boot);
+    match said.now {
+        Some(moment) => {
+            let mut still = StillClock::new(moment);
+            run_over(
+                alloc, source, sink, keeper, host, &mut still, boot, said.pace,
+            )
+        }
+        None => run_over(
+            alloc, source, sink, keeper, host, clock, boot, said.pace,
+        ),
     }
 }
 
 /// All that the program does: one session over the source and the sink, with the words of the command line: `run`,
-/// and its options. It gives the exit status, and the keeper back.
-pub fn run_main<S: Source, K: Sink, R: Keeper, C: Clock>(
+/// and its options. The worker of the server makes the calls of background operations on the host. The boot word is that of
+/// the ids of operations, where the words say none. It gives the exit status, and the keeper back.
+pub fn run_main<S: Source, K: Sink, R: Keeper, H: Host, C: Clock>(
     alloc: Global,
     words: &[String],
     source: &mut S,
     sink: &mut K,
     keeper: R,
+    host: &mut H,
     clock: &mut C,
+    boot: u64,
 ) -> (u8, R)
     // There was a session, or there was none.
-    ensures done { Runs (map (λ w. string_bytes w) words.now)
+    ensures done { Runs (map (λ w. string_bytes w) words.now) boot
         (outside (inlet S.left S.ended S.failures source.old) (outlet K.held K.failures sink.old) (R.store keeper)
-        (C.readings clock.old))
+        (hosted H.told H.failures host.old) (C.readings clock.old))
         (outside (inlet S.left S.ended S.failures source.new) (outlet K.held K.failures sink.new) (R.store result.1)
-        (C.readings clock.new)) result.0 }
+        (hosted H.told H.failures host.new) (C.readings clock.new)) result.0 }
 
     // Over a source that tells its bytes: a fault, or what these bytes ask.
     ensures text { IfSome (S.left source.old) (λ text. (messages : List Request) (ending : Ending)
         → Splits text messages ending →
-        (is_fault result.0 ≡ true) ⊎ RunsText messages ending result.0 (K.held sink.old) (K.held sink.new)
-        (clock_of (now_of (map (λ w. string_bytes w) words.now)) (C.readings clock.old))
-        (clock_of (now_of (map (λ w. string_bytes w) words.now)) (C.readings clock.new)) (R.store keeper)
-        (R.store result.1)) }
+        (is_fault result.0 ≡ true) ⊎ RunsText (boot_with (map (λ w. string_bytes w) words.now) boot)
+        (pace_of (map (λ w. string_bytes w) words.now)) messages ending result.0
+        (seen_with (map (λ w. string_bytes w) words.now)
+        (outside (inlet S.left S.ended S.failures source.old) (outlet K.held K.failures sink.old) (R.store keeper)
+        (hosted H.told H.failures host.old) (C.readings clock.old)))
+        (seen_with (map (λ w. string_bytes w) words.now)
+        (outside (inlet S.left S.ended S.failures source.new) (outlet K.held K.failures sink.new) (R.store result.1)
+        (hosted H.told H.failures host.new) (C.readings clock.new)))) }
 
-    // Whole messages and no fault: all of them are answered, or memory was refused.
+    // Whole messages and no fault: all of them are answered, or memory was refused. A call of the host that fails makes an
+    // operation fail, and no request.
     ensures complete { IfSome (S.left source.old) (λ text. (messages : List Request) → Splits text messages ended
         → length messages < most_requests →
         are_read (map (λ w. string_bytes w) words.now) ≡ true → (R.store keeper).told ≡ Some [] →
@@ -197,5 +240,7 @@ pub fn run_main<S: Source, K: Sink, R: Keeper, C: Clock>(
         ¬ (Rose (R.store keeper).failures (R.store result.1).failures)
         → (K.held sink.new ≡ K.held sink.old) × ((result.0 ≡ 13) ⊎ (result.0 ≡ 9))) }
 {
-    run(alloc, words, source, sink, keeper, clock)
+    run(
+        alloc, words, source, sink, keeper, host, clock, boot,
+    )
 }

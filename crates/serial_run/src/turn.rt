@@ -1,13 +1,16 @@
 ghost use Rattle.std.specs.Prelude.{◌≡◌};
-ghost use Rattle.serial_run.specs.Sessions.{RefusesPlace, Turns, WritesAnswer, turn_after};
+ghost use Rattle.serial_steps.specs.Steps.{hosted, site};
+ghost use Rattle.serial_run.specs.Sessions.{GoesOn, RefusesPlace, Turns, WritesAnswer, turn_after};
 ghost use Rattle.serial_run.specs.Worlds.{inlet, outlet, outside, world};
 
 use crate::session::{SessionEnd, Turn};
+use host_model::Host;
 use http_front::{
     Buffer, Clock, Got, HeadFault, Sink, SinkFailed, Source, no_memory_reply, read_request,
 };
 use record_keeper::Keeper;
 use rest_service::{Answered, Service, print_malformed};
+use run_words::Pace;
 use size_values::NoMemory;
 use std::alloc::Global;
 
@@ -46,28 +49,56 @@ fn refuse<K: Sink>(alloc: Global, sink: &mut K, fault: HeadFault) -> SessionEnd
     }
 }
 
-/// One turn of a session: takes the next message and answers it.
-pub(crate) fn turn<S: Source, K: Sink, R: Keeper, C: Clock>(
+/// The steps of the worker after an answer: those of the pace where it was written whole.
+fn go_on<R: Keeper, H: Host, C: Clock>(
+    alloc: Global,
+    keeper: &mut R,
+    host: &mut H,
+    clock: &mut C,
+    service: &mut Service,
+    pace: Pace,
+    turn: Turn,
+)
+    ensures { GoesOn pace turn
+        (site service.old (R.store keeper.old) (hosted H.told H.failures host.old) (C.readings clock.old))
+        (site service.new (R.store keeper.new) (hosted H.told H.failures host.new) (C.readings clock.new)) }
+{
+    match turn {
+        Turn::GoOn => service.go_on(alloc, keeper, host, clock, pace),
+        Turn::Final => service.go_on(alloc, keeper, host, clock, pace),
+        Turn::Stop(_) => {}
+    }
+}
+
+/// One turn of a session: takes the next message and answers it, and then the worker makes the steps of the pace.
+pub(crate) fn turn<S: Source, K: Sink, R: Keeper, H: Host, C: Clock>(
     alloc: Global,
     buffer: &mut Buffer,
     source: &mut S,
     sink: &mut K,
     keeper: &mut R,
+    host: &mut H,
     clock: &mut C,
     service: &mut Service,
+    boot: u64,
+    pace: Pace,
 ) -> Turn
-    ensures { Turns result
+    ensures { Turns boot pace result
         (world buffer.old
         (outside (inlet S.left S.ended S.failures source.old) (outlet K.held K.failures sink.old)
-        (R.store keeper.old) (C.readings clock.old)) service.old)
+        (R.store keeper.old) (hosted H.told H.failures host.old) (C.readings clock.old)) service.old)
         (world buffer.new
         (outside (inlet S.left S.ended S.failures source.new) (outlet K.held K.failures sink.new)
-        (R.store keeper.new) (C.readings clock.new)) service.new) }
+        (R.store keeper.new) (hosted H.told H.failures host.new) (C.readings clock.new)) service.new) }
 {
     match read_request(alloc, buffer, source) {
         Got::Request(request) => {
-            let answered = service.answer(alloc, keeper, clock, &request);
-            write_answer(sink, &answered, request.last)
+            let answered = service.answer(alloc, keeper, host, clock, &request, boot);
+            let comes = write_answer(sink, &answered, request.last);
+            drop(answered);
+            drop(request);
+            go_on(alloc, keeper, host, clock, service, pace, comes);
+            comes
         }
         Got::End => Turn::Stop(SessionEnd::Ended),
         Got::Cut(_) => Turn::Stop(SessionEnd::Cut),

@@ -1,5 +1,6 @@
 //! Whole requests over a keeper.
 
+use host_model::ModelHost;
 use http_front::{HeadFault, Request, StillClock};
 use record_keeper::MapKeeper;
 use rest_service::{Answered, Service, print_malformed};
@@ -45,9 +46,11 @@ fn answers(alloc: Global, keeper: &mut MapKeeper, request: &Request, text: &str)
         return false;
     };
     let mut clock = StillClock::new(0);
-    let answered = service.answer(alloc, keeper, &mut clock, request);
+    let mut host = ModelHost::new(alloc, Seq::new(alloc));
+    let answered = service.answer(alloc, keeper, &mut host, &mut clock, request, 0);
     let is_so = is_printed(&answered, text);
     drop(answered);
+    drop(host);
     drop(service);
     is_so
 }

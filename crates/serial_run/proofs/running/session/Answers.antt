@@ -4,10 +4,10 @@ use Rattle.serial_run.proofs.running.session.Goals as goal
 
 pub returns : goal.returns
 returns g c =
-    let session = rw c.requires at c.serve.ensures in
+    let session = rw c.requires at c.serve-ends.ensures in
     record {
-      held = c.serve.new.buffer;
-      few = session_few _ _ _ (omega arith) session;
-      state = c.serve.new.service;
+      held = c.serve-ends.new.buffer;
+      few = session_few c.args.boot c.args.pace _ _ _ (omega arith) session;
+      serial = c.serve-ends.new.service;
       session = session;
     }

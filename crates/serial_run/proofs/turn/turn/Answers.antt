@@ -5,7 +5,7 @@ use Rattle.serial_run.proofs.turn.turn.Goals as goal
 
 pub returns-in-Request : goal.returns-in-Request
 returns-in-Request g c =
-    turn_answers _ _ c.in-Request.request c.answer-answered.result c.write_answer.result (record {
+    turn_answers _ _ _ _ _ c.in-Request.request c.answer-answered.result c.write_answer-comes.result (record {
       next = c.in-Request.ensures.next;
       held = c.in-Request.ensures.held;
       ahead = unread (inlet g.S.Source.left g.S.Source.ended g.S.Source.failures) _ _ _ c.in-Request.ensures.ahead;
@@ -14,7 +14,7 @@ returns-in-Request g c =
       fault = c.in-Request.ensures.fault;
       ended = c.in-Request.ensures.ended;
     })
-    c.answer-answered.ensures c.write_answer.ensures
+    c.answer-answered.ensures c.write_answer-comes.ensures c.go_on.ensures
 
 pub returns-in-End : goal.returns-in-End
 returns-in-End g c = (
@@ -28,7 +28,7 @@ returns-in-End g c = (
       fault = c.in-End.ensures.fault;
       ended = c.in-End.ensures.ended;
     },
-    record { keeper = refl; clock = refl; state = refl },
+    refl,
     refl,
   ),
   λ e. cc,
@@ -47,7 +47,7 @@ returns-in-Cut g c = (
       fault = c.in-Cut.ensures.fault;
       ended = c.in-Cut.ensures.ended;
     },
-    record { keeper = refl; clock = refl; state = refl },
+    refl,
     refl,
   ),
   λ e. cc,
@@ -55,7 +55,7 @@ returns-in-Cut g c = (
 
 pub returns-in-Malformed : goal.returns-in-Malformed
 returns-in-Malformed g c =
-    turn_refuses _ _ c.in-Malformed.fault c.refuse.result (record {
+    turn_refuses _ c.args.pace _ _ c.in-Malformed.fault c.refuse.result (record {
       next = c.in-Malformed.ensures.next;
       held = c.in-Malformed.ensures.held;
       ahead = unread (inlet g.S.Source.left g.S.Source.ended g.S.Source.failures) _ _ _ c.in-Malformed.ensures.ahead;
@@ -63,7 +63,7 @@ returns-in-Malformed g c =
       later = c.in-Malformed.ensures.later;
       fault = c.in-Malformed.ensures.fault;
       ended = c.in-Malformed.ensures.ended;
-    }) (record { keeper = refl; clock = refl; state = refl }) c.refuse.ensures
+    }) refl c.refuse.ensures
 
 pub returns-in-ReadFault : goal.returns-in-ReadFault
 returns-in-ReadFault g c = (
@@ -77,7 +77,7 @@ returns-in-ReadFault g c = (
       fault = c.in-ReadFault.ensures.fault;
       ended = c.in-ReadFault.ensures.ended;
     },
-    record { keeper = refl; clock = refl; state = refl },
+    refl,
     refl,
   ),
   λ e. cc,
@@ -95,7 +95,7 @@ returns-in-NoMemory g c = (
       fault = c.in-NoMemory.ensures.fault;
       ended = c.in-NoMemory.ensures.ended;
     },
-    record { keeper = refl; clock = refl; state = refl },
+    refl,
     refl,
   ),
   λ e. cc,

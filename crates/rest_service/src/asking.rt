@@ -1,0 +1,120 @@
+//! How a command comes to its reply.
+ghost use Rattle.std.specs.Prelude.{◌≡◌, true, Ok};
+ghost use Rattle.records.specs.Built.{is_built_command};
+ghost use Rattle.records.specs.Forms.{is_formed};
+ghost use Rattle.core_rows.specs.Asked.{answered};
+ghost use Rattle.rest_routes.specs.Commands.{command_of};
+ghost use Rattle.serial_steps.specs.Steps.{hosted, site};
+ghost use Rattle.rest_service.specs.Answers.{answer_of, IsAtOnce, IsForClient, Reaches, Shows};
+
+use core_rows::refused_reply;
+use host_model::Host;
+use http_front::{Clock, Request};
+use record_keeper::Keeper;
+use records::{Command, Reply, What};
+use rest_routes::Router;
+use row_machine::Answer;
+use serial_steps::SerialDaemon;
+use size_values::Text;
+use std::alloc::Global;
+
+/// What a command is answered at first.
+#[derive(Drop)]
+enum Asked {
+    Reply(Reply),
+    /// It waits for this operation, which is live.
+    Hold(u64),
+}
+
+fn asked_of(answer: Answer) -> Asked
+    requires { IsForClient answer }
+    ensures { answer_of result ≡ answer }
+{
+    match answer {
+        Answer::Reply(reply) => Asked::Reply(reply),
+        Answer::Hold(number) => Asked::Hold(number),
+        Answer::NoMemory => Asked::Reply(Reply::NoMemory),
+        _ => unreachable!(),
+    }
+}
+
+fn reply_of(answer: Answer) -> Reply
+    requires { IsAtOnce answer }
+    ensures { answered result ≡ answer }
+{
+    match answer {
+        Answer::Reply(reply) => reply,
+        Answer::NoMemory => Reply::NoMemory,
+        _ => unreachable!(),
+    }
+}
+
+/// Asks for an operation in a project.
+fn show_operation<R: Keeper, C: Clock>(
+    alloc: Global,
+    daemon: &mut SerialDaemon,
+    keeper: &mut R,
+    clock: &mut C,
+    project: Text,
+    number: u64,
+) -> Reply
+    ensures { Shows project number daemon.old (R.store keeper.old) (C.readings clock.old) result daemon.new
+        (R.store keeper.new) (C.readings clock.new) }
+{
+    let command = Command {
+        project,
+        what: What::GetOp { op: number },
+    };
+    let told = daemon.ask(alloc, keeper, &command, clock.now());
+    drop(command);
+    reply_of(told)
+}
+
+/// Asks for a command. The answer of a wait is held back until its operation has ended, and is then what is told of that
+/// operation.
+fn carry_out<R: Keeper, H: Host, C: Clock>(
+    alloc: Global,
+    daemon: &mut SerialDaemon,
+    keeper: &mut R,
+    host: &mut H,
+    clock: &mut C,
+    command: Command,
+) -> Reply
+    requires formed { is_formed command ≡ true }
+    requires built { is_built_command command ≡ true }
+    ensures { Reaches (site daemon.old (R.store keeper.old) (hosted H.told H.failures host.old) (C.readings clock.old))
+        (Ok command) result
+        (site daemon.new (R.store keeper.new) (hosted H.told H.failures host.new) (C.readings clock.new)) }
+{
+    let answer = daemon.ask(alloc, keeper, &command, clock.now());
+    let Command { project, what } = command;
+    drop(what);
+    match asked_of(answer) {
+        Asked::Reply(reply) => reply,
+        Asked::Hold(number) => {
+            daemon.wait_for(alloc, keeper, host, clock, number);
+            show_operation(alloc, daemon, keeper, clock, project, number)
+        }
+    }
+}
+
+/// Routes a request and asks for its command, at the next moment of the clock.
+pub(crate) fn reply_to<R: Keeper, H: Host, C: Clock>(
+    alloc: Global,
+    router: &Router,
+    daemon: &mut SerialDaemon,
+    keeper: &mut R,
+    host: &mut H,
+    clock: &mut C,
+    request: &Request,
+    boot: u64,
+) -> Reply
+    ensures { Reaches (site daemon.old (R.store keeper.old) (hosted H.told H.failures host.old) (C.readings clock.old))
+        (command_of request.now boot) result
+        (site daemon.new (R.store keeper.new) (hosted H.told H.failures host.new) (C.readings clock.new)) }
+{
+    match router.route(alloc, request, boot) {
+        Ok(command) => carry_out(alloc, daemon, keeper, host, clock, command),
+        Err(why) => refused_reply(why),
+    }
+}

@@ -1,0 +1,361 @@
+//! Lists of words, each with what it says.
+use run_words::{Pace, RunWords, read_words, setup_of};
+use size_values::NoMemory;
+use std::alloc::Global;
+
+/// No moment, all steps, and no word of the start.
+const PLAIN: RunWords = RunWords {
+    now: None,
+    pace: Pace::All,
+    boot: None,
+};
+
+/// Lists of words that list no calls, and what they say of the run.
+const SAID: &[(&[&str], RunWords)] = &[
+    (&["run"], PLAIN),
+    (
+        &["run", "--now", "5"],
+        RunWords {
+            now: Some(5),
+            ..PLAIN
+        },
+    ),
+    (
+        &["run", "--now=5"],
+        RunWords {
+            now: Some(5),
+            ..PLAIN
+        },
+    ),
+    (
+        &["run", "--now", "0"],
+        RunWords {
+            now: Some(0),
+            ..PLAIN
+        },
+    ),
+    (
+        &["run", "--now=253402300799"],
+        RunWords {
+            now: Some(253_402_300_799),
+            ..PLAIN
+        },
+    ),
+    (
+        &["run", "--now=00000000000000000005"],
+        RunWords {
+            now: Some(5),
+            ..PLAIN
+        },
+    ),
+    (
+        &["run", "--steps", "3"],
+        RunWords {
+            pace: Pace::Steps(3),
+            ..PLAIN
+        },
+    ),
+    (
+        &["run", "--steps=3"],
+        RunWords {
+            pace: Pace::Steps(3),
+            ..PLAIN
+        },
+    ),
+    (
+        &["run", "--steps", "0"],
+        RunWords {
+            pace: Pace::Steps(0),
+            ..PLAIN
+        },
+    ),
+    (
+        &["run", "--steps=1000000"],
+        RunWords {
+            pace: Pace::Steps(1_000_000),
+            ..PLAIN
+        },
+    ),
+    (
+        &["run", "--steps", "all"],
+        RunWords {
+            pace: Pace::All,
+            ..PLAIN
+        },
+    ),
+    (
+        &["run", "--steps=all"],
+        RunWords {
+            pace: Pace::All,
+            ..PLAIN
+        },
+    ),
+    (
+        &["run", "--boot", "9"],
+        RunWords {
+            boot: Some(9),
+            ..PLAIN
+        },
+    ),
+    (
+        &["run", "--boot=9"],
+        RunWords {
+            boot: Some(9),
+            ..PLAIN
+        },
+    ),
+    (
+        &["run", "--boot", "0"],
+        RunWords {
+            boot: Some(0),
+            ..PLAIN
+        },
+    ),
+    (
+        &["run", "--boot=9223372036854775808"],
+        RunWords {
+            boot: Some(9_223_372_036_854_775_808),
+            ..PLAIN
+        },
+    ),
+    (
+        &["run", "--boot=18446744073709551615"],
+        RunWords {
+            boot: Some(18_446_744_073_709_551_615),
+            ..PLAIN
+        },
+    ),
+    (
+        &["run", "--now", "5", "--boot", "9", "--steps", "3"],
+        RunWords {
+            now: Some(5),
+            pace: Pace::Steps(3),
+            boot: Some(9),
+            ..PLAIN
+        },
+    ),
+    (
+        &["run", "--boot=9", "--steps", "3", "--now=5"],
+        RunWords {
+            now: Some(5),
+            pace: Pace::Steps(3),
+            boot: Some(9),
+            ..PLAIN
+        },
+    ),
+];
+
+/// The numbers from 1 to 64.
+const SIXTY_FOUR: &str =
+    "1,2,3,4,5,6,7,8,9,10,11,12,13,14,15,16,17,18,19,20,21,22,23,24,25,26,27,28,29,30,31,\
+    32,33,34,35,36,37,38,39,40,41,42,43,44,45,46,47,48,49,50,51,52,53,54,55,56,57,58,59,\
+    60,61,62,63,64";
+
+/// The numbers from 1 to 65.
+const SIXTY_FIVE: &str =
+    "1,2,3,4,5,6,7,8,9,10,11,12,13,14,15,16,17,18,19,20,21,22,23,24,25,26,27,28,29,30,31,\
+    32,33,34,35,36,37,38,39,40,41,42,43,44,45,46,47,48,49,50,51,52,53,54,55,56,57,58,59,\
+    60,61,62,63,64,65";
+
+/// The same numbers as those from 1 to 64.
+const NUMBERS: [u64; 64] = [
+    1, 2, 3, 4, 5, 6, 7, 8, 9, 10, 11, 12, 13, 14, 15, 16, 17, 18, 19, 20, 21, 22, 23, 24, 25, 26,
+    27, 28, 29, 30, 31, 32, 33, 34, 35, 36, 37, 38, 39, 40, 41, 42, 43, 44, 45, 46, 47, 48, 49, 50,
+    51, 52, 53, 54, 55, 56, 57, 58, 59, 60, 61, 62, 63, 64,
+];
+
+/// Lists of words that say nothing else of the run than which calls fail: those of the host, and
+/// those of the keeper.
+const LISTED: &[(&[&str], &[u64], &[u64])] = &[
+    (&["run"], &[], &[]),
+    (&["run", "--fail-host", "2"], &[2], &[]),
+    (&["run", "--fail-host=2"], &[2], &[]),
+    (&["run", "--fail-keeper", "4"], &[], &[4]),
+    (&["run", "--fail-keeper=4"], &[], &[4]),
+    (&["run", "--fail-host=2", "--fail-keeper=4"], &[2], &[4]),
+    (
+        &["run", "--fail-keeper", "4,5", "--fail-host", "2,3"],
+        &[2, 3],
+        &[4, 5],
+    ),
+    // The order of a list stays, and a number may come twice.
+    (&["run", "--fail-host=3,1,3"], &[3, 1, 3], &[]),
+    (&["run", "--fail-keeper=007,1"], &[], &[7, 1]),
+    // The least and the greatest number, and the longest list.
+    (&["run", "--fail-host=1"], &[1], &[]),
+    (
+        &["run", "--fail-host=18446744073709551615,1"],
+        &[18_446_744_073_709_551_615, 1],
+        &[],
+    ),
+    (&["run", "--fail-host", SIXTY_FOUR], &NUMBERS, &[]),
+    (&["run", "--fail-keeper", SIXTY_FOUR], &[], &NUMBERS),
+];
+
+/// Lists of words that are not read. No call is listed by them.
+const NOT_READ: &[&[&str]] = &[
+    &[],
+    &[""],
+    &["runs"],
+    &["Run"],
+    &["--help"],
+    &["make", "7", "40"],
+    &["drill", "7", "40"],
+    &["check"],
+    &["run", "run"],
+    &["run", ""],
+    &["run", "5"],
+    &["run", "--help"],
+    &["run", "--version"],
+    &["run", "--db", "rows"],
+    &["run", "--db=rows"],
+    &["run", "--boots", "5"],
+    // The option stands before the command.
+    &["--now=5", "run"],
+    &["--fail-host", "2", "run"],
+    // Its value is missing, empty, or another word.
+    &["run", "--now"],
+    &["run", "--now="],
+    &["run", "--now", ""],
+    &["run", "--now", "--now=5"],
+    &["run", "--steps"],
+    &["run", "--steps="],
+    &["run", "--steps", ""],
+    &["run", "--boot"],
+    &["run", "--boot="],
+    &["run", "--boot", ""],
+    &["run", "--fail-host"],
+    &["run", "--fail-host="],
+    &["run", "--fail-host", ""],
+    &["run", "--fail-keeper"],
+    &["run", "--fail-keeper="],
+    &["run", "--fail-keeper", ""],
+    &["run", "--fail-keeper", "--fail-host", "2"],
+    // It is given twice, or a word too many is.
+    &["run", "--now=5", "--now=5"],
+    &["run", "--now", "5", "--now", "6"],
+    &["run", "--steps=5", "--steps", "all"],
+    &["run", "--boot", "5", "--boot=5"],
+    &["run", "--fail-host=2", "--fail-host=2"],
+    &[
+        "run",
+        "--fail-keeper",
+        "2",
+        "--fail-host=1",
+        "--fail-keeper",
+        "2",
+    ],
+    &["run", "--now", "5", "6"],
+    &["run", "--now=5", "6"],
+    &["run", "--fail-host=2", "3"],
+    // Its value is too great.
+    &["run", "--now=253402300800"],
+    &["run", "--now", "18446744073709551616"],
+    &["run", "--steps=1000001"],
+    &["run", "--steps", "18446744073709551616"],
+    &["run", "--boot=18446744073709551616"],
+    &["run", "--boot", "99999999999999999999"],
+    &["run", "--fail-host=18446744073709551616"],
+    &["run", "--fail-keeper", "1,18446744073709551616"],
+    // Its value has more than twenty digits, or is no number.
+    &["run", "--now=000000000000000000005"],
+    &["run", "--boot=000000000000000000005"],
+    &["run", "--now=+5"],
+    &["run", "--now=-5"],
+    &["run", "--now= 5"],
+    &["run", "--now=5s"],
+    &["run", "--now=0x5"],
+    &["run", "--now=5=6"],
+    &["run", "--steps=+5"],
+    &["run", "--steps=ALL"],
+    &["run", "--steps=all "],
+    &["run", "--boot=+5"],
+    &["run", "--boot=all"],
+    &["run", "--fail-host=all"],
+    &["run", "--fail-host=+2"],
+    // Its list has a 0, an empty part, another sign, or a number too many.
+    &["run", "--fail-host=0"],
+    &["run", "--fail-keeper=1,0"],
+    &["run", "--fail-host=,"],
+    &["run", "--fail-host=,2"],
+    &["run", "--fail-host=2,"],
+    &["run", "--fail-keeper=2,,3"],
+    &["run", "--fail-keeper=2, 3"],
+    &["run", "--fail-keeper=2;3"],
+    &["run", "--fail-keeper", "2", "3"],
+    &["run", "--fail-host", SIXTY_FIVE],
+    &["run", "--fail-keeper", SIXTY_FIVE],
+    // One option is well, and another is not.
+    &["run", "--fail-host=2", "--steps=1000001"],
+    &["run", "--fail-keeper=2", "--now"],
+    // Its name is another.
+    &["run", "now=5"],
+    &["run", "-now=5"],
+    &["run", "--Now=5"],
+    &["run", "--now =5"],
+    &["run", "--fail=2"],
+    &["run", "--fail_host=2"],
+    &["run", "--step=2"],
+    &["run", "=5"],
+];
+
+fn owned(alloc: Global, words: &[&str]) -> Result<Vec<String>, NoMemory> {
+    let mut owned = Vec::new(alloc);
+    for word in words {
+        owned.push(String::from_str(alloc, word)?)?;
+    }
+    Ok(owned)
+}
+
+/// Whether the calls that fail are these of the host and these of the keeper.
+fn are_listed(alloc: Global, words: &[String], host: &[u64], keeper: &[u64]) -> bool {
+    let Ok(setup) = setup_of(alloc, words) else {
+        return false;
+    };
+    let are = setup.fail_host.view() == host && setup.fail_keeper.view() == keeper;
+    drop(setup);
+    are
+}
+
+/// Whether words say this of the run, and list these calls.
+fn is_said(
+    alloc: Global,
+    words: &[&str],
+    says: Option<RunWords>,
+    host: &[u64],
+    keeper: &[u64],
+) -> bool {
+    let Ok(words) = owned(alloc, words) else {
+        return false;
+    };
+    let is = read_words(&words) == says && are_listed(alloc, &words, host, keeper);
+    drop(words);
+    is
+}
+
+#[test]
+fn words_say_how_to_run(rt: HostRuntime) {
+    for (words, says) in SAID {
+        assert!(rt;
+            is_said(rt.alloc(), words, Some(*says), &[], &[]),
+            "{words:?}"
+        );
+    }
+}
+
+#[test]
+fn words_list_the_calls_that_fail(rt: HostRuntime) {
+    for (words, host, keeper) in LISTED {
+        assert!(rt;
+            is_said(rt.alloc(), words, Some(PLAIN), host, keeper),
+            "{words:?}"
+        );
+    }
+}
+
+#[test]
+fn other_words_are_not_read(rt: HostRuntime) {
+    for words in NOT_READ {
+        assert!(rt; is_said(rt.alloc(), words, None, &[], &[]), "{words:?}");
+    }
+}
