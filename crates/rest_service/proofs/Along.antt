@@ -143,13 +143,13 @@ along_paced pace.All w w' steps h = along_steps w w' steps (anyhow _ w w' steps 
 -- a command whose answer was held back
 along_held : {w w' : Site} {asked : Result Command Refusal} {moment : Option ℕ} {outcome : Outcome} {h : Held} {r : Reply} → HeldBack w asked moment outcome h r w'
     → IsAlong w (option_to_list moment ++ held_moments (Some h))
-        (failed_commits outcome + held_keeper_failures (Some h)) (held_host_failures (Some h)) w'
+    (failed_commits outcome + held_keeper_failures (Some h)) (held_host_failures (Some h)) w'
 along_held {w} {w'} {asked} {moment} {outcome} {h} {r} held =
     subst (λ n. IsAlong w (option_to_list moment ++ held_moments (Some h))
-        (failed_commits outcome + held_keeper_failures (Some h)) n w') (plain (host_failures_in h.steps))
+    (failed_commits outcome + held_keeper_failures (Some h)) n w') (plain (host_failures_in h.steps))
     (along_twice (along_carries held.holds)
-        (along_twice (along_steps held.waiting held.ended h.steps
-        (anyhow _ held.waiting held.ended h.steps held.waits.made)) (along_carries held.shows))) where
+    (along_twice (along_steps held.waiting held.ended h.steps
+    (anyhow _ held.waiting held.ended h.steps held.waits.made)) (along_carries held.shows))) where
       plain : (n : ℕ) → 0 + (n + 0) ≡ n
       plain n = omega arith
 
@@ -157,7 +157,7 @@ along_held {w} {w'} {asked} {moment} {outcome} {h} {r} held =
 along_answered : (w w' : Site) (asked : Result Command Refusal) (moment : Option ℕ) (outcome : Outcome)
     (held : Option Held) (r : Reply) → IsAnswered w asked moment outcome held r w'
     → IsAlong w (option_to_list moment ++ held_moments held) (failed_commits outcome + held_keeper_failures held)
-        (held_host_failures held) w'
+    (held_host_failures held) w'
 along_answered w w' asked moment outcome None r h = along_twice (along_carries h) (along_none w')
 along_answered w w' asked moment outcome (Some held) r h = along_held h
 
@@ -165,7 +165,7 @@ along_answered w w' asked moment outcome (Some held) r h = along_held h
 
 pub along_reply : (boot : ℕ) (w w' : Site) (e : Exchange) → Comes boot w e w'
     → IsAlong w (option_to_list e.moment ++ held_moments e.held)
-        (failed_commits e.outcome + held_keeper_failures e.held) (held_host_failures e.held) w'
+    (failed_commits e.outcome + held_keeper_failures e.held) (held_host_failures e.held) w'
 along_reply boot w w' e h = along_answered w w' (command_of e.request boot) e.moment e.outcome e.held e.reply h
 
 pub along_leads : {boot : ℕ} {follows : Pace} {w w' : Site} {e : Exchange} → Leads boot follows w e w'
@@ -180,7 +180,7 @@ pub along_more : {w v w' : Site} (e : Exchange) (more : List Exchange)
     → IsAlong w (moments_of (e ∷ more)) (keeper_failures_of (e ∷ more)) (host_failures_of (e ∷ more)) w'
 along_more {w} {v} {w'} e more first then =
     subst (λ k. IsAlong w (moments_of (e ∷ more)) k (host_failures_of (e ∷ more)) w')
-        (sym (sum_by-cons keeper_failures_at e more))
+    (sym (sum_by-cons keeper_failures_at e more))
     (subst (λ n. IsAlong w (moments_of (e ∷ more)) (keeper_failures_at e + keeper_failures_of more) n w')
-        (sym (sum_by-cons host_failures_at e more))
+    (sym (sum_by-cons host_failures_at e more))
     (along_twice first then))

@@ -59,14 +59,19 @@ replied {w} {w'} {c} {moment} {a} r asks is = record {
 abbrev shows_asks : (u w' : Site) (c : Command) (op : ℕ) (r : Reply)
     (shows : Shows c.project op u.serial u.store u.clock r w'.serial w'.store w'.clock)
     → w'.host ≡ u.host → Asks u (showing op c) shows.moment (answered r) w'
-shows_asks u w' c op r shows host = record { turn = shows.turn; hand = shows.hand; host = host; read = shows.read;
-    early = shows.early }
+shows_asks u w' c op r shows host = record {
+  turn = shows.turn;
+  hand = shows.hand;
+  host = host;
+  read = shows.read;
+  early = shows.early;
+}
 
 -- a command whose answer was held back
 pub held_back : {w v u w' : Site} {c : Command} {moment : ℕ} {a : Answer} {op : ℕ} (steps : List Step) (r : Reply)
     → Asks w c moment a v → answer.Hold op ≡ a
     → WaitsFor op v steps u → length steps ≤ most_steps
-        → Shows c.project op u.serial u.store u.clock r w'.serial w'.store w'.clock → w'.host ≡ u.host
+    → Shows c.project op u.serial u.store u.clock r w'.serial w'.store w'.clock → w'.host ≡ u.host
     → Reaches w (Ok c) r w'
 held_back {w} {v} {u} {w'} {c} {moment} {a} {op} steps r asks is waits few shows host = record {
   moment = Some moment;

@@ -152,7 +152,7 @@ answer_in (Some x) a = x.answer
 turned_speaks : (such : Answer → Type 0) (s : State) (c : Command) (moment : ℕ) (outcome : Outcome) (a : Answer)
     (s' : State)
     → Speaks such (asked s c moment outcome (broken s c moment))
-        → turned s (event.Ask c moment) outcome ≡ Some (and_then a s') → such a
+    → turned s (event.Ask c moment) outcome ≡ Some (and_then a s') → such a
 unfolding turned step answer_in
 turned_speaks such s c moment outcome a s' speaks is = by (asked s c moment outcome (broken s c moment)) speaks is where
   by : (after : Option After) → Speaks such after
@@ -178,7 +178,7 @@ pub at_once : {s s' : State} {store store' : Store} {project : List ℕ} {op mom
 at_once {s} {s'} {store} {store'} {project} {op} {moment} {a} t =
     turned_speaks IsAtOnce s (record { project = project; what = what.GetOp op }) moment t.outcome a s'
     (shown_speaks s project op moment t.outcome
-        (broken s (record { project = project; what = what.GetOp op }) moment)) t.turns.is
+    (broken s (record { project = project; what = what.GetOp op }) moment)) t.turns.is
 
 -- ---- what they are taken for
 

@@ -87,7 +87,7 @@ fn carry_out<R: Keeper, H: Host, C: Clock>(
         (C.readings clock.old))
         (Ok command) result
         (site daemon.new (R.store keeper.new) (hosted H.told H.failures host.new)
-            (C.readings clock.new)) }
+        (C.readings clock.new)) }
 {
     let answer = daemon.ask(alloc, keeper, &command, clock.now());
     let Command { project, what } = command;
@@ -116,7 +116,7 @@ pub(crate) fn reply_to<R: Keeper, H: Host, C: Clock>(
         (C.readings clock.old))
         (command_of request.now boot) result
         (site daemon.new (R.store keeper.new) (hosted H.told H.failures host.new)
-            (C.readings clock.new)) }
+        (C.readings clock.new)) }
 {
     match router.route(alloc, request, boot) {
         Ok(command) => carry_out(alloc, daemon, keeper, host, clock, command),

@@ -63,9 +63,9 @@ impl Service {
     ) -> Answered
         ensures { Answers boot
             (site self.old (R.store keeper.old) (hosted H.told H.failures host.old)
-                (C.readings clock.old))
+            (C.readings clock.old))
             (site self.new (R.store keeper.new) (hosted H.told H.failures host.new)
-                (C.readings clock.new))
+            (C.readings clock.new))
             request.now result }
     {
         let reply = reply_to(
@@ -94,9 +94,9 @@ impl Service {
     )
         ensures { (steps : List Step) × IsPaced pace
             (site self.old (R.store keeper.old) (hosted H.told H.failures host.old)
-                (C.readings clock.old)) steps
+            (C.readings clock.old)) steps
             (site self.new (R.store keeper.new) (hosted H.told H.failures host.new)
-                (C.readings clock.new)) }
+            (C.readings clock.new)) }
     {
         match pace {
             Pace::Steps(count) => self.daemon.make_steps(alloc, keeper, host, clock, count),
