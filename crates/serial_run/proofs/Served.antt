@@ -84,7 +84,7 @@ reads_first next w' e more None first then = tt
 reads_first next w' e more (Some bytes) first then =
     let rests : (rest : List ℕ) × Begins first.0 (requests_of more) rest × (input w' ≡ Some rest) =
     subst (λ known. IfSome known (λ bytes. (rest : List ℕ) × Begins bytes (requests_of more) rest
-        × (input w' ≡ Some rest))) first.2 then in
+    × (input w' ≡ Some rest))) first.2 then in
     (rests.0, (first.0, first.1, rests.1), rests.2)
 
 -- one request, and then more of them
@@ -247,31 +247,47 @@ session_stops boot pace a b c count ends far few stops = record {
 pub session_final : (boot : ℕ) (pace : Pace) (a b c : World) (count : ℕ) (ends : SessionEnd)
     → ServesSoFar boot pace a b count → count < most_requests
     → (e : Exchange) × Serves boot pace b c e × (e.request.last ≡ true) → ends ≡ end_behind count
-        → Session boot pace a c ends
+    → Session boot pace a c ends
 session_final boot pace a b c count ends far few next is =
     subst (λ e. Session boot pace a c e) (sym is) (by (count + 1 == most_requests) refl) where
-  all : List Exchange
-  all = far.exchanges ++ next.0 ∷ []
+      all : List Exchange
+      all = far.exchanges ++ next.0 ∷ []
 
-  all_served : ServesAll boot pace a all c
-  all_served = serves_one_more boot pace a b c far.exchanges next.0 far.serves next.1
+      all_served : ServesAll boot pace a all c
+      all_served = serves_one_more boot pace a b c far.exchanges next.0 far.serves next.1
 
-  length_all : length all ≡ count + 1
-  length_all = length-append far.exchanges (next.0 ∷ []) ∙ ap (λ n. n + 1) far.counted
+      length_all : length all ≡ count + 1
+      length_all = length-append far.exchanges (next.0 ∷ []) ∙ ap (λ n. n + 1) far.counted
 
-  only : OnlyFinalEnds all
-  only = only_final_append far.exchanges next.0 far.going next.2
+      only : OnlyFinalEnds all
+      only = only_final_append far.exchanges next.0 far.going next.2
 
-  by : (full : Bool) → (count + 1 == most_requests) ≡ full → Session boot pace a c (end_behind count)
-  by true is = rw is (record { exchanges = all; behind = c; serves = all_served; counted = length_all
-      ∙ eqb-true _ _ is; stops = inr (only, tt, refl) })
-  by false is = rw is (record { exchanges = all; behind = c; serves = all_served;
-      counted = subst (λ n. n < most_requests) (sym length_all) (below is); stops = inr (only, tt, refl) }) where
-    below : (count + 1 == most_requests) ≡ false → count + 1 < most_requests
-    below no_full = grind (arith, nat_tests)
+      by : (full : Bool) → (count + 1 == most_requests) ≡ full → Session boot pace a c (end_behind count)
+      by true is = rw is (record {
+        exchanges = all;
+        behind = c;
+        serves = all_served;
+        counted = length_all
+            ∙ eqb-true _ _ is;
+        stops = inr (only, tt, refl);
+      })
+      by false is = rw is (record {
+        exchanges = all;
+        behind = c;
+        serves = all_served;
+        counted = subst (λ n. n < most_requests) (sym length_all) (below is);
+        stops = inr (only, tt, refl);
+      }) where
+        below : (count + 1 == most_requests) ≡ false → count + 1 < most_requests
+        below no_full = grind (arith, nat_tests)
 
 -- a session stops where it has answered all that it may
 pub session_spent : (boot : ℕ) (pace : Pace) (a b : World) → ServesSoFar boot pace a b most_requests
     → Session boot pace a b end.Spent
-session_spent boot pace a b far = record { exchanges = far.exchanges; behind = b; serves = far.serves;
-    counted = far.counted; stops = inl (far.going, refl) }
+session_spent boot pace a b far = record {
+  exchanges = far.exchanges;
+  behind = b;
+  serves = far.serves;
+  counted = far.counted;
+  stops = inl (far.going, refl);
+}

@@ -1,6 +1,6 @@
 -- The clauses of the top call, from what a run comes to.
 use Rattle.std.proofs.Common.{◌≡◌, ◌≢◌, ◌<◌, ◌≤◌, ◌++◌, ◌⊎◌, ℕ, List, [], ◌∷◌, length, Bool, true, false, Option, Some}
-use Rattle.std.proofs.Common.{None, IfSome, option_map, refl, ap, sym, ◌∙◌, subst, arith, inl, inr}
+use Rattle.std.proofs.Common.{None, IfSome, refl, ap, sym, ◌∙◌, subst, arith, inl, inr}
 use Rattle.std.proofs.lemmas.List.{length-take}
 use Rattle.std.proofs.lemmas.Bool.{false≢true}
 use Rattle.std.specs.Io.KnownBytes.{Appends, prepend_known}
@@ -82,7 +82,7 @@ session_text : (boot : ℕ) (pace : Pace) (before after : Outside) (held : List 
     (text : List ℕ) (messages : List Request) (ending : Ending)
     → Session boot pace (begun before) (world held after serial) ends
     → before.source.left ≡ Some text → Splits text messages ending → IsSettled ends
-        → RunsText boot pace messages ending (status_of ends) before after
+    → RunsText boot pace messages ending (status_of ends) before after
 session_text boot pace before after held serial ends text messages ending s known splits settled = record {
   exchanges = s.exchanges;
   serial = serial;
@@ -94,7 +94,7 @@ session_text boot pace before after held serial ends text messages ending s know
   written = subst (λ t. Appends before.sink.held after.sink.held (printed_replies boot s.exchanges ++ t))
       (sym (ap (λ e. e.text) due.end_is))
       (appends_twice before.sink.held s.behind.sink.held after.sink.held (printed_replies boot s.exchanges)
-          (text_at ends) all.written quiet.written);
+      (text_at ends) all.written quiet.written);
   kept = along.kept before.keeper.told refl;
   keeper_failed = along.keeper_failed;
   host_failed = along.host_failed;
@@ -262,12 +262,12 @@ top_keeper_fault words handed before after status (inl ran) six =
     not_of_session ran.opened.ends 6 (sym ran.opened.status_is ∙ six) (omega arith) six≢nine six≢ten
 top_keeper_fault words handed before after status (inr refused) six =
     by refused.why refused.cause (sym refused.status_is ∙ six) where
-  by : (why : StartFault) → HasCauseToRefuse why words before.keeper after.keeper → start_status why ≡ 6
-      → Rose before.keeper.failures after.keeper.failures
-  by start.KeeperFailed cause is = refuses_rose before.keeper after.keeper cause.1
-  by start.Words cause is = let none : ⊥ = omega (arith, is) in absurd none
-  by start.HasEntries cause is = let none : ⊥ = omega (arith, is) in absurd none
-  by start.NoMemory cause is = let none : ⊥ = omega (arith, is) in absurd none
+      by : (why : StartFault) → HasCauseToRefuse why words before.keeper after.keeper → start_status why ≡ 6
+          → Rose before.keeper.failures after.keeper.failures
+      by start.KeeperFailed cause is = refuses_rose before.keeper after.keeper cause.1
+      by start.Words cause is = let none : ⊥ = omega (arith, is) in absurd none
+      by start.HasEntries cause is = let none : ⊥ = omega (arith, is) in absurd none
+      by start.NoMemory cause is = let none : ⊥ = omega (arith, is) in absurd none
 
 -- status 8: the words are not read
 pub top_words : (words : List (List ℕ)) (handed : ℕ) (before after : Outside) (status : ℕ)
@@ -276,12 +276,12 @@ top_words words handed before after status (inl ran) eight =
     not_of_session ran.opened.ends 8 (sym ran.opened.status_is ∙ eight) (omega arith) eight≢nine eight≢ten
 top_words words handed before after status (inr refused) eight =
     by refused.why refused.cause (sym refused.status_is ∙ eight) where
-  by : (why : StartFault) → HasCauseToRefuse why words before.keeper after.keeper → start_status why ≡ 8
-      → are_read words ≡ false
-  by start.Words cause is = cause.0
-  by start.KeeperFailed cause is = let none : ⊥ = omega (arith, is) in absurd none
-  by start.HasEntries cause is = let none : ⊥ = omega (arith, is) in absurd none
-  by start.NoMemory cause is = let none : ⊥ = omega (arith, is) in absurd none
+      by : (why : StartFault) → HasCauseToRefuse why words before.keeper after.keeper → start_status why ≡ 8
+          → are_read words ≡ false
+      by start.Words cause is = cause.0
+      by start.KeeperFailed cause is = let none : ⊥ = omega (arith, is) in absurd none
+      by start.HasEntries cause is = let none : ⊥ = omega (arith, is) in absurd none
+      by start.NoMemory cause is = let none : ⊥ = omega (arith, is) in absurd none
 
 -- and where they are not read, that is the status
 pub top_not_read : (words : List (List ℕ)) (handed : ℕ) (before after : Outside) (status : ℕ)
@@ -302,12 +302,12 @@ top_has_entries words handed before after status (inl ran) thirteen =
     not_of_session ran.opened.ends 13 (sym ran.opened.status_is ∙ thirteen) (omega arith) thirteen≢nine thirteen≢ten
 top_has_entries words handed before after status (inr refused) thirteen =
     by refused.why refused.cause (sym refused.status_is ∙ thirteen) where
-  by : (why : StartFault) → HasCauseToRefuse why words before.keeper after.keeper → start_status why ≡ 13
-      → IfSome before.keeper.told (λ entries. entries ≢ [])
-  by start.HasEntries cause is = cause.1.0
-  by start.Words cause is = let none : ⊥ = omega (arith, is) in absurd none
-  by start.KeeperFailed cause is = let none : ⊥ = omega (arith, is) in absurd none
-  by start.NoMemory cause is = let none : ⊥ = omega (arith, is) in absurd none
+      by : (why : StartFault) → HasCauseToRefuse why words before.keeper after.keeper → start_status why ≡ 13
+          → IfSome before.keeper.told (λ entries. entries ≢ [])
+      by start.HasEntries cause is = cause.1.0
+      by start.Words cause is = let none : ⊥ = omega (arith, is) in absurd none
+      by start.KeeperFailed cause is = let none : ⊥ = omega (arith, is) in absurd none
+      by start.NoMemory cause is = let none : ⊥ = omega (arith, is) in absurd none
 
 -- ---- a run over a known text
 
@@ -323,40 +323,40 @@ ran_text : (words : List (List ℕ)) (handed : ℕ) (before after : Outside) (st
     → Ran words handed before after status → (text : List ℕ) (messages : List Request) (ending : Ending)
     → before.source.left ≡ Some text → Splits text messages ending
     → (is_fault status ≡ true)
-        ⊎ RunsText (boot_with words handed) (pace_of words) messages ending status (seen_with words before)
-        (seen_with words after)
+    ⊎ RunsText (boot_with words handed) (pace_of words) messages ending status (seen_with words before)
+    (seen_with words after)
 ran_text words handed before after status r text messages ending known splits = subst
     (λ n. (is_fault n ≡ true)
     ⊎ RunsText (boot_with words handed) (pace_of words) messages ending n (seen_with words before)
     (seen_with words after)) (sym r.opened.status_is) (by r.opened.ends r.opened.follows.session) where
-  does : (ends : SessionEnd)
-      → Session (boot_with words handed) (pace_of words) (begun (seen_with words before))
-      (world r.opened.follows.held (seen_with words after) r.opened.follows.serial) ends → IsSettled ends
-      → RunsText (boot_with words handed) (pace_of words) messages ending (status_of ends) (seen_with words before)
-      (seen_with words after)
-  does ends s settled = session_text (boot_with words handed) (pace_of words) (seen_with words before) (seen_with words after) r.opened.follows.held r.opened.follows.serial ends text messages ending s known splits settled
+      does : (ends : SessionEnd)
+          → Session (boot_with words handed) (pace_of words) (begun (seen_with words before))
+          (world r.opened.follows.held (seen_with words after) r.opened.follows.serial) ends → IsSettled ends
+          → RunsText (boot_with words handed) (pace_of words) messages ending (status_of ends) (seen_with words before)
+          (seen_with words after)
+      does ends s settled = session_text (boot_with words handed) (pace_of words) (seen_with words before) (seen_with words after) r.opened.follows.held r.opened.follows.serial ends text messages ending s known splits settled
 
-  by : (ends : SessionEnd)
-      → Session (boot_with words handed) (pace_of words) (begun (seen_with words before))
-      (world r.opened.follows.held (seen_with words after) r.opened.follows.serial) ends
-      → (is_fault (status_of ends) ≡ true)
-      ⊎ RunsText (boot_with words handed) (pace_of words) messages ending (status_of ends) (seen_with words before)
-      (seen_with words after)
-  by end.Ended s = inr (does end.Ended s tt)
-  by end.Cut s = inr (does end.Cut s tt)
-  by (end.Malformed fault) s = inr (does (end.Malformed fault) s tt)
-  by end.Spent s = inr (does end.Spent s tt)
-  by end.ReadFault s = inl refl
-  by end.WriteFault s = inl refl
-  by end.NoMemory s = inl refl
+      by : (ends : SessionEnd)
+          → Session (boot_with words handed) (pace_of words) (begun (seen_with words before))
+          (world r.opened.follows.held (seen_with words after) r.opened.follows.serial) ends
+          → (is_fault (status_of ends) ≡ true)
+          ⊎ RunsText (boot_with words handed) (pace_of words) messages ending (status_of ends) (seen_with words before)
+          (seen_with words after)
+      by end.Ended s = inr (does end.Ended s tt)
+      by end.Cut s = inr (does end.Cut s tt)
+      by (end.Malformed fault) s = inr (does (end.Malformed fault) s tt)
+      by end.Spent s = inr (does end.Spent s tt)
+      by end.ReadFault s = inl refl
+      by end.WriteFault s = inl refl
+      by end.NoMemory s = inl refl
 
 -- any run over a known text
 pub top_text : (words : List (List ℕ)) (handed : ℕ) (before after : Outside) (status : ℕ) (known : Option (List ℕ))
     → Runs words handed before after status → before.source.left ≡ known
     → IfSome known (λ text. (messages : List Request) (ending : Ending) → Splits text messages ending
-        → (is_fault status ≡ true)
-        ⊎ RunsText (boot_with words handed) (pace_of words) messages ending status (seen_with words before)
-        (seen_with words after))
+    → (is_fault status ≡ true)
+    ⊎ RunsText (boot_with words handed) (pace_of words) messages ending status (seen_with words before)
+    (seen_with words after))
 top_text words handed before after status None done is = tt
 top_text words handed before after status (Some text) (inl ran) is =
     λ messages ending splits. ran_text words handed before after status ran text messages ending is splits
@@ -387,38 +387,38 @@ ran_complete : (words : List (List ℕ)) (handed : ℕ) (before after : Outside)
     → Ran words handed before after status → (text : List ℕ) (messages : List Request)
     → before.source.left ≡ Some text → Splits text messages ended → length messages < most_requests
     → ¬ (Rose before.source.failures after.source.failures) → ¬ (Rose before.sink.failures after.sink.failures)
-        → (status ≡ 0) ⊎ (status ≡ 9)
+    → (status ≡ 0) ⊎ (status ≡ 9)
 ran_complete words handed before after status r text messages known splits few reads writes =
     subst (λ n. (n ≡ 0) ⊎ (n ≡ 9)) (sym r.opened.status_is) (by r.opened.ends r.opened.follows.session) where
-  settled : (ends : SessionEnd)
-      → Session (boot_with words handed) (pace_of words) (begun (seen_with words before))
-      (world r.opened.follows.held (seen_with words after) r.opened.follows.serial) ends → IsSettled ends
-      → (status_of ends ≡ 0) ⊎ (status_of ends ≡ 9)
-  settled ends s is = inl ((session_text (boot_with words handed) (pace_of words) (seen_with words before) (seen_with words after) r.opened.follows.held r.opened.follows.serial ends text messages ended s known splits is).status_is ∙ due_whole messages few)
+      settled : (ends : SessionEnd)
+          → Session (boot_with words handed) (pace_of words) (begun (seen_with words before))
+          (world r.opened.follows.held (seen_with words after) r.opened.follows.serial) ends → IsSettled ends
+          → (status_of ends ≡ 0) ⊎ (status_of ends ≡ 9)
+      settled ends s is = inl ((session_text (boot_with words handed) (pace_of words) (seen_with words before) (seen_with words after) r.opened.follows.held r.opened.follows.serial ends text messages ended s known splits is).status_is ∙ due_whole messages few)
 
-  by : (ends : SessionEnd)
-      → Session (boot_with words handed) (pace_of words) (begun (seen_with words before))
-      (world r.opened.follows.held (seen_with words after) r.opened.follows.serial) ends
-      → (status_of ends ≡ 0) ⊎ (status_of ends ≡ 9)
-  by end.Ended s = inl refl
-  by end.Cut s = settled end.Cut s tt
-  by (end.Malformed fault) s = settled (end.Malformed fault) s tt
-  by end.Spent s = settled end.Spent s tt
-  by end.NoMemory s = inr refl
-  by end.ReadFault s = absurd (reads
-      (session_tells (boot_with words handed) (pace_of words) (begun (seen_with words before))
-      (world r.opened.follows.held (seen_with words after) r.opened.follows.serial) end.ReadFault s))
-  by end.WriteFault s = absurd (writes
-      (session_tells (boot_with words handed) (pace_of words) (begun (seen_with words before))
-      (world r.opened.follows.held (seen_with words after) r.opened.follows.serial) end.WriteFault s))
+      by : (ends : SessionEnd)
+          → Session (boot_with words handed) (pace_of words) (begun (seen_with words before))
+          (world r.opened.follows.held (seen_with words after) r.opened.follows.serial) ends
+          → (status_of ends ≡ 0) ⊎ (status_of ends ≡ 9)
+      by end.Ended s = inl refl
+      by end.Cut s = settled end.Cut s tt
+      by (end.Malformed fault) s = settled (end.Malformed fault) s tt
+      by end.Spent s = settled end.Spent s tt
+      by end.NoMemory s = inr refl
+      by end.ReadFault s = absurd (reads
+          (session_tells (boot_with words handed) (pace_of words) (begun (seen_with words before))
+          (world r.opened.follows.held (seen_with words after) r.opened.follows.serial) end.ReadFault s))
+      by end.WriteFault s = absurd (writes
+          (session_tells (boot_with words handed) (pace_of words) (begun (seen_with words before))
+          (world r.opened.follows.held (seen_with words after) r.opened.follows.serial) end.WriteFault s))
 
 -- the same of any run
 pub top_complete : (words : List (List ℕ)) (handed : ℕ) (before after : Outside) (status : ℕ)
     (known : Option (List ℕ)) → Runs words handed before after status → before.source.left ≡ known
     → IfSome known (λ text. (messages : List Request) → Splits text messages ended → length messages < most_requests
-        → are_read words ≡ true → before.keeper.told ≡ Some []
+    → are_read words ≡ true → before.keeper.told ≡ Some []
     → ¬ (Rose before.source.failures after.source.failures) → ¬ (Rose before.sink.failures after.sink.failures)
-        → ¬ (Rose before.keeper.failures after.keeper.failures) → (status ≡ 0) ⊎ (status ≡ 9))
+    → ¬ (Rose before.keeper.failures after.keeper.failures) → (status ≡ 0) ⊎ (status ≡ 9))
 top_complete words handed before after status None done is = tt
 top_complete words handed before after status (Some text) (inl ran) is = λ messages splits few read none reads writes keeps. ran_complete words handed before after status ran text messages is splits few reads writes
 top_complete words handed before after status (Some text) (inr refused) is = λ messages splits few read none reads writes keeps. by refused.why refused.cause refused.status_is read none keeps where
@@ -435,19 +435,19 @@ top_complete words handed before after status (Some text) (inr refused) is = λ 
 pub top_entries : (words : List (List ℕ)) (handed : ℕ) (before after : Outside) (status : ℕ)
     (known : Option (List Entry)) → Runs words handed before after status → before.keeper.told ≡ known
     → IfSome known (λ entries. entries ≢ [] → are_read words ≡ true
-        → ¬ (Rose before.keeper.failures after.keeper.failures)
-        → (after.sink.held ≡ before.sink.held) × ((status ≡ 13) ⊎ (status ≡ 9)))
+    → ¬ (Rose before.keeper.failures after.keeper.failures)
+    → (after.sink.held ≡ before.sink.held) × ((status ≡ 13) ⊎ (status ≡ 9)))
 top_entries words handed before after status None done is = tt
 top_entries words handed before after status (Some entries) (inl ran) is =
     λ some read keeps. absurd (some (subst (λ known. IfSome known (λ es. es ≡ [])) is ran.opened.empty))
 top_entries words handed before after status (Some entries) (inr refused) is = λ some read keeps.
     (ap (λ sink. sink.held) refused.sink, by refused.why refused.cause refused.status_is read keeps) where
-  by : (why : StartFault) → HasCauseToRefuse why words before.keeper after.keeper → status ≡ start_status why
-      → are_read words ≡ true → ¬ (Rose before.keeper.failures after.keeper.failures) → (status ≡ 13) ⊎ (status ≡ 9)
-  by start.Words cause is read keeps = absurd (false≢true (sym cause.0 ∙ read))
-  by start.KeeperFailed cause is read keeps = absurd (keeps (refuses_rose before.keeper after.keeper cause.1))
-  by start.HasEntries cause is read keeps = inl is
-  by start.NoMemory cause is read keeps = inr is
+      by : (why : StartFault) → HasCauseToRefuse why words before.keeper after.keeper → status ≡ start_status why
+          → are_read words ≡ true → ¬ (Rose before.keeper.failures after.keeper.failures) → (status ≡ 13) ⊎ (status ≡ 9)
+      by start.Words cause is read keeps = absurd (false≢true (sym cause.0 ∙ read))
+      by start.KeeperFailed cause is read keeps = absurd (keeps (refuses_rose before.keeper after.keeper cause.1))
+      by start.HasEntries cause is read keeps = inl is
+      by start.NoMemory cause is read keeps = inr is
 
 -- where the words say a moment, the clock that is handed in is not read
 pub top_still : (words : List (List ℕ)) (handed : ℕ) (before after : Outside) (status : ℕ)

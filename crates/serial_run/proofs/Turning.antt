@@ -67,8 +67,11 @@ turn_answers boot pace w w' v request result comes asks answers writes goes = by
   }
 
   carried : w'.site ≡ v → CarriesOut boot w w' (e [])
-  carried same = record { asked = asks;
-      comes = subst (λ s. Comes boot w.site (e []) s) (sym same) answers.reaches.comes; still = refl }
+  carried same = record {
+    asked = asks;
+    comes = subst (λ s. Comes boot w.site (e []) s) (sym same) answers.reaches.comes;
+    still = refl;
+  }
 
   by : (comes : Turn) → WritesAnswer comes result request.last w.sink w'.sink → GoesOn pace comes v w'.site
       → Turns boot pace comes w w'
@@ -76,9 +79,15 @@ turn_answers boot pace w w' v request result comes asks answers writes goes = by
   by turn.Final writes goes = (e goes.0, serves goes.0 goes.1 writes.1 writes.2, writes.0)
   by (turn.Stop end.WriteFault) writes same =
       (inl (e [], carried same, subst (BreaksOff w.sink w'.sink) (text writes.0) writes.1), λ e. cc)
-  by (turn.Stop end.NoMemory) writes same =
-      (inr (inr (e [], carried same, takes_memory result answers.reply boot request.last answers.text writes.0,
-          writes.1)), λ e. cc)
+  by (turn.Stop end.NoMemory) writes same = (
+    inr (inr (
+      e [],
+      carried same,
+      takes_memory result answers.reply boot request.last answers.text writes.0,
+      writes.1,
+    )),
+    λ e. cc,
+  )
   by (turn.Stop end.Ended) writes same = absurd writes
   by (turn.Stop end.Cut) writes same = absurd writes
   by (turn.Stop (end.Malformed fault)) writes same = absurd writes

@@ -29,18 +29,28 @@ pub record GoesOn (rest : List ℕ) (begun messages : List Request) (ending : En
 -- a text that begins with messages goes on after them
 pub splits_behind : (text rest : List ℕ) (begun messages : List Request) (ending : Ending) → Begins text begun rest
     → Splits text messages ending → GoesOn rest begun messages ending
-splits_behind text rest [] messages ending begins splits = record { more = messages; messages_are = refl;
-    rest_splits = subst (λ bytes. Splits bytes messages ending) (sym begins) splits }
+splits_behind text rest [] messages ending begins splits = record {
+  more = messages;
+  messages_are = refl;
+  rest_splits = subst (λ bytes. Splits bytes messages ending) (sym begins) splits;
+}
 splits_behind text rest (m ∷ begun) [] ending begins splits =
     absurd (ending_message text ending (subst (λ bytes. EndsAs bytes ending) splits.begins splits.ends) begins.1)
 splits_behind text rest (m ∷ begun) (n ∷ messages) ending begins splits =
     let same : (m ≡ n) × (begins.0 ≡ splits.begins.0) = message_unique begins.1 splits.begins.1 in
     let far : GoesOn rest begun messages ending = splits_behind begins.0 rest begun messages ending begins.2
-    (record { rest = splits.rest;
-        begins =
-        subst (λ bytes. Begins bytes messages splits.rest) (sym same.1) splits.begins.2; ends = splits.ends }) in
-    record { more = far.more; messages_are = ap (λ x. x ∷ messages) (sym same.0)
-        ∙ ap (λ xs. m ∷ xs) far.messages_are; rest_splits = far.rest_splits }
+    (record {
+      rest = splits.rest;
+      begins =
+          subst (λ bytes. Begins bytes messages splits.rest) (sym same.1) splits.begins.2;
+      ends = splits.ends;
+    }) in
+    record {
+      more = far.more;
+      messages_are = ap (λ x. x ∷ messages) (sym same.0)
+          ∙ ap (λ xs. m ∷ xs) far.messages_are;
+      rest_splits = far.rest_splits;
+    }
 
 -- where a rest ends so, there are no more messages
 pub none_more : (rest : List ℕ) (more : List Request) (ending other : Ending) → Splits rest more ending
@@ -96,7 +106,7 @@ answered_going : (exchanges : List Exchange) (messages more : List Request) → 
     → more ≡ [] → AllGoOn exchanges → length exchanges < most_requests → answered messages ≡ requests_of exchanges
 answered_going exchanges messages more are none going few =
     ap answered (are ∙ ap (λ ms. requests_of exchanges ++ ms) none)
-        ∙ ap (take most_requests) (through_last_going exchanges [] going ∙ append-nil (requests_of exchanges))
+    ∙ ap (take most_requests) (through_last_going exchanges [] going ∙ append-nil (requests_of exchanges))
     ∙ take_all most_requests (requests_of exchanges) (omega (arith, few, length_requests exchanges))
 
 -- as many requests as a session may answer are those that are answered
@@ -105,21 +115,22 @@ answered_full : (exchanges : List Exchange) (messages more : List Request) → m
 answered_full exchanges messages more are going full =
     ap answered are ∙ ap (take most_requests) (through_last_going exchanges more going)
     ∙ ap (λ n. take n (requests_of exchanges ++ through_last more)) (sym (length_requests exchanges ∙ full))
-        ∙ take-append_seam (requests_of exchanges) (through_last more)
+    ∙ take-append_seam (requests_of exchanges) (through_last more)
 
 -- requests of which the final one is the last on its connection are those that are answered
 answered_final : (exchanges : List Exchange) (messages more : List Request) → messages ≡ requests_of exchanges ++ more
     → OnlyFinalEnds exchanges → length exchanges ≤ most_requests → answered messages ≡ requests_of exchanges
 answered_final exchanges messages more are only few =
     ap answered are ∙ ap (take most_requests) (through_last_final exchanges more only)
-        ∙ take_all most_requests (requests_of exchanges) (omega (arith, few, length_requests exchanges))
+    ∙ take_all most_requests (requests_of exchanges) (omega (arith, few, length_requests exchanges))
 
 -- the end that is due after answered requests
 due_going : (exchanges : List Exchange) (ending : Ending) → AllGoOn exchanges → length exchanges < most_requests
     → end_behind_all (requests_of exchanges) ending ≡ end_at ending
-due_going exchanges ending going few = rw
-    (not_full (length (requests_of exchanges)) (omega (arith, few, length_requests exchanges)),
-    has_last_going exchanges going) refl
+due_going exchanges ending going few = rw (
+  not_full (length (requests_of exchanges)) (omega (arith, few, length_requests exchanges)),
+  has_last_going exchanges going,
+) refl
 
 -- the same where they are as many as a session may answer
 due_full : (exchanges : List Exchange) (ending : Ending) → length exchanges ≡ most_requests
@@ -129,9 +140,10 @@ due_full exchanges ending full = rw (is_full (length (requests_of exchanges)) (l
 -- and where the final one is the last on its connection
 due_final : (exchanges : List Exchange) (ending : Ending) → OnlyFinalEnds exchanges → length exchanges < most_requests
     → end_behind_all (requests_of exchanges) ending ≡ record { status = 0; text = [] }
-due_final exchanges ending only few = rw
-    (not_full (length (requests_of exchanges)) (omega (arith, few, length_requests exchanges)),
-    has_last_final exchanges only) refl
+due_final exchanges ending only few = rw (
+  not_full (length (requests_of exchanges)) (omega (arith, few, length_requests exchanges)),
+  has_last_final exchanges only,
+) refl
 
 -- the text that is written after the replies where a session stops so
 abbrev pub text_at : SessionEnd → List ℕ
@@ -164,8 +176,10 @@ due_by : (messages : List Request) (ending : Ending) (ends : SessionEnd) (exchan
     → answered messages ≡ requests_of exchanges
     → end_behind_all (requests_of exchanges) ending ≡ record { status = status_of ends; text = text_at ends }
     → IsDue messages ending ends exchanges
-due_by messages ending ends exchanges are due = record { requests_are = sym are;
-    end_is = ap (λ ms. end_behind_all ms ending) are ∙ due }
+due_by messages ending ends exchanges are due = record {
+  requests_are = sym are;
+  end_is = ap (λ ms. end_behind_all ms ending) are ∙ due;
+}
 
 -- where the rest after the requests ends as the session stopped
 due_at_end : (rest : List ℕ) (exchanges : List Exchange) (messages : List Request) (ending other : Ending)
@@ -175,8 +189,8 @@ due_at_end : (rest : List ℕ) (exchanges : List Exchange) (messages : List Requ
 due_at_end rest exchanges messages ending other ends far stands is going few =
     let none : (far.more ≡ []) × (ending ≡ other) = none_more rest far.more ending other far.rest_splits stands in
     due_by messages ending ends exchanges
-        (answered_going exchanges messages far.more far.messages_are none.0 going few)
-        (due_going exchanges ending going few ∙ ap end_at none.1 ∙ is)
+    (answered_going exchanges messages far.more far.messages_are none.0 going few)
+    (due_going exchanges ending going few ∙ ap end_at none.1 ∙ is)
 
 -- a session that settled did what its input is due
 pub session_due : (boot : ℕ) (pace : Pace) (w w' : World) (ends : SessionEnd) (text : List ℕ) (messages : List Request)
@@ -200,21 +214,21 @@ session_due boot pace w w' ends text messages ending s is splits settled = by en
       → IsDue messages ending ends s.exchanges
   by end.Ended few (inl (going, stops)) settled =
       let answered : ReadsNext taken.0 (input w') w'.held got.End = at_rest
-          (λ bytes. ReadsNext bytes (input w') w'.held got.End) stops.0.next in
+      (λ bytes. ReadsNext bytes (input w') w'.held got.End) stops.0.next in
       due_at_end taken.0 s.exchanges messages ending ended end.Ended far answered.0 refl going few
   by end.Ended few (inr (only, tail, same)) settled = due_by messages ending end.Ended s.exchanges
       (answered_final s.exchanges messages far.more far.messages_are only (omega (arith, few)))
       (due_final s.exchanges ending only few)
   by end.Cut few (inl (going, stops)) settled =
       let answered : ReadsNext taken.0 (input w') w'.held (got.Cut stops.0) = at_rest
-          (λ bytes. ReadsNext bytes (input w') w'.held (got.Cut stops.0)) stops.1.next in
+      (λ bytes. ReadsNext bytes (input w') w'.held (got.Cut stops.0)) stops.1.next in
       due_at_end taken.0 s.exchanges messages ending (cut (length taken.0)) end.Cut far
-          (answered.0, refl) refl going few
+      (answered.0, refl) refl going few
   by (end.Malformed fault) few (inl (going, stops)) settled =
       let answered : ReadsNext taken.0 (input w') w'.held (got.Malformed fault) = at_rest
-          (λ bytes. ReadsNext bytes (input w') w'.held (got.Malformed fault)) stops.0.next in
+      (λ bytes. ReadsNext bytes (input w') w'.held (got.Malformed fault)) stops.0.next in
       due_at_end taken.0 s.exchanges messages ending (malformed fault)
-          (end.Malformed fault) far answered.0 refl going few
+      (end.Malformed fault) far answered.0 refl going few
   by end.Spent full (inl (going, stops)) settled = due_by messages ending end.Spent s.exchanges
       (answered_full s.exchanges messages far.more far.messages_are going full) (due_full s.exchanges ending full)
   by end.Spent full (inr (only, tail, same)) settled = due_by messages ending end.Spent s.exchanges

@@ -181,9 +181,7 @@ fn run<S: Source, K: Sink, R: Keeper, H: Host, C: Clock>(
                 alloc, source, sink, keeper, host, &mut still, boot, said.pace,
             )
         }
-        None => run_over(
-            alloc, source, sink, keeper, host, clock, boot, said.pace,
-        ),
+        None => run_over(alloc, source, sink, keeper, host, clock, boot, said.pace),
     }
 }
 
@@ -227,7 +225,7 @@ pub fn run_main<S: Source, K: Sink, R: Keeper, H: Host, C: Clock>(
         → length messages < most_requests →
         are_read (map (λ w. string_bytes w) words.now) ≡ true → (R.store keeper).told ≡ Some [] →
         ¬ (Rose (S.failures source.old) (S.failures source.new))
-            → ¬ (Rose (K.failures sink.old) (K.failures sink.new))
+        → ¬ (Rose (K.failures sink.old) (K.failures sink.new))
         → ¬ (Rose (R.store keeper).failures (R.store result.1).failures) →
         (result.0 ≡ 0) ⊎ (result.0 ≡ 9)) }
 
@@ -246,7 +244,5 @@ pub fn run_main<S: Source, K: Sink, R: Keeper, H: Host, C: Clock>(
         ¬ (Rose (R.store keeper).failures (R.store result.1).failures)
         → (K.held sink.new ≡ K.held sink.old) × ((result.0 ≡ 13) ⊎ (result.0 ≡ 9))) }
 {
-    run(
-        alloc, words, source, sink, keeper, host, clock, boot,
-    )
+    run(alloc, words, source, sink, keeper, host, clock, boot)
 }

@@ -64,9 +64,9 @@ fn go_on<R: Keeper, H: Host, C: Clock>(
 )
     ensures { GoesOn pace turn
         (site service.old (R.store keeper.old) (hosted H.told H.failures host.old)
-            (C.readings clock.old))
+        (C.readings clock.old))
         (site service.new (R.store keeper.new) (hosted H.told H.failures host.new)
-            (C.readings clock.new)) }
+        (C.readings clock.new)) }
 {
     match turn {
         Turn::GoOn => service.go_on(alloc, keeper, host, clock, pace),

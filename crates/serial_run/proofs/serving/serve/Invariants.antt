@@ -7,9 +7,9 @@ use Rattle.serial_run.proofs.serving.serve.Given as goal
 abbrev pub invariant-loop-done : goal.invariant-loop-done
 invariant-loop-done g l = ServesSoFar l.boot l.pace
     (world l.fn.buffer (outside (inlet g.S.Source.left g.S.Source.ended g.S.Source.failures l.fn.source)
-        (outlet g.K.Sink.held g.K.Sink.failures l.fn.sink) (g.R.Keeper.store l.fn.keeper)
-        (hosted g.H.Host.told g.H.Host.failures l.fn.host) (g.C.Clock.readings l.fn.clock)) l.fn.service)
+    (outlet g.K.Sink.held g.K.Sink.failures l.fn.sink) (g.R.Keeper.store l.fn.keeper)
+    (hosted g.H.Host.told g.H.Host.failures l.fn.host) (g.C.Clock.readings l.fn.clock)) l.fn.service)
     (world l.buffer (outside (inlet g.S.Source.left g.S.Source.ended g.S.Source.failures l.source)
-        (outlet g.K.Sink.held g.K.Sink.failures l.sink) (g.R.Keeper.store l.keeper)
-        (hosted g.H.Host.told g.H.Host.failures l.host) (g.C.Clock.readings l.clock)) l.service)
+    (outlet g.K.Sink.held g.K.Sink.failures l.sink) (g.R.Keeper.store l.keeper)
+    (hosted g.H.Host.told g.H.Host.failures l.host) (g.C.Clock.readings l.clock)) l.service)
     l.done
