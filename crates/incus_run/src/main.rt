@@ -1,5 +1,5 @@
-//! `incus_run`: answers the requests on standard input on standard output, over rows and a modelled host in memory, by the clock of
-//! the system.
+//! `incus_run`: answers the requests on standard input on standard output, over rows and a modelled
+//! host in memory, by the clock of the system.
 #![tactic(auto)]
 
 use host_model::ModelHost;
@@ -11,7 +11,8 @@ use std::io::ErrorKind;
 use std::process::ExitCode;
 use std::{env, io};
 
-/// Why the words could not be taken: one is no UTF-8, which is not read, or there was no memory for them.
+/// Why the words could not be taken: one is no UTF-8, which is not read, or there was no memory for
+/// them.
 fn fault_of(error: &io::Error) -> StartFault {
     match error.kind() {
         ErrorKind::InvalidData => StartFault::Words,

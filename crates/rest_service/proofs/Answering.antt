@@ -1,5 +1,6 @@
 -- One request comes to its reply, from what its parts ensure.
-use Rattle.std.proofs.Common.{◌≡◌, ◌≤◌, ◌<◌, ℕ, Bool, List, [], ◌∷◌, length, Some, None, Result, Ok, Err, refl, ap, sym, ◌∙◌, subst}
+use Rattle.std.proofs.Common.{◌≡◌, ◌≤◌, ◌<◌, ℕ, Bool, List, [], ◌∷◌, length, Some, None, Result, Ok, Err, refl, ap, sym}
+use Rattle.std.proofs.Common.{subst}
 use Rattle.size_values.specs.Moments.{moment_limit}
 use Rattle.size_values.specs.declared.memory.Or.{Or}
 use Rattle.size_values.specs.declared.memory.Or.TheVariants as or
@@ -32,7 +33,8 @@ pub record Asks (w : Site) (c : Command) (moment : ℕ) (a : Answer) (w' : Site)
   pub read : Reads w.clock (moment ∷ []) w'.clock
   pub early : moment < moment_limit
 
-carries : {w w' : Site} {c : Command} {moment : ℕ} {a : Answer} (asks : Asks w c moment a w') → Carries w (Ok c) (Some moment) asks.turn.outcome a w'
+carries : {w w' : Site} {c : Command} {moment : ℕ} {a : Answer} (asks : Asks w c moment a w')
+    → Carries w (Ok c) (Some moment) asks.turn.outcome a w'
 carries {w} {w'} {c} {moment} {a} asks = record {
   is = asks.turn.turns.is;
   stored = asks.turn.turns.stored;
@@ -44,7 +46,8 @@ carries {w} {w'} {c} {moment} {a} asks = record {
 }
 
 -- a command that was answered at once
-pub replied : {w w' : Site} {c : Command} {moment : ℕ} {a : Answer} (r : Reply) → Asks w c moment a w' → answered r ≡ a → Reaches w (Ok c) r w'
+pub replied : {w w' : Site} {c : Command} {moment : ℕ} {a : Answer} (r : Reply) → Asks w c moment a w'
+    → answered r ≡ a → Reaches w (Ok c) r w'
 replied {w} {w'} {c} {moment} {a} r asks is = record {
   moment = Some moment;
   outcome = asks.turn.outcome;
@@ -53,13 +56,22 @@ replied {w} {w'} {c} {moment} {a} r asks is = record {
 }
 
 -- an operation was asked for in the project of a command
-abbrev shows_asks : (u w' : Site) (c : Command) (op : ℕ) (r : Reply) (shows : Shows c.project op u.serial u.store u.clock r w'.serial w'.store w'.clock)
+abbrev shows_asks : (u w' : Site) (c : Command) (op : ℕ) (r : Reply)
+    (shows : Shows c.project op u.serial u.store u.clock r w'.serial w'.store w'.clock)
     → w'.host ≡ u.host → Asks u (showing op c) shows.moment (answered r) w'
-shows_asks u w' c op r shows host = record { turn = shows.turn; hand = shows.hand; host = host; read = shows.read; early = shows.early }
+shows_asks u w' c op r shows host = record {
+  turn = shows.turn;
+  hand = shows.hand;
+  host = host;
+  read = shows.read;
+  early = shows.early;
+}
 
 -- a command whose answer was held back
-pub held_back : {w v u w' : Site} {c : Command} {moment : ℕ} {a : Answer} {op : ℕ} (steps : List Step) (r : Reply) → Asks w c moment a v → answer.Hold op ≡ a
-    → WaitsFor op v steps u → length steps ≤ most_steps → Shows c.project op u.serial u.store u.clock r w'.serial w'.store w'.clock → w'.host ≡ u.host
+pub held_back : {w v u w' : Site} {c : Command} {moment : ℕ} {a : Answer} {op : ℕ} (steps : List Step) (r : Reply)
+    → Asks w c moment a v → answer.Hold op ≡ a
+    → WaitsFor op v steps u → length steps ≤ most_steps
+    → Shows c.project op u.serial u.store u.clock r w'.serial w'.store w'.clock → w'.host ≡ u.host
     → Reaches w (Ok c) r w'
 held_back {w} {v} {u} {w'} {c} {moment} {a} {op} steps r asks is waits few shows host = record {
   moment = Some moment;
@@ -98,7 +110,8 @@ refusal_replies w refusal = record {
 }
 
 -- memory may be refused before the command of any request is known, and then nothing changes
-refused_memory : (s : State) (asked : Result Command Refusal) → carried_out s None no_memory asked ≡ Some (and_then answer.NoMemory s)
+refused_memory : (s : State) (asked : Result Command Refusal)
+    → carried_out s None no_memory asked ≡ Some (and_then answer.NoMemory s)
 refused_memory s (Ok c) = refl
 refused_memory s (Err refusal) = refl
 
@@ -119,13 +132,17 @@ memory_replies w asked = record {
 }
 
 -- whatever its reason
-pub unrouted : (w : Site) (asked : Result Command Refusal) (why : Or Refusal) → IsDue why asked → Reaches w asked (reply_for why) w
+pub unrouted : (w : Site) (asked : Result Command Refusal) (why : Or Refusal) → IsDue why asked
+    → Reaches w asked (reply_for why) w
 unrouted w asked or.NoMemory due = memory_replies w asked
-unrouted w asked (or.Why refusal) due = subst (λ x. Reaches w x (reply.Refused refusal) w) (sym due) (refusal_replies w refusal)
+unrouted w asked (or.Why refusal) due =
+    subst (λ x. Reaches w x (reply.Refused refusal) w) (sym due) (refusal_replies w refusal)
 
 -- ---- texts
 
 -- the reply that takes no memory is the one that tells that there is none
-pub no_memory_printed : (boot : ℕ) (last : Bool) → NoMemoryIsKnown → no_memory_text last ≡ printed reply.NoMemory boot last
+pub no_memory_printed : (boot : ℕ) (last : Bool) → NoMemoryIsKnown
+    → no_memory_text last ≡ printed reply.NoMemory boot last
 unfolding printed printed_of
-no_memory_printed boot last known = ap (λ body. reply_text (record { code = 500; body = body; location = []; last = last })) (sym (known boot))
+no_memory_printed boot last known = ap
+    (λ body. reply_text (record { code = 500; body = body; location = []; last = last })) (sym (known boot))

@@ -1,10 +1,11 @@
--- What a command can be answered: a reply, that it waits, or that memory was refused; and an operation that is asked for is
--- answered at once.
-use Rattle.std.proofs.Common.{◌≡◌, ◌≢◌, ℕ, ℤ, Bool, cond, true, false, List, Option, Some, None, Result, Ok, Err, option_map, refl, sym, ap, subst}
+-- What a command can be answered: a reply, that it waits, or that memory was refused; and an operation that is asked
+-- for is answered at once.
+use Rattle.std.proofs.Common.{◌≡◌, ◌≢◌, ℕ, Bool, cond, true, false, List, Option, Some, None, option_map, refl, ap}
+use Rattle.std.proofs.Common.{subst}
 use Rattle.std.specs.Option.{option_map_or, option_and_then}
 use Rattle.record_keeper.specs.Store.{Store}
 use Rattle.operations.specs.declared.operation.Operation.{Operation}
-use Rattle.operations.specs.Kept.{kept_at, live_at}
+use Rattle.operations.specs.Kept.{kept_at}
 use Rattle.records.specs.declared.commands.Command.{Command}
 use Rattle.records.specs.declared.commands.What.{What}
 use Rattle.records.specs.declared.commands.What.TheVariants as what
@@ -23,7 +24,8 @@ use Rattle.row_machine.specs.machine.Rules.{broken}
 use Rattle.row_machine.specs.machine.Work.{entered}
 use Rattle.row_machine.specs.machine.Accept.{After, and_then, accepted, carried_out, cancel_or_read, started}
 use Rattle.row_machine.specs.machine.Step.{Outcome, well, keeper_failed, no_memory, step, asked, unavailable}
-use Rattle.row_machine.specs.shown.Views.{read, one, row_view, state_view, operation_view, list_reply, operations_reply, rows_reply, is_operation, listed}
+use Rattle.row_machine.specs.shown.Views.{read, one, row_view, state_view, operation_view, list_reply, operations_reply}
+use Rattle.row_machine.specs.shown.Views.{rows_reply, is_operation, listed}
 use Rattle.row_machine.specs.shown.Notices.{view_of}
 use Rattle.core_rows.specs.Asked.{answered}
 use Rattle.core_turns.specs.Turns.{IsTurn, turned, unheard}
@@ -35,15 +37,18 @@ one_tells : (v : Option View) → one v ≢ reply.NoMemory
 one_tells None e = cc
 one_tells (Some v) e = cc
 
-operations_tell : (s : State) (project : List ℕ) (recursion : Bool) → operations_reply s project recursion ≢ reply.NoMemory
+operations_tell : (s : State) (project : List ℕ) (recursion : Bool)
+    → operations_reply s project recursion ≢ reply.NoMemory
 operations_tell s project true e = cc
 operations_tell s project false e = cc
 
-rows_tell : (s : State) (project : List ℕ) (of : Target) (recursion : Bool) → rows_reply s (listed s project of) recursion ≢ reply.NoMemory
+rows_tell : (s : State) (project : List ℕ) (of : Target) (recursion : Bool)
+    → rows_reply s (listed s project of) recursion ≢ reply.NoMemory
 rows_tell s project of true e = cc
 rows_tell s project of false e = cc
 
-list_tells : (s : State) (project : List ℕ) (of : Target) (recursion : Bool) → list_reply s project of recursion ≢ reply.NoMemory
+list_tells : (s : State) (project : List ℕ) (of : Target) (recursion : Bool)
+    → list_reply s project of recursion ≢ reply.NoMemory
 list_tells s project of recursion = by (is_operation of.kind) refl where
   by : (b : Bool) → is_operation of.kind ≡ b → list_reply s project of recursion ≢ reply.NoMemory
   by true is = rw is (operations_tell s project recursion)
@@ -117,7 +122,8 @@ unavailable_speaks s nothing = tt
 unavailable_speaks s (changes cs) = refused_tells _
 unavailable_speaks s (starts task) = tt
 
-asked_speaks : (s : State) (c : Command) (moment : ℕ) (outcome : Outcome) (refusal : Option Refusal) → Speaks IsForClient (asked s c moment outcome refusal)
+asked_speaks : (s : State) (c : Command) (moment : ℕ) (outcome : Outcome) (refusal : Option Refusal)
+    → Speaks IsForClient (asked s c moment outcome refusal)
 unfolding accepted
 asked_speaks s c moment well (Some refusal) = refused_tells refusal
 asked_speaks s c moment well None = plans_speak s c moment (plan_of s c moment)
@@ -143,11 +149,14 @@ answer_in None a = a
 answer_in (Some x) a = x.answer
 
 -- what a turn was answered
-turned_speaks : (such : Answer → Type 0) (s : State) (c : Command) (moment : ℕ) (outcome : Outcome) (a : Answer) (s' : State)
-    → Speaks such (asked s c moment outcome (broken s c moment)) → turned s (event.Ask c moment) outcome ≡ Some (and_then a s') → such a
+turned_speaks : (such : Answer → Type 0) (s : State) (c : Command) (moment : ℕ) (outcome : Outcome) (a : Answer)
+    (s' : State)
+    → Speaks such (asked s c moment outcome (broken s c moment))
+    → turned s (event.Ask c moment) outcome ≡ Some (and_then a s') → such a
 unfolding turned step answer_in
 turned_speaks such s c moment outcome a s' speaks is = by (asked s c moment outcome (broken s c moment)) speaks is where
-  by : (after : Option After) → Speaks such after → option_map (λ (x : After). and_then x.answer (unheard x.state)) after ≡ Some (and_then a s') → such a
+  by : (after : Option After) → Speaks such after
+      → option_map (λ (x : After). and_then x.answer (unheard x.state)) after ≡ Some (and_then a s') → such a
   by None speaks is = absurd (none_is is) where
     none_is : {x : After} → None ≡ Some x → ⊥
     none_is e = cc
@@ -158,15 +167,18 @@ turned_speaks such s c moment outcome a s' speaks is = by (asked s c moment outc
 -- ---- turns
 
 -- a command that was asked
-pub for_client : {s s' : State} {store store' : Store} {c : Command} {moment : ℕ} {a : Answer} → IsTurn s store (event.Ask c moment) a s' store' → IsForClient a
-for_client {s} {s'} {store} {store'} {c} {moment} {a} t = turned_speaks IsForClient s c moment t.outcome a s' (asked_speaks s c moment t.outcome (broken s c moment)) t.turns.is
+pub for_client : {s s' : State} {store store' : Store} {c : Command} {moment : ℕ} {a : Answer}
+    → IsTurn s store (event.Ask c moment) a s' store' → IsForClient a
+for_client {s} {s'} {store} {store'} {c} {moment} {a} t = turned_speaks IsForClient s c moment t.outcome a s'
+    (asked_speaks s c moment t.outcome (broken s c moment)) t.turns.is
 
 -- an operation that was asked for
 pub at_once : {s s' : State} {store store' : Store} {project : List ℕ} {op moment : ℕ} {a : Answer}
     → IsTurn s store (event.Ask (record { project = project; what = what.GetOp op }) moment) a s' store' → IsAtOnce a
 at_once {s} {s'} {store} {store'} {project} {op} {moment} {a} t =
     turned_speaks IsAtOnce s (record { project = project; what = what.GetOp op }) moment t.outcome a s'
-    (shown_speaks s project op moment t.outcome (broken s (record { project = project; what = what.GetOp op }) moment)) t.turns.is
+    (shown_speaks s project op moment t.outcome
+    (broken s (record { project = project; what = what.GetOp op }) moment)) t.turns.is
 
 -- ---- what they are taken for
 

@@ -1,5 +1,5 @@
 -- How a service opens and answers.
-use Rattle.std.specs.Prelude.{◌≡◌, ◌≢◌, ◌<◌, ℕ, List, [], ◌∷◌, Bool, Option, Some, None, IfSome, Result, Ok, Err}
+use Rattle.std.specs.Prelude.{◌≡◌, ◌≢◌, ◌<◌, ℕ, List, [], ◌∷◌, Bool, Option, None, IfSome, Result, Ok, Err}
 use Rattle.size_values.specs.Moments.{moment_limit}
 use Rattle.record_keeper.specs.Store.{Store}
 use Rattle.http_heads.specs.declared.request.Request.{Request}
@@ -41,7 +41,8 @@ OpensService (Err fault) store store' = Refuses fault store store'
 
 -- ---- what a command is answered
 
--- The answers that a command can have: a reply, that it waits, or that memory was refused, which is no reply of its own.
+-- The answers that a command can have: a reply, that it waits, or that memory was refused, which is no reply of its
+-- own.
 abbrev pub IsForClient : Answer → Type 0
 IsForClient (answer.Reply r) = r ≢ reply.NoMemory
 IsForClient (answer.Hold op) = Unit {0}
@@ -59,12 +60,13 @@ abbrev pub answer_of : Asked → Answer
 answer_of (asked.Reply r) = answered r
 answer_of (asked.Hold op) = answer.Hold op
 
--- In a project an operation was asked for, at the next moment of a clock, and was answered by this reply. The call in hand
--- is as before.
+-- In a project an operation was asked for, at the next moment of a clock, and was answered by this reply. The call in
+-- hand is as before.
 pub record Shows (project : List ℕ) (op : ℕ) (s : Serial) (store : Store) (told : Readings) (r : Reply) (s' : Serial)
     (store' : Store) (told' : Readings) : Type 0 where
   pub moment : ℕ
-  pub turn : IsTurn s.state store (event.Ask (record { project = project; what = what.GetOp op }) moment) (answered r) s'.state
+  pub turn : IsTurn s.state store (event.Ask (record { project = project; what = what.GetOp op }) moment)
+      (answered r) s'.state
       store'
   pub hand : s'.hand ≡ s.hand
   pub read : Reads told (moment ∷ []) told'

@@ -1,6 +1,7 @@
--- Requests one after the other, each with its reply, and the steps that the worker makes between them: while the answer of a
--- wait is held back, and after each reply.
-use Rattle.std.specs.Prelude.{◌≡◌, ◌≤◌, ◌+◌, ◌++◌, ◌<◌, ℕ, List, [], ◌∷◌, length, Bool, true, Option, Some, None, IfSome}
+-- Requests one after the other, each with its reply, and the steps that the worker makes between them: while the answer
+-- of a wait is held back, and after each reply.
+use Rattle.std.specs.Prelude.{◌≡◌, ◌≤◌, ◌+◌, ◌++◌, ◌<◌, ℕ, List, [], ◌∷◌, length, Bool, true, Option, Some, None}
+use Rattle.std.specs.Prelude.{IfSome}
 use Rattle.std.specs.Prelude.{Result, Ok, Err}
 use Rattle.std.specs.List.{flat_map, sum_by}
 use Rattle.std.specs.Option.{option_to_list}
@@ -43,8 +44,8 @@ pub record Held : Type 0 where
   pub outcome : Outcome
 
 -- A request that was taken, the moment at which its command was asked, how the outside fared with it, what was done
--- while its answer was held back, if it was, its reply, and the steps that were made after the reply. There is no moment
--- where no command was asked.
+-- while its answer was held back, if it was, its reply, and the steps that were made after the reply. There is no
+-- moment where no command was asked.
 pub record Exchange : Type 0 where
   pub request : Request
   pub moment : Option ℕ
@@ -90,7 +91,8 @@ pub record AsksAt (moment : Option ℕ) (told told' : Readings) : Type 0 where
 -- What was asked for at one moment was answered so, with an outcome that the keeper's count bears out. Its changes went
 -- to the store in one call, and without changes the keeper was not called. The call in hand and the host are as before.
 -- Entries that were the records of the rows are so afterwards.
-pub record Carries (w : Site) (asked : Result Command Refusal) (moment : Option ℕ) (outcome : Outcome) (a : Answer) (w' : Site)
+pub record Carries (w : Site) (asked : Result Command Refusal) (moment : Option ℕ) (outcome : Outcome) (a : Answer)
+    (w' : Site)
     : Type 0 where
   pub is : carried_out w.serial.state moment outcome asked ≡ Some (and_then a w'.serial.state)
   pub stored : Stores (asked_changes w.serial.state moment asked) outcome w.store w'.store
@@ -106,9 +108,10 @@ pub record Carries (w : Site) (asked : Result Command Refusal) (moment : Option 
 abbrev pub showing : ℕ → Command → Command
 showing op c = record { project = c.project; what = what.GetOp op }
 
--- The command was a wait for an operation that was live, so its answer was held back; steps were made until the operation
--- had ended; and then it was asked for in the same project, and was answered by this reply.
-pub record HeldBack (w : Site) (asked : Result Command Refusal) (moment : Option ℕ) (outcome : Outcome) (h : Held) (r : Reply)
+-- The command was a wait for an operation that was live, so its answer was held back; steps were made until the
+-- operation had ended; and then it was asked for in the same project, and was answered by this reply.
+pub record HeldBack (w : Site) (asked : Result Command Refusal) (moment : Option ℕ) (outcome : Outcome) (h : Held)
+    (r : Reply)
     (w' : Site) : Type 0 where
   pub command : Command
   pub op : ℕ
@@ -142,8 +145,8 @@ pub record Leads (boot : ℕ) (follows : Pace) (w : Site) (e : Exchange) (w' : S
   pub comes : Comes boot w e replied
   pub paced : IsPaced follows replied e.steps w'
 
--- Exchanges lead from one moment of the server to another: each request comes to its reply, and with the steps after it to
--- the moment at which the next one is taken.
+-- Exchanges lead from one moment of the server to another: each request comes to its reply, and with the steps after it
+-- to the moment at which the next one is taken.
 abbrev pub LeadTo : ℕ → Pace → Site → List Exchange → Site → Type 0
 LeadTo boot follows w [] w' = w ≡ w'
 LeadTo boot follows w (e ∷ more) w' = (next : Site) × Leads boot follows w e next × LeadTo boot follows next more w'
@@ -201,7 +204,7 @@ rule_of fault.H2 = rule.H2
 rule_of fault.H3 = rule.H3
 rule_of fault.H4 = rule.H4
 
--- The bytes that answer a malformed place, after which the connection ends. A refusal tells no id, so the boot word does
--- not matter.
+-- The bytes that answer a malformed place, after which the connection ends. A refusal tells no id, so the boot word
+-- does not matter.
 abbrev pub malformed_text : HeadFault → List ℕ
 malformed_text fault = printed (reply.Refused (plainly (rule_of fault))) 0 true

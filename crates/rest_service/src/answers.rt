@@ -18,9 +18,11 @@ use std::alloc::Global;
 pub enum Answered {
     /// These bytes.
     Printed(Seq<u8>),
-    /// Memory was refused before anything changed: the reply that takes none (`http_front::no_memory_reply`).
+    /// Memory was refused before anything changed: the reply that takes none
+    /// (`http_front::no_memory_reply`).
     NoMemory,
-    /// The request was carried out, but memory for its reply was refused, so nothing can be written.
+    /// The request was carried out, but memory for its reply was refused, so nothing can be
+    /// written.
     Unprinted,
 }
 
@@ -71,8 +73,8 @@ fn refusal_of(alloc: Global, fault: HeadFault) -> Refusal
     }
 }
 
-/// The bytes that answer a place in which no request can begin: its rule, and that the connection ends
-/// (RFC 9112, section 9.6). A refusal tells no id, so any boot word serves.
+/// The bytes that answer a place in which no request can begin: its rule, and that the connection
+/// ends (RFC 9112, section 9.6). A refusal tells no id, so any boot word serves.
 pub fn print_malformed(alloc: Global, fault: HeadFault) -> Result<Seq<u8>, NoMemory>
     ensures { IfOk result (λ bytes. bytes ≡ malformed_text fault) }
 {

@@ -58,7 +58,8 @@ fn show_operation<R: Keeper, C: Clock>(
     project: Text,
     number: u64,
 ) -> Reply
-    ensures { Shows project number daemon.old (R.store keeper.old) (C.readings clock.old) result daemon.new
+    ensures { Shows project number daemon.old (R.store keeper.old)
+        (C.readings clock.old) result daemon.new
         (R.store keeper.new) (C.readings clock.new) }
 {
     let command = Command {
@@ -70,8 +71,8 @@ fn show_operation<R: Keeper, C: Clock>(
     reply_of(told)
 }
 
-/// Asks for a command. The answer of a wait is held back until its operation has ended, and is then what is told of that
-/// operation.
+/// Asks for a command. The answer of a wait is held back until its operation has ended, and is then
+/// what is told of that operation.
 fn carry_out<R: Keeper, H: Host, C: Clock>(
     alloc: Global,
     daemon: &mut SerialDaemon,
@@ -82,9 +83,11 @@ fn carry_out<R: Keeper, H: Host, C: Clock>(
 ) -> Reply
     requires formed { is_formed command ≡ true }
     requires built { is_built_command command ≡ true }
-    ensures { Reaches (site daemon.old (R.store keeper.old) (hosted H.told H.failures host.old) (C.readings clock.old))
+    ensures { Reaches (site daemon.old (R.store keeper.old) (hosted H.told H.failures host.old)
+        (C.readings clock.old))
         (Ok command) result
-        (site daemon.new (R.store keeper.new) (hosted H.told H.failures host.new) (C.readings clock.new)) }
+        (site daemon.new (R.store keeper.new) (hosted H.told H.failures host.new)
+        (C.readings clock.new)) }
 {
     let answer = daemon.ask(alloc, keeper, &command, clock.now());
     let Command { project, what } = command;
@@ -109,9 +112,11 @@ pub(crate) fn reply_to<R: Keeper, H: Host, C: Clock>(
     request: &Request,
     boot: u64,
 ) -> Reply
-    ensures { Reaches (site daemon.old (R.store keeper.old) (hosted H.told H.failures host.old) (C.readings clock.old))
+    ensures { Reaches (site daemon.old (R.store keeper.old) (hosted H.told H.failures host.old)
+        (C.readings clock.old))
         (command_of request.now boot) result
-        (site daemon.new (R.store keeper.new) (hosted H.told H.failures host.new) (C.readings clock.new)) }
+        (site daemon.new (R.store keeper.new) (hosted H.told H.failures host.new)
+        (C.readings clock.new)) }
 {
     match router.route(alloc, request, boot) {
         Ok(command) => carry_out(alloc, daemon, keeper, host, clock, command),

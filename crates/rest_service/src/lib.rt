@@ -1,5 +1,5 @@
-//! The REST API as a service: it takes one request after the other and answers each, over rows that it keeps (REST API
-//! of the Incus documentation).
+//! The REST API as a service: it takes one request after the other and answers each, over rows that
+//! it keeps (REST API of the Incus documentation).
 #![tactic(auto)]
 
 mod answers;

@@ -16,8 +16,8 @@ use serial_steps::SerialDaemon;
 use std::alloc::Global;
 use std::marker::Model;
 
-/// Takes one request after the other, and has one worker for its background operations. Contracts see the state of the row
-/// machine that its rows are, and the call that the worker has in hand.
+/// Takes one request after the other, and has one worker for its background operations. Contracts
+/// see the state of the row machine that its rows are, and the call that the worker has in hand.
 #[derive(Drop)]
 pub struct Service {
     router: Router,
@@ -33,8 +33,8 @@ impl Model for Service {
 }
 
 impl Service {
-    /// A service over the rows of a keeper, which must have no entries yet: it gets the project `default` and its
-    /// profile `default`, in one commit.
+    /// A service over the rows of a keeper, which must have no entries yet: it gets the project
+    /// `default` and its profile `default`, in one commit.
     pub fn new<R: Keeper>(alloc: Global, keeper: &mut R) -> Result<Service, OpenFault>
         ensures { OpensService result (R.store keeper.old) (R.store keeper.new) }
     {
@@ -48,9 +48,10 @@ impl Service {
         })
     }
 
-    /// Answers one request: routes it, asks for its command, and prints the reply. Where the command waits for an operation,
-    /// the worker makes its steps until that has ended. The clock is read once for each command that is asked, each call
-    /// that is asked for and each report. The boot word is that of the ids of operations.
+    /// Answers one request: routes it, asks for its command, and prints the reply. Where the
+    /// command waits for an operation, the worker makes its steps until that has ended. The clock
+    /// is read once for each command that is asked, each call that is asked for and each report.
+    /// The boot word is that of the ids of operations.
     pub fn answer<R: Keeper, H: Host, C: Clock>(
         &mut self,
         alloc: Global,
@@ -61,8 +62,10 @@ impl Service {
         boot: u64,
     ) -> Answered
         ensures { Answers boot
-            (site self.old (R.store keeper.old) (hosted H.told H.failures host.old) (C.readings clock.old))
-            (site self.new (R.store keeper.new) (hosted H.told H.failures host.new) (C.readings clock.new))
+            (site self.old (R.store keeper.old) (hosted H.told H.failures host.old)
+            (C.readings clock.old))
+            (site self.new (R.store keeper.new) (hosted H.told H.failures host.new)
+            (C.readings clock.new))
             request.now result }
     {
         let reply = reply_to(
@@ -90,8 +93,10 @@ impl Service {
         pace: Pace,
     )
         ensures { (steps : List Step) × IsPaced pace
-            (site self.old (R.store keeper.old) (hosted H.told H.failures host.old) (C.readings clock.old)) steps
-            (site self.new (R.store keeper.new) (hosted H.told H.failures host.new) (C.readings clock.new)) }
+            (site self.old (R.store keeper.old) (hosted H.told H.failures host.old)
+            (C.readings clock.old)) steps
+            (site self.new (R.store keeper.new) (hosted H.told H.failures host.new)
+            (C.readings clock.new)) }
     {
         match pace {
             Pace::Steps(count) => self.daemon.make_steps(alloc, keeper, host, clock, count),

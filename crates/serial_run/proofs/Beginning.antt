@@ -7,10 +7,10 @@ use Rattle.core_rows.specs.Opening.{Refuses}
 use Rattle.core_rows.specs.declared.opening.OpenFault.{OpenFault}
 use Rattle.core_rows.specs.declared.opening.OpenFault.TheVariants as fault
 use Rattle.serial_steps.specs.Steps.{Hosted}
-use Rattle.run_words.specs.declared.words.Pace.{Pace}
 use Rattle.run_words.specs.declared.words.RunWords.{RunWords}
 use Rattle.run_words.specs.Words.{are_read, boot_of, now_of, pace_of, words_of}
-use Rattle.serial_run.specs.Runs.{HasCauseToRefuse, IsUnread, Opened, Refused, Runs, RunsOver, Unopened, boot_with, clock_of, start_fault}
+use Rattle.serial_run.specs.Runs.{HasCauseToRefuse, IsUnread, Opened, Refused, Runs, RunsOver, Unopened, boot_with}
+use Rattle.serial_run.specs.Runs.{clock_of, start_fault}
 use Rattle.serial_run.specs.Worlds.{Inlet, Outlet, Outside, outside}
 use Rattle.serial_run.proofs.Served.{session_still}
 
@@ -28,21 +28,26 @@ words_said words said is = by (are_read words) refl where
   by false read = absurd (cc (is, read))
 
 -- a run with the boot word and the pace that were read
-pub as_said : (words : List (List ℕ)) (handed : ℕ) (said : RunWords) (boot : ℕ) (before after : Outside) (status : ℕ) → AreSaid words said
-    → boot ≡ unwrap_or said.boot handed → RunsOver boot said.pace before after status → RunsOver (boot_with words handed) (pace_of words) before after status
+pub as_said : (words : List (List ℕ)) (handed : ℕ) (said : RunWords) (boot : ℕ) (before after : Outside) (status : ℕ)
+    → AreSaid words said
+    → boot ≡ unwrap_or said.boot handed → RunsOver boot said.pace before after status
+    → RunsOver (boot_with words handed) (pace_of words) before after status
 as_said words handed said boot before after status are is runs =
     subst (λ word. RunsOver word (pace_of words) before after status) (is ∙ ap (λ word. unwrap_or word handed) are.boot)
     (subst (λ pace. RunsOver boot pace before after status) are.pace runs)
 
 -- a refused opening is a cause for no session
-has_cause : (why : OpenFault) (words : List (List ℕ)) (keeper keeper' : Store) → are_read words ≡ true → Refuses why keeper keeper' → HasCauseToRefuse (start_fault why) words keeper keeper'
+has_cause : (why : OpenFault) (words : List (List ℕ)) (keeper keeper' : Store) → are_read words ≡ true
+    → Refuses why keeper keeper' → HasCauseToRefuse (start_fault why) words keeper keeper'
 has_cause fault.KeeperFailed words keeper keeper' read refuses = (read, refuses)
 has_cause fault.HasEntries words keeper keeper' read refuses = (read, refuses)
 has_cause fault.NoMemory words keeper keeper' read refuses = (read, refuses)
 
 -- rows that were not opened are a run without a session
-not_opened : (words : List (List ℕ)) (source source' : Inlet) (sink sink' : Outlet) (keeper keeper' : Store) (host host' : Hosted) (told told' run run' : Readings) (status : ℕ)
-    → are_read words ≡ true → told' ≡ told → Unopened (outside source sink keeper host run) (outside source' sink' keeper' host' run') status
+not_opened : (words : List (List ℕ)) (source source' : Inlet) (sink sink' : Outlet) (keeper keeper' : Store)
+    (host host' : Hosted) (told told' run run' : Readings) (status : ℕ)
+    → are_read words ≡ true → told' ≡ told
+    → Unopened (outside source sink keeper host run) (outside source' sink' keeper' host' run') status
     → Refused words (outside source sink keeper host told) (outside source' sink' keeper' host' told') status
 not_opened words source source' sink sink' keeper keeper' host host' told told' run run' status read same un = record {
   why = start_fault un.why;
@@ -55,41 +60,55 @@ not_opened words source source' sink sink' keeper keeper' host host' told told' 
 }
 
 -- a run whose words say a moment, over a clock that stands still at it
-pub runs_still : (words : List (List ℕ)) (handed : ℕ) (source source' : Inlet) (sink sink' : Outlet) (keeper keeper' : Store) (host host' : Hosted) (told run' : Readings) (moment status : ℕ)
+pub runs_still : (words : List (List ℕ)) (handed : ℕ) (source source' : Inlet) (sink sink' : Outlet)
+    (keeper keeper' : Store) (host host' : Hosted) (told run' : Readings) (moment status : ℕ)
     → are_read words ≡ true → now_of words ≡ Some moment
-    → RunsOver (boot_with words handed) (pace_of words) (outside source sink keeper host (standing_still moment)) (outside source' sink' keeper' host' run') status
+    → RunsOver (boot_with words handed) (pace_of words) (outside source sink keeper host (standing_still moment))
+    (outside source' sink' keeper' host' run') status
     → Runs words handed (outside source sink keeper host told) (outside source' sink' keeper' host' told) status
-runs_still words handed source source' sink sink' keeper keeper' host host' told run' moment status read now (inl opened) = inl (record {
-  read = read;
-  opened =
-      subst (λ said. Opened (boot_with words handed) (pace_of words) (outside source sink keeper host (clock_of said told)) (outside source' sink' keeper' host' (clock_of said told)) status)
-      (sym now)
-      (subst (λ run. Opened (boot_with words handed) (pace_of words) (outside source sink keeper host (standing_still moment)) (outside source' sink' keeper' host' run) status) still opened);
-  unread = subst (λ said. IsUnread said told told) (sym now) refl;
-}) where
-  still : run' ≡ standing_still moment
-  still = session_still (boot_with words handed) (pace_of words) moment _ _ opened.ends refl opened.follows.session
+runs_still words handed source source' sink sink' keeper keeper' host host' told run' moment status read now
+    (inl opened) = inl (record {
+      read = read;
+      opened =
+          subst (λ said. Opened (boot_with words handed) (pace_of words)
+          (outside source sink keeper host (clock_of said told))
+          (outside source' sink' keeper' host' (clock_of said told)) status)
+          (sym now)
+          (subst (λ run. Opened (boot_with words handed) (pace_of words)
+          (outside source sink keeper host (standing_still moment))
+          (outside source' sink' keeper' host' run) status) still opened);
+      unread = subst (λ said. IsUnread said told told) (sym now) refl;
+    }) where
+      still : run' ≡ standing_still moment
+      still = session_still (boot_with words handed) (pace_of words) moment _ _ opened.ends refl opened.follows.session
 runs_still words handed source source' sink sink' keeper keeper' host host' told run' moment status read now (inr un) =
-    inr (not_opened words source source' sink sink' keeper keeper' host host' told told (standing_still moment) run' status read refl un)
+    inr (not_opened words source source' sink sink' keeper keeper' host host' told told
+    (standing_still moment) run' status read refl un)
 
 -- a run whose words say none, over the clock that is handed in
-pub runs_by : (words : List (List ℕ)) (handed : ℕ) (source source' : Inlet) (sink sink' : Outlet) (keeper keeper' : Store) (host host' : Hosted) (told told' : Readings) (status : ℕ)
+pub runs_by : (words : List (List ℕ)) (handed : ℕ) (source source' : Inlet) (sink sink' : Outlet)
+    (keeper keeper' : Store) (host host' : Hosted) (told told' : Readings) (status : ℕ)
     → are_read words ≡ true → now_of words ≡ None
-    → RunsOver (boot_with words handed) (pace_of words) (outside source sink keeper host told) (outside source' sink' keeper' host' told') status
+    → RunsOver (boot_with words handed) (pace_of words) (outside source sink keeper host told)
+    (outside source' sink' keeper' host' told') status
     → Runs words handed (outside source sink keeper host told) (outside source' sink' keeper' host' told') status
-runs_by words handed source source' sink sink' keeper keeper' host host' told told' status read now (inl opened) = inl (record {
-  read = read;
-  opened =
-      subst (λ said. Opened (boot_with words handed) (pace_of words) (outside source sink keeper host (clock_of said told)) (outside source' sink' keeper' host' (clock_of said told')) status)
-      (sym now) opened;
-  unread = subst (λ said. IsUnread said told told') (sym now) tt;
-})
-runs_by words handed source source' sink sink' keeper keeper' host host' told told' status read now (inr un) = inr (record {
-  why = start_fault un.why;
-  cause = has_cause un.why words keeper keeper' read un.refuses;
-  status_is = un.status_is;
-  source = un.source;
-  sink = un.sink;
-  host = un.host;
-  clock = un.clock;
-})
+runs_by words handed source source' sink sink' keeper keeper' host host' told told' status read now (inl opened) = inl
+    (record {
+      read = read;
+      opened =
+          subst (λ said. Opened (boot_with words handed) (pace_of words)
+          (outside source sink keeper host (clock_of said told))
+          (outside source' sink' keeper' host' (clock_of said told')) status)
+          (sym now) opened;
+      unread = subst (λ said. IsUnread said told told') (sym now) tt;
+    })
+runs_by words handed source source' sink sink' keeper keeper' host host' told told' status read now (inr un) = inr
+    (record {
+      why = start_fault un.why;
+      cause = has_cause un.why words keeper keeper' read un.refuses;
+      status_is = un.status_is;
+      source = un.source;
+      sink = un.sink;
+      host = un.host;
+      clock = un.clock;
+    })

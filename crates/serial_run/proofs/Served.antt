@@ -1,5 +1,7 @@
 -- Requests that are served one after the other are served together.
-use Rattle.std.proofs.Common.{◌≡◌, ◌≢◌, ◌==◌, ◌<◌, ◌≤◌, ◌+◌, ◌++◌, ◌⊎◌, ℕ, List, [], ◌∷◌, length, Bool, true, false, Option, Some, None, IfSome, refl, ap, sym, ◌∙◌, subst, arith, inl, inr, eqb-true, append_assoc}
+use Rattle.std.proofs.Common.{◌≡◌, ◌≢◌, ◌==◌, ◌<◌, ◌≤◌, ◌+◌, ◌++◌, ◌⊎◌, ℕ, List, [], ◌∷◌, length, Bool, true, false}
+use Rattle.std.proofs.Common.{Option, Some, None, IfSome, refl, ap, sym, ◌∙◌, subst, arith, inl, inr, eqb-true}
+use Rattle.std.proofs.Common.{append_assoc}
 use Rattle.std.proofs.lemmas.Bool.Decides.{nat_tests}
 use Rattle.std.proofs.lemmas.List.{append-nil, length-append}
 use Rattle.std.specs.Io.KnownBytes.{Appends}
@@ -9,12 +11,14 @@ use Rattle.http_front.specs.Held.{most_held}
 use Rattle.http_front.specs.Reading.{ReadsNext}
 use Rattle.http_front.specs.declared.read.Got.TheVariants as got
 use Rattle.run_words.specs.declared.words.Pace.{Pace}
-use Rattle.rest_service.specs.Exchanges.{Exchange, LeadTo, moments_of, printed, printed_replies, keeper_failures_of, host_failures_of}
+use Rattle.rest_service.specs.Exchanges.{Exchange, LeadTo, moments_of, printed, printed_replies, keeper_failures_of}
+use Rattle.rest_service.specs.Exchanges.{host_failures_of}
 use Rattle.rest_service.proofs.Along.{IsAlong, along_leads, along_more, along_none, along_reply, reads_twice}
 use Rattle.serial_run.specs.declared.session.SessionEnd.{SessionEnd}
 use Rattle.serial_run.specs.declared.session.SessionEnd.TheVariants as end
 use Rattle.serial_run.specs.Most.{most_requests}
-use Rattle.serial_run.specs.Sessions.{Session, Serves, ServesAll, Stops, CountsAt, StopsBehindFinal, AllGoOn, OnlyFinalEnds, end_behind}
+use Rattle.serial_run.specs.Sessions.{Session, Serves, ServesAll, Stops, CountsAt, StopsBehindFinal, AllGoOn}
+use Rattle.serial_run.specs.Sessions.{OnlyFinalEnds, end_behind}
 use Rattle.serial_run.specs.Texts.{requests_of}
 use Rattle.serial_run.specs.Worlds.{World, input}
 
@@ -26,7 +30,8 @@ appends_nothing None = tt
 appends_nothing (Some xs) = sym (append-nil xs)
 
 -- some bytes are appended, and then more
-pub appends_twice : (a b c : Option (List ℕ)) (bs cs : List ℕ) → Appends a b bs → Appends b c cs → Appends a c (bs ++ cs)
+pub appends_twice : (a b c : Option (List ℕ)) (bs cs : List ℕ) → Appends a b bs → Appends b c cs
+    → Appends a c (bs ++ cs)
 appends_twice None b c bs cs first then = tt
 appends_twice (Some x) None c bs cs first then = absurd first
 appends_twice (Some x) (Some y) None bs cs first then = absurd then
@@ -35,16 +40,18 @@ appends_twice (Some x) (Some y) (Some z) bs cs first then = then ∙ ap (λ l. l
 -- ---- clocks
 
 -- one that stands still tells the same after it was read
-still_reads : (moment : ℕ) (xs : List ℕ) (told : Readings) → Reads (standing_still moment) xs told → told ≡ standing_still moment
+still_reads : (moment : ℕ) (xs : List ℕ) (told : Readings) → Reads (standing_still moment) xs told
+    → told ≡ standing_still moment
 still_reads moment [] told same = same
 still_reads moment (x ∷ xs) told reads = still_reads moment xs told reads.1
 
 -- ---- all requests together
 
--- What serving requests comes to in all: the bytes to come began with them, the sink took their replies in order, and they led from
--- the server before to the server after. No count of failures fell.
+-- What serving requests comes to in all: the bytes to come began with them, the sink took their replies in order, and
+-- they led from the server before to the server after. No count of failures fell.
 pub record Together (boot : ℕ) (pace : Pace) (w : World) (exchanges : List Exchange) (w' : World) : Type 0 where
-  pub read : IfSome (input w) (λ bytes. (rest : List ℕ) × Begins bytes (requests_of exchanges) rest × (input w' ≡ Some rest))
+  pub read : IfSome (input w) (λ bytes. (rest : List ℕ) × Begins bytes (requests_of exchanges) rest
+      × (input w' ≡ Some rest))
   pub written : Appends w.sink.held w'.sink.held (printed_replies boot exchanges)
   pub leads : LeadTo boot pace w.site exchanges w'.site
   pub along : IsAlong w.site (moments_of exchanges) (keeper_failures_of exchanges) (host_failures_of exchanges) w'.site
@@ -52,7 +59,8 @@ pub record Together (boot : ℕ) (pace : Pace) (w : World) (exchanges : List Exc
   pub writes : w.sink.failures ≤ w'.sink.failures
 
 -- the bytes to come are as before
-same_input : (known : Option (List ℕ)) (w : World) → input w ≡ known → IfSome known (λ bytes. (rest : List ℕ) × Begins bytes [] rest × (input w ≡ Some rest))
+same_input : (known : Option (List ℕ)) (w : World) → input w ≡ known
+    → IfSome known (λ bytes. (rest : List ℕ) × Begins bytes [] rest × (input w ≡ Some rest))
 same_input None w is = tt
 same_input (Some bytes) w is = (bytes, refl, is)
 
@@ -68,21 +76,25 @@ none_together boot pace w = record {
 }
 
 -- the bytes to come began with a request, and then with more of them
-reads_first : (next w' : World) (e : Exchange) (more : List Exchange) (known : Option (List ℕ)) → IfSome known (λ bytes. ReadsNext bytes (input next) next.held (got.Request e.request))
+reads_first : (next w' : World) (e : Exchange) (more : List Exchange) (known : Option (List ℕ))
+    → IfSome known (λ bytes. ReadsNext bytes (input next) next.held (got.Request e.request))
     → IfSome (input next) (λ bytes. (rest : List ℕ) × Begins bytes (requests_of more) rest × (input w' ≡ Some rest))
     → IfSome known (λ bytes. (rest : List ℕ) × Begins bytes (requests_of (e ∷ more)) rest × (input w' ≡ Some rest))
 reads_first next w' e more None first then = tt
 reads_first next w' e more (Some bytes) first then =
     let rests : (rest : List ℕ) × Begins first.0 (requests_of more) rest × (input w' ≡ Some rest) =
-    subst (λ known. IfSome known (λ bytes. (rest : List ℕ) × Begins bytes (requests_of more) rest × (input w' ≡ Some rest))) first.2 then in
+    subst (λ known. IfSome known (λ bytes. (rest : List ℕ) × Begins bytes (requests_of more) rest
+    × (input w' ≡ Some rest))) first.2 then in
     (rests.0, (first.0, first.1, rests.1), rests.2)
 
 -- one request, and then more of them
-first_together : (boot : ℕ) (pace : Pace) (w next w' : World) (e : Exchange) (more : List Exchange) → Serves boot pace w next e → Together boot pace next more w'
+first_together : (boot : ℕ) (pace : Pace) (w next w' : World) (e : Exchange) (more : List Exchange)
+    → Serves boot pace w next e → Together boot pace next more w'
     → Together boot pace w (e ∷ more) w'
 first_together boot pace w next w' e more serves then = record {
   read = reads_first next w' e more (input w) serves.asked.next then.read;
-  written = appends_twice w.sink.held next.sink.held w'.sink.held (printed e.reply boot e.request.last) (printed_replies boot more) serves.replied.written then.written;
+  written = appends_twice w.sink.held next.sink.held w'.sink.held (printed e.reply boot e.request.last)
+      (printed_replies boot more) serves.replied.written then.written;
   leads = (next.site, serves.leads, then.leads);
   along = along_more e more (along_leads serves.leads) then.along;
   reads = omega (arith, serves.asked.later, then.reads);
@@ -90,16 +102,19 @@ first_together boot pace w next w' e more serves then = record {
 }
 
 -- all of them
-pub together : (boot : ℕ) (pace : Pace) (w w' : World) (exchanges : List Exchange) → ServesAll boot pace w exchanges w' → Together boot pace w exchanges w'
+pub together : (boot : ℕ) (pace : Pace) (w w' : World) (exchanges : List Exchange)
+    → ServesAll boot pace w exchanges w' → Together boot pace w exchanges w'
 together boot pace w w' [] same = subst (Together boot pace w []) same (none_together boot pace w)
-together boot pace w w' (e ∷ more) serves = first_together boot pace w serves.0 w' e more serves.1 (together boot pace serves.0 w' more serves.2)
+together boot pace w w' (e ∷ more) serves =
+    first_together boot pace w serves.0 w' e more serves.1 (together boot pace serves.0 w' more serves.2)
 
 -- where the server is as before, the clock was not read
 unread_reads : (w w' : World) → w'.site ≡ w.site → (moments : List ℕ) × Reads w.site.clock moments w'.site.clock
 unread_reads w w' same = ([], ap (λ v. v.clock) same)
 
 -- the clock of a session gave the moments of its requests, and perhaps some more
-stop_reads : (boot : ℕ) (ends : SessionEnd) (w w' : World) → Stops boot ends w w' → (moments : List ℕ) × Reads w.site.clock moments w'.site.clock
+stop_reads : (boot : ℕ) (ends : SessionEnd) (w w' : World) → Stops boot ends w w'
+    → (moments : List ℕ) × Reads w.site.clock moments w'.site.clock
 stop_reads boot end.Ended w w' stops = unread_reads w w' stops.1
 stop_reads boot end.Cut w w' stops = unread_reads w w' stops.2
 stop_reads boot (end.Malformed fault) w w' stops = unread_reads w w' stops.1
@@ -112,7 +127,8 @@ stop_reads boot end.NoMemory w w' (inr (inl stops)) = unread_reads w w' stops.2
 stop_reads boot end.NoMemory w w' (inr (inr stops)) = (_, (along_reply boot w.site w'.site stops.0 stops.1.comes).clock)
 
 -- a clock that stands still tells the same after a session
-pub session_still : (boot : ℕ) (pace : Pace) (moment : ℕ) (w w' : World) (ends : SessionEnd) → w.site.clock ≡ standing_still moment → Session boot pace w w' ends
+pub session_still : (boot : ℕ) (pace : Pace) (moment : ℕ) (w w' : World) (ends : SessionEnd)
+    → w.site.clock ≡ standing_still moment → Session boot pace w w' ends
     → w'.site.clock ≡ standing_still moment
 session_still boot pace moment w w' ends still s = by s.stops where
   all : Together boot pace w s.exchanges s.behind
@@ -123,17 +139,21 @@ session_still boot pace moment w w' ends still s = by s.stops where
       (subst (λ known. Reads known (moments_of s.exchanges ++ more) told) still
       (reads_twice w.site.clock s.behind.site.clock told (moments_of s.exchanges) more all.along.clock reads))
 
-  by : (AllGoOn s.exchanges × Stops boot ends s.behind w') ⊎ (OnlyFinalEnds s.exchanges × StopsBehindFinal ends × (w' ≡ s.behind)) → w'.site.clock ≡ standing_still moment
-  by (inl (going, stops)) = let reads : (moments : List ℕ) × Reads s.behind.site.clock moments w'.site.clock = stop_reads boot ends s.behind w' stops in
+  by : (AllGoOn s.exchanges × Stops boot ends s.behind w')
+      ⊎ (OnlyFinalEnds s.exchanges × StopsBehindFinal ends × (w' ≡ s.behind)) → w'.site.clock ≡ standing_still moment
+  by (inl (going, stops)) = let reads : (moments : List ℕ)
+      × Reads s.behind.site.clock moments w'.site.clock = stop_reads boot ends s.behind w' stops in
       then w'.site.clock reads.0 reads.1
   by (inr (only, is, same)) = then w'.site.clock [] (ap (λ v. v.site.clock) same)
 
 -- the buffer never holds more than it may
-few_along : (boot : ℕ) (pace : Pace) (w w' : World) (exchanges : List Exchange) → length w.held ≤ most_held → ServesAll boot pace w exchanges w' → length w'.held ≤ most_held
+few_along : (boot : ℕ) (pace : Pace) (w w' : World) (exchanges : List Exchange) → length w.held ≤ most_held
+    → ServesAll boot pace w exchanges w' → length w'.held ≤ most_held
 few_along boot pace w w' [] few same = subst (λ v. length v.held ≤ most_held) same few
 few_along boot pace w w' (e ∷ more) few serves = few_along boot pace serves.0 w' more serves.1.asked.few serves.2
 
-few_at : (boot : ℕ) (ends : SessionEnd) (w w' : World) → Stops boot ends w w' → length w.held ≤ most_held → length w'.held ≤ most_held
+few_at : (boot : ℕ) (ends : SessionEnd) (w w' : World) → Stops boot ends w w' → length w.held ≤ most_held
+    → length w'.held ≤ most_held
 few_at boot end.Ended w w' stops few = stops.0.few
 few_at boot end.Cut w w' stops few = stops.1.few
 few_at boot (end.Malformed fault) w w' stops few = stops.0.few
@@ -145,19 +165,24 @@ few_at boot end.NoMemory w w' (inl stops) few = stops.0.few
 few_at boot end.NoMemory w w' (inr (inl stops)) few = stops.1.few
 few_at boot end.NoMemory w w' (inr (inr stops)) few = stops.1.asked.few
 
-pub session_few : (boot : ℕ) (pace : Pace) (w w' : World) (ends : SessionEnd) → length w.held ≤ most_held → Session boot pace w w' ends → length w'.held ≤ most_held
+pub session_few : (boot : ℕ) (pace : Pace) (w w' : World) (ends : SessionEnd) → length w.held ≤ most_held
+    → Session boot pace w w' ends → length w'.held ≤ most_held
 session_few boot pace w w' ends few s = by s.stops where
-  by : (AllGoOn s.exchanges × Stops boot ends s.behind w') ⊎ (OnlyFinalEnds s.exchanges × StopsBehindFinal ends × (w' ≡ s.behind)) → length w'.held ≤ most_held
+  by : (AllGoOn s.exchanges × Stops boot ends s.behind w')
+      ⊎ (OnlyFinalEnds s.exchanges × StopsBehindFinal ends × (w' ≡ s.behind)) → length w'.held ≤ most_held
   by (inl (going, stops)) = few_at boot ends s.behind w' stops (few_along boot pace w s.behind s.exchanges few s.serves)
-  by (inr (only, is, same)) = subst (λ v. length v.held ≤ most_held) (sym same) (few_along boot pace w s.behind s.exchanges few s.serves)
+  by (inr (only, is, same)) =
+      subst (λ v. length v.held ≤ most_held) (sym same) (few_along boot pace w s.behind s.exchanges few s.serves)
 
 -- ---- one more request
 
 -- requests are served, and then one more
-serves_one_more : (boot : ℕ) (pace : Pace) (a b c : World) (xs : List Exchange) (e : Exchange) → ServesAll boot pace a xs b → Serves boot pace b c e
+serves_one_more : (boot : ℕ) (pace : Pace) (a b c : World) (xs : List Exchange) (e : Exchange)
+    → ServesAll boot pace a xs b → Serves boot pace b c e
     → ServesAll boot pace a (xs ++ e ∷ []) c
 serves_one_more boot pace a b c [] e same serves = (c, subst (λ v. Serves boot pace v c e) (sym same) serves, refl)
-serves_one_more boot pace a b c (x ∷ xs) e all serves = (all.0, all.1, serves_one_more boot pace all.0 b c xs e all.2 serves)
+serves_one_more boot pace a b c (x ∷ xs) e all serves =
+    (all.0, all.1, serves_one_more boot pace all.0 b c xs e all.2 serves)
 
 -- requests that go on, and then more of them, all go on
 go_on_append : (xs ys : List Exchange) → AllGoOn xs → AllGoOn ys → AllGoOn (xs ++ ys)
@@ -165,7 +190,8 @@ go_on_append [] ys first then = then
 go_on_append (x ∷ xs) ys first then = (first.0, go_on_append xs ys first.1 then)
 
 -- a final request after requests that go on is the only one that ends its connection
-only_final_append : (xs : List Exchange) (y : Exchange) → AllGoOn xs → y.request.last ≡ true → OnlyFinalEnds (xs ++ y ∷ [])
+only_final_append : (xs : List Exchange) (y : Exchange) → AllGoOn xs → y.request.last ≡ true
+    → OnlyFinalEnds (xs ++ y ∷ [])
 only_final_append [] y first last = last
 only_final_append (x ∷ []) y first last = (first.0, last)
 only_final_append (x ∷ z ∷ xs) y first last = (first.0, only_final_append (z ∷ xs) y first.1 last)
@@ -182,7 +208,8 @@ pub none_so_far : (boot : ℕ) (pace : Pace) (w : World) → ServesSoFar boot pa
 none_so_far boot pace w = record { exchanges = []; serves = refl; going = tt; counted = refl }
 
 -- one more request was served, and goes on
-pub one_more : (boot : ℕ) (pace : Pace) (a b c : World) (count : ℕ) → ServesSoFar boot pace a b count → (e : Exchange) × Serves boot pace b c e × (e.request.last ≡ false)
+pub one_more : (boot : ℕ) (pace : Pace) (a b c : World) (count : ℕ) → ServesSoFar boot pace a b count
+    → (e : Exchange) × Serves boot pace b c e × (e.request.last ≡ false)
     → ServesSoFar boot pace a c (count + 1)
 one_more boot pace a b c count far next = record {
   exchanges = far.exchanges ++ next.0 ∷ [];
@@ -194,7 +221,8 @@ one_more boot pace a b c count far next = record {
 -- ---- stops
 
 -- a session stops after requests that go on
-pub session_stops : (boot : ℕ) (pace : Pace) (a b c : World) (count : ℕ) (ends : SessionEnd) → ServesSoFar boot pace a b count → count < most_requests
+pub session_stops : (boot : ℕ) (pace : Pace) (a b c : World) (count : ℕ) (ends : SessionEnd)
+    → ServesSoFar boot pace a b count → count < most_requests
     → Stops boot ends b c × (ends ≢ end.Spent) → Session boot pace a c ends
 session_stops boot pace a b c count ends far few stops = record {
   exchanges = far.exchanges;
@@ -216,27 +244,50 @@ session_stops boot pace a b c count ends far few stops = record {
   by end.Spent isnt = absurd (isnt refl)
 
 -- a session stops after a final request
-pub session_final : (boot : ℕ) (pace : Pace) (a b c : World) (count : ℕ) (ends : SessionEnd) → ServesSoFar boot pace a b count → count < most_requests
-    → (e : Exchange) × Serves boot pace b c e × (e.request.last ≡ true) → ends ≡ end_behind count → Session boot pace a c ends
-session_final boot pace a b c count ends far few next is = subst (λ e. Session boot pace a c e) (sym is) (by (count + 1 == most_requests) refl) where
-  all : List Exchange
-  all = far.exchanges ++ next.0 ∷ []
+pub session_final : (boot : ℕ) (pace : Pace) (a b c : World) (count : ℕ) (ends : SessionEnd)
+    → ServesSoFar boot pace a b count → count < most_requests
+    → (e : Exchange) × Serves boot pace b c e × (e.request.last ≡ true) → ends ≡ end_behind count
+    → Session boot pace a c ends
+session_final boot pace a b c count ends far few next is =
+    subst (λ e. Session boot pace a c e) (sym is) (by (count + 1 == most_requests) refl) where
+      all : List Exchange
+      all = far.exchanges ++ next.0 ∷ []
 
-  all_served : ServesAll boot pace a all c
-  all_served = serves_one_more boot pace a b c far.exchanges next.0 far.serves next.1
+      all_served : ServesAll boot pace a all c
+      all_served = serves_one_more boot pace a b c far.exchanges next.0 far.serves next.1
 
-  length_all : length all ≡ count + 1
-  length_all = length-append far.exchanges (next.0 ∷ []) ∙ ap (λ n. n + 1) far.counted
+      length_all : length all ≡ count + 1
+      length_all = length-append far.exchanges (next.0 ∷ []) ∙ ap (λ n. n + 1) far.counted
 
-  only : OnlyFinalEnds all
-  only = only_final_append far.exchanges next.0 far.going next.2
+      only : OnlyFinalEnds all
+      only = only_final_append far.exchanges next.0 far.going next.2
 
-  by : (full : Bool) → (count + 1 == most_requests) ≡ full → Session boot pace a c (end_behind count)
-  by true is = rw is (record { exchanges = all; behind = c; serves = all_served; counted = length_all ∙ eqb-true _ _ is; stops = inr (only, tt, refl) })
-  by false is = rw is (record { exchanges = all; behind = c; serves = all_served; counted = subst (λ n. n < most_requests) (sym length_all) (below is); stops = inr (only, tt, refl) }) where
-    below : (count + 1 == most_requests) ≡ false → count + 1 < most_requests
-    below no_full = grind (arith, nat_tests)
+      by : (full : Bool) → (count + 1 == most_requests) ≡ full → Session boot pace a c (end_behind count)
+      by true is = rw is (record {
+        exchanges = all;
+        behind = c;
+        serves = all_served;
+        counted = length_all
+            ∙ eqb-true _ _ is;
+        stops = inr (only, tt, refl);
+      })
+      by false is = rw is (record {
+        exchanges = all;
+        behind = c;
+        serves = all_served;
+        counted = subst (λ n. n < most_requests) (sym length_all) (below is);
+        stops = inr (only, tt, refl);
+      }) where
+        below : (count + 1 == most_requests) ≡ false → count + 1 < most_requests
+        below no_full = grind (arith, nat_tests)
 
 -- a session stops where it has answered all that it may
-pub session_spent : (boot : ℕ) (pace : Pace) (a b : World) → ServesSoFar boot pace a b most_requests → Session boot pace a b end.Spent
-session_spent boot pace a b far = record { exchanges = far.exchanges; behind = b; serves = far.serves; counted = far.counted; stops = inl (far.going, refl) }
+pub session_spent : (boot : ℕ) (pace : Pace) (a b : World) → ServesSoFar boot pace a b most_requests
+    → Session boot pace a b end.Spent
+session_spent boot pace a b far = record {
+  exchanges = far.exchanges;
+  behind = b;
+  serves = far.serves;
+  counted = far.counted;
+  stops = inl (far.going, refl);
+}

@@ -1,5 +1,6 @@
 -- The clauses of the top call, from what a run comes to.
-use Rattle.std.proofs.Common.{◌≡◌, ◌≢◌, ◌<◌, ◌≤◌, ◌++◌, ◌⊎◌, ℕ, List, [], ◌∷◌, length, Bool, true, false, Option, Some, None, IfSome, option_map, refl, ap, sym, ◌∙◌, subst, arith, inl, inr}
+use Rattle.std.proofs.Common.{◌≡◌, ◌≢◌, ◌<◌, ◌≤◌, ◌++◌, ◌⊎◌, ℕ, List, [], ◌∷◌, length, Bool, true, false, Option, Some}
+use Rattle.std.proofs.Common.{None, IfSome, refl, ap, sym, ◌∙◌, subst, arith, inl, inr}
 use Rattle.std.proofs.lemmas.List.{length-take}
 use Rattle.std.proofs.lemmas.Bool.{false≢true}
 use Rattle.std.specs.Io.KnownBytes.{Appends, prepend_known}
@@ -20,7 +21,8 @@ use Rattle.serial_run.specs.declared.running.StartFault.TheVariants as start
 use Rattle.serial_run.specs.declared.session.SessionEnd.{SessionEnd}
 use Rattle.serial_run.specs.declared.session.SessionEnd.TheVariants as end
 use Rattle.serial_run.specs.Most.{most_requests}
-use Rattle.serial_run.specs.Runs.{status_of, start_status, begun, boot_with, seen_with, IsUnread, Ran, Runs, HasCauseToRefuse}
+use Rattle.serial_run.specs.Runs.{status_of, start_status, begun, boot_with, seen_with, IsUnread, Ran, Runs}
+use Rattle.serial_run.specs.Runs.{HasCauseToRefuse}
 use Rattle.serial_run.specs.Sessions.{Session, Stops, StopsBehindFinal, AllGoOn, OnlyFinalEnds}
 use Rattle.serial_run.specs.Texts.{through_last, has_last, answered, end_due, RunsText, is_fault}
 use Rattle.serial_run.specs.Worlds.{Outside, World, within, world}
@@ -46,7 +48,8 @@ same_quietly ends w w' same none = subst (λ v. StopsQuietly ends w v) (sym same
 })
 
 -- where it stops after requests that go on
-stops_quietly : (boot : ℕ) (ends : SessionEnd) (w w' : World) → Stops boot ends w w' → IsSettled ends → StopsQuietly ends w w'
+stops_quietly : (boot : ℕ) (ends : SessionEnd) (w w' : World) → Stops boot ends w w' → IsSettled ends
+    → StopsQuietly ends w w'
 stops_quietly boot end.Ended w w' stops settled = record { written = nothing_written w w' stops.2; site = stops.1 }
 stops_quietly boot end.Cut w w' stops settled = record { written = nothing_written w w' stops.3; site = stops.2 }
 stops_quietly boot (end.Malformed fault) w w' stops settled = record { written = stops.2.written; site = stops.1 }
@@ -66,16 +69,20 @@ behind_final end.WriteFault w w' is same = absurd is
 behind_final end.NoMemory w w' is same = absurd is
 
 -- where it stops in either way
-session_quietly : (boot : ℕ) (pace : Pace) (w w' : World) (ends : SessionEnd) (s : Session boot pace w w' ends) → IsSettled ends → StopsQuietly ends s.behind w'
+session_quietly : (boot : ℕ) (pace : Pace) (w w' : World) (ends : SessionEnd) (s : Session boot pace w w' ends)
+    → IsSettled ends → StopsQuietly ends s.behind w'
 session_quietly boot pace w w' ends s settled = by s.stops where
-  by : (AllGoOn s.exchanges × Stops boot ends s.behind w') ⊎ (OnlyFinalEnds s.exchanges × StopsBehindFinal ends × (w' ≡ s.behind)) → StopsQuietly ends s.behind w'
+  by : (AllGoOn s.exchanges × Stops boot ends s.behind w')
+      ⊎ (OnlyFinalEnds s.exchanges × StopsBehindFinal ends × (w' ≡ s.behind)) → StopsQuietly ends s.behind w'
   by (inl (going, stops)) = stops_quietly boot ends s.behind w' stops settled
   by (inr (only, is, same)) = behind_final ends s.behind w' is same
 
 -- a settled session over a known text, from the first rows and their records on, does what the text asks
-session_text : (boot : ℕ) (pace : Pace) (before after : Outside) (held : List ℕ) (serial : Serial) (ends : SessionEnd) (text : List ℕ) (messages : List Request) (ending : Ending)
+session_text : (boot : ℕ) (pace : Pace) (before after : Outside) (held : List ℕ) (serial : Serial) (ends : SessionEnd)
+    (text : List ℕ) (messages : List Request) (ending : Ending)
     → Session boot pace (begun before) (world held after serial) ends
-    → before.source.left ≡ Some text → Splits text messages ending → IsSettled ends → RunsText boot pace messages ending (status_of ends) before after
+    → before.source.left ≡ Some text → Splits text messages ending → IsSettled ends
+    → RunsText boot pace messages ending (status_of ends) before after
 session_text boot pace before after held serial ends text messages ending s known splits settled = record {
   exchanges = s.exchanges;
   serial = serial;
@@ -84,8 +91,10 @@ session_text boot pace before after held serial ends text messages ending s know
   moments = along.clock;
   early = along.early;
   status_is = sym (ap (λ e. e.status) due.end_is);
-  written = subst (λ t. Appends before.sink.held after.sink.held (printed_replies boot s.exchanges ++ t)) (sym (ap (λ e. e.text) due.end_is))
-      (appends_twice before.sink.held s.behind.sink.held after.sink.held (printed_replies boot s.exchanges) (text_at ends) all.written quiet.written);
+  written = subst (λ t. Appends before.sink.held after.sink.held (printed_replies boot s.exchanges ++ t))
+      (sym (ap (λ e. e.text) due.end_is))
+      (appends_twice before.sink.held s.behind.sink.held after.sink.held (printed_replies boot s.exchanges)
+      (text_at ends) all.written quiet.written);
   kept = along.kept before.keeper.told refl;
   keeper_failed = along.keeper_failed;
   host_failed = along.host_failed;
@@ -94,13 +103,16 @@ session_text boot pace before after held serial ends text messages ending s know
   all = together boot pace (begun before) s.behind s.exchanges s.serves
 
   due : IsDue messages ending ends s.exchanges
-  due = session_due boot pace (begun before) (world held after serial) ends text messages ending s (ap (prepend_known []) known) splits settled
+  due = session_due boot pace (begun before) (world held after serial) ends text messages ending s
+      (ap (prepend_known []) known) splits settled
 
   quiet : StopsQuietly ends s.behind (world held after serial)
   quiet = session_quietly boot pace (begun before) (world held after serial) ends s settled
 
-  along : IsAlong (begun before).site (moments_of s.exchanges) (keeper_failures_of s.exchanges) (host_failures_of s.exchanges) (within after serial)
-  along = subst (IsAlong (begun before).site (moments_of s.exchanges) (keeper_failures_of s.exchanges) (host_failures_of s.exchanges)) (sym quiet.site) all.along
+  along : IsAlong (begun before).site (moments_of s.exchanges) (keeper_failures_of s.exchanges)
+      (host_failures_of s.exchanges) (within after serial)
+  along = subst (IsAlong (begun before).site (moments_of s.exchanges) (keeper_failures_of s.exchanges)
+      (host_failures_of s.exchanges)) (sym quiet.site) all.along
 
 -- ---- what the exit status tells
 
@@ -118,7 +130,8 @@ Tells end.NoMemory w w' = Unit {0}
 rose_from : (a b c : ℕ) → a ≤ b → Rose b c → Rose a c
 rose_from a b c later rose = omega (arith, later, rose)
 
-stop_tells : (boot : ℕ) (ends : SessionEnd) (w v w' : World) → w.source.failures ≤ v.source.failures → w.sink.failures ≤ v.sink.failures → Stops boot ends v w' → Tells ends w w'
+stop_tells : (boot : ℕ) (ends : SessionEnd) (w v w' : World) → w.source.failures ≤ v.source.failures
+    → w.sink.failures ≤ v.sink.failures → Stops boot ends v w' → Tells ends w w'
 stop_tells boot end.Ended w v w' reads writes stops = tt
 stop_tells boot end.Cut w v w' reads writes stops = stops.1.ended
 stop_tells boot (end.Malformed fault) w v w' reads writes stops = tt
@@ -137,12 +150,14 @@ final_tells end.ReadFault w w' is = absurd is
 final_tells end.WriteFault w w' is = absurd is
 final_tells end.NoMemory w w' is = absurd is
 
-session_tells : (boot : ℕ) (pace : Pace) (w w' : World) (ends : SessionEnd) → Session boot pace w w' ends → Tells ends w w'
+session_tells : (boot : ℕ) (pace : Pace) (w w' : World) (ends : SessionEnd) → Session boot pace w w' ends
+    → Tells ends w w'
 session_tells boot pace w w' ends s = by s.stops where
   all : Together boot pace w s.exchanges s.behind
   all = together boot pace w s.behind s.exchanges s.serves
 
-  by : (AllGoOn s.exchanges × Stops boot ends s.behind w') ⊎ (OnlyFinalEnds s.exchanges × StopsBehindFinal ends × (w' ≡ s.behind)) → Tells ends w w'
+  by : (AllGoOn s.exchanges × Stops boot ends s.behind w')
+      ⊎ (OnlyFinalEnds s.exchanges × StopsBehindFinal ends × (w' ≡ s.behind)) → Tells ends w w'
   by (inl (going, stops)) = stop_tells boot ends w s.behind w' all.reads all.writes stops
   by (inr (only, is, same)) = final_tells ends w w' is
 
@@ -154,10 +169,15 @@ no_start start.HasEntries n is small = let none : ⊥ = omega (arith, is, small)
 no_start start.NoMemory n is small = let none : ⊥ = omega (arith, is, small) in absurd none
 
 -- status 2: the source has ended
-pub top_cut : (words : List (List ℕ)) (handed : ℕ) (before after : Outside) (status : ℕ) → Runs words handed before after status → status ≡ 2 → after.source.ended ≡ true
-top_cut words handed before after status (inr refused) two = no_start refused.why 2 (sym refused.status_is ∙ two) (omega arith)
+pub top_cut : (words : List (List ℕ)) (handed : ℕ) (before after : Outside) (status : ℕ)
+    → Runs words handed before after status → status ≡ 2 → after.source.ended ≡ true
+top_cut words handed before after status (inr refused) two =
+    no_start refused.why 2 (sym refused.status_is ∙ two) (omega arith)
 top_cut words handed before after status (inl ran) two = by ran.opened.ends (session_tells (boot_with words handed) (pace_of words) (begun (seen_with words before)) (world ran.opened.follows.held (seen_with words after) ran.opened.follows.serial) ran.opened.ends ran.opened.follows.session) (sym ran.opened.status_is ∙ two) where
-  by : (ends : SessionEnd) → Tells ends (begun (seen_with words before)) (world ran.opened.follows.held (seen_with words after) ran.opened.follows.serial) → status_of ends ≡ 2 → after.source.ended ≡ true
+  by : (ends : SessionEnd)
+      → Tells ends (begun (seen_with words before))
+      (world ran.opened.follows.held (seen_with words after) ran.opened.follows.serial) → status_of ends ≡ 2
+      → after.source.ended ≡ true
   by end.Cut tells is = tells
   by end.Ended tells is = let none : ⊥ = omega (arith, is) in absurd none
   by (end.Malformed fault) tells is = let none : ⊥ = omega (arith, is) in absurd none
@@ -167,10 +187,15 @@ top_cut words handed before after status (inl ran) two = by ran.opened.ends (ses
   by end.NoMemory tells is = let none : ⊥ = omega (arith, is) in absurd none
 
 -- status 4: a read failed
-pub top_read_fault : (words : List (List ℕ)) (handed : ℕ) (before after : Outside) (status : ℕ) → Runs words handed before after status → status ≡ 4 → Rose before.source.failures after.source.failures
-top_read_fault words handed before after status (inr refused) four = no_start refused.why 4 (sym refused.status_is ∙ four) (omega arith)
+pub top_read_fault : (words : List (List ℕ)) (handed : ℕ) (before after : Outside) (status : ℕ)
+    → Runs words handed before after status → status ≡ 4 → Rose before.source.failures after.source.failures
+top_read_fault words handed before after status (inr refused) four =
+    no_start refused.why 4 (sym refused.status_is ∙ four) (omega arith)
 top_read_fault words handed before after status (inl ran) four = by ran.opened.ends (session_tells (boot_with words handed) (pace_of words) (begun (seen_with words before)) (world ran.opened.follows.held (seen_with words after) ran.opened.follows.serial) ran.opened.ends ran.opened.follows.session) (sym ran.opened.status_is ∙ four) where
-  by : (ends : SessionEnd) → Tells ends (begun (seen_with words before)) (world ran.opened.follows.held (seen_with words after) ran.opened.follows.serial) → status_of ends ≡ 4 → Rose before.source.failures after.source.failures
+  by : (ends : SessionEnd)
+      → Tells ends (begun (seen_with words before))
+      (world ran.opened.follows.held (seen_with words after) ran.opened.follows.serial) → status_of ends ≡ 4
+      → Rose before.source.failures after.source.failures
   by end.ReadFault tells is = tells
   by end.Ended tells is = let none : ⊥ = omega (arith, is) in absurd none
   by end.Cut tells is = let none : ⊥ = omega (arith, is) in absurd none
@@ -180,10 +205,15 @@ top_read_fault words handed before after status (inl ran) four = by ran.opened.e
   by end.NoMemory tells is = let none : ⊥ = omega (arith, is) in absurd none
 
 -- status 5: a write failed
-pub top_write_fault : (words : List (List ℕ)) (handed : ℕ) (before after : Outside) (status : ℕ) → Runs words handed before after status → status ≡ 5 → Rose before.sink.failures after.sink.failures
-top_write_fault words handed before after status (inr refused) five = no_start refused.why 5 (sym refused.status_is ∙ five) (omega arith)
+pub top_write_fault : (words : List (List ℕ)) (handed : ℕ) (before after : Outside) (status : ℕ)
+    → Runs words handed before after status → status ≡ 5 → Rose before.sink.failures after.sink.failures
+top_write_fault words handed before after status (inr refused) five =
+    no_start refused.why 5 (sym refused.status_is ∙ five) (omega arith)
 top_write_fault words handed before after status (inl ran) five = by ran.opened.ends (session_tells (boot_with words handed) (pace_of words) (begun (seen_with words before)) (world ran.opened.follows.held (seen_with words after) ran.opened.follows.serial) ran.opened.ends ran.opened.follows.session) (sym ran.opened.status_is ∙ five) where
-  by : (ends : SessionEnd) → Tells ends (begun (seen_with words before)) (world ran.opened.follows.held (seen_with words after) ran.opened.follows.serial) → status_of ends ≡ 5 → Rose before.sink.failures after.sink.failures
+  by : (ends : SessionEnd)
+      → Tells ends (begun (seen_with words before))
+      (world ran.opened.follows.held (seen_with words after) ran.opened.follows.serial) → status_of ends ≡ 5
+      → Rose before.sink.failures after.sink.failures
   by end.WriteFault tells is = tells
   by end.Ended tells is = let none : ⊥ = omega (arith, is) in absurd none
   by end.Cut tells is = let none : ⊥ = omega (arith, is) in absurd none
@@ -226,44 +256,58 @@ refuses_rose store store' (inl fails) = fails.rose
 refuses_rose store store' (inr fails) = fails.rose
 
 -- status 6: the keeper failed
-pub top_keeper_fault : (words : List (List ℕ)) (handed : ℕ) (before after : Outside) (status : ℕ) → Runs words handed before after status → status ≡ 6 → Rose before.keeper.failures after.keeper.failures
-top_keeper_fault words handed before after status (inl ran) six = not_of_session ran.opened.ends 6 (sym ran.opened.status_is ∙ six) (omega arith) six≢nine six≢ten
-top_keeper_fault words handed before after status (inr refused) six = by refused.why refused.cause (sym refused.status_is ∙ six) where
-  by : (why : StartFault) → HasCauseToRefuse why words before.keeper after.keeper → start_status why ≡ 6 → Rose before.keeper.failures after.keeper.failures
-  by start.KeeperFailed cause is = refuses_rose before.keeper after.keeper cause.1
-  by start.Words cause is = let none : ⊥ = omega (arith, is) in absurd none
-  by start.HasEntries cause is = let none : ⊥ = omega (arith, is) in absurd none
-  by start.NoMemory cause is = let none : ⊥ = omega (arith, is) in absurd none
+pub top_keeper_fault : (words : List (List ℕ)) (handed : ℕ) (before after : Outside) (status : ℕ)
+    → Runs words handed before after status → status ≡ 6 → Rose before.keeper.failures after.keeper.failures
+top_keeper_fault words handed before after status (inl ran) six =
+    not_of_session ran.opened.ends 6 (sym ran.opened.status_is ∙ six) (omega arith) six≢nine six≢ten
+top_keeper_fault words handed before after status (inr refused) six =
+    by refused.why refused.cause (sym refused.status_is ∙ six) where
+      by : (why : StartFault) → HasCauseToRefuse why words before.keeper after.keeper → start_status why ≡ 6
+          → Rose before.keeper.failures after.keeper.failures
+      by start.KeeperFailed cause is = refuses_rose before.keeper after.keeper cause.1
+      by start.Words cause is = let none : ⊥ = omega (arith, is) in absurd none
+      by start.HasEntries cause is = let none : ⊥ = omega (arith, is) in absurd none
+      by start.NoMemory cause is = let none : ⊥ = omega (arith, is) in absurd none
 
 -- status 8: the words are not read
-pub top_words : (words : List (List ℕ)) (handed : ℕ) (before after : Outside) (status : ℕ) → Runs words handed before after status → status ≡ 8 → are_read words ≡ false
-top_words words handed before after status (inl ran) eight = not_of_session ran.opened.ends 8 (sym ran.opened.status_is ∙ eight) (omega arith) eight≢nine eight≢ten
-top_words words handed before after status (inr refused) eight = by refused.why refused.cause (sym refused.status_is ∙ eight) where
-  by : (why : StartFault) → HasCauseToRefuse why words before.keeper after.keeper → start_status why ≡ 8 → are_read words ≡ false
-  by start.Words cause is = cause.0
-  by start.KeeperFailed cause is = let none : ⊥ = omega (arith, is) in absurd none
-  by start.HasEntries cause is = let none : ⊥ = omega (arith, is) in absurd none
-  by start.NoMemory cause is = let none : ⊥ = omega (arith, is) in absurd none
+pub top_words : (words : List (List ℕ)) (handed : ℕ) (before after : Outside) (status : ℕ)
+    → Runs words handed before after status → status ≡ 8 → are_read words ≡ false
+top_words words handed before after status (inl ran) eight =
+    not_of_session ran.opened.ends 8 (sym ran.opened.status_is ∙ eight) (omega arith) eight≢nine eight≢ten
+top_words words handed before after status (inr refused) eight =
+    by refused.why refused.cause (sym refused.status_is ∙ eight) where
+      by : (why : StartFault) → HasCauseToRefuse why words before.keeper after.keeper → start_status why ≡ 8
+          → are_read words ≡ false
+      by start.Words cause is = cause.0
+      by start.KeeperFailed cause is = let none : ⊥ = omega (arith, is) in absurd none
+      by start.HasEntries cause is = let none : ⊥ = omega (arith, is) in absurd none
+      by start.NoMemory cause is = let none : ⊥ = omega (arith, is) in absurd none
 
 -- and where they are not read, that is the status
-pub top_not_read : (words : List (List ℕ)) (handed : ℕ) (before after : Outside) (status : ℕ) → Runs words handed before after status → are_read words ≡ false → status ≡ 8
+pub top_not_read : (words : List (List ℕ)) (handed : ℕ) (before after : Outside) (status : ℕ)
+    → Runs words handed before after status → are_read words ≡ false → status ≡ 8
 top_not_read words handed before after status (inl ran) other = absurd (false≢true (sym other ∙ ran.read))
 top_not_read words handed before after status (inr refused) other = by refused.why refused.cause refused.status_is where
-  by : (why : StartFault) → HasCauseToRefuse why words before.keeper after.keeper → status ≡ start_status why → status ≡ 8
+  by : (why : StartFault) → HasCauseToRefuse why words before.keeper after.keeper → status ≡ start_status why
+      → status ≡ 8
   by start.Words cause is = is
   by start.KeeperFailed cause is = absurd (false≢true (sym other ∙ cause.0))
   by start.HasEntries cause is = absurd (false≢true (sym other ∙ cause.0))
   by start.NoMemory cause is = absurd (false≢true (sym other ∙ cause.0))
 
 -- status 13: the keeper has entries
-pub top_has_entries : (words : List (List ℕ)) (handed : ℕ) (before after : Outside) (status : ℕ) → Runs words handed before after status → status ≡ 13 → IfSome before.keeper.told (λ entries. entries ≢ [])
-top_has_entries words handed before after status (inl ran) thirteen = not_of_session ran.opened.ends 13 (sym ran.opened.status_is ∙ thirteen) (omega arith) thirteen≢nine thirteen≢ten
-top_has_entries words handed before after status (inr refused) thirteen = by refused.why refused.cause (sym refused.status_is ∙ thirteen) where
-  by : (why : StartFault) → HasCauseToRefuse why words before.keeper after.keeper → start_status why ≡ 13 → IfSome before.keeper.told (λ entries. entries ≢ [])
-  by start.HasEntries cause is = cause.1.0
-  by start.Words cause is = let none : ⊥ = omega (arith, is) in absurd none
-  by start.KeeperFailed cause is = let none : ⊥ = omega (arith, is) in absurd none
-  by start.NoMemory cause is = let none : ⊥ = omega (arith, is) in absurd none
+pub top_has_entries : (words : List (List ℕ)) (handed : ℕ) (before after : Outside) (status : ℕ)
+    → Runs words handed before after status → status ≡ 13 → IfSome before.keeper.told (λ entries. entries ≢ [])
+top_has_entries words handed before after status (inl ran) thirteen =
+    not_of_session ran.opened.ends 13 (sym ran.opened.status_is ∙ thirteen) (omega arith) thirteen≢nine thirteen≢ten
+top_has_entries words handed before after status (inr refused) thirteen =
+    by refused.why refused.cause (sym refused.status_is ∙ thirteen) where
+      by : (why : StartFault) → HasCauseToRefuse why words before.keeper after.keeper → start_status why ≡ 13
+          → IfSome before.keeper.told (λ entries. entries ≢ [])
+      by start.HasEntries cause is = cause.1.0
+      by start.Words cause is = let none : ⊥ = omega (arith, is) in absurd none
+      by start.KeeperFailed cause is = let none : ⊥ = omega (arith, is) in absurd none
+      by start.NoMemory cause is = let none : ⊥ = omega (arith, is) in absurd none
 
 -- ---- a run over a known text
 
@@ -275,33 +319,56 @@ start_fault_is start.HasEntries = refl
 start_fault_is start.NoMemory = refl
 
 -- a run with a session ends with a fault, or does what its text asks
-ran_text : (words : List (List ℕ)) (handed : ℕ) (before after : Outside) (status : ℕ) → Ran words handed before after status → (text : List ℕ) (messages : List Request) (ending : Ending) → before.source.left ≡ Some text → Splits text messages ending
-    → (is_fault status ≡ true) ⊎ RunsText (boot_with words handed) (pace_of words) messages ending status (seen_with words before) (seen_with words after)
-ran_text words handed before after status r text messages ending known splits = subst (λ n. (is_fault n ≡ true) ⊎ RunsText (boot_with words handed) (pace_of words) messages ending n (seen_with words before) (seen_with words after)) (sym r.opened.status_is) (by r.opened.ends r.opened.follows.session) where
-  does : (ends : SessionEnd) → Session (boot_with words handed) (pace_of words) (begun (seen_with words before)) (world r.opened.follows.held (seen_with words after) r.opened.follows.serial) ends → IsSettled ends → RunsText (boot_with words handed) (pace_of words) messages ending (status_of ends) (seen_with words before) (seen_with words after)
-  does ends s settled = session_text (boot_with words handed) (pace_of words) (seen_with words before) (seen_with words after) r.opened.follows.held r.opened.follows.serial ends text messages ending s known splits settled
+ran_text : (words : List (List ℕ)) (handed : ℕ) (before after : Outside) (status : ℕ)
+    → Ran words handed before after status → (text : List ℕ) (messages : List Request) (ending : Ending)
+    → before.source.left ≡ Some text → Splits text messages ending
+    → (is_fault status ≡ true)
+    ⊎ RunsText (boot_with words handed) (pace_of words) messages ending status (seen_with words before)
+    (seen_with words after)
+ran_text words handed before after status r text messages ending known splits = subst
+    (λ n. (is_fault n ≡ true)
+    ⊎ RunsText (boot_with words handed) (pace_of words) messages ending n (seen_with words before)
+    (seen_with words after)) (sym r.opened.status_is) (by r.opened.ends r.opened.follows.session) where
+      does : (ends : SessionEnd)
+          → Session (boot_with words handed) (pace_of words) (begun (seen_with words before))
+          (world r.opened.follows.held (seen_with words after) r.opened.follows.serial) ends → IsSettled ends
+          → RunsText (boot_with words handed) (pace_of words) messages ending (status_of ends) (seen_with words before)
+          (seen_with words after)
+      does ends s settled = session_text (boot_with words handed) (pace_of words) (seen_with words before) (seen_with words after) r.opened.follows.held r.opened.follows.serial ends text messages ending s known splits settled
 
-  by : (ends : SessionEnd) → Session (boot_with words handed) (pace_of words) (begun (seen_with words before)) (world r.opened.follows.held (seen_with words after) r.opened.follows.serial) ends → (is_fault (status_of ends) ≡ true) ⊎ RunsText (boot_with words handed) (pace_of words) messages ending (status_of ends) (seen_with words before) (seen_with words after)
-  by end.Ended s = inr (does end.Ended s tt)
-  by end.Cut s = inr (does end.Cut s tt)
-  by (end.Malformed fault) s = inr (does (end.Malformed fault) s tt)
-  by end.Spent s = inr (does end.Spent s tt)
-  by end.ReadFault s = inl refl
-  by end.WriteFault s = inl refl
-  by end.NoMemory s = inl refl
+      by : (ends : SessionEnd)
+          → Session (boot_with words handed) (pace_of words) (begun (seen_with words before))
+          (world r.opened.follows.held (seen_with words after) r.opened.follows.serial) ends
+          → (is_fault (status_of ends) ≡ true)
+          ⊎ RunsText (boot_with words handed) (pace_of words) messages ending (status_of ends) (seen_with words before)
+          (seen_with words after)
+      by end.Ended s = inr (does end.Ended s tt)
+      by end.Cut s = inr (does end.Cut s tt)
+      by (end.Malformed fault) s = inr (does (end.Malformed fault) s tt)
+      by end.Spent s = inr (does end.Spent s tt)
+      by end.ReadFault s = inl refl
+      by end.WriteFault s = inl refl
+      by end.NoMemory s = inl refl
 
 -- any run over a known text
-pub top_text : (words : List (List ℕ)) (handed : ℕ) (before after : Outside) (status : ℕ) (known : Option (List ℕ)) → Runs words handed before after status → before.source.left ≡ known
-    → IfSome known (λ text. (messages : List Request) (ending : Ending) → Splits text messages ending → (is_fault status ≡ true) ⊎ RunsText (boot_with words handed) (pace_of words) messages ending status (seen_with words before) (seen_with words after))
+pub top_text : (words : List (List ℕ)) (handed : ℕ) (before after : Outside) (status : ℕ) (known : Option (List ℕ))
+    → Runs words handed before after status → before.source.left ≡ known
+    → IfSome known (λ text. (messages : List Request) (ending : Ending) → Splits text messages ending
+    → (is_fault status ≡ true)
+    ⊎ RunsText (boot_with words handed) (pace_of words) messages ending status (seen_with words before)
+    (seen_with words after))
 top_text words handed before after status None done is = tt
-top_text words handed before after status (Some text) (inl ran) is = λ messages ending splits. ran_text words handed before after status ran text messages ending is splits
-top_text words handed before after status (Some text) (inr refused) is = λ messages ending splits. inl (ap is_fault refused.status_is ∙ start_fault_is refused.why)
+top_text words handed before after status (Some text) (inl ran) is =
+    λ messages ending splits. ran_text words handed before after status ran text messages ending is splits
+top_text words handed before after status (Some text) (inr refused) is =
+    λ messages ending splits. inl (ap is_fault refused.status_is ∙ start_fault_is refused.why)
 
 -- no more requests than there are come up to the first last one
 through_last_few : (ms : List Request) → length (through_last ms) ≤ length ms
 through_last_few [] = omega arith
 through_last_few (m ∷ ms) = at m.last refl (through_last_few ms) where
-  at : (last : Bool) → m.last ≡ last → length (through_last ms) ≤ length ms → length (through_last (m ∷ ms)) ≤ length (m ∷ ms)
+  at : (last : Bool) → m.last ≡ last → length (through_last ms) ≤ length ms
+      → length (through_last (m ∷ ms)) ≤ length (m ∷ ms)
   at true is few = rw is (omega arith)
   at false is few = rw is (omega (arith, few))
 
@@ -316,29 +383,48 @@ due_whole messages few = by (has_last (answered messages)) refl where
   by false is = rw (not_full (length (answered messages)) fewer, is) refl
 
 -- a run over whole messages, in which nothing failed, answered all of them or was refused memory
-ran_complete : (words : List (List ℕ)) (handed : ℕ) (before after : Outside) (status : ℕ) → Ran words handed before after status → (text : List ℕ) (messages : List Request) → before.source.left ≡ Some text → Splits text messages ended → length messages < most_requests
-    → ¬ (Rose before.source.failures after.source.failures) → ¬ (Rose before.sink.failures after.sink.failures) → (status ≡ 0) ⊎ (status ≡ 9)
-ran_complete words handed before after status r text messages known splits few reads writes = subst (λ n. (n ≡ 0) ⊎ (n ≡ 9)) (sym r.opened.status_is) (by r.opened.ends r.opened.follows.session) where
-  settled : (ends : SessionEnd) → Session (boot_with words handed) (pace_of words) (begun (seen_with words before)) (world r.opened.follows.held (seen_with words after) r.opened.follows.serial) ends → IsSettled ends → (status_of ends ≡ 0) ⊎ (status_of ends ≡ 9)
-  settled ends s is = inl ((session_text (boot_with words handed) (pace_of words) (seen_with words before) (seen_with words after) r.opened.follows.held r.opened.follows.serial ends text messages ended s known splits is).status_is ∙ due_whole messages few)
+ran_complete : (words : List (List ℕ)) (handed : ℕ) (before after : Outside) (status : ℕ)
+    → Ran words handed before after status → (text : List ℕ) (messages : List Request)
+    → before.source.left ≡ Some text → Splits text messages ended → length messages < most_requests
+    → ¬ (Rose before.source.failures after.source.failures) → ¬ (Rose before.sink.failures after.sink.failures)
+    → (status ≡ 0) ⊎ (status ≡ 9)
+ran_complete words handed before after status r text messages known splits few reads writes =
+    subst (λ n. (n ≡ 0) ⊎ (n ≡ 9)) (sym r.opened.status_is) (by r.opened.ends r.opened.follows.session) where
+      settled : (ends : SessionEnd)
+          → Session (boot_with words handed) (pace_of words) (begun (seen_with words before))
+          (world r.opened.follows.held (seen_with words after) r.opened.follows.serial) ends → IsSettled ends
+          → (status_of ends ≡ 0) ⊎ (status_of ends ≡ 9)
+      settled ends s is = inl ((session_text (boot_with words handed) (pace_of words) (seen_with words before) (seen_with words after) r.opened.follows.held r.opened.follows.serial ends text messages ended s known splits is).status_is ∙ due_whole messages few)
 
-  by : (ends : SessionEnd) → Session (boot_with words handed) (pace_of words) (begun (seen_with words before)) (world r.opened.follows.held (seen_with words after) r.opened.follows.serial) ends → (status_of ends ≡ 0) ⊎ (status_of ends ≡ 9)
-  by end.Ended s = inl refl
-  by end.Cut s = settled end.Cut s tt
-  by (end.Malformed fault) s = settled (end.Malformed fault) s tt
-  by end.Spent s = settled end.Spent s tt
-  by end.NoMemory s = inr refl
-  by end.ReadFault s = absurd (reads (session_tells (boot_with words handed) (pace_of words) (begun (seen_with words before)) (world r.opened.follows.held (seen_with words after) r.opened.follows.serial) end.ReadFault s))
-  by end.WriteFault s = absurd (writes (session_tells (boot_with words handed) (pace_of words) (begun (seen_with words before)) (world r.opened.follows.held (seen_with words after) r.opened.follows.serial) end.WriteFault s))
+      by : (ends : SessionEnd)
+          → Session (boot_with words handed) (pace_of words) (begun (seen_with words before))
+          (world r.opened.follows.held (seen_with words after) r.opened.follows.serial) ends
+          → (status_of ends ≡ 0) ⊎ (status_of ends ≡ 9)
+      by end.Ended s = inl refl
+      by end.Cut s = settled end.Cut s tt
+      by (end.Malformed fault) s = settled (end.Malformed fault) s tt
+      by end.Spent s = settled end.Spent s tt
+      by end.NoMemory s = inr refl
+      by end.ReadFault s = absurd (reads
+          (session_tells (boot_with words handed) (pace_of words) (begun (seen_with words before))
+          (world r.opened.follows.held (seen_with words after) r.opened.follows.serial) end.ReadFault s))
+      by end.WriteFault s = absurd (writes
+          (session_tells (boot_with words handed) (pace_of words) (begun (seen_with words before))
+          (world r.opened.follows.held (seen_with words after) r.opened.follows.serial) end.WriteFault s))
 
 -- the same of any run
-pub top_complete : (words : List (List ℕ)) (handed : ℕ) (before after : Outside) (status : ℕ) (known : Option (List ℕ)) → Runs words handed before after status → before.source.left ≡ known
-    → IfSome known (λ text. (messages : List Request) → Splits text messages ended → length messages < most_requests → are_read words ≡ true → before.keeper.told ≡ Some []
-    → ¬ (Rose before.source.failures after.source.failures) → ¬ (Rose before.sink.failures after.sink.failures) → ¬ (Rose before.keeper.failures after.keeper.failures) → (status ≡ 0) ⊎ (status ≡ 9))
+pub top_complete : (words : List (List ℕ)) (handed : ℕ) (before after : Outside) (status : ℕ)
+    (known : Option (List ℕ)) → Runs words handed before after status → before.source.left ≡ known
+    → IfSome known (λ text. (messages : List Request) → Splits text messages ended → length messages < most_requests
+    → are_read words ≡ true → before.keeper.told ≡ Some []
+    → ¬ (Rose before.source.failures after.source.failures) → ¬ (Rose before.sink.failures after.sink.failures)
+    → ¬ (Rose before.keeper.failures after.keeper.failures) → (status ≡ 0) ⊎ (status ≡ 9))
 top_complete words handed before after status None done is = tt
 top_complete words handed before after status (Some text) (inl ran) is = λ messages splits few read none reads writes keeps. ran_complete words handed before after status ran text messages is splits few reads writes
 top_complete words handed before after status (Some text) (inr refused) is = λ messages splits few read none reads writes keeps. by refused.why refused.cause refused.status_is read none keeps where
-  by : (why : StartFault) → HasCauseToRefuse why words before.keeper after.keeper → status ≡ start_status why → are_read words ≡ true → before.keeper.told ≡ Some [] → ¬ (Rose before.keeper.failures after.keeper.failures) → (status ≡ 0) ⊎ (status ≡ 9)
+  by : (why : StartFault) → HasCauseToRefuse why words before.keeper after.keeper → status ≡ start_status why
+      → are_read words ≡ true → before.keeper.told ≡ Some [] → ¬ (Rose before.keeper.failures after.keeper.failures)
+      → (status ≡ 0) ⊎ (status ≡ 9)
   by start.Words cause is read none keeps = absurd (false≢true (sym cause.0 ∙ read))
   by start.KeeperFailed cause is read none keeps = absurd (keeps (refuses_rose before.keeper after.keeper cause.1))
   by start.HasEntries cause is read none keeps =
@@ -346,19 +432,26 @@ top_complete words handed before after status (Some text) (inr refused) is = λ 
   by start.NoMemory cause is read none keeps = inr is
 
 -- a run over a keeper that has entries ends with the status that says so, or is refused memory, and writes nothing
-pub top_entries : (words : List (List ℕ)) (handed : ℕ) (before after : Outside) (status : ℕ) (known : Option (List Entry)) → Runs words handed before after status → before.keeper.told ≡ known
-    → IfSome known (λ entries. entries ≢ [] → are_read words ≡ true → ¬ (Rose before.keeper.failures after.keeper.failures) → (after.sink.held ≡ before.sink.held) × ((status ≡ 13) ⊎ (status ≡ 9)))
+pub top_entries : (words : List (List ℕ)) (handed : ℕ) (before after : Outside) (status : ℕ)
+    (known : Option (List Entry)) → Runs words handed before after status → before.keeper.told ≡ known
+    → IfSome known (λ entries. entries ≢ [] → are_read words ≡ true
+    → ¬ (Rose before.keeper.failures after.keeper.failures)
+    → (after.sink.held ≡ before.sink.held) × ((status ≡ 13) ⊎ (status ≡ 9)))
 top_entries words handed before after status None done is = tt
-top_entries words handed before after status (Some entries) (inl ran) is = λ some read keeps. absurd (some (subst (λ known. IfSome known (λ es. es ≡ [])) is ran.opened.empty))
-top_entries words handed before after status (Some entries) (inr refused) is = λ some read keeps. (ap (λ sink. sink.held) refused.sink, by refused.why refused.cause refused.status_is read keeps) where
-  by : (why : StartFault) → HasCauseToRefuse why words before.keeper after.keeper → status ≡ start_status why → are_read words ≡ true → ¬ (Rose before.keeper.failures after.keeper.failures) → (status ≡ 13) ⊎ (status ≡ 9)
-  by start.Words cause is read keeps = absurd (false≢true (sym cause.0 ∙ read))
-  by start.KeeperFailed cause is read keeps = absurd (keeps (refuses_rose before.keeper after.keeper cause.1))
-  by start.HasEntries cause is read keeps = inl is
-  by start.NoMemory cause is read keeps = inr is
+top_entries words handed before after status (Some entries) (inl ran) is =
+    λ some read keeps. absurd (some (subst (λ known. IfSome known (λ es. es ≡ [])) is ran.opened.empty))
+top_entries words handed before after status (Some entries) (inr refused) is = λ some read keeps.
+    (ap (λ sink. sink.held) refused.sink, by refused.why refused.cause refused.status_is read keeps) where
+      by : (why : StartFault) → HasCauseToRefuse why words before.keeper after.keeper → status ≡ start_status why
+          → are_read words ≡ true → ¬ (Rose before.keeper.failures after.keeper.failures) → (status ≡ 13) ⊎ (status ≡ 9)
+      by start.Words cause is read keeps = absurd (false≢true (sym cause.0 ∙ read))
+      by start.KeeperFailed cause is read keeps = absurd (keeps (refuses_rose before.keeper after.keeper cause.1))
+      by start.HasEntries cause is read keeps = inl is
+      by start.NoMemory cause is read keeps = inr is
 
 -- where the words say a moment, the clock that is handed in is not read
-pub top_still : (words : List (List ℕ)) (handed : ℕ) (before after : Outside) (status : ℕ) → Runs words handed before after status → IfSome (now_of words) (λ _. after.clock ≡ before.clock)
+pub top_still : (words : List (List ℕ)) (handed : ℕ) (before after : Outside) (status : ℕ)
+    → Runs words handed before after status → IfSome (now_of words) (λ _. after.clock ≡ before.clock)
 top_still words handed before after status (inl ran) = by (now_of words) ran.unread where
   by : (now : Option ℕ) → IsUnread now before.clock after.clock → IfSome now (λ _. after.clock ≡ before.clock)
   by None unread = tt

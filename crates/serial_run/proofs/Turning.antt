@@ -16,7 +16,8 @@ use Rattle.serial_run.specs.declared.session.SessionEnd.TheVariants as end
 use Rattle.serial_run.specs.declared.session.Turn.{Turn}
 use Rattle.serial_run.specs.declared.session.Turn.TheVariants as turn
 use Rattle.serial_run.specs.Worlds.{Inlet, World}
-use Rattle.serial_run.specs.Sessions.{Asks, BreaksOff, CarriesOut, GoesOn, IsUnprinted, KeepsRows, RefusesPlace, Serves, Stops, Takes, Turns, WritesAnswer, text_for}
+use Rattle.serial_run.specs.Sessions.{Asks, BreaksOff, CarriesOut, GoesOn, IsUnprinted, KeepsRows, RefusesPlace, Serves}
+use Rattle.serial_run.specs.Sessions.{Stops, Takes, Turns, WritesAnswer, text_for}
 
 -- what is seen of a source that was not touched is the same
 pub unread : {S : Type 0} (see : S → Inlet) (a b : S) (P : Type 0) → (b ≡ a) ⊎ P → (see b ≡ see a) ⊎ P
@@ -24,20 +25,23 @@ unread see a b P (inl same) = inl (ap see same)
 unread see a b P (inr other) = inr other
 
 -- what is written for an answer is the text of its reply, unless memory for it was refused
-text_is : (a : Answered) (r : Reply) (boot : ℕ) (last : Bool) → HasText a r boot last → ¬ IsUnprinted a → text_for a last ≡ printed r boot last
+text_is : (a : Answered) (r : Reply) (boot : ℕ) (last : Bool) → HasText a r boot last → ¬ IsUnprinted a
+    → text_for a last ≡ printed r boot last
 text_is (written.Printed bytes) r boot last has printed = has
 text_is written.NoMemory r boot last has printed = has
 text_is written.Unprinted r boot last has printed = absurd (printed tt)
 
 -- memory for a reply is refused only to one that takes memory
-takes_memory : (a : Answered) (r : Reply) (boot : ℕ) (last : Bool) → HasText a r boot last → IsUnprinted a → r ≢ reply.NoMemory
+takes_memory : (a : Answered) (r : Reply) (boot : ℕ) (last : Bool) → HasText a r boot last → IsUnprinted a
+    → r ≢ reply.NoMemory
 takes_memory (written.Printed bytes) r boot last has refused = absurd refused
 takes_memory written.NoMemory r boot last has refused = absurd refused
 takes_memory written.Unprinted r boot last has refused = has
 
--- A turn that takes the next request and has it answered goes on after its reply and the steps of the pace, or ends after them, or stops
--- at a failed write, or where memory for the reply was refused.
-pub turn_answers : (boot : ℕ) (pace : Pace) (w w' : World) (v : Site) (request : Request) (result : Answered) (comes : Turn)
+-- A turn that takes the next request and has it answered goes on after its reply and the steps of the pace, or ends
+-- after them, or stops at a failed write, or where memory for the reply was refused.
+pub turn_answers : (boot : ℕ) (pace : Pace) (w w' : World) (v : Site) (request : Request) (result : Answered)
+    (comes : Turn)
     → Asks w w' (got.Request request) → Answers boot w.site v request result
     → WritesAnswer comes result request.last w.sink w'.sink → GoesOn pace comes v w'.site → Turns boot pace comes w w'
 turn_answers boot pace w w' v request result comes asks answers writes goes = by comes writes goes where
@@ -54,7 +58,8 @@ turn_answers boot pace w w' v request result comes asks answers writes goes = by
   text : ¬ IsUnprinted result → text_for result request.last ≡ printed answers.reply boot request.last
   text has = text_is result answers.reply boot request.last answers.text has
 
-  serves : (steps : List Step) → IsPaced pace v steps w'.site → ¬ IsUnprinted result → Takes w.sink w'.sink (text_for result request.last) → Serves boot pace w w' (e steps)
+  serves : (steps : List Step) → IsPaced pace v steps w'.site → ¬ IsUnprinted result
+      → Takes w.sink w'.sink (text_for result request.last) → Serves boot pace w w' (e steps)
   serves steps paced has takes = record {
     asked = asks;
     leads = record { replied = v; comes = answers.reaches.comes; paced = paced };
@@ -62,14 +67,27 @@ turn_answers boot pace w w' v request result comes asks answers writes goes = by
   }
 
   carried : w'.site ≡ v → CarriesOut boot w w' (e [])
-  carried same = record { asked = asks; comes = subst (λ s. Comes boot w.site (e []) s) (sym same) answers.reaches.comes; still = refl }
+  carried same = record {
+    asked = asks;
+    comes = subst (λ s. Comes boot w.site (e []) s) (sym same) answers.reaches.comes;
+    still = refl;
+  }
 
-  by : (comes : Turn) → WritesAnswer comes result request.last w.sink w'.sink → GoesOn pace comes v w'.site → Turns boot pace comes w w'
+  by : (comes : Turn) → WritesAnswer comes result request.last w.sink w'.sink → GoesOn pace comes v w'.site
+      → Turns boot pace comes w w'
   by turn.GoOn writes goes = (e goes.0, serves goes.0 goes.1 writes.1 writes.2, writes.0)
   by turn.Final writes goes = (e goes.0, serves goes.0 goes.1 writes.1 writes.2, writes.0)
-  by (turn.Stop end.WriteFault) writes same = (inl (e [], carried same, subst (BreaksOff w.sink w'.sink) (text writes.0) writes.1), λ e. cc)
-  by (turn.Stop end.NoMemory) writes same =
-      (inr (inr (e [], carried same, takes_memory result answers.reply boot request.last answers.text writes.0, writes.1)), λ e. cc)
+  by (turn.Stop end.WriteFault) writes same =
+      (inl (e [], carried same, subst (BreaksOff w.sink w'.sink) (text writes.0) writes.1), λ e. cc)
+  by (turn.Stop end.NoMemory) writes same = (
+    inr (inr (
+      e [],
+      carried same,
+      takes_memory result answers.reply boot request.last answers.text writes.0,
+      writes.1,
+    )),
+    λ e. cc,
+  )
   by (turn.Stop end.Ended) writes same = absurd writes
   by (turn.Stop end.Cut) writes same = absurd writes
   by (turn.Stop (end.Malformed fault)) writes same = absurd writes
@@ -77,11 +95,13 @@ turn_answers boot pace w w' v request result comes asks answers writes goes = by
   by (turn.Stop end.Spent) writes same = absurd writes
 
 -- a turn that refuses a malformed place
-pub turn_refuses : (boot : ℕ) (pace : Pace) (w w' : World) (fault : HeadFault) (ends : SessionEnd) → Asks w w' (got.Malformed fault) → KeepsRows w w'
+pub turn_refuses : (boot : ℕ) (pace : Pace) (w w' : World) (fault : HeadFault) (ends : SessionEnd)
+    → Asks w w' (got.Malformed fault) → KeepsRows w w'
     → RefusesPlace fault ends w.sink w'.sink → Turns boot pace (turn.Stop ends) w w'
 turn_refuses boot pace w w' fault ends asks rows refuses = by ends refuses where
   by : (ends : SessionEnd) → RefusesPlace fault ends w.sink w'.sink → Turns boot pace (turn.Stop ends) w w'
-  by (end.Malformed other) refuses = (subst (λ f. Stops boot (end.Malformed f) w w') (sym refuses.0) (asks, rows, refuses.1), λ e. cc)
+  by (end.Malformed other) refuses =
+      (subst (λ f. Stops boot (end.Malformed f) w w') (sym refuses.0) (asks, rows, refuses.1), λ e. cc)
   by end.WriteFault refuses = (inr (fault, asks, rows, refuses), λ e. cc)
   by end.NoMemory refuses = (inr (inl (fault, asks, rows, refuses)), λ e. cc)
   by end.Ended refuses = absurd refuses

@@ -78,8 +78,8 @@ pub record Opened (boot : ℕ) (pace : Pace) (before after : Outside) (status : 
   pub follows : SessionFrom boot pace (begun before) after ends
   pub status_is : status ≡ status_of ends
 
--- The words were read, and there was one session over the clock of the run, with its boot word, at the pace that the words
--- say.
+-- The words were read, and there was one session over the clock of the run, with its boot word, at the pace that the
+-- words say.
 pub record Ran (words : List (List ℕ)) (handed : ℕ) (before after : Outside) (status : ℕ) : Type 0 where
   pub read : are_read words ≡ true
   pub opened : Opened (boot_with words handed) (pace_of words) (seen_with words before) (seen_with words after) status

@@ -1,5 +1,5 @@
--- A session: it serves requests, and then it stops for one reason. The boot word is that of the ids of operations, and the
--- pace says how many steps of the worker follow each reply.
+-- A session: it serves requests, and then it stops for one reason. The boot word is that of the ids of operations, and
+-- the pace says how many steps of the worker follow each reply.
 use Rattle.std.specs.Prelude.{◌≡◌, ◌≢◌, ◌<◌, ◌≤◌, ◌⊎◌, ℕ, List, [], ◌∷◌, Bool, true, false, length, take, IfSome}
 use Rattle.std.specs.Prelude.{Result, Ok, Err, ◌+◌, ◌==◌, if◌then◌else◌}
 use Rattle.std.specs.Io.KnownBytes.{Appends}

@@ -1,4 +1,5 @@
-ghost use Rattle.std.specs.Prelude.{◌≡◌, ◌≢◌, ◌<◌, ◌⊎◌, ◌↔◌, List, [], true, false, length, Some, IfSome, map};
+ghost use Rattle.std.specs.Prelude.{◌≡◌, ◌≢◌, ◌<◌, ◌⊎◌, ◌↔◌, List, [], true, false, length, Some};
+ghost use Rattle.std.specs.Prelude.{IfSome, map};
 ghost use Rattle.std.specs.Prelude.{string_bytes};
 ghost use Rattle.size_values.specs.Causes.{Rose};
 ghost use Rattle.http_heads.specs.Messages.{Ending, ended, Splits};
@@ -6,7 +7,8 @@ ghost use Rattle.http_heads.specs.declared.request.Request.{Request};
 ghost use Rattle.run_words.specs.Words.{are_read, now_of, pace_of};
 ghost use Rattle.serial_steps.specs.Steps.{hosted};
 ghost use Rattle.serial_run.specs.Most.{most_requests};
-ghost use Rattle.serial_run.specs.Runs.{Runs, RunsOver, SessionFrom, boot_with, seen_with, start_fault, start_status, status_of};
+ghost use Rattle.serial_run.specs.Runs.{Runs, RunsOver, SessionFrom, boot_with, seen_with};
+ghost use Rattle.serial_run.specs.Runs.{start_fault, start_status, status_of};
 ghost use Rattle.serial_run.specs.Texts.{RunsText, is_fault};
 ghost use Rattle.serial_run.specs.Worlds.{inlet, outlet, outside, world};
 
@@ -123,10 +125,10 @@ fn run_over<S: Source, K: Sink, R: Keeper, H: Host, C: Clock>(
     pace: Pace,
 ) -> (u8, R)
     ensures { RunsOver boot pace
-        (outside (inlet S.left S.ended S.failures source.old) (outlet K.held K.failures sink.old) (R.store keeper)
-        (hosted H.told H.failures host.old) (C.readings clock.old))
-        (outside (inlet S.left S.ended S.failures source.new) (outlet K.held K.failures sink.new) (R.store result.1)
-        (hosted H.told H.failures host.new) (C.readings clock.new)) result.0 }
+        (outside (inlet S.left S.ended S.failures source.old) (outlet K.held K.failures sink.old)
+        (R.store keeper) (hosted H.told H.failures host.old) (C.readings clock.old))
+        (outside (inlet S.left S.ended S.failures source.new) (outlet K.held K.failures sink.new)
+        (R.store result.1) (hosted H.told H.failures host.new) (C.readings clock.new)) result.0 }
 {
     let Ok(buffer) = Buffer::new(alloc) else {
         return (StartFault::NoMemory.status(), keeper);
@@ -163,10 +165,10 @@ fn run<S: Source, K: Sink, R: Keeper, H: Host, C: Clock>(
     boot: u64,
 ) -> (u8, R)
     ensures { Runs (map (λ w. string_bytes w) words.now) boot
-        (outside (inlet S.left S.ended S.failures source.old) (outlet K.held K.failures sink.old) (R.store keeper)
-        (hosted H.told H.failures host.old) (C.readings clock.old))
-        (outside (inlet S.left S.ended S.failures source.new) (outlet K.held K.failures sink.new) (R.store result.1)
-        (hosted H.told H.failures host.new) (C.readings clock.new)) result.0 }
+        (outside (inlet S.left S.ended S.failures source.old) (outlet K.held K.failures sink.old)
+        (R.store keeper) (hosted H.told H.failures host.old) (C.readings clock.old))
+        (outside (inlet S.left S.ended S.failures source.new) (outlet K.held K.failures sink.new)
+        (R.store result.1) (hosted H.told H.failures host.new) (C.readings clock.new)) result.0 }
 {
     let Some(said) = read_words(words) else {
         return (StartFault::Words.status(), keeper);
@@ -179,15 +181,14 @@ fn run<S: Source, K: Sink, R: Keeper, H: Host, C: Clock>(
                 alloc, source, sink, keeper, host, &mut still, boot, said.pace,
             )
         }
-        None => run_over(
-            alloc, source, sink, keeper, host, clock, boot, said.pace,
-        ),
+        None => run_over(alloc, source, sink, keeper, host, clock, boot, said.pace),
     }
 }
 
-/// All that the program does: one session over the source and the sink, with the words of the command line: `run`,
-/// and its options. The worker of the server makes the calls of background operations on the host. The boot word is that of
-/// the ids of operations, where the words say none. It gives the exit status, and the keeper back.
+/// All that the program does: one session over the source and the sink, with the words of the
+/// command line: `run`, and its options. The worker of the server makes the calls of background
+/// operations on the host. The boot word is that of the ids of operations, where the words say
+/// none. It gives the exit status, and the keeper back.
 pub fn run_main<S: Source, K: Sink, R: Keeper, H: Host, C: Clock>(
     alloc: Global,
     words: &[String],
@@ -200,10 +201,10 @@ pub fn run_main<S: Source, K: Sink, R: Keeper, H: Host, C: Clock>(
 ) -> (u8, R)
     // There was a session, or there was none.
     ensures done { Runs (map (λ w. string_bytes w) words.now) boot
-        (outside (inlet S.left S.ended S.failures source.old) (outlet K.held K.failures sink.old) (R.store keeper)
-        (hosted H.told H.failures host.old) (C.readings clock.old))
-        (outside (inlet S.left S.ended S.failures source.new) (outlet K.held K.failures sink.new) (R.store result.1)
-        (hosted H.told H.failures host.new) (C.readings clock.new)) result.0 }
+        (outside (inlet S.left S.ended S.failures source.old) (outlet K.held K.failures sink.old)
+        (R.store keeper) (hosted H.told H.failures host.old) (C.readings clock.old))
+        (outside (inlet S.left S.ended S.failures source.new) (outlet K.held K.failures sink.new)
+        (R.store result.1) (hosted H.told H.failures host.new) (C.readings clock.new)) result.0 }
 
     // Over a source that tells its bytes: a fault, or what these bytes ask.
     ensures text { IfSome (S.left source.old) (λ text. (messages : List Request) (ending : Ending)
@@ -211,25 +212,28 @@ pub fn run_main<S: Source, K: Sink, R: Keeper, H: Host, C: Clock>(
         (is_fault result.0 ≡ true) ⊎ RunsText (boot_with (map (λ w. string_bytes w) words.now) boot)
         (pace_of (map (λ w. string_bytes w) words.now)) messages ending result.0
         (seen_with (map (λ w. string_bytes w) words.now)
-        (outside (inlet S.left S.ended S.failures source.old) (outlet K.held K.failures sink.old) (R.store keeper)
-        (hosted H.told H.failures host.old) (C.readings clock.old)))
+        (outside (inlet S.left S.ended S.failures source.old) (outlet K.held K.failures sink.old)
+        (R.store keeper) (hosted H.told H.failures host.old) (C.readings clock.old)))
         (seen_with (map (λ w. string_bytes w) words.now)
-        (outside (inlet S.left S.ended S.failures source.new) (outlet K.held K.failures sink.new) (R.store result.1)
-        (hosted H.told H.failures host.new) (C.readings clock.new)))) }
+        (outside (inlet S.left S.ended S.failures source.new) (outlet K.held K.failures sink.new)
+        (R.store result.1) (hosted H.told H.failures host.new) (C.readings clock.new)))) }
 
-    // Whole messages and no fault: all of them are answered, or memory was refused. A call of the host that fails makes an
-    // operation fail, and no request.
-    ensures complete { IfSome (S.left source.old) (λ text. (messages : List Request) → Splits text messages ended
+    // Whole messages and no fault: all of them are answered, or memory was refused. A call of the
+    // host that fails makes an operation fail, and no request.
+    ensures complete { IfSome (S.left source.old)
+        (λ text. (messages : List Request) → Splits text messages ended
         → length messages < most_requests →
         are_read (map (λ w. string_bytes w) words.now) ≡ true → (R.store keeper).told ≡ Some [] →
-        ¬ (Rose (S.failures source.old) (S.failures source.new)) → ¬ (Rose (K.failures sink.old) (K.failures sink.new))
+        ¬ (Rose (S.failures source.old) (S.failures source.new))
+        → ¬ (Rose (K.failures sink.old) (K.failures sink.new))
         → ¬ (Rose (R.store keeper).failures (R.store result.1).failures) →
         (result.0 ≡ 0) ⊎ (result.0 ≡ 9)) }
 
     ensures cut { result.0 ≡ 2 → S.ended source.new ≡ true }
     ensures read_fault { result.0 ≡ 4 → Rose (S.failures source.old) (S.failures source.new) }
     ensures write_fault { result.0 ≡ 5 → Rose (K.failures sink.old) (K.failures sink.new) }
-    ensures keeper_fault { result.0 ≡ 6 → Rose (R.store keeper).failures (R.store result.1).failures }
+    ensures keeper_fault { result.0 ≡ 6
+        → Rose (R.store keeper).failures (R.store result.1).failures }
     ensures words { (result.0 ≡ 8) ↔ (are_read (map (λ w. string_bytes w) words.now) ≡ false) }
     // Where the words say a moment, the clock that is handed in is not read.
     ensures still { IfSome (now_of (map (λ w. string_bytes w) words.now))
@@ -240,7 +244,5 @@ pub fn run_main<S: Source, K: Sink, R: Keeper, H: Host, C: Clock>(
         ¬ (Rose (R.store keeper).failures (R.store result.1).failures)
         → (K.held sink.new ≡ K.held sink.old) × ((result.0 ≡ 13) ⊎ (result.0 ≡ 9))) }
 {
-    run(
-        alloc, words, source, sink, keeper, host, clock, boot,
-    )
+    run(alloc, words, source, sink, keeper, host, clock, boot)
 }

@@ -41,10 +41,12 @@ pub(crate) fn serve<S: Source, K: Sink, R: Keeper, H: Host, C: Clock>(
     ensures { Session boot pace
         (world buffer.old
         (outside (inlet S.left S.ended S.failures source.old) (outlet K.held K.failures sink.old)
-        (R.store keeper.old) (hosted H.told H.failures host.old) (C.readings clock.old)) service.old)
+        (R.store keeper.old) (hosted H.told H.failures host.old) (C.readings clock.old))
+        service.old)
         (world buffer.new
         (outside (inlet S.left S.ended S.failures source.new) (outlet K.held K.failures sink.new)
-        (R.store keeper.new) (hosted H.told H.failures host.new) (C.readings clock.new)) service.new)
+        (R.store keeper.new) (hosted H.told H.failures host.new) (C.readings clock.new))
+        service.new)
         result }
 {
     for done in 0..MOST_REQUESTS {

@@ -14,7 +14,8 @@ pub fn sessions_end_after_a_million_requests()
 /// Where a session stops.
 #[derive(Clone, Copy, PartialEq, Eq)]
 pub enum SessionEnd {
-    /// The source has ended between two requests, or a request was answered after which the connection ends.
+    /// The source has ended between two requests, or a request was answered after which the
+    /// connection ends.
     Ended,
     /// The source has ended within a request.
     Cut,

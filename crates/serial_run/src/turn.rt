@@ -14,7 +14,8 @@ use run_words::Pace;
 use size_values::NoMemory;
 use std::alloc::Global;
 
-/// How a turn goes on after a reply, from whether it was written and whether its request is the last on its connection.
+/// How a turn goes on after a reply, from whether it was written and whether its request is the
+/// last on its connection.
 fn turn_after(written: Result<(), SinkFailed>, last: bool) -> Turn
     ensures { result ≡ turn_after written last }
 {
@@ -24,7 +25,8 @@ fn turn_after(written: Result<(), SinkFailed>, last: bool) -> Turn
     }
 }
 
-/// Writes what a request is answered. Where memory for its reply was refused, nothing is written and the session stops.
+/// Writes what a request is answered. Where memory for its reply was refused, nothing is written
+/// and the session stops.
 fn write_answer<K: Sink>(sink: &mut K, answered: &Answered, last: bool) -> Turn
     ensures { WritesAnswer result answered.now last (outlet K.held K.failures sink.old)
         (outlet K.held K.failures sink.new) }
@@ -38,7 +40,8 @@ fn write_answer<K: Sink>(sink: &mut K, answered: &Answered, last: bool) -> Turn
 
 /// Answers a malformed place by its rule. The connection closes after it.
 fn refuse<K: Sink>(alloc: Global, sink: &mut K, fault: HeadFault) -> SessionEnd
-    ensures { RefusesPlace fault result (outlet K.held K.failures sink.old) (outlet K.held K.failures sink.new) }
+    ensures { RefusesPlace fault result (outlet K.held K.failures sink.old)
+        (outlet K.held K.failures sink.new) }
 {
     match print_malformed(alloc, fault) {
         Ok(bytes) => match sink.write(bytes.view()) {
@@ -60,8 +63,10 @@ fn go_on<R: Keeper, H: Host, C: Clock>(
     turn: Turn,
 )
     ensures { GoesOn pace turn
-        (site service.old (R.store keeper.old) (hosted H.told H.failures host.old) (C.readings clock.old))
-        (site service.new (R.store keeper.new) (hosted H.told H.failures host.new) (C.readings clock.new)) }
+        (site service.old (R.store keeper.old) (hosted H.told H.failures host.old)
+        (C.readings clock.old))
+        (site service.new (R.store keeper.new) (hosted H.told H.failures host.new)
+        (C.readings clock.new)) }
 {
     match turn {
         Turn::GoOn => service.go_on(alloc, keeper, host, clock, pace),
@@ -70,7 +75,8 @@ fn go_on<R: Keeper, H: Host, C: Clock>(
     }
 }
 
-/// One turn of a session: takes the next message and answers it, and then the worker makes the steps of the pace.
+/// One turn of a session: takes the next message and answers it, and then the worker makes the
+/// steps of the pace.
 pub(crate) fn turn<S: Source, K: Sink, R: Keeper, H: Host, C: Clock>(
     alloc: Global,
     buffer: &mut Buffer,
@@ -86,10 +92,12 @@ pub(crate) fn turn<S: Source, K: Sink, R: Keeper, H: Host, C: Clock>(
     ensures { Turns boot pace result
         (world buffer.old
         (outside (inlet S.left S.ended S.failures source.old) (outlet K.held K.failures sink.old)
-        (R.store keeper.old) (hosted H.told H.failures host.old) (C.readings clock.old)) service.old)
+        (R.store keeper.old) (hosted H.told H.failures host.old) (C.readings clock.old))
+        service.old)
         (world buffer.new
         (outside (inlet S.left S.ended S.failures source.new) (outlet K.held K.failures sink.new)
-        (R.store keeper.new) (hosted H.told H.failures host.new) (C.readings clock.new)) service.new) }
+        (R.store keeper.new) (hosted H.told H.failures host.new) (C.readings clock.new))
+        service.new) }
 {
     match read_request(alloc, buffer, source) {
         Got::Request(request) => {

@@ -1,5 +1,6 @@
 use Rattle.std.proofs.Common.{refl}
-use Rattle.serial_run.proofs.Tops.{top_text, top_complete, top_cut, top_read_fault, top_write_fault, top_keeper_fault, top_words, top_not_read, top_has_entries, top_entries, top_still}
+use Rattle.serial_run.proofs.Tops.{top_text, top_complete, top_cut, top_read_fault, top_write_fault, top_keeper_fault}
+use Rattle.serial_run.proofs.Tops.{top_words, top_not_read, top_has_entries, top_entries, top_still}
 use Rattle.serial_run.proofs.running.run_main.Goals as goal
 
 pub returns-clause-text : goal.returns-clause-text
