@@ -1,15 +1,6 @@
 //! A keeper that fails at each call of a run in turn: what failed is not done, and the next try does it.
 
-use crate::runs::{End, Setting, WELL};
-use crate::scripts::{is_silent, is_well};
-use size_values::NoMemory;
-use std::alloc::Global;
-
-const DONE: &str =
-    "200 {\"metadata\":{},\"status\":\"Success\",\"status_code\":200,\"type\":\"sync\"}";
-
-const UNAVAILABLE: &str =
-    "503 {\"error\":\"unavailable\",\"error_code\":503,\"metadata\":{\"rule\":\"K1\"},\"type\":\"error\"}";
+use made_runs::{End, Setting, WELL, is_done_again, is_silent};
 
 /// Changes of a project with its profile `default`, and what is read after each; the first reading is that before them.
 const TENANT: [(&str, &str); 11] = [
@@ -208,56 +199,6 @@ GET /1.0/projects
 "#,
     ),
 ];
-
-/// Appends lines to a script.
-fn push_lines(script: &mut String, lines: [&str; 3]) -> Result<(), NoMemory> {
-    for line in lines {
-        script.push_str(line)?;
-        script.push_str("\n")?;
-    }
-    Ok(())
-}
-
-/// Appends all changes, each sent again after a failure. The keeper's first two calls are the load and the first commit; each try of a
-/// change is one call.
-fn push_changes(
-    script: &mut String,
-    changes: &[(&str, &str)],
-    fails: &[u64],
-) -> Result<(), NoMemory> {
-    let mut before = "";
-    let mut call = 2u64;
-    for (change, after) in changes {
-        if fails.contains(&call) {
-            push_lines(script, [change, UNAVAILABLE, before])?;
-            call = call.saturating_add(1);
-        }
-        let reply = if change.is_empty() { "" } else { DONE };
-        push_lines(script, [change, reply, after])?;
-        call = call.saturating_add(1);
-        before = after;
-    }
-    Ok(())
-}
-
-/// Whether a run in which these calls fail does all changes, each at its next try, and then keeps so many entries.
-pub(crate) fn is_done_again(
-    alloc: Global,
-    changes: &[(&str, &str)],
-    fails: &[u64],
-    kept: usize,
-) -> Result<bool, NoMemory> {
-    let setting = Setting {
-        commits: fails,
-        ..WELL
-    };
-    let mut script = String::new(alloc);
-    push_changes(&mut script, changes, fails)?;
-    let end = End { status: 0, kept };
-    let is = is_well(alloc, script.as_str(), "", setting, end);
-    drop(script);
-    is
-}
 
 /// The calls of the keeper that fail in a run of the changes of profiles: none, each of them in turn, and every other one.
 const PROFILE_FAILURES: [&[u64]; 10] = [

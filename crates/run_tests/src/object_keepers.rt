@@ -1,7 +1,7 @@
 //! A keeper that fails at each call of a run of changes of networks, pools and volumes in turn: what failed is not done, and the next
 //! try does it.
 
-use crate::keepers::is_done_again;
+use made_runs::is_done_again;
 
 /// Changes of objects of a project that has reached its limits, and what is read after each; the first reading is that before them.
 const CHANGES: [(&str, &str); 16] = [

@@ -1,6 +1,6 @@
 //! Sessions: in whatever pieces their bytes come, and where reads and writes fail.
 
-use crate::runs::{End, Setting, WELL, run};
+use made_runs::{End, Setting, WELL, run};
 use size_values::NoMemory;
 use std::alloc::Global;
 

@@ -1,6 +1,6 @@
 //! Storage volumes over HTTP: each request with its exact reply.
 
-use crate::scripts::{Script, wrong_among};
+use made_runs::{Script, wrong_among};
 
 /// Volumes are made, read, changed, used, renamed and deleted.
 const LIFE: &str = r#"

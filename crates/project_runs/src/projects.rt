@@ -1,6 +1,6 @@
 //! The life of projects over HTTP, and their settings: each request with its exact reply.
 
-use crate::scripts::{Script, wrong_among};
+use made_runs::{Script, wrong_among};
 
 /// Projects are made, changed, renamed and deleted.
 const LIFE: &str = r#"

@@ -1,6 +1,6 @@
 //! Features of projects over HTTP: where profiles live, and when features may change.
 
-use crate::scripts::{Script, wrong_among};
+use made_runs::{Script, wrong_among};
 
 /// Every combination of the features that have homes, at creation.
 const CREATION: &str = r#"POST /1.0/profiles {"name":"shared"}

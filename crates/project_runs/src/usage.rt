@@ -1,6 +1,6 @@
 //! What a project uses beside its limits, over HTTP: each request with its exact reply.
 
-use crate::scripts::{Script, wrong_among};
+use made_runs::{Script, wrong_among};
 
 /// The state of a project.
 const USAGE: &str = r#"

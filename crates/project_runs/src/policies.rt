@@ -1,6 +1,6 @@
 //! What restricted projects forbid to their profiles, over HTTP: each request with its exact reply.
 
-use crate::scripts::{Script, wrong_among};
+use made_runs::{Script, wrong_among};
 
 /// The first rule, and the first profile.
 const FIRST: &str = r#"

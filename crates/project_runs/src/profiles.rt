@@ -1,6 +1,6 @@
 //! Projects and profiles over HTTP: each request with its exact reply.
 
-use crate::scripts::{Script, wrong_among};
+use made_runs::{Script, wrong_among};
 
 /// Projects are made, shown and listed.
 const PROJECTS: &str = r#"

@@ -1,6 +1,6 @@
 //! Refusals over HTTP, by the rule that each breaks first: each request with its exact reply, and that nothing changed.
 
-use crate::scripts::{Refusals, is_unchanged};
+use made_runs::{Refusals, is_unchanged};
 
 /// What stands before each script. These are the keeper's calls 3 to 5.
 const SETUP: &str = r#"

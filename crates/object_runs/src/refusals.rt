@@ -1,7 +1,7 @@
 //! Refusals of networks, pools and volumes over HTTP, by the rule that each breaks first: each request with its exact reply, and that
 //! nothing changed.
 
-use crate::scripts::{Refusals, is_unchanged};
+use made_runs::{Refusals, is_unchanged};
 
 /// What stands before each script. These are the keeper's calls 3 to 10.
 const SETUP: &str = r#"

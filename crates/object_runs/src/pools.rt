@@ -1,6 +1,6 @@
 //! Storage pools over HTTP: each request with its exact reply.
 
-use crate::scripts::{Script, wrong_among};
+use made_runs::{Script, wrong_among};
 
 /// Pools are made, read, changed and deleted.
 const LIFE: &str = r#"
