@@ -452,7 +452,7 @@ GET /1.0/profiles?recursion=1
 "#;
 
 /// Scripts, and how many entries are kept after them.
-const SCRIPTS: [Script; 3] = [
+const SCRIPTS: &[Script] = &[
     ("creation", CREATION, 23),
     ("changed", CHANGED, 3),
     ("occupied", OCCUPIED, 8),
@@ -461,6 +461,6 @@ const SCRIPTS: [Script; 3] = [
 /// Each script ends well, and its changes are kept.
 #[test]
 fn features_say_where_profiles_live(rt: HostRuntime) {
-    let wrong = wrong_among(rt.alloc(), &SCRIPTS);
+    let wrong = wrong_among(rt.alloc(), SCRIPTS);
     assert!(rt; wrong == Ok(("", "")), "{wrong:?}");
 }

@@ -474,7 +474,7 @@ PUT /1.0/profiles/default?project=r {"config":{"raw.qemu":"1"},"devices":{"a":{"
 "#;
 
 /// Scripts, and how many entries are kept after them.
-const SCRIPTS: [Script; 3] = [
+const SCRIPTS: &[Script] = &[
     ("first", FIRST, 9),
     ("words", WORDS, 4),
     ("devices", DEVICES, 4),
@@ -483,6 +483,6 @@ const SCRIPTS: [Script; 3] = [
 /// Each script ends well, and its changes are kept.
 #[test]
 fn policies_forbid(rt: HostRuntime) {
-    let wrong = wrong_among(rt.alloc(), &SCRIPTS);
+    let wrong = wrong_among(rt.alloc(), SCRIPTS);
     assert!(rt; wrong == Ok(("", "")), "{wrong:?}");
 }

@@ -1,9 +1,10 @@
 //! A keeper that fails at each call of a run in turn: what failed is not done, and the next try does it.
 
 use made_runs::{End, Setting, WELL, is_done_again, is_silent};
+use std::alloc::Global;
 
 /// Changes of a project with its profile `default`, and what is read after each; the first reading is that before them.
-const TENANT: [(&str, &str); 11] = [
+const TENANT: &[(&str, &str)] = &[
     (
         "",
         r#"
@@ -136,7 +137,7 @@ GET /1.0/projects
 "#;
 
 /// Changes of profiles in their order, and what is read after each; the first reading is that before them.
-const PROFILES: [(&str, &str); 9] = [
+const PROFILES: &[(&str, &str)] = &[
     ("", BEFORE),
     (
         r#"POST /1.0/projects {"name":"lab"}"#,
@@ -201,7 +202,7 @@ GET /1.0/projects
 ];
 
 /// The calls of the keeper that fail in a run of the changes of profiles: none, each of them in turn, and every other one.
-const PROFILE_FAILURES: [&[u64]; 10] = [
+const PROFILE_FAILURES: &[&[u64]] = &[
     &[],
     &[3],
     &[4],
@@ -215,7 +216,7 @@ const PROFILE_FAILURES: [&[u64]; 10] = [
 ];
 
 /// The same in a run of the changes of a project.
-const TENANT_FAILURES: [&[u64]; 12] = [
+const TENANT_FAILURES: &[&[u64]] = &[
     &[],
     &[3],
     &[4],
@@ -234,7 +235,7 @@ const TENANT_FAILURES: [&[u64]; 12] = [
 fn failing_calls_of_the_keeper(rt: HostRuntime) {
     for fails in PROFILE_FAILURES {
         assert!(rt;
-            is_done_again(rt.alloc(), &PROFILES, fails, 6) == Ok(true),
+            is_done_again(rt.alloc(), PROFILES, fails, 6) == Ok(true),
             "calls {fails:?}"
         );
     }
@@ -244,23 +245,25 @@ fn failing_calls_of_the_keeper(rt: HostRuntime) {
 fn a_tenant_is_changed_whole_or_not_at_all(rt: HostRuntime) {
     for fails in TENANT_FAILURES {
         assert!(rt;
-            is_done_again(rt.alloc(), &TENANT, fails, 2) == Ok(true),
+            is_done_again(rt.alloc(), TENANT, fails, 2) == Ok(true),
             "calls {fails:?}"
         );
     }
 }
 
+/// The calls of an opening, of which one fails.
+const OPENING_CALLS: &[&[u64]] = &[&[1], &[2]];
+
+/// Whether a run whose opening fails at these calls is silent.
+fn fails_to_open(alloc: Global, commits: &[u64]) -> bool {
+    let setting = Setting { commits, ..WELL };
+    let end = End { status: 6, kept: 0 };
+    is_silent(alloc, BEFORE, setting, end) == Ok(true)
+}
+
 #[test]
 fn failing_openings(rt: HostRuntime) {
-    let end = End { status: 6, kept: 0 };
-    for call in [1, 2] {
-        let setting = Setting {
-            commits: &[call],
-            ..WELL
-        };
-        assert!(rt;
-            is_silent(rt.alloc(), BEFORE, setting, end) == Ok(true),
-            "call {call}"
-        );
+    for call in OPENING_CALLS {
+        assert!(rt; fails_to_open(rt.alloc(), call), "call {call:?}");
     }
 }
