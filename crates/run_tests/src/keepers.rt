@@ -1,18 +1,10 @@
 //! A keeper that fails at each call of a run in turn: what failed is not done, and the next try does it.
 
-use crate::runs::{End, Setting, WELL};
-use crate::scripts::{is_silent, is_well};
-use size_values::NoMemory;
+use made_runs::{End, Setting, WELL, is_done_again, is_silent};
 use std::alloc::Global;
 
-const DONE: &str =
-    "200 {\"metadata\":{},\"status\":\"Success\",\"status_code\":200,\"type\":\"sync\"}";
-
-const UNAVAILABLE: &str =
-    "503 {\"error\":\"unavailable\",\"error_code\":503,\"metadata\":{\"rule\":\"K1\"},\"type\":\"error\"}";
-
 /// Changes of a project with its profile `default`, and what is read after each; the first reading is that before them.
-const TENANT: [(&str, &str); 11] = [
+const TENANT: &[(&str, &str)] = &[
     (
         "",
         r#"
@@ -145,7 +137,7 @@ GET /1.0/projects
 "#;
 
 /// Changes of profiles in their order, and what is read after each; the first reading is that before them.
-const PROFILES: [(&str, &str); 9] = [
+const PROFILES: &[(&str, &str)] = &[
     ("", BEFORE),
     (
         r#"POST /1.0/projects {"name":"lab"}"#,
@@ -209,58 +201,8 @@ GET /1.0/projects
     ),
 ];
 
-/// Appends lines to a script.
-fn push_lines(script: &mut String, lines: [&str; 3]) -> Result<(), NoMemory> {
-    for line in lines {
-        script.push_str(line)?;
-        script.push_str("\n")?;
-    }
-    Ok(())
-}
-
-/// Appends all changes, each sent again after a failure. The keeper's first two calls are the load and the first commit; each try of a
-/// change is one call.
-fn push_changes(
-    script: &mut String,
-    changes: &[(&str, &str)],
-    fails: &[u64],
-) -> Result<(), NoMemory> {
-    let mut before = "";
-    let mut call = 2u64;
-    for (change, after) in changes {
-        if fails.contains(&call) {
-            push_lines(script, [change, UNAVAILABLE, before])?;
-            call = call.saturating_add(1);
-        }
-        let reply = if change.is_empty() { "" } else { DONE };
-        push_lines(script, [change, reply, after])?;
-        call = call.saturating_add(1);
-        before = after;
-    }
-    Ok(())
-}
-
-/// Whether a run in which these calls fail does all changes, each at its next try, and then keeps so many entries.
-pub(crate) fn is_done_again(
-    alloc: Global,
-    changes: &[(&str, &str)],
-    fails: &[u64],
-    kept: usize,
-) -> Result<bool, NoMemory> {
-    let setting = Setting {
-        commits: fails,
-        ..WELL
-    };
-    let mut script = String::new(alloc);
-    push_changes(&mut script, changes, fails)?;
-    let end = End { status: 0, kept };
-    let is = is_well(alloc, script.as_str(), "", setting, end);
-    drop(script);
-    is
-}
-
 /// The calls of the keeper that fail in a run of the changes of profiles: none, each of them in turn, and every other one.
-const PROFILE_FAILURES: [&[u64]; 10] = [
+const PROFILE_FAILURES: &[&[u64]] = &[
     &[],
     &[3],
     &[4],
@@ -274,7 +216,7 @@ const PROFILE_FAILURES: [&[u64]; 10] = [
 ];
 
 /// The same in a run of the changes of a project.
-const TENANT_FAILURES: [&[u64]; 12] = [
+const TENANT_FAILURES: &[&[u64]] = &[
     &[],
     &[3],
     &[4],
@@ -293,7 +235,7 @@ const TENANT_FAILURES: [&[u64]; 12] = [
 fn failing_calls_of_the_keeper(rt: HostRuntime) {
     for fails in PROFILE_FAILURES {
         assert!(rt;
-            is_done_again(rt.alloc(), &PROFILES, fails, 6) == Ok(true),
+            is_done_again(rt.alloc(), PROFILES, fails, 6) == Ok(true),
             "calls {fails:?}"
         );
     }
@@ -303,23 +245,25 @@ fn failing_calls_of_the_keeper(rt: HostRuntime) {
 fn a_tenant_is_changed_whole_or_not_at_all(rt: HostRuntime) {
     for fails in TENANT_FAILURES {
         assert!(rt;
-            is_done_again(rt.alloc(), &TENANT, fails, 2) == Ok(true),
+            is_done_again(rt.alloc(), TENANT, fails, 2) == Ok(true),
             "calls {fails:?}"
         );
     }
 }
 
+/// The calls of an opening, of which one fails.
+const OPENING_CALLS: &[&[u64]] = &[&[1], &[2]];
+
+/// Whether a run whose opening fails at these calls is silent.
+fn fails_to_open(alloc: Global, commits: &[u64]) -> bool {
+    let setting = Setting { commits, ..WELL };
+    let end = End { status: 6, kept: 0 };
+    is_silent(alloc, BEFORE, setting, end) == Ok(true)
+}
+
 #[test]
 fn failing_openings(rt: HostRuntime) {
-    let end = End { status: 6, kept: 0 };
-    for call in [1, 2] {
-        let setting = Setting {
-            commits: &[call],
-            ..WELL
-        };
-        assert!(rt;
-            is_silent(rt.alloc(), BEFORE, setting, end) == Ok(true),
-            "call {call}"
-        );
+    for call in OPENING_CALLS {
+        assert!(rt; fails_to_open(rt.alloc(), call), "call {call:?}");
     }
 }

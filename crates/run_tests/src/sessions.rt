@@ -1,6 +1,6 @@
 //! Sessions: in whatever pieces their bytes come, and where reads and writes fail.
 
-use crate::runs::{End, Setting, WELL, run};
+use made_runs::{End, Setting, WELL, run};
 use size_values::NoMemory;
 use std::alloc::Global;
 
@@ -121,7 +121,7 @@ fn is_run(
 
 /// The parts of an input, the exit status, the replies, and how many entries are kept. Each project is two entries: its own, and that
 /// of its profile `default`.
-const RUNS: [(&str, &[&str], u8, &[&str], usize); 14] = [
+const RUNS: &[(&str, &[&str], u8, &[&str], usize)] = &[
     ("nothing", &[], 0, &[], 2),
     ("one", &[ROOT], 0, &[VERSIONS], 2),
     (
@@ -168,71 +168,78 @@ const RUNS: [(&str, &[&str], u8, &[&str], usize); 14] = [
     ("HTTP/1.0", &[OLD_ROOT, LAB], 0, &[LAST_VERSIONS], 2),
 ];
 
-const PIECES: [usize; 4] = [1, 2, 7, 65_536];
+const PIECES: &[usize] = &[1, 2, 7, 65_536];
+
+/// The first size of the pieces in which a run over these parts is not as it should be, or 0 where there is none.
+fn wrong_piece(alloc: Global, parts: &[&str], end: End, replies: &[&str]) -> usize {
+    for piece in PIECES {
+        let setting = Setting {
+            piece: *piece,
+            ..WELL
+        };
+        if is_run(alloc, parts, setting, end, replies, true) != Ok(true) {
+            return *piece;
+        }
+    }
+    0
+}
 
 #[test]
 fn runs_in_whatever_pieces(rt: HostRuntime) {
     for (name, parts, status, replies, kept) in RUNS {
-        for piece in PIECES {
-            let setting = Setting { piece, ..WELL };
-            let end = End { status, kept };
-            assert!(rt;
-                is_run(rt.alloc(), parts, setting, end, replies, true) == Ok(true),
-                "{name} in pieces of {piece}"
-            );
-        }
+        let end = End {
+            status: *status,
+            kept: *kept,
+        };
+        let wrong = wrong_piece(rt.alloc(), parts, end, replies);
+        assert!(rt; wrong == 0, "{name} in pieces of {wrong}");
     }
 }
 
 /// The call that fails, the replies before it, and how many entries are kept where it is a read and where it is a write.
-const FAILING: [(u64, &[&str], usize, usize); 3] = [
+const FAILING: &[(u64, &[&str], usize, usize)] = &[
     (1, &[], 2, 4),
     (2, &[MADE], 4, 4),
     (3, &[MADE, NOT_BUILT], 4, 6),
 ];
 
-/// A read gives one message and the first bytes of the next one, so a failed read comes after the whole messages before it.
+/// Whether a run in which this read fails answers the whole messages before it. A read gives one message and the first bytes of the
+/// next one.
+fn stops_reading(alloc: Global, call: u64, replies: &[&str], kept: usize) -> bool {
+    let setting = Setting {
+        piece: LAB.len(),
+        reads: &[call],
+        ..WELL
+    };
+    let end = End { status: 4, kept };
+    is_run(alloc, &[LAB, INSTANCES, SHOP], setting, end, replies, true) == Ok(true)
+}
+
 #[test]
 fn failing_reads(rt: HostRuntime) {
     for (call, replies, kept, _) in FAILING {
-        let setting = Setting {
-            piece: LAB.len(),
-            reads: &[call],
-            ..WELL
-        };
-        let end = End { status: 4, kept };
         assert!(rt;
-            is_run(
-                rt.alloc(),
-                &[LAB, INSTANCES, SHOP],
-                setting,
-                end,
-                replies,
-                true
-            ) == Ok(true),
+            stops_reading(rt.alloc(), *call, replies, *kept),
             "read {call}"
         );
     }
 }
 
-/// After a failed write the earlier replies stand, and the last one in part.
+/// Whether after this failed write the earlier replies stand, and the last one in part.
+fn stops_writing(alloc: Global, call: u64, replies: &[&str], kept: usize) -> bool {
+    let setting = Setting {
+        writes: &[call],
+        ..WELL
+    };
+    let end = End { status: 5, kept };
+    is_run(alloc, &[LAB, INSTANCES, SHOP], setting, end, replies, false) == Ok(true)
+}
+
 #[test]
 fn failing_writes(rt: HostRuntime) {
     for (call, replies, _, kept) in FAILING {
-        let setting = Setting {
-            writes: &[call],
-            ..WELL
-        };
-        let end = End { status: 5, kept };
         assert!(rt;
-            is_run(
-                rt.alloc(),
-                &[LAB, INSTANCES, SHOP],
-                setting,
-                end,
-                replies,
-                false
-            ) == Ok(true),
+            stops_writing(rt.alloc(), *call, replies, *kept),
             "write {call}"
         );
     }

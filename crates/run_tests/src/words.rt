@@ -1,6 +1,6 @@
 //! The words of the command line.
 
-use crate::runs::{Setting, WELL, run};
+use made_runs::{Setting, WELL, run};
 use size_values::NoMemory;
 use std::alloc::Global;
 

@@ -1,7 +1,8 @@
 //! Requests and their replies as lines of text, and runs that are judged by them.
 //!
-//! A line that begins with a method is a request: the method, the target and the body, with a space between them. The line below it
-//! is its reply: the code and the body. Other lines are for readers.
+//! A line that begins with a method is a request: the method, the target and the body, with a space
+//! between them. The line below it is its reply: the code and the body. Other lines are for
+//! readers.
 
 use crate::runs::{End, Setting, WELL, run};
 use size_values::NoMemory;
@@ -105,7 +106,8 @@ fn push_due(alloc: Global, bytes: &mut Vec<u8>, line: &str, behind: &str) -> Res
     Ok(())
 }
 
-/// Takes what is due for a reply from the front of the bytes that were written, and says whether it stood there.
+/// Takes what is due for a reply from the front of the bytes that were written, and says whether it
+/// stood there.
 fn takes_due(alloc: Global, left: &mut &[u8], line: &str, behind: &str) -> Result<bool, NoMemory> {
     let mut due = Vec::new(alloc);
     push_due(alloc, &mut due, line, behind)?;
@@ -117,7 +119,8 @@ fn takes_due(alloc: Global, left: &mut &[u8], line: &str, behind: &str) -> Resul
     Ok(stands)
 }
 
-/// The first reply of a script that is not in its place in the bytes that were written, or the empty text where they are the replies.
+/// The first reply of a script that is not in its place in the bytes that were written, or the
+/// empty text where they are the replies.
 fn wrong_line<'a>(
     alloc: Global,
     script: &'a str,
@@ -170,8 +173,8 @@ fn wrong_over<'a>(
     wrong
 }
 
-/// What is wrong in a run over a script, in which another script comes after each refusal: the first reply that is not in its place, or
-/// another end; the empty text where nothing is.
+/// What is wrong in a run over a script, in which another script comes after each refusal: the
+/// first reply that is not in its place, or another end; the empty text where nothing is.
 pub(crate) fn wrong_in<'a>(
     alloc: Global,
     script: &'a str,
@@ -198,7 +201,7 @@ pub(crate) fn is_well(
 }
 
 /// Whether a run over the requests of a script ends so and writes nothing.
-pub(crate) fn is_silent(
+pub fn is_silent(
     alloc: Global,
     script: &str,
     setting: Setting<'_>,
@@ -212,11 +215,11 @@ pub(crate) fn is_silent(
 }
 
 /// The name of a script, the script, and how many entries are kept after it.
-pub(crate) type Script = (&'static str, &'static str, usize);
+pub type Script = (&'static str, &'static str, usize);
 
-/// The name of the first script that does not end well, or is not answered as it says, and what is wrong in it; empty texts where
-/// there is none.
-pub(crate) fn wrong_among(
+/// The name of the first script that does not end well, or is not answered as it says, and what is
+/// wrong in it; empty texts where there is none.
+pub fn wrong_among(
     alloc: Global,
     scripts: &[Script],
 ) -> Result<(&'static str, &'static str), NoMemory> {
@@ -233,21 +236,21 @@ pub(crate) fn wrong_among(
     Ok(("", ""))
 }
 
-/// A script of refusals with what stands before and after it and what is read after each of them, the calls of the keeper that fail,
-/// and how many entries are kept after all.
+/// A script of refusals with what stands before and after it and what is read after each of them,
+/// the calls of the keeper that fail, and how many entries are kept after all.
 #[derive(Clone, Copy)]
-pub(crate) struct Refusals<'a> {
-    pub(crate) setup: &'a str,
-    pub(crate) refusals: &'a str,
-    pub(crate) unchanged: &'a str,
-    pub(crate) ends: &'a str,
-    pub(crate) fails: &'a [u64],
-    pub(crate) kept: usize,
+pub struct Refusals<'a> {
+    pub setup: &'a str,
+    pub refusals: &'a str,
+    pub unchanged: &'a str,
+    pub ends: &'a str,
+    pub fails: &'a [u64],
+    pub kept: usize,
 }
 
-/// Whether each of these refusals is answered so, and leaves all as it was and does not call the keeper: its next call, which
-/// would fail, is the one of the script's end.
-pub(crate) fn is_unchanged(alloc: Global, all: Refusals<'_>) -> Result<bool, NoMemory> {
+/// Whether each of these refusals is answered so, and leaves all as it was and does not call the
+/// keeper: its next call, which would fail, is the one of the script's end.
+pub fn is_unchanged(alloc: Global, all: Refusals<'_>) -> Result<bool, NoMemory> {
     let setting = Setting {
         commits: all.fails,
         ..WELL

@@ -1,6 +1,6 @@
 //! Networks over HTTP: each request with its exact reply.
 
-use crate::scripts::{Script, wrong_among};
+use made_runs::{Script, wrong_among};
 
 /// Networks are made, read, changed, used, renamed and deleted.
 const LIFE: &str = r#"
@@ -462,7 +462,7 @@ POST /1.0/networks {"name":"br1"}
 "#;
 
 /// Scripts, and how many entries are kept after them.
-const SCRIPTS: [Script; 5] = [
+const SCRIPTS: &[Script] = &[
     ("life", LIFE, 5),
     ("settings", SETTINGS, 3),
     ("homes", HOMES, 8),
@@ -472,6 +472,6 @@ const SCRIPTS: [Script; 5] = [
 
 #[test]
 fn networks_live_by_their_rules(rt: HostRuntime) {
-    let wrong = wrong_among(rt.alloc(), &SCRIPTS);
+    let wrong = wrong_among(rt.alloc(), SCRIPTS);
     assert!(rt; wrong == Ok(("", "")), "{wrong:?}");
 }

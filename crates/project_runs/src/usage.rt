@@ -1,6 +1,6 @@
 //! What a project uses beside its limits, over HTTP: each request with its exact reply.
 
-use crate::scripts::{Script, wrong_among};
+use made_runs::{Script, wrong_among};
 
 /// The state of a project.
 const USAGE: &str = r#"
@@ -58,10 +58,10 @@ GET /1.0/projects//state
 "#;
 
 /// Scripts, and how many entries are kept after them.
-const SCRIPTS: [Script; 1] = [("usage", USAGE, 9)];
+const SCRIPTS: &[Script] = &[("usage", USAGE, 9)];
 
 #[test]
 fn usage_is_shown_beside_limits(rt: HostRuntime) {
-    let wrong = wrong_among(rt.alloc(), &SCRIPTS);
+    let wrong = wrong_among(rt.alloc(), SCRIPTS);
     assert!(rt; wrong == Ok(("", "")), "{wrong:?}");
 }

@@ -1,7 +1,8 @@
 //! Refusals of networks, pools and volumes over HTTP, by the rule that each breaks first: each request with its exact reply, and that
 //! nothing changed.
 
-use crate::scripts::{Refusals, is_unchanged};
+use made_runs::{Refusals, is_unchanged};
+use std::alloc::Global;
 
 /// What stands before each script. These are the keeper's calls 3 to 10.
 const SETUP: &str = r#"
@@ -484,21 +485,29 @@ PATCH /1.0/projects/lab {"config":{"features.storage.volumes":"false"}}
 
 const FAILS: [u64; 1] = [11];
 
+/// Scripts of refusals.
+const SCRIPTS: &[(&str, &str)] = &[
+    ("networks", NETWORKS),
+    ("pools", POOLS),
+    ("volumes", VOLUMES),
+];
+
+/// Whether nothing is changed by these refusals.
+fn change_nothing(alloc: Global, refusals: &str) -> bool {
+    let all = Refusals {
+        setup: SETUP,
+        refusals,
+        unchanged: UNCHANGED,
+        ends: ENDS,
+        fails: &FAILS,
+        kept: 10,
+    };
+    is_unchanged(alloc, all) == Ok(true)
+}
+
 #[test]
 fn refusals_of_objects_change_nothing(rt: HostRuntime) {
-    for (name, refusals) in [
-        ("networks", NETWORKS),
-        ("pools", POOLS),
-        ("volumes", VOLUMES),
-    ] {
-        let all = Refusals {
-            setup: SETUP,
-            refusals,
-            unchanged: UNCHANGED,
-            ends: ENDS,
-            fails: &FAILS,
-            kept: 10,
-        };
-        assert!(rt; is_unchanged(rt.alloc(), all) == Ok(true), "{name}");
+    for (name, refusals) in SCRIPTS {
+        assert!(rt; change_nothing(rt.alloc(), refusals), "{name}");
     }
 }

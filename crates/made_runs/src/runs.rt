@@ -7,20 +7,20 @@ use serial_run::run_main;
 use size_values::{Entry, NoMemory, Seq, Text};
 use std::alloc::Global;
 
-/// The words of the command line, how many bytes a read gives at most, which calls of the source, the sink and the keeper fail, and
-/// the keys of the entries of projects that the keeper has.
+/// The words of the command line, how many bytes a read gives at most, which calls of the source,
+/// the sink and the keeper fail, and the keys of the entries of projects that the keeper has.
 #[derive(Clone, Copy)]
-pub(crate) struct Setting<'a> {
-    pub(crate) words: &'a [&'a str],
-    pub(crate) piece: usize,
-    pub(crate) reads: &'a [u64],
-    pub(crate) writes: &'a [u64],
-    pub(crate) commits: &'a [u64],
-    pub(crate) entries: &'a [&'a str],
+pub struct Setting<'a> {
+    pub words: &'a [&'a str],
+    pub piece: usize,
+    pub reads: &'a [u64],
+    pub writes: &'a [u64],
+    pub commits: &'a [u64],
+    pub entries: &'a [&'a str],
 }
 
 /// The word `run`, large pieces, nothing that fails, and no entries.
-pub(crate) const WELL: Setting<'static> = Setting {
+pub const WELL: Setting<'static> = Setting {
     words: &["run"],
     piece: 65_536,
     reads: &[],
@@ -31,9 +31,9 @@ pub(crate) const WELL: Setting<'static> = Setting {
 
 /// How a run ends: its exit status, and how many entries are kept.
 #[derive(Clone, Copy, PartialEq, Eq)]
-pub(crate) struct End {
-    pub(crate) status: u8,
-    pub(crate) kept: usize,
+pub struct End {
+    pub status: u8,
+    pub kept: usize,
 }
 
 fn calls_of(alloc: Global, calls: &[u64]) -> Result<Seq<u64>, NoMemory> {
@@ -132,7 +132,7 @@ fn run_with(
 }
 
 /// Runs over these bytes, appends what is written, and says how the run ends.
-pub(crate) fn run(
+pub fn run(
     alloc: Global,
     input: &[u8],
     setting: Setting<'_>,

@@ -1,6 +1,6 @@
 //! Projects and profiles over HTTP: each request with its exact reply.
 
-use crate::scripts::{Script, wrong_among};
+use made_runs::{Script, wrong_among};
 
 /// Projects are made, shown and listed.
 const PROJECTS: &str = r#"
@@ -158,7 +158,7 @@ GET /1.0/profiles?recursion=1
 "#;
 
 /// Scripts, and how many entries are kept after them.
-const SCRIPTS: [Script; 3] = [
+const SCRIPTS: &[Script] = &[
     ("projects", PROJECTS, 8),
     ("life", LIFE, 4),
     ("order", ORDER, 15),
@@ -167,6 +167,6 @@ const SCRIPTS: [Script; 3] = [
 /// Each script ends well, and its changes are kept.
 #[test]
 fn scripts_are_answered(rt: HostRuntime) {
-    let wrong = wrong_among(rt.alloc(), &SCRIPTS);
+    let wrong = wrong_among(rt.alloc(), SCRIPTS);
     assert!(rt; wrong == Ok(("", "")), "{wrong:?}");
 }

@@ -1,6 +1,7 @@
 //! Refusals over HTTP, by the rule that each breaks first: each request with its exact reply, and that nothing changed.
 
-use crate::scripts::{Refusals, is_unchanged};
+use made_runs::{Refusals, is_unchanged};
+use std::alloc::Global;
 
 /// What stands before each script. These are the keeper's calls 3 to 5.
 const SETUP: &str = r#"
@@ -377,17 +378,25 @@ PUT /1.0/projects/default {}
 
 const FAILS: [u64; 1] = [6];
 
+/// Scripts of refusals.
+const SCRIPTS: &[(&str, &str)] = &[("names", NAMES), ("settings", SETTINGS), ("forms", FORMS)];
+
+/// Whether nothing is changed by these refusals.
+fn change_nothing(alloc: Global, refusals: &str) -> bool {
+    let all = Refusals {
+        setup: SETUP,
+        refusals,
+        unchanged: UNCHANGED,
+        ends: ENDS,
+        fails: &FAILS,
+        kept: 5,
+    };
+    is_unchanged(alloc, all) == Ok(true)
+}
+
 #[test]
 fn refusals_change_nothing(rt: HostRuntime) {
-    for (name, refusals) in [("names", NAMES), ("settings", SETTINGS), ("forms", FORMS)] {
-        let all = Refusals {
-            setup: SETUP,
-            refusals,
-            unchanged: UNCHANGED,
-            ends: ENDS,
-            fails: &FAILS,
-            kept: 5,
-        };
-        assert!(rt; is_unchanged(rt.alloc(), all) == Ok(true), "{name}");
+    for (name, refusals) in SCRIPTS {
+        assert!(rt; change_nothing(rt.alloc(), refusals), "{name}");
     }
 }

@@ -1,6 +1,6 @@
 //! Large rows and full tables of networks, pools and volumes.
 
-use crate::sizes::{Filling, fills_table, keeps_large_rows};
+use made_runs::{Filling, fills_table, keeps_large_rows};
 
 /// Rows about the most bytes of one, 65,536. `<N>` stands for N letters.
 const SIZES: &str = r#"

@@ -1,6 +1,6 @@
 //! Storage pools over HTTP: each request with its exact reply.
 
-use crate::scripts::{Script, wrong_among};
+use made_runs::{Script, wrong_among};
 
 /// Pools are made, read, changed and deleted.
 const LIFE: &str = r#"
@@ -209,7 +209,7 @@ GET /1.0/storage-pools
 "#;
 
 /// Scripts, and how many entries are kept after them.
-const SCRIPTS: [Script; 3] = [
+const SCRIPTS: &[Script] = &[
     ("life", LIFE, 3),
     ("settings", SETTINGS, 3),
     ("users", USERS, 7),
@@ -217,6 +217,6 @@ const SCRIPTS: [Script; 3] = [
 
 #[test]
 fn pools_live_by_their_rules(rt: HostRuntime) {
-    let wrong = wrong_among(rt.alloc(), &SCRIPTS);
+    let wrong = wrong_among(rt.alloc(), SCRIPTS);
     assert!(rt; wrong == Ok(("", "")), "{wrong:?}");
 }

@@ -1,6 +1,6 @@
 //! What restricted projects forbid to their profiles, over HTTP: each request with its exact reply.
 
-use crate::scripts::{Script, wrong_among};
+use made_runs::{Script, wrong_among};
 
 /// The first rule, and the first profile.
 const FIRST: &str = r#"
@@ -474,7 +474,7 @@ PUT /1.0/profiles/default?project=r {"config":{"raw.qemu":"1"},"devices":{"a":{"
 "#;
 
 /// Scripts, and how many entries are kept after them.
-const SCRIPTS: [Script; 3] = [
+const SCRIPTS: &[Script] = &[
     ("first", FIRST, 9),
     ("words", WORDS, 4),
     ("devices", DEVICES, 4),
@@ -483,6 +483,6 @@ const SCRIPTS: [Script; 3] = [
 /// Each script ends well, and its changes are kept.
 #[test]
 fn policies_forbid(rt: HostRuntime) {
-    let wrong = wrong_among(rt.alloc(), &SCRIPTS);
+    let wrong = wrong_among(rt.alloc(), SCRIPTS);
     assert!(rt; wrong == Ok(("", "")), "{wrong:?}");
 }

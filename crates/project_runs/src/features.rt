@@ -1,6 +1,6 @@
 //! Features of projects over HTTP: where profiles live, and when features may change.
 
-use crate::scripts::{Script, wrong_among};
+use made_runs::{Script, wrong_among};
 
 /// Every combination of the features that have homes, at creation.
 const CREATION: &str = r#"POST /1.0/profiles {"name":"shared"}
@@ -452,7 +452,7 @@ GET /1.0/profiles?recursion=1
 "#;
 
 /// Scripts, and how many entries are kept after them.
-const SCRIPTS: [Script; 3] = [
+const SCRIPTS: &[Script] = &[
     ("creation", CREATION, 23),
     ("changed", CHANGED, 3),
     ("occupied", OCCUPIED, 8),
@@ -461,6 +461,6 @@ const SCRIPTS: [Script; 3] = [
 /// Each script ends well, and its changes are kept.
 #[test]
 fn features_say_where_profiles_live(rt: HostRuntime) {
-    let wrong = wrong_among(rt.alloc(), &SCRIPTS);
+    let wrong = wrong_among(rt.alloc(), SCRIPTS);
     assert!(rt; wrong == Ok(("", "")), "{wrong:?}");
 }

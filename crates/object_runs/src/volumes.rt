@@ -1,6 +1,6 @@
 //! Storage volumes over HTTP: each request with its exact reply.
 
-use crate::scripts::{Script, wrong_among};
+use made_runs::{Script, wrong_among};
 
 /// Volumes are made, read, changed, used, renamed and deleted.
 const LIFE: &str = r#"
@@ -397,7 +397,7 @@ GET /1.0/projects/big/state
 "#;
 
 /// Scripts, and how many entries are kept after them.
-const SCRIPTS: [Script; 5] = [
+const SCRIPTS: &[Script] = &[
     ("life", LIFE, 6),
     ("settings", SETTINGS, 4),
     ("homes", HOMES, 6),
@@ -407,6 +407,6 @@ const SCRIPTS: [Script; 5] = [
 
 #[test]
 fn volumes_live_by_their_rules(rt: HostRuntime) {
-    let wrong = wrong_among(rt.alloc(), &SCRIPTS);
+    let wrong = wrong_among(rt.alloc(), SCRIPTS);
     assert!(rt; wrong == Ok(("", "")), "{wrong:?}");
 }

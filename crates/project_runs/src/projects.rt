@@ -1,6 +1,6 @@
 //! The life of projects over HTTP, and their settings: each request with its exact reply.
 
-use crate::scripts::{Script, wrong_among};
+use made_runs::{Script, wrong_among};
 
 /// Projects are made, changed, renamed and deleted.
 const LIFE: &str = r#"
@@ -277,11 +277,11 @@ POST /1.0/projects/lab {"name":"lab"}
 "#;
 
 /// Scripts, and how many entries are kept after them.
-const SCRIPTS: [Script; 2] = [("life", LIFE, 4), ("settings", SETTINGS, 5)];
+const SCRIPTS: &[Script] = &[("life", LIFE, 4), ("settings", SETTINGS, 5)];
 
 /// Each script ends well, and its changes are kept.
 #[test]
 fn projects_live_by_their_rules(rt: HostRuntime) {
-    let wrong = wrong_among(rt.alloc(), &SCRIPTS);
+    let wrong = wrong_among(rt.alloc(), SCRIPTS);
     assert!(rt; wrong == Ok(("", "")), "{wrong:?}");
 }
