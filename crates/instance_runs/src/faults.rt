@@ -1,0 +1,419 @@
+//! Calls of the host and of the store that fail: the creation fails with what it tells, and all is
+//! as it was.
+
+use crate::runs::End;
+use crate::scripts::{Run, wrong_among};
+
+/// The first call of a creation fails.
+const FIRST_CALL: &str = r#"
+POST /1.0/storage-pools {"driver":"dir","name":"p0"}
+200 {"metadata":{},"status":"Success","status_code":200,"type":"sync"}
+POST /1.0/projects {"name":"lab"}
+200 {"metadata":{},"status":"Success","status_code":200,"type":"sync"}
+PUT /1.0/profiles/default?project=lab {"devices":{"root":{"path":"/","pool":"p0","size":"1GiB","type":"disk"}}}
+200 {"metadata":{},"status":"Success","status_code":200,"type":"sync"}
+POST /1.0/instances?project=lab {"config":{"limits.cpu":"2"},"name":"a","source":{"type":"none"}}
+202 /1.0/operations/00000000-0001-8000-8000-000000000001 {"metadata":{"class":"task","created_at":"1970-01-01T00:00:00Z","err":"","id":"00000000-0001-8000-8000-000000000001","may_cancel":true,"metadata":null,"resources":{"instances":["/1.0/instances/a?project=lab"]},"status":"Pending","status_code":105,"updated_at":"1970-01-01T00:00:00Z"},"operation":"/1.0/operations/00000000-0001-8000-8000-000000000001","status":"Operation created","status_code":100,"type":"async"}
+GET /1.0/operations/00000000-0001-8000-8000-000000000001
+200 {"metadata":{"class":"task","created_at":"1970-01-01T00:00:00Z","err":"host call failed","id":"00000000-0001-8000-8000-000000000001","may_cancel":false,"metadata":{"after":1,"before":0,"call":1},"resources":{"instances":["/1.0/instances/a?project=lab"]},"status":"Failure","status_code":400,"updated_at":"1970-01-01T00:00:00Z"},"status":"Success","status_code":200,"type":"sync"}
+GET /1.0/operations?project=lab
+200 {"metadata":{"failure":["/1.0/operations/00000000-0001-8000-8000-000000000001"]},"status":"Success","status_code":200,"type":"sync"}
+GET /1.0/instances?project=lab
+200 {"metadata":[],"status":"Success","status_code":200,"type":"sync"}
+GET /1.0/projects/lab/state
+200 {"metadata":{"resources":{"containers":{"limit":-1,"usage":0},"cpu":{"limit":-1,"usage":0},"disk":{"limit":-1,"usage":0},"instances":{"limit":-1,"usage":0},"memory":{"limit":-1,"usage":0},"networks":{"limit":-1,"usage":0},"processes":{"limit":-1,"usage":0},"virtual-machines":{"limit":-1,"usage":0}}},"status":"Success","status_code":200,"type":"sync"}
+GET /1.0/instances/a?project=lab
+404 {"error":"object is missing","error_code":404,"metadata":{"kind":"instance","name":"a","rule":"N2"},"type":"error"}
+POST /1.0/instances?project=lab {"config":{"limits.cpu":"2"},"name":"a","source":{"type":"none"}}
+202 /1.0/operations/00000000-0001-8000-8000-000000000002 {"metadata":{"class":"task","created_at":"1970-01-01T00:00:00Z","err":"","id":"00000000-0001-8000-8000-000000000002","may_cancel":true,"metadata":null,"resources":{"instances":["/1.0/instances/a?project=lab"]},"status":"Pending","status_code":105,"updated_at":"1970-01-01T00:00:00Z"},"operation":"/1.0/operations/00000000-0001-8000-8000-000000000002","status":"Operation created","status_code":100,"type":"async"}
+GET /1.0/operations/00000000-0001-8000-8000-000000000002
+200 {"metadata":{"class":"task","created_at":"1970-01-01T00:00:00Z","err":"","id":"00000000-0001-8000-8000-000000000002","may_cancel":false,"metadata":null,"resources":{"instances":["/1.0/instances/a?project=lab"]},"status":"Success","status_code":200,"updated_at":"1970-01-01T00:00:00Z"},"status":"Success","status_code":200,"type":"sync"}
+GET /1.0/projects/lab/state
+200 {"metadata":{"resources":{"containers":{"limit":-1,"usage":1},"cpu":{"limit":-1,"usage":2},"disk":{"limit":-1,"usage":1073741824},"instances":{"limit":-1,"usage":1},"memory":{"limit":-1,"usage":0},"networks":{"limit":-1,"usage":0},"processes":{"limit":-1,"usage":0},"virtual-machines":{"limit":-1,"usage":0}}},"status":"Success","status_code":200,"type":"sync"}
+GET /1.0/instances/a/state?project=lab
+200 {"metadata":{"status":"Stopped","status_code":102},"status":"Success","status_code":200,"type":"sync"}
+"#;
+
+/// The second call of a creation fails.
+const SECOND_CALL: &str = r#"
+POST /1.0/storage-pools {"driver":"dir","name":"p0"}
+200 {"metadata":{},"status":"Success","status_code":200,"type":"sync"}
+POST /1.0/projects {"name":"lab"}
+200 {"metadata":{},"status":"Success","status_code":200,"type":"sync"}
+PUT /1.0/profiles/default?project=lab {"devices":{"root":{"path":"/","pool":"p0","size":"1GiB","type":"disk"}}}
+200 {"metadata":{},"status":"Success","status_code":200,"type":"sync"}
+POST /1.0/instances?project=lab {"config":{"limits.cpu":"2"},"name":"a","source":{"type":"none"}}
+202 /1.0/operations/00000000-0001-8000-8000-000000000001 {"metadata":{"class":"task","created_at":"1970-01-01T00:00:00Z","err":"","id":"00000000-0001-8000-8000-000000000001","may_cancel":true,"metadata":null,"resources":{"instances":["/1.0/instances/a?project=lab"]},"status":"Pending","status_code":105,"updated_at":"1970-01-01T00:00:00Z"},"operation":"/1.0/operations/00000000-0001-8000-8000-000000000001","status":"Operation created","status_code":100,"type":"async"}
+GET /1.0/operations/00000000-0001-8000-8000-000000000001
+200 {"metadata":{"class":"task","created_at":"1970-01-01T00:00:00Z","err":"host call failed","id":"00000000-0001-8000-8000-000000000001","may_cancel":false,"metadata":{"after":1,"before":0,"call":2},"resources":{"instances":["/1.0/instances/a?project=lab"]},"status":"Failure","status_code":400,"updated_at":"1970-01-01T00:00:00Z"},"status":"Success","status_code":200,"type":"sync"}
+GET /1.0/operations?project=lab
+200 {"metadata":{"failure":["/1.0/operations/00000000-0001-8000-8000-000000000001"]},"status":"Success","status_code":200,"type":"sync"}
+GET /1.0/instances?project=lab
+200 {"metadata":[],"status":"Success","status_code":200,"type":"sync"}
+GET /1.0/projects/lab/state
+200 {"metadata":{"resources":{"containers":{"limit":-1,"usage":0},"cpu":{"limit":-1,"usage":0},"disk":{"limit":-1,"usage":0},"instances":{"limit":-1,"usage":0},"memory":{"limit":-1,"usage":0},"networks":{"limit":-1,"usage":0},"processes":{"limit":-1,"usage":0},"virtual-machines":{"limit":-1,"usage":0}}},"status":"Success","status_code":200,"type":"sync"}
+GET /1.0/instances/a?project=lab
+404 {"error":"object is missing","error_code":404,"metadata":{"kind":"instance","name":"a","rule":"N2"},"type":"error"}
+POST /1.0/instances?project=lab {"config":{"limits.cpu":"2"},"name":"a","source":{"type":"none"}}
+202 /1.0/operations/00000000-0001-8000-8000-000000000002 {"metadata":{"class":"task","created_at":"1970-01-01T00:00:00Z","err":"","id":"00000000-0001-8000-8000-000000000002","may_cancel":true,"metadata":null,"resources":{"instances":["/1.0/instances/a?project=lab"]},"status":"Pending","status_code":105,"updated_at":"1970-01-01T00:00:00Z"},"operation":"/1.0/operations/00000000-0001-8000-8000-000000000002","status":"Operation created","status_code":100,"type":"async"}
+GET /1.0/operations/00000000-0001-8000-8000-000000000002
+200 {"metadata":{"class":"task","created_at":"1970-01-01T00:00:00Z","err":"","id":"00000000-0001-8000-8000-000000000002","may_cancel":false,"metadata":null,"resources":{"instances":["/1.0/instances/a?project=lab"]},"status":"Success","status_code":200,"updated_at":"1970-01-01T00:00:00Z"},"status":"Success","status_code":200,"type":"sync"}
+GET /1.0/projects/lab/state
+200 {"metadata":{"resources":{"containers":{"limit":-1,"usage":1},"cpu":{"limit":-1,"usage":2},"disk":{"limit":-1,"usage":1073741824},"instances":{"limit":-1,"usage":1},"memory":{"limit":-1,"usage":0},"networks":{"limit":-1,"usage":0},"processes":{"limit":-1,"usage":0},"virtual-machines":{"limit":-1,"usage":0}}},"status":"Success","status_code":200,"type":"sync"}
+GET /1.0/instances/a/state?project=lab
+200 {"metadata":{"status":"Stopped","status_code":102},"status":"Success","status_code":200,"type":"sync"}
+"#;
+
+/// The store fails when the instance is to be kept.
+const STORE: &str = r#"
+POST /1.0/storage-pools {"driver":"dir","name":"p0"}
+200 {"metadata":{},"status":"Success","status_code":200,"type":"sync"}
+POST /1.0/projects {"name":"lab"}
+200 {"metadata":{},"status":"Success","status_code":200,"type":"sync"}
+PUT /1.0/profiles/default?project=lab {"devices":{"root":{"path":"/","pool":"p0","size":"1GiB","type":"disk"}}}
+200 {"metadata":{},"status":"Success","status_code":200,"type":"sync"}
+POST /1.0/instances?project=lab {"config":{"limits.cpu":"2"},"name":"a","source":{"type":"none"}}
+202 /1.0/operations/00000000-0001-8000-8000-000000000001 {"metadata":{"class":"task","created_at":"1970-01-01T00:00:00Z","err":"","id":"00000000-0001-8000-8000-000000000001","may_cancel":true,"metadata":null,"resources":{"instances":["/1.0/instances/a?project=lab"]},"status":"Pending","status_code":105,"updated_at":"1970-01-01T00:00:00Z"},"operation":"/1.0/operations/00000000-0001-8000-8000-000000000001","status":"Operation created","status_code":100,"type":"async"}
+GET /1.0/operations/00000000-0001-8000-8000-000000000001
+200 {"metadata":{"class":"task","created_at":"1970-01-01T00:00:00Z","err":"keeper failed","id":"00000000-0001-8000-8000-000000000001","may_cancel":false,"metadata":{"after":1,"before":0},"resources":{"instances":["/1.0/instances/a?project=lab"]},"status":"Failure","status_code":400,"updated_at":"1970-01-01T00:00:00Z"},"status":"Success","status_code":200,"type":"sync"}
+GET /1.0/operations?project=lab
+200 {"metadata":{"failure":["/1.0/operations/00000000-0001-8000-8000-000000000001"]},"status":"Success","status_code":200,"type":"sync"}
+GET /1.0/instances?project=lab
+200 {"metadata":[],"status":"Success","status_code":200,"type":"sync"}
+GET /1.0/projects/lab/state
+200 {"metadata":{"resources":{"containers":{"limit":-1,"usage":0},"cpu":{"limit":-1,"usage":0},"disk":{"limit":-1,"usage":0},"instances":{"limit":-1,"usage":0},"memory":{"limit":-1,"usage":0},"networks":{"limit":-1,"usage":0},"processes":{"limit":-1,"usage":0},"virtual-machines":{"limit":-1,"usage":0}}},"status":"Success","status_code":200,"type":"sync"}
+GET /1.0/instances/a?project=lab
+404 {"error":"object is missing","error_code":404,"metadata":{"kind":"instance","name":"a","rule":"N2"},"type":"error"}
+POST /1.0/instances?project=lab {"config":{"limits.cpu":"2"},"name":"a","source":{"type":"none"}}
+202 /1.0/operations/00000000-0001-8000-8000-000000000002 {"metadata":{"class":"task","created_at":"1970-01-01T00:00:00Z","err":"","id":"00000000-0001-8000-8000-000000000002","may_cancel":true,"metadata":null,"resources":{"instances":["/1.0/instances/a?project=lab"]},"status":"Pending","status_code":105,"updated_at":"1970-01-01T00:00:00Z"},"operation":"/1.0/operations/00000000-0001-8000-8000-000000000002","status":"Operation created","status_code":100,"type":"async"}
+GET /1.0/operations/00000000-0001-8000-8000-000000000002
+200 {"metadata":{"class":"task","created_at":"1970-01-01T00:00:00Z","err":"","id":"00000000-0001-8000-8000-000000000002","may_cancel":false,"metadata":null,"resources":{"instances":["/1.0/instances/a?project=lab"]},"status":"Success","status_code":200,"updated_at":"1970-01-01T00:00:00Z"},"status":"Success","status_code":200,"type":"sync"}
+GET /1.0/projects/lab/state
+200 {"metadata":{"resources":{"containers":{"limit":-1,"usage":1},"cpu":{"limit":-1,"usage":2},"disk":{"limit":-1,"usage":1073741824},"instances":{"limit":-1,"usage":1},"memory":{"limit":-1,"usage":0},"networks":{"limit":-1,"usage":0},"processes":{"limit":-1,"usage":0},"virtual-machines":{"limit":-1,"usage":0}}},"status":"Success","status_code":200,"type":"sync"}
+GET /1.0/instances/a/state?project=lab
+200 {"metadata":{"status":"Stopped","status_code":102},"status":"Success","status_code":200,"type":"sync"}
+"#;
+
+/// The store fails at a change that is made at once.
+const STORE_AT_A_CHANGE: &str = r#"
+POST /1.0/storage-pools {"driver":"dir","name":"p0"}
+200 {"metadata":{},"status":"Success","status_code":200,"type":"sync"}
+POST /1.0/projects {"name":"lab"}
+200 {"metadata":{},"status":"Success","status_code":200,"type":"sync"}
+PUT /1.0/profiles/default?project=lab {"devices":{"root":{"path":"/","pool":"p0","size":"1GiB","type":"disk"}}}
+503 {"error":"unavailable","error_code":503,"metadata":{"rule":"K1"},"type":"error"}
+GET /1.0/profiles/default?project=lab
+200 {"metadata":{"config":{},"description":"","devices":{},"name":"default","project":"lab","used_by":[]},"status":"Success","status_code":200,"type":"sync"}
+POST /1.0/instances?project=lab {"name":"a","source":{"type":"none"}}
+400 {"error":"instance needs exactly one root disk","error_code":400,"metadata":{"name":"a","rule":"V4"},"type":"error"}
+PUT /1.0/profiles/default?project=lab {"devices":{"root":{"path":"/","pool":"p0","size":"1GiB","type":"disk"}}}
+200 {"metadata":{},"status":"Success","status_code":200,"type":"sync"}
+POST /1.0/instances?project=lab {"name":"a","source":{"type":"none"}}
+202 /1.0/operations/00000000-0001-8000-8000-000000000001 {"metadata":{"class":"task","created_at":"1970-01-01T00:00:00Z","err":"","id":"00000000-0001-8000-8000-000000000001","may_cancel":true,"metadata":null,"resources":{"instances":["/1.0/instances/a?project=lab"]},"status":"Pending","status_code":105,"updated_at":"1970-01-01T00:00:00Z"},"operation":"/1.0/operations/00000000-0001-8000-8000-000000000001","status":"Operation created","status_code":100,"type":"async"}
+GET /1.0/operations/00000000-0001-8000-8000-000000000001
+200 {"metadata":{"class":"task","created_at":"1970-01-01T00:00:00Z","err":"","id":"00000000-0001-8000-8000-000000000001","may_cancel":false,"metadata":null,"resources":{"instances":["/1.0/instances/a?project=lab"]},"status":"Success","status_code":200,"updated_at":"1970-01-01T00:00:00Z"},"status":"Success","status_code":200,"type":"sync"}
+GET /1.0/projects/lab/state
+200 {"metadata":{"resources":{"containers":{"limit":-1,"usage":1},"cpu":{"limit":-1,"usage":0},"disk":{"limit":-1,"usage":1073741824},"instances":{"limit":-1,"usage":1},"memory":{"limit":-1,"usage":0},"networks":{"limit":-1,"usage":0},"processes":{"limit":-1,"usage":0},"virtual-machines":{"limit":-1,"usage":0}}},"status":"Success","status_code":200,"type":"sync"}
+"#;
+
+/// Each failure tells how many were before it.
+const AGAIN_AND_AGAIN: &str = r#"
+POST /1.0/storage-pools {"driver":"dir","name":"p0"}
+200 {"metadata":{},"status":"Success","status_code":200,"type":"sync"}
+POST /1.0/projects {"name":"lab"}
+200 {"metadata":{},"status":"Success","status_code":200,"type":"sync"}
+PUT /1.0/profiles/default?project=lab {"devices":{"root":{"path":"/","pool":"p0","size":"1GiB","type":"disk"}}}
+200 {"metadata":{},"status":"Success","status_code":200,"type":"sync"}
+POST /1.0/instances?project=lab {"name":"a","source":{"type":"none"}}
+202 /1.0/operations/00000000-0001-8000-8000-000000000001 {"metadata":{"class":"task","created_at":"1970-01-01T00:00:00Z","err":"","id":"00000000-0001-8000-8000-000000000001","may_cancel":true,"metadata":null,"resources":{"instances":["/1.0/instances/a?project=lab"]},"status":"Pending","status_code":105,"updated_at":"1970-01-01T00:00:00Z"},"operation":"/1.0/operations/00000000-0001-8000-8000-000000000001","status":"Operation created","status_code":100,"type":"async"}
+GET /1.0/operations/00000000-0001-8000-8000-000000000001
+200 {"metadata":{"class":"task","created_at":"1970-01-01T00:00:00Z","err":"host call failed","id":"00000000-0001-8000-8000-000000000001","may_cancel":false,"metadata":{"after":1,"before":0,"call":1},"resources":{"instances":["/1.0/instances/a?project=lab"]},"status":"Failure","status_code":400,"updated_at":"1970-01-01T00:00:00Z"},"status":"Success","status_code":200,"type":"sync"}
+POST /1.0/instances?project=lab {"name":"b","source":{"type":"none"}}
+202 /1.0/operations/00000000-0001-8000-8000-000000000002 {"metadata":{"class":"task","created_at":"1970-01-01T00:00:00Z","err":"","id":"00000000-0001-8000-8000-000000000002","may_cancel":true,"metadata":null,"resources":{"instances":["/1.0/instances/b?project=lab"]},"status":"Pending","status_code":105,"updated_at":"1970-01-01T00:00:00Z"},"operation":"/1.0/operations/00000000-0001-8000-8000-000000000002","status":"Operation created","status_code":100,"type":"async"}
+GET /1.0/operations/00000000-0001-8000-8000-000000000002
+200 {"metadata":{"class":"task","created_at":"1970-01-01T00:00:00Z","err":"host call failed","id":"00000000-0001-8000-8000-000000000002","may_cancel":false,"metadata":{"after":2,"before":1,"call":1},"resources":{"instances":["/1.0/instances/b?project=lab"]},"status":"Failure","status_code":400,"updated_at":"1970-01-01T00:00:00Z"},"status":"Success","status_code":200,"type":"sync"}
+POST /1.0/instances?project=lab {"name":"a","source":{"type":"none"}}
+202 /1.0/operations/00000000-0001-8000-8000-000000000003 {"metadata":{"class":"task","created_at":"1970-01-01T00:00:00Z","err":"","id":"00000000-0001-8000-8000-000000000003","may_cancel":true,"metadata":null,"resources":{"instances":["/1.0/instances/a?project=lab"]},"status":"Pending","status_code":105,"updated_at":"1970-01-01T00:00:00Z"},"operation":"/1.0/operations/00000000-0001-8000-8000-000000000003","status":"Operation created","status_code":100,"type":"async"}
+GET /1.0/operations/00000000-0001-8000-8000-000000000003
+200 {"metadata":{"class":"task","created_at":"1970-01-01T00:00:00Z","err":"host call failed","id":"00000000-0001-8000-8000-000000000003","may_cancel":false,"metadata":{"after":3,"before":2,"call":2},"resources":{"instances":["/1.0/instances/a?project=lab"]},"status":"Failure","status_code":400,"updated_at":"1970-01-01T00:00:00Z"},"status":"Success","status_code":200,"type":"sync"}
+POST /1.0/instances?project=lab {"name":"b","source":{"type":"none"}}
+202 /1.0/operations/00000000-0001-8000-8000-000000000004 {"metadata":{"class":"task","created_at":"1970-01-01T00:00:00Z","err":"","id":"00000000-0001-8000-8000-000000000004","may_cancel":true,"metadata":null,"resources":{"instances":["/1.0/instances/b?project=lab"]},"status":"Pending","status_code":105,"updated_at":"1970-01-01T00:00:00Z"},"operation":"/1.0/operations/00000000-0001-8000-8000-000000000004","status":"Operation created","status_code":100,"type":"async"}
+GET /1.0/operations/00000000-0001-8000-8000-000000000004
+200 {"metadata":{"class":"task","created_at":"1970-01-01T00:00:00Z","err":"keeper failed","id":"00000000-0001-8000-8000-000000000004","may_cancel":false,"metadata":{"after":1,"before":0},"resources":{"instances":["/1.0/instances/b?project=lab"]},"status":"Failure","status_code":400,"updated_at":"1970-01-01T00:00:00Z"},"status":"Success","status_code":200,"type":"sync"}
+POST /1.0/instances?project=lab {"name":"a","source":{"type":"none"}}
+202 /1.0/operations/00000000-0001-8000-8000-000000000005 {"metadata":{"class":"task","created_at":"1970-01-01T00:00:00Z","err":"","id":"00000000-0001-8000-8000-000000000005","may_cancel":true,"metadata":null,"resources":{"instances":["/1.0/instances/a?project=lab"]},"status":"Pending","status_code":105,"updated_at":"1970-01-01T00:00:00Z"},"operation":"/1.0/operations/00000000-0001-8000-8000-000000000005","status":"Operation created","status_code":100,"type":"async"}
+GET /1.0/operations/00000000-0001-8000-8000-000000000005
+200 {"metadata":{"class":"task","created_at":"1970-01-01T00:00:00Z","err":"host call failed","id":"00000000-0001-8000-8000-000000000005","may_cancel":false,"metadata":{"after":4,"before":3,"call":1},"resources":{"instances":["/1.0/instances/a?project=lab"]},"status":"Failure","status_code":400,"updated_at":"1970-01-01T00:00:00Z"},"status":"Success","status_code":200,"type":"sync"}
+POST /1.0/instances?project=lab {"name":"a","source":{"type":"none"}}
+202 /1.0/operations/00000000-0001-8000-8000-000000000006 {"metadata":{"class":"task","created_at":"1970-01-01T00:00:00Z","err":"","id":"00000000-0001-8000-8000-000000000006","may_cancel":true,"metadata":null,"resources":{"instances":["/1.0/instances/a?project=lab"]},"status":"Pending","status_code":105,"updated_at":"1970-01-01T00:00:00Z"},"operation":"/1.0/operations/00000000-0001-8000-8000-000000000006","status":"Operation created","status_code":100,"type":"async"}
+GET /1.0/operations/00000000-0001-8000-8000-000000000006
+200 {"metadata":{"class":"task","created_at":"1970-01-01T00:00:00Z","err":"host call failed","id":"00000000-0001-8000-8000-000000000006","may_cancel":false,"metadata":{"after":5,"before":4,"call":2},"resources":{"instances":["/1.0/instances/a?project=lab"]},"status":"Failure","status_code":400,"updated_at":"1970-01-01T00:00:00Z"},"status":"Success","status_code":200,"type":"sync"}
+POST /1.0/instances?project=lab {"name":"b","source":{"type":"none"}}
+202 /1.0/operations/00000000-0001-8000-8000-000000000007 {"metadata":{"class":"task","created_at":"1970-01-01T00:00:00Z","err":"","id":"00000000-0001-8000-8000-000000000007","may_cancel":true,"metadata":null,"resources":{"instances":["/1.0/instances/b?project=lab"]},"status":"Pending","status_code":105,"updated_at":"1970-01-01T00:00:00Z"},"operation":"/1.0/operations/00000000-0001-8000-8000-000000000007","status":"Operation created","status_code":100,"type":"async"}
+GET /1.0/operations/00000000-0001-8000-8000-000000000007
+200 {"metadata":{"class":"task","created_at":"1970-01-01T00:00:00Z","err":"keeper failed","id":"00000000-0001-8000-8000-000000000007","may_cancel":false,"metadata":{"after":2,"before":1},"resources":{"instances":["/1.0/instances/b?project=lab"]},"status":"Failure","status_code":400,"updated_at":"1970-01-01T00:00:00Z"},"status":"Success","status_code":200,"type":"sync"}
+POST /1.0/instances?project=lab {"name":"c","source":{"type":"none"}}
+202 /1.0/operations/00000000-0001-8000-8000-000000000008 {"metadata":{"class":"task","created_at":"1970-01-01T00:00:00Z","err":"","id":"00000000-0001-8000-8000-000000000008","may_cancel":true,"metadata":null,"resources":{"instances":["/1.0/instances/c?project=lab"]},"status":"Pending","status_code":105,"updated_at":"1970-01-01T00:00:00Z"},"operation":"/1.0/operations/00000000-0001-8000-8000-000000000008","status":"Operation created","status_code":100,"type":"async"}
+GET /1.0/operations/00000000-0001-8000-8000-000000000008
+200 {"metadata":{"class":"task","created_at":"1970-01-01T00:00:00Z","err":"","id":"00000000-0001-8000-8000-000000000008","may_cancel":false,"metadata":null,"resources":{"instances":["/1.0/instances/c?project=lab"]},"status":"Success","status_code":200,"updated_at":"1970-01-01T00:00:00Z"},"status":"Success","status_code":200,"type":"sync"}
+POST /1.0/instances?project=lab {"name":"a","source":{"type":"none"}}
+202 /1.0/operations/00000000-0001-8000-8000-000000000009 {"metadata":{"class":"task","created_at":"1970-01-01T00:00:00Z","err":"","id":"00000000-0001-8000-8000-000000000009","may_cancel":true,"metadata":null,"resources":{"instances":["/1.0/instances/a?project=lab"]},"status":"Pending","status_code":105,"updated_at":"1970-01-01T00:00:00Z"},"operation":"/1.0/operations/00000000-0001-8000-8000-000000000009","status":"Operation created","status_code":100,"type":"async"}
+GET /1.0/operations/00000000-0001-8000-8000-000000000009
+200 {"metadata":{"class":"task","created_at":"1970-01-01T00:00:00Z","err":"","id":"00000000-0001-8000-8000-000000000009","may_cancel":false,"metadata":null,"resources":{"instances":["/1.0/instances/a?project=lab"]},"status":"Success","status_code":200,"updated_at":"1970-01-01T00:00:00Z"},"status":"Success","status_code":200,"type":"sync"}
+GET /1.0/operations?project=lab&recursion=1
+200 {"metadata":{"failure":[{"class":"task","created_at":"1970-01-01T00:00:00Z","err":"host call failed","id":"00000000-0001-8000-8000-000000000001","may_cancel":false,"metadata":{"after":1,"before":0,"call":1},"resources":{"instances":["/1.0/instances/a?project=lab"]},"status":"Failure","status_code":400,"updated_at":"1970-01-01T00:00:00Z"},{"class":"task","created_at":"1970-01-01T00:00:00Z","err":"host call failed","id":"00000000-0001-8000-8000-000000000002","may_cancel":false,"metadata":{"after":2,"before":1,"call":1},"resources":{"instances":["/1.0/instances/b?project=lab"]},"status":"Failure","status_code":400,"updated_at":"1970-01-01T00:00:00Z"},{"class":"task","created_at":"1970-01-01T00:00:00Z","err":"host call failed","id":"00000000-0001-8000-8000-000000000003","may_cancel":false,"metadata":{"after":3,"before":2,"call":2},"resources":{"instances":["/1.0/instances/a?project=lab"]},"status":"Failure","status_code":400,"updated_at":"1970-01-01T00:00:00Z"},{"class":"task","created_at":"1970-01-01T00:00:00Z","err":"keeper failed","id":"00000000-0001-8000-8000-000000000004","may_cancel":false,"metadata":{"after":1,"before":0},"resources":{"instances":["/1.0/instances/b?project=lab"]},"status":"Failure","status_code":400,"updated_at":"1970-01-01T00:00:00Z"},{"class":"task","created_at":"1970-01-01T00:00:00Z","err":"host call failed","id":"00000000-0001-8000-8000-000000000005","may_cancel":false,"metadata":{"after":4,"before":3,"call":1},"resources":{"instances":["/1.0/instances/a?project=lab"]},"status":"Failure","status_code":400,"updated_at":"1970-01-01T00:00:00Z"},{"class":"task","created_at":"1970-01-01T00:00:00Z","err":"host call failed","id":"00000000-0001-8000-8000-000000000006","may_cancel":false,"metadata":{"after":5,"before":4,"call":2},"resources":{"instances":["/1.0/instances/a?project=lab"]},"status":"Failure","status_code":400,"updated_at":"1970-01-01T00:00:00Z"},{"class":"task","created_at":"1970-01-01T00:00:00Z","err":"keeper failed","id":"00000000-0001-8000-8000-000000000007","may_cancel":false,"metadata":{"after":2,"before":1},"resources":{"instances":["/1.0/instances/b?project=lab"]},"status":"Failure","status_code":400,"updated_at":"1970-01-01T00:00:00Z"}],"success":[{"class":"task","created_at":"1970-01-01T00:00:00Z","err":"","id":"00000000-0001-8000-8000-000000000008","may_cancel":false,"metadata":null,"resources":{"instances":["/1.0/instances/c?project=lab"]},"status":"Success","status_code":200,"updated_at":"1970-01-01T00:00:00Z"},{"class":"task","created_at":"1970-01-01T00:00:00Z","err":"","id":"00000000-0001-8000-8000-000000000009","may_cancel":false,"metadata":null,"resources":{"instances":["/1.0/instances/a?project=lab"]},"status":"Success","status_code":200,"updated_at":"1970-01-01T00:00:00Z"}]},"status":"Success","status_code":200,"type":"sync"}
+GET /1.0/projects/lab/state
+200 {"metadata":{"resources":{"containers":{"limit":-1,"usage":2},"cpu":{"limit":-1,"usage":0},"disk":{"limit":-1,"usage":2147483648},"instances":{"limit":-1,"usage":2},"memory":{"limit":-1,"usage":0},"networks":{"limit":-1,"usage":0},"processes":{"limit":-1,"usage":0},"virtual-machines":{"limit":-1,"usage":0}}},"status":"Success","status_code":200,"type":"sync"}
+GET /1.0/instances?project=lab
+200 {"metadata":["/1.0/instances/a?project=lab","/1.0/instances/c?project=lab"],"status":"Success","status_code":200,"type":"sync"}
+"#;
+
+/// Failures between requests, step by step.
+const HELD_BACK: &str = r#"
+POST /1.0/storage-pools {"driver":"dir","name":"p0"}
+200 {"metadata":{},"status":"Success","status_code":200,"type":"sync"}
+POST /1.0/projects {"name":"lab"}
+200 {"metadata":{},"status":"Success","status_code":200,"type":"sync"}
+PUT /1.0/profiles/default?project=lab {"devices":{"root":{"path":"/","pool":"p0","size":"1GiB","type":"disk"}}}
+200 {"metadata":{},"status":"Success","status_code":200,"type":"sync"}
+POST /1.0/instances?project=lab {"name":"a","source":{"type":"none"}}
+202 /1.0/operations/00000000-0001-8000-8000-000000000001 {"metadata":{"class":"task","created_at":"1970-01-01T00:00:00Z","err":"","id":"00000000-0001-8000-8000-000000000001","may_cancel":true,"metadata":null,"resources":{"instances":["/1.0/instances/a?project=lab"]},"status":"Pending","status_code":105,"updated_at":"1970-01-01T00:00:00Z"},"operation":"/1.0/operations/00000000-0001-8000-8000-000000000001","status":"Operation created","status_code":100,"type":"async"}
+POST /1.0/instances?project=lab {"name":"b","source":{"type":"none"}}
+202 /1.0/operations/00000000-0001-8000-8000-000000000002 {"metadata":{"class":"task","created_at":"1970-01-01T00:00:00Z","err":"","id":"00000000-0001-8000-8000-000000000002","may_cancel":true,"metadata":null,"resources":{"instances":["/1.0/instances/b?project=lab"]},"status":"Pending","status_code":105,"updated_at":"1970-01-01T00:00:00Z"},"operation":"/1.0/operations/00000000-0001-8000-8000-000000000002","status":"Operation created","status_code":100,"type":"async"}
+GET /1.0/operations/00000000-0001-8000-8000-000000000001
+200 {"metadata":{"class":"task","created_at":"1970-01-01T00:00:00Z","err":"","id":"00000000-0001-8000-8000-000000000001","may_cancel":true,"metadata":null,"resources":{"instances":["/1.0/instances/a?project=lab"]},"status":"Running","status_code":103,"updated_at":"1970-01-01T00:00:00Z"},"status":"Success","status_code":200,"type":"sync"}
+GET /1.0/operations/00000000-0001-8000-8000-000000000001
+200 {"metadata":{"class":"task","created_at":"1970-01-01T00:00:00Z","err":"host call failed","id":"00000000-0001-8000-8000-000000000001","may_cancel":false,"metadata":{"after":1,"before":0,"call":2},"resources":{"instances":["/1.0/instances/a?project=lab"]},"status":"Failure","status_code":400,"updated_at":"1970-01-01T00:00:00Z"},"status":"Success","status_code":200,"type":"sync"}
+GET /1.0/operations/00000000-0001-8000-8000-000000000001
+200 {"metadata":{"class":"task","created_at":"1970-01-01T00:00:00Z","err":"host call failed","id":"00000000-0001-8000-8000-000000000001","may_cancel":false,"metadata":{"after":1,"before":0,"call":2},"resources":{"instances":["/1.0/instances/a?project=lab"]},"status":"Failure","status_code":400,"updated_at":"1970-01-01T00:00:00Z"},"status":"Success","status_code":200,"type":"sync"}
+GET /1.0/projects/lab/state
+200 {"metadata":{"resources":{"containers":{"limit":-1,"usage":0},"cpu":{"limit":-1,"usage":0},"disk":{"limit":-1,"usage":0},"instances":{"limit":-1,"usage":0},"memory":{"limit":-1,"usage":0},"networks":{"limit":-1,"usage":0},"processes":{"limit":-1,"usage":0},"virtual-machines":{"limit":-1,"usage":0}}},"status":"Success","status_code":200,"type":"sync"}
+GET /1.0/operations/00000000-0001-8000-8000-000000000002
+200 {"metadata":{"class":"task","created_at":"1970-01-01T00:00:00Z","err":"host call failed","id":"00000000-0001-8000-8000-000000000002","may_cancel":false,"metadata":{"after":2,"before":1,"call":1},"resources":{"instances":["/1.0/instances/b?project=lab"]},"status":"Failure","status_code":400,"updated_at":"1970-01-01T00:00:00Z"},"status":"Success","status_code":200,"type":"sync"}
+GET /1.0/projects/lab/state
+200 {"metadata":{"resources":{"containers":{"limit":-1,"usage":0},"cpu":{"limit":-1,"usage":0},"disk":{"limit":-1,"usage":0},"instances":{"limit":-1,"usage":0},"memory":{"limit":-1,"usage":0},"networks":{"limit":-1,"usage":0},"processes":{"limit":-1,"usage":0},"virtual-machines":{"limit":-1,"usage":0}}},"status":"Success","status_code":200,"type":"sync"}
+GET /1.0/operations?project=lab&recursion=1
+200 {"metadata":{"failure":[{"class":"task","created_at":"1970-01-01T00:00:00Z","err":"host call failed","id":"00000000-0001-8000-8000-000000000001","may_cancel":false,"metadata":{"after":1,"before":0,"call":2},"resources":{"instances":["/1.0/instances/a?project=lab"]},"status":"Failure","status_code":400,"updated_at":"1970-01-01T00:00:00Z"},{"class":"task","created_at":"1970-01-01T00:00:00Z","err":"host call failed","id":"00000000-0001-8000-8000-000000000002","may_cancel":false,"metadata":{"after":2,"before":1,"call":1},"resources":{"instances":["/1.0/instances/b?project=lab"]},"status":"Failure","status_code":400,"updated_at":"1970-01-01T00:00:00Z"}]},"status":"Success","status_code":200,"type":"sync"}
+POST /1.0/instances?project=lab {"name":"a","source":{"type":"none"}}
+202 /1.0/operations/00000000-0001-8000-8000-000000000003 {"metadata":{"class":"task","created_at":"1970-01-01T00:00:00Z","err":"","id":"00000000-0001-8000-8000-000000000003","may_cancel":true,"metadata":null,"resources":{"instances":["/1.0/instances/a?project=lab"]},"status":"Pending","status_code":105,"updated_at":"1970-01-01T00:00:00Z"},"operation":"/1.0/operations/00000000-0001-8000-8000-000000000003","status":"Operation created","status_code":100,"type":"async"}
+POST /1.0/instances?project=lab {"name":"b","source":{"type":"none"}}
+202 /1.0/operations/00000000-0001-8000-8000-000000000004 {"metadata":{"class":"task","created_at":"1970-01-01T00:00:00Z","err":"","id":"00000000-0001-8000-8000-000000000004","may_cancel":true,"metadata":null,"resources":{"instances":["/1.0/instances/b?project=lab"]},"status":"Pending","status_code":105,"updated_at":"1970-01-01T00:00:00Z"},"operation":"/1.0/operations/00000000-0001-8000-8000-000000000004","status":"Operation created","status_code":100,"type":"async"}
+GET /1.0/operations/00000000-0001-8000-8000-000000000003/wait
+200 {"metadata":{"class":"task","created_at":"1970-01-01T00:00:00Z","err":"","id":"00000000-0001-8000-8000-000000000003","may_cancel":false,"metadata":null,"resources":{"instances":["/1.0/instances/a?project=lab"]},"status":"Success","status_code":200,"updated_at":"1970-01-01T00:00:00Z"},"status":"Success","status_code":200,"type":"sync"}
+GET /1.0/operations/00000000-0001-8000-8000-000000000004/wait
+200 {"metadata":{"class":"task","created_at":"1970-01-01T00:00:00Z","err":"","id":"00000000-0001-8000-8000-000000000004","may_cancel":false,"metadata":null,"resources":{"instances":["/1.0/instances/b?project=lab"]},"status":"Success","status_code":200,"updated_at":"1970-01-01T00:00:00Z"},"status":"Success","status_code":200,"type":"sync"}
+GET /1.0/instances?project=lab
+200 {"metadata":["/1.0/instances/a?project=lab","/1.0/instances/b?project=lab"],"status":"Success","status_code":200,"type":"sync"}
+GET /1.0/projects/lab/state
+200 {"metadata":{"resources":{"containers":{"limit":-1,"usage":2},"cpu":{"limit":-1,"usage":0},"disk":{"limit":-1,"usage":2147483648},"instances":{"limit":-1,"usage":2},"memory":{"limit":-1,"usage":0},"networks":{"limit":-1,"usage":0},"processes":{"limit":-1,"usage":0},"virtual-machines":{"limit":-1,"usage":0}}},"status":"Success","status_code":200,"type":"sync"}
+"#;
+
+/// A wait for a creation that fails.
+const WAITED_FOR: &str = r#"
+POST /1.0/storage-pools {"driver":"dir","name":"p0"}
+200 {"metadata":{},"status":"Success","status_code":200,"type":"sync"}
+POST /1.0/projects {"name":"lab"}
+200 {"metadata":{},"status":"Success","status_code":200,"type":"sync"}
+PUT /1.0/profiles/default?project=lab {"devices":{"root":{"path":"/","pool":"p0","size":"1GiB","type":"disk"}}}
+200 {"metadata":{},"status":"Success","status_code":200,"type":"sync"}
+POST /1.0/instances?project=lab {"name":"a","source":{"type":"none"}}
+202 /1.0/operations/00000000-0001-8000-8000-000000000001 {"metadata":{"class":"task","created_at":"1970-01-01T00:00:00Z","err":"","id":"00000000-0001-8000-8000-000000000001","may_cancel":true,"metadata":null,"resources":{"instances":["/1.0/instances/a?project=lab"]},"status":"Pending","status_code":105,"updated_at":"1970-01-01T00:00:00Z"},"operation":"/1.0/operations/00000000-0001-8000-8000-000000000001","status":"Operation created","status_code":100,"type":"async"}
+POST /1.0/instances?project=lab {"name":"b","source":{"type":"none"}}
+202 /1.0/operations/00000000-0001-8000-8000-000000000002 {"metadata":{"class":"task","created_at":"1970-01-01T00:00:00Z","err":"","id":"00000000-0001-8000-8000-000000000002","may_cancel":true,"metadata":null,"resources":{"instances":["/1.0/instances/b?project=lab"]},"status":"Pending","status_code":105,"updated_at":"1970-01-01T00:00:00Z"},"operation":"/1.0/operations/00000000-0001-8000-8000-000000000002","status":"Operation created","status_code":100,"type":"async"}
+POST /1.0/instances?project=lab {"name":"c","source":{"type":"none"}}
+202 /1.0/operations/00000000-0001-8000-8000-000000000003 {"metadata":{"class":"task","created_at":"1970-01-01T00:00:00Z","err":"","id":"00000000-0001-8000-8000-000000000003","may_cancel":true,"metadata":null,"resources":{"instances":["/1.0/instances/c?project=lab"]},"status":"Pending","status_code":105,"updated_at":"1970-01-01T00:00:00Z"},"operation":"/1.0/operations/00000000-0001-8000-8000-000000000003","status":"Operation created","status_code":100,"type":"async"}
+POST /1.0/instances?project=lab {"name":"d","source":{"type":"none"}}
+202 /1.0/operations/00000000-0001-8000-8000-000000000004 {"metadata":{"class":"task","created_at":"1970-01-01T00:00:00Z","err":"","id":"00000000-0001-8000-8000-000000000004","may_cancel":true,"metadata":null,"resources":{"instances":["/1.0/instances/d?project=lab"]},"status":"Pending","status_code":105,"updated_at":"1970-01-01T00:00:00Z"},"operation":"/1.0/operations/00000000-0001-8000-8000-000000000004","status":"Operation created","status_code":100,"type":"async"}
+GET /1.0/operations/00000000-0001-8000-8000-000000000001/wait?timeout=0
+200 {"metadata":{"class":"task","created_at":"1970-01-01T00:00:00Z","err":"","id":"00000000-0001-8000-8000-000000000001","may_cancel":true,"metadata":null,"resources":{"instances":["/1.0/instances/a?project=lab"]},"status":"Pending","status_code":105,"updated_at":"1970-01-01T00:00:00Z"},"status":"Success","status_code":200,"type":"sync"}
+GET /1.0/operations/00000000-0001-8000-8000-000000000001/wait
+200 {"metadata":{"class":"task","created_at":"1970-01-01T00:00:00Z","err":"host call failed","id":"00000000-0001-8000-8000-000000000001","may_cancel":false,"metadata":{"after":1,"before":0,"call":2},"resources":{"instances":["/1.0/instances/a?project=lab"]},"status":"Failure","status_code":400,"updated_at":"1970-01-01T00:00:00Z"},"status":"Success","status_code":200,"type":"sync"}
+GET /1.0/operations/00000000-0001-8000-8000-000000000002/wait?timeout=3
+200 {"metadata":{"class":"task","created_at":"1970-01-01T00:00:00Z","err":"host call failed","id":"00000000-0001-8000-8000-000000000002","may_cancel":false,"metadata":{"after":2,"before":1,"call":1},"resources":{"instances":["/1.0/instances/b?project=lab"]},"status":"Failure","status_code":400,"updated_at":"1970-01-01T00:00:00Z"},"status":"Success","status_code":200,"type":"sync"}
+GET /1.0/operations/00000000-0001-8000-8000-000000000003/wait?timeout=-1
+200 {"metadata":{"class":"task","created_at":"1970-01-01T00:00:00Z","err":"keeper failed","id":"00000000-0001-8000-8000-000000000003","may_cancel":false,"metadata":{"after":1,"before":0},"resources":{"instances":["/1.0/instances/c?project=lab"]},"status":"Failure","status_code":400,"updated_at":"1970-01-01T00:00:00Z"},"status":"Success","status_code":200,"type":"sync"}
+GET /1.0/operations/00000000-0001-8000-8000-000000000004/wait
+200 {"metadata":{"class":"task","created_at":"1970-01-01T00:00:00Z","err":"","id":"00000000-0001-8000-8000-000000000004","may_cancel":false,"metadata":null,"resources":{"instances":["/1.0/instances/d?project=lab"]},"status":"Success","status_code":200,"updated_at":"1970-01-01T00:00:00Z"},"status":"Success","status_code":200,"type":"sync"}
+GET /1.0/operations?project=lab
+200 {"metadata":{"failure":["/1.0/operations/00000000-0001-8000-8000-000000000001","/1.0/operations/00000000-0001-8000-8000-000000000002","/1.0/operations/00000000-0001-8000-8000-000000000003"],"success":["/1.0/operations/00000000-0001-8000-8000-000000000004"]},"status":"Success","status_code":200,"type":"sync"}
+GET /1.0/instances?project=lab
+200 {"metadata":["/1.0/instances/d?project=lab"],"status":"Success","status_code":200,"type":"sync"}
+GET /1.0/projects/lab/state
+200 {"metadata":{"resources":{"containers":{"limit":-1,"usage":1},"cpu":{"limit":-1,"usage":0},"disk":{"limit":-1,"usage":1073741824},"instances":{"limit":-1,"usage":1},"memory":{"limit":-1,"usage":0},"networks":{"limit":-1,"usage":0},"processes":{"limit":-1,"usage":0},"virtual-machines":{"limit":-1,"usage":0}}},"status":"Success","status_code":200,"type":"sync"}
+POST /1.0/instances?project=lab {"name":"a","source":{"type":"none"}}
+202 /1.0/operations/00000000-0001-8000-8000-000000000005 {"metadata":{"class":"task","created_at":"1970-01-01T00:00:00Z","err":"","id":"00000000-0001-8000-8000-000000000005","may_cancel":true,"metadata":null,"resources":{"instances":["/1.0/instances/a?project=lab"]},"status":"Pending","status_code":105,"updated_at":"1970-01-01T00:00:00Z"},"operation":"/1.0/operations/00000000-0001-8000-8000-000000000005","status":"Operation created","status_code":100,"type":"async"}
+POST /1.0/instances?project=lab {"name":"d","source":{"type":"none"}}
+409 {"error":"name is taken","error_code":409,"metadata":{"kind":"instance","name":"d","rule":"N4"},"type":"error"}
+"#;
+
+/// What a failed creation named is free again.
+const MISSING_NO_MORE: &str = r#"
+POST /1.0/storage-pools {"driver":"dir","name":"p0"}
+200 {"metadata":{},"status":"Success","status_code":200,"type":"sync"}
+POST /1.0/networks {"name":"br0"}
+200 {"metadata":{},"status":"Success","status_code":200,"type":"sync"}
+POST /1.0/profiles {"devices":{"eth0":{"network":"br0","type":"nic"},"root":{"path":"/","pool":"p0","size":"1GiB","type":"disk"}},"name":"x"}
+200 {"metadata":{},"status":"Success","status_code":200,"type":"sync"}
+POST /1.0/instances {"name":"a","profiles":["x"],"source":{"type":"none"}}
+202 /1.0/operations/00000000-0001-8000-8000-000000000001 {"metadata":{"class":"task","created_at":"1970-01-01T00:00:00Z","err":"","id":"00000000-0001-8000-8000-000000000001","may_cancel":true,"metadata":null,"resources":{"instances":["/1.0/instances/a"]},"status":"Pending","status_code":105,"updated_at":"1970-01-01T00:00:00Z"},"operation":"/1.0/operations/00000000-0001-8000-8000-000000000001","status":"Operation created","status_code":100,"type":"async"}
+DELETE /1.0/profiles/x
+409 {"error":"profile is held by an operation","error_code":409,"metadata":{"name":"x","number":1,"rule":"B6"},"type":"error"}
+GET /1.0/operations/00000000-0001-8000-8000-000000000001/wait
+200 {"metadata":{"class":"task","created_at":"1970-01-01T00:00:00Z","err":"host call failed","id":"00000000-0001-8000-8000-000000000001","may_cancel":false,"metadata":{"after":1,"before":0,"call":1},"resources":{"instances":["/1.0/instances/a"]},"status":"Failure","status_code":400,"updated_at":"1970-01-01T00:00:00Z"},"status":"Success","status_code":200,"type":"sync"}
+PUT /1.0/profiles/x {}
+200 {"metadata":{},"status":"Success","status_code":200,"type":"sync"}
+DELETE /1.0/profiles/x
+200 {"metadata":{},"status":"Success","status_code":200,"type":"sync"}
+DELETE /1.0/networks/br0
+200 {"metadata":{},"status":"Success","status_code":200,"type":"sync"}
+DELETE /1.0/storage-pools/p0
+200 {"metadata":{},"status":"Success","status_code":200,"type":"sync"}
+GET /1.0/operations/00000000-0001-8000-8000-000000000001
+200 {"metadata":{"class":"task","created_at":"1970-01-01T00:00:00Z","err":"host call failed","id":"00000000-0001-8000-8000-000000000001","may_cancel":false,"metadata":{"after":1,"before":0,"call":1},"resources":{"instances":["/1.0/instances/a"]},"status":"Failure","status_code":400,"updated_at":"1970-01-01T00:00:00Z"},"status":"Success","status_code":200,"type":"sync"}
+"#;
+
+/// The runs of these scripts.
+const RUNS: [Run<'static>; 8] = [
+    Run {
+        name: "first call",
+        words: &["run", "--now", "0", "--boot", "1", "--fail-host", "1"],
+        script: FIRST_CALL,
+        tail: "",
+        written: "",
+        end: End {
+            status: 0,
+            kept: 6,
+            roots: 1,
+        },
+    },
+    Run {
+        name: "second call",
+        words: &["run", "--now", "0", "--boot", "1", "--fail-host", "2"],
+        script: SECOND_CALL,
+        tail: "",
+        written: "",
+        end: End {
+            status: 0,
+            kept: 6,
+            roots: 1,
+        },
+    },
+    Run {
+        name: "store",
+        words: &["run", "--now", "0", "--boot", "1", "--fail-keeper", "6"],
+        script: STORE,
+        tail: "",
+        written: "",
+        end: End {
+            status: 0,
+            kept: 6,
+            roots: 1,
+        },
+    },
+    Run {
+        name: "store at a change",
+        words: &["run", "--now", "0", "--boot", "1", "--fail-keeper", "5"],
+        script: STORE_AT_A_CHANGE,
+        tail: "",
+        written: "",
+        end: End {
+            status: 0,
+            kept: 6,
+            roots: 1,
+        },
+    },
+    Run {
+        name: "again and again",
+        words: &[
+            "run",
+            "--now",
+            "0",
+            "--boot",
+            "1",
+            "--fail-host",
+            "1,2,4,7,9",
+            "--fail-keeper",
+            "6,7",
+        ],
+        script: AGAIN_AND_AGAIN,
+        tail: "",
+        written: "",
+        end: End {
+            status: 0,
+            kept: 7,
+            roots: 3,
+        },
+    },
+    Run {
+        name: "held back",
+        words: &[
+            "run",
+            "--now",
+            "0",
+            "--boot",
+            "1",
+            "--steps",
+            "1",
+            "--fail-host",
+            "2,3",
+        ],
+        script: HELD_BACK,
+        tail: "",
+        written: "",
+        end: End {
+            status: 0,
+            kept: 7,
+            roots: 2,
+        },
+    },
+    Run {
+        name: "waited for",
+        words: &[
+            "run",
+            "--now",
+            "0",
+            "--boot",
+            "1",
+            "--steps",
+            "0",
+            "--fail-host=2,3",
+            "--fail-keeper=6",
+        ],
+        script: WAITED_FOR,
+        tail: "",
+        written: "",
+        end: End {
+            status: 0,
+            kept: 6,
+            roots: 2,
+        },
+    },
+    Run {
+        name: "missing no more",
+        words: &[
+            "run",
+            "--now",
+            "0",
+            "--boot",
+            "1",
+            "--steps",
+            "0",
+            "--fail-host",
+            "1",
+        ],
+        script: MISSING_NO_MORE,
+        tail: "",
+        written: "",
+        end: End {
+            status: 0,
+            kept: 2,
+            roots: 0,
+        },
+    },
+];
+
+#[test]
+fn faults_leave_nothing_behind(rt: HostRuntime) {
+    let wrong = wrong_among(rt.alloc(), &RUNS);
+    assert!(rt; wrong == Ok(("", "")), "{wrong:?}");
+}

@@ -1,0 +1,32 @@
+//! Tests of whole runs of the program with background operations and instances, over the public
+//! calls of `serial_run`. There is nothing else here.
+#![tactic(auto)]
+
+#[cfg(test)]
+mod claims;
+#[cfg(test)]
+mod creations;
+#[cfg(test)]
+mod days;
+#[cfg(test)]
+mod ends;
+#[cfg(test)]
+mod faults;
+#[cfg(test)]
+mod forms;
+#[cfg(test)]
+mod limits;
+#[cfg(test)]
+mod numbers;
+#[cfg(test)]
+mod policies;
+#[cfg(test)]
+mod repeats;
+#[cfg(test)]
+mod runs;
+#[cfg(test)]
+mod scripts;
+#[cfg(test)]
+mod settings;
+#[cfg(test)]
+mod steps;
