@@ -1,8 +1,7 @@
 //! What a creation that has not ended holds: its name, its profiles, its devices, its project, and
 //! its share.
 
-use crate::runs::End;
-use crate::scripts::{Run, wrong_among};
+use host_runs::{End, Run};
 
 /// A name is held from the acceptance on and is taken when the instance is there.
 const NAMES: &str = r#"
@@ -304,7 +303,7 @@ GET /1.0/projects/lab/state
 "#;
 
 /// The runs of these scripts.
-const RUNS: [Run<'static>; 5] = [
+pub(crate) const RUNS: [Run<'static>; 5] = [
     Run {
         name: "names",
         words: &["run", "--now", "0", "--boot", "1", "--steps", "0"],
@@ -376,9 +375,3 @@ const RUNS: [Run<'static>; 5] = [
         },
     },
 ];
-
-#[test]
-fn operations_hold_what_they_need(rt: HostRuntime) {
-    let wrong = wrong_among(rt.alloc(), &RUNS);
-    assert!(rt; wrong == Ok(("", "")), "{wrong:?}");
-}

@@ -1,7 +1,6 @@
 //! Instances are made in the background, shown, listed, and found by what they use.
 
-use crate::runs::End;
-use crate::scripts::{Run, wrong_among};
+use host_runs::{End, Run};
 
 /// An instance is its profiles in their order and then its own settings; a device counts whole.
 const LAYERS: &str = r#"
@@ -246,7 +245,7 @@ GET /1.0/projects/default/state
 "#;
 
 /// The runs of these scripts.
-const RUNS: [Run<'static>; 3] = [
+pub(crate) const RUNS: [Run<'static>; 3] = [
     Run {
         name: "layers",
         words: &["run", "--now", "0", "--boot", "1"],
@@ -284,9 +283,3 @@ const RUNS: [Run<'static>; 3] = [
         },
     },
 ];
-
-#[test]
-fn instances_are_made(rt: HostRuntime) {
-    let wrong = wrong_among(rt.alloc(), &RUNS);
-    assert!(rt; wrong == Ok(("", "")), "{wrong:?}");
-}

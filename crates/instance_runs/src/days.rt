@@ -1,7 +1,6 @@
 //! Small runs, each of one thought, and the clock and the boot word that are handed in.
 
-use crate::runs::End;
-use crate::scripts::{Run, wrong_among};
+use host_runs::{End, Run};
 
 /// Without options the handed clock and the handed boot word count, and all steps are made.
 const HANDED: &str = r#"
@@ -195,7 +194,7 @@ GET /1.0/projects/default/state
 "#;
 
 /// The runs of these scripts.
-const RUNS: [Run<'static>; 11] = [
+pub(crate) const RUNS: [Run<'static>; 11] = [
     Run {
         name: "handed",
         words: &["run"],
@@ -329,9 +328,3 @@ const RUNS: [Run<'static>; 11] = [
         },
     },
 ];
-
-#[test]
-fn small_runs(rt: HostRuntime) {
-    let wrong = wrong_among(rt.alloc(), &RUNS);
-    assert!(rt; wrong == Ok(("", "")), "{wrong:?}");
-}

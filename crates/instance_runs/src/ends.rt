@@ -1,7 +1,6 @@
 //! How runs with operations end: the steps that follow the last reply, and those that do not come.
 
-use crate::runs::End;
-use crate::scripts::{Run, wrong_among};
+use host_runs::{End, Run};
 
 /// At the end of the input no step is made: what is pending leaves nothing.
 const PENDING_AT_THE_END: &str = r#"
@@ -156,7 +155,7 @@ const EVENTS_WRITTEN: &str =
     "HTTP/1.1 400 Bad Request\r\nContent-Type: application/json\r\nContent-Length: 92\r\nConnection: close\r\n\r\n{\"error\":\"events need a WebSocket\",\"error_code\":400,\"metadata\":{\"rule\":\"A6\"},\"type\":\"error\"}";
 
 /// The runs of these scripts.
-const RUNS: [Run<'static>; 10] = [
+pub(crate) const RUNS: [Run<'static>; 10] = [
     Run {
         name: "pending at the end",
         words: &["run", "--now", "0", "--boot", "1", "--steps", "0"],
@@ -278,9 +277,3 @@ const RUNS: [Run<'static>; 10] = [
         },
     },
 ];
-
-#[test]
-fn runs_end(rt: HostRuntime) {
-    let wrong = wrong_among(rt.alloc(), &RUNS);
-    assert!(rt; wrong == Ok(("", "")), "{wrong:?}");
-}

@@ -1,8 +1,7 @@
 //! Calls of the host and of the store that fail: the creation fails with what it tells, and all is
 //! as it was.
 
-use crate::runs::End;
-use crate::scripts::{Run, wrong_among};
+use host_runs::{End, Run};
 
 /// The first call of a creation fails.
 const FIRST_CALL: &str = r#"
@@ -273,7 +272,7 @@ GET /1.0/operations/00000000-0001-8000-8000-000000000001
 "#;
 
 /// The runs of these scripts.
-const RUNS: [Run<'static>; 8] = [
+pub(crate) const RUNS: [Run<'static>; 8] = [
     Run {
         name: "first call",
         words: &["run", "--now", "0", "--boot", "1", "--fail-host", "1"],
@@ -411,9 +410,3 @@ const RUNS: [Run<'static>; 8] = [
         },
     },
 ];
-
-#[test]
-fn faults_leave_nothing_behind(rt: HostRuntime) {
-    let wrong = wrong_among(rt.alloc(), &RUNS);
-    assert!(rt; wrong == Ok(("", "")), "{wrong:?}");
-}

@@ -1,8 +1,7 @@
 //! Requests on instances and operations that are refused for their form or their names, and change
 //! nothing.
 
-use crate::runs::End;
-use crate::scripts::{Run, wrong_among};
+use host_runs::{End, Run};
 
 /// Paths, methods, queries, and what is not built yet.
 const PATHS: &str = r#"
@@ -374,7 +373,7 @@ GET /1.0/operations
 "#;
 
 /// The runs of these scripts.
-const RUNS: [Run<'static>; 3] = [
+pub(crate) const RUNS: [Run<'static>; 3] = [
     Run {
         name: "paths",
         words: &["run", "--now", "0", "--boot", "1"],
@@ -412,9 +411,3 @@ const RUNS: [Run<'static>; 3] = [
         },
     },
 ];
-
-#[test]
-fn malformed_requests_are_refused(rt: HostRuntime) {
-    let wrong = wrong_among(rt.alloc(), &RUNS);
-    assert!(rt; wrong == Ok(("", "")), "{wrong:?}");
-}

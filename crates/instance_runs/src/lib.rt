@@ -1,7 +1,9 @@
-//! Tests of whole runs of the program with background operations and instances, over the public
-//! calls of `serial_run`. There is nothing else here.
+//! Tests of whole runs of the program with background operations and instances: requests with their
+//! exact replies. There is nothing else here.
 #![tactic(auto)]
 
+#[cfg(test)]
+mod all_runs;
 #[cfg(test)]
 mod claims;
 #[cfg(test)]
@@ -20,12 +22,6 @@ mod limits;
 mod numbers;
 #[cfg(test)]
 mod policies;
-#[cfg(test)]
-mod repeats;
-#[cfg(test)]
-mod runs;
-#[cfg(test)]
-mod scripts;
 #[cfg(test)]
 mod settings;
 #[cfg(test)]

@@ -1,8 +1,6 @@
 //! Many operations: how many may be live, how many ended ones are kept, and the sizes of rows.
 
-use crate::repeats::{Repeated, is_well};
-use crate::runs::End;
-use crate::scripts::Run;
+use host_runs::{End, Repeated, Run, is_repeated_well};
 
 /// What there is before the repeated lines.
 const LIVE_FIRST: &str = r#"
@@ -236,17 +234,12 @@ const SIZES_RUN: Repeated<'static> = Repeated {
     after: "",
 };
 
-#[test]
-fn at_most_1024_operations_live(rt: HostRuntime) {
-    assert!(rt; is_well(rt.alloc(), LIVE_RUN) == Ok(true));
-}
+/// The runs of these scripts.
+const RUNS: [Repeated<'static>; 3] = [LIVE_RUN, ENDED_RUN, SIZES_RUN];
 
 #[test]
-fn at_most_256_ended_operations_are_kept(rt: HostRuntime) {
-    assert!(rt; is_well(rt.alloc(), ENDED_RUN) == Ok(true));
-}
-
-#[test]
-fn rows_are_not_too_large(rt: HostRuntime) {
-    assert!(rt; is_well(rt.alloc(), SIZES_RUN) == Ok(true));
+fn many_operations(rt: HostRuntime) {
+    for all in RUNS {
+        assert!(rt; is_repeated_well(rt.alloc(), all) == Ok(true));
+    }
 }

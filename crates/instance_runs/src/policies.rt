@@ -1,8 +1,7 @@
 //! What a restricted project forbids: by own settings, through profiles, of creations that have not
 //! ended.
 
-use crate::runs::End;
-use crate::scripts::{Run, wrong_among};
+use host_runs::{End, Run};
 
 /// Own settings of an instance, by each rule.
 const OWN: &str = r#"
@@ -331,7 +330,7 @@ GET /1.0/projects/u
 "#;
 
 /// The runs of these scripts.
-const RUNS: [Run<'static>; 5] = [
+pub(crate) const RUNS: [Run<'static>; 5] = [
     Run {
         name: "own",
         words: &["run", "--now", "0", "--boot", "1"],
@@ -393,9 +392,3 @@ const RUNS: [Run<'static>; 5] = [
         },
     },
 ];
-
-#[test]
-fn policies_forbid(rt: HostRuntime) {
-    let wrong = wrong_among(rt.alloc(), &RUNS);
-    assert!(rt; wrong == Ok(("", "")), "{wrong:?}");
-}

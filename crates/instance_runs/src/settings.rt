@@ -1,7 +1,6 @@
 //! Settings, devices and profiles of instances that are refused.
 
-use crate::runs::End;
-use crate::scripts::{Run, wrong_among};
+use host_runs::{End, Run};
 
 /// Keys that are unknown, and values that are malformed; the first key decides.
 const KEYS: &str = r#"
@@ -300,7 +299,7 @@ GET /1.0/operations
 "#;
 
 /// The runs of these scripts.
-const RUNS: [Run<'static>; 3] = [
+pub(crate) const RUNS: [Run<'static>; 3] = [
     Run {
         name: "keys",
         words: &["run", "--now", "0", "--boot", "1"],
@@ -338,9 +337,3 @@ const RUNS: [Run<'static>; 3] = [
         },
     },
 ];
-
-#[test]
-fn wrong_settings_are_refused(rt: HostRuntime) {
-    let wrong = wrong_among(rt.alloc(), &RUNS);
-    assert!(rt; wrong == Ok(("", "")), "{wrong:?}");
-}

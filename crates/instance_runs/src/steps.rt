@@ -1,8 +1,7 @@
 //! A background operation beside the steps of its worker: how far it is after each request, how it
 //! is listed, and how it is waited for.
 
-use crate::runs::End;
-use crate::scripts::{Run, wrong_among};
+use host_runs::{End, Run};
 
 /// Without steps a creation stays pending.
 const NO_STEP: &str = r#"
@@ -396,7 +395,7 @@ GET /1.0/instances/a
 "#;
 
 /// The runs of these scripts.
-const RUNS: [Run<'static>; 13] = [
+pub(crate) const RUNS: [Run<'static>; 13] = [
     Run {
         name: "no step",
         words: &["run", "--now", "0", "--boot", "1", "--steps", "0"],
@@ -447,7 +446,7 @@ const RUNS: [Run<'static>; 13] = [
     },
     Run {
         name: "many steps",
-        words: &["run", "--now", "0", "--boot", "1", "--steps", "1000000"],
+        words: &["run", "--now", "0", "--boot", "1", "--steps", "1000"],
         script: MANY_STEPS,
         tail: "",
         written: "",
@@ -568,9 +567,3 @@ const RUNS: [Run<'static>; 13] = [
         },
     },
 ];
-
-#[test]
-fn operations_go_on_step_by_step(rt: HostRuntime) {
-    let wrong = wrong_among(rt.alloc(), &RUNS);
-    assert!(rt; wrong == Ok(("", "")), "{wrong:?}");
-}

@@ -7,8 +7,8 @@ use crate::server::Server;
 use size_values::NoMemory;
 use std::alloc::Global;
 
-/// How many runs there are.
-const RUNS: u64 = 40;
+/// The seed behind the last one.
+const RUNS: u64 = 13;
 
 /// How many events a run has.
 const EVENTS: u64 = 250;

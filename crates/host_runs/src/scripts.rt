@@ -2,9 +2,7 @@
 //!
 //! A line that begins with a method is a request: the method, the target and the body, with a space
 //! between them. The line below it is its reply: the code, the text of the header `Location` where
-//! there is one, and the body. Other lines are for readers. In a script of numbers `<N>` stands for
-//! N letters, and in a repeated line `<>` for the number of the time and `<x>` for its twelve
-//! hexadecimal digits.
+//! there is one, and the body. Other lines are for readers.
 
 use crate::runs::{End, run};
 use size_values::NoMemory;
@@ -13,13 +11,13 @@ use std::alloc::Global;
 /// Words of the command line, the requests and replies of a run, bytes behind the requests and what
 /// is written for them, and how the run ends.
 #[derive(Clone, Copy)]
-pub(crate) struct Run<'a> {
-    pub(crate) name: &'a str,
-    pub(crate) words: &'a [&'a str],
-    pub(crate) script: &'a str,
-    pub(crate) tail: &'a str,
-    pub(crate) written: &'a str,
-    pub(crate) end: End,
+pub struct Run<'a> {
+    pub name: &'a str,
+    pub words: &'a [&'a str],
+    pub script: &'a str,
+    pub tail: &'a str,
+    pub written: &'a str,
+    pub end: End,
 }
 
 /// Whether a line is a reply: it begins with its code.
@@ -32,68 +30,87 @@ fn is_request(line: &str) -> bool {
     line.starts_with(|c: char| c.is_ascii_alphabetic())
 }
 
-/// The phrase of a code (RFC 9110, section 15).
+/// The codes of replies and their phrases (RFC 9110, section 15).
+const PHRASES: [(&str, &str); 9] = [
+    ("200", "OK"),
+    ("202", "Accepted"),
+    ("400", "Bad Request"),
+    ("403", "Forbidden"),
+    ("404", "Not Found"),
+    ("405", "Method Not Allowed"),
+    ("409", "Conflict"),
+    ("501", "Not Implemented"),
+    ("503", "Service Unavailable"),
+];
+
 fn phrase(code: &str) -> &'static str {
-    match code {
-        "200" => "OK",
-        "202" => "Accepted",
-        "400" => "Bad Request",
-        "403" => "Forbidden",
-        "404" => "Not Found",
-        "405" => "Method Not Allowed",
-        "409" => "Conflict",
-        "501" => "Not Implemented",
-        "503" => "Service Unavailable",
-        _ => "",
+    for (listed, phrase) in PHRASES {
+        if listed == code {
+            return phrase;
+        }
     }
+    ""
+}
+
+/// Appends texts.
+fn push_texts(bytes: &mut Vec<u8>, texts: &[&str]) -> Result<(), NoMemory> {
+    for text in texts {
+        bytes.extend_from_slice(text.as_bytes())?;
+    }
+    Ok(())
 }
 
 /// Appends the bytes of a request.
 fn push_request(alloc: Global, bytes: &mut Vec<u8>, line: &str) -> Result<(), NoMemory> {
     let (method, rest) = line.split_once(' ').unwrap_or((line, ""));
     let (target, body) = rest.split_once(' ').unwrap_or((rest, ""));
-    let head = format!(in alloc;
-        "{method} {target} HTTP/1.1\r\nContent-Length: {}\r\n\r\n",
-        body.len()
-    )?;
-    bytes.extend_from_slice(head.as_bytes())?;
-    bytes.extend_from_slice(body.as_bytes())?;
-    Ok(())
+    let length = format!(in alloc; "{}", body.len())?;
+    let head = [
+        method,
+        " ",
+        target,
+        " HTTP/1.1\r\nContent-Length: ",
+        length.as_str(),
+        "\r\n\r\n",
+        body,
+    ];
+    let pushed = push_texts(bytes, &head);
+    drop(length);
+    pushed
 }
 
-/// The location and the body of what stands behind a reply's code.
-fn parts_of(rest: &str) -> (&str, &str) {
-    if rest.starts_with('/') {
-        rest.split_once(' ').unwrap_or(("", rest))
-    } else {
-        ("", rest)
+/// The header `Location`, its end, and the body in what stands behind a reply's code.
+fn parts_of(rest: &str) -> [&str; 4] {
+    match rest.split_once(' ') {
+        Some((location, body)) if location.starts_with('/') => {
+            ["Location: ", location, "\r\n", body]
+        }
+        _ => ["", "", "", rest],
     }
-}
-
-/// Appends the header `Location` of a reply that has one.
-fn push_location(bytes: &mut Vec<u8>, location: &str) -> Result<(), NoMemory> {
-    if !location.is_empty() {
-        bytes.extend_from_slice(b"Location: ")?;
-        bytes.extend_from_slice(location.as_bytes())?;
-        bytes.extend_from_slice(b"\r\n")?;
-    }
-    Ok(())
 }
 
 /// Appends the bytes of a reply.
 fn push_reply(alloc: Global, bytes: &mut Vec<u8>, line: &str) -> Result<(), NoMemory> {
     let (code, rest) = line.split_once(' ').unwrap_or((line, ""));
-    let (location, body) = parts_of(rest);
-    let head = format!(in alloc;
-        "HTTP/1.1 {code} {}\r\nContent-Type: application/json\r\nContent-Length: {}\r\n",
+    let [header, location, end, body] = parts_of(rest);
+    let length = format!(in alloc; "{}", body.len())?;
+    let reply = [
+        "HTTP/1.1 ",
+        code,
+        " ",
         phrase(code),
-        body.len()
-    )?;
-    bytes.extend_from_slice(head.as_bytes())?;
-    push_location(bytes, location)?;
-    bytes.extend_from_slice(b"\r\n")?;
-    bytes.extend_from_slice(body.as_bytes())?;
-    Ok(())
+        "\r\nContent-Type: application/json\r\nContent-Length: ",
+        length.as_str(),
+        "\r\n",
+        header,
+        location,
+        end,
+        "\r\n",
+        body,
+    ];
+    let pushed = push_texts(bytes, &reply);
+    drop(length);
+    pushed
 }
 
 /// Appends the requests of a script.
@@ -106,16 +123,18 @@ fn push_requests(alloc: Global, bytes: &mut Vec<u8>, script: &str) -> Result<(),
     Ok(())
 }
 
-/// Takes a reply from the front of the bytes that were written, and says whether it stood there.
-fn takes_reply(alloc: Global, left: &mut &[u8], line: &str) -> Result<bool, NoMemory> {
+/// What is left of the bytes that were written behind a reply; none where it does not stand there.
+fn after_reply<'a>(
+    alloc: Global,
+    left: &'a [u8],
+    line: &str,
+) -> Result<Option<&'a [u8]>, NoMemory> {
     let mut due = Vec::new(alloc);
-    push_reply(alloc, &mut due, line)?;
-    let stands = left.starts_with(due.as_slice());
-    if stands {
-        *left = &left[due.len()..];
-    }
+    let pushed = push_reply(alloc, &mut due, line);
+    let left = left.strip_prefix(due.as_slice());
     drop(due);
-    Ok(stands)
+    pushed?;
+    Ok(left)
 }
 
 /// The first reply of a script that is not in its place in the bytes that were written, or the
@@ -128,8 +147,11 @@ fn wrong_line<'a>(
 ) -> Result<&'a str, NoMemory> {
     let mut left = written;
     for line in script.lines() {
-        if is_reply(line) && !takes_reply(alloc, &mut left, line)? {
-            return Ok(line);
+        if is_reply(line) {
+            match after_reply(alloc, left, line)? {
+                Some(rest) => left = rest,
+                None => return Ok(line),
+            }
         }
     }
     Ok(if left == last { "" } else { "other last bytes" })
@@ -144,11 +166,11 @@ fn wrong_over<'a>(
     all: Run<'_>,
 ) -> Result<&'a str, NoMemory> {
     let mut written = Vec::new(alloc);
-    let end = run(alloc, all.words, input, &mut written)?;
+    let end = run(alloc, all.words, input, &mut written);
     let wrong = wrong_line(alloc, script, all.written.as_bytes(), written.as_slice());
     drop(written);
     let wrong = wrong?;
-    Ok(if wrong.is_empty() && end != all.end {
+    Ok(if wrong.is_empty() && end != Ok(all.end) {
         "another end"
     } else {
         wrong
@@ -172,10 +194,7 @@ pub(crate) fn wrong_in<'a>(
 
 /// The name of the first run that does not end so, or is not answered as it says, and what is wrong
 /// in it; empty texts where there is none.
-pub(crate) fn wrong_among(
-    alloc: Global,
-    runs: &[Run<'static>],
-) -> Result<(&'static str, &'static str), NoMemory> {
+pub fn wrong_among<'a>(alloc: Global, runs: &[Run<'a>]) -> Result<(&'a str, &'a str), NoMemory> {
     for all in runs {
         let wrong = wrong_in(alloc, all.script, *all)?;
         if !wrong.is_empty() {

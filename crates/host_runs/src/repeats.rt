@@ -1,17 +1,19 @@
-//! Scripts with lines that are repeated with numbers, and with long texts.
+//! Scripts with lines that are repeated with numbers, and with long texts. In such a script `<N>`
+//! stands for N letters, and in a repeated line `<>` for the number of the time and `<x>` for its
+//! twelve hexadecimal digits.
 
 use crate::scripts::{Run, wrong_in};
 use size_values::NoMemory;
 use std::alloc::Global;
 
-/// A script, lines that are repeated with each number from 1 to the last, and a script after them.
-/// The words and the end are those of a run.
+/// A run, lines that are repeated behind its script with each number from 1 to the last, and a
+/// script after them.
 #[derive(Clone, Copy)]
-pub(crate) struct Repeated<'a> {
-    pub(crate) run: Run<'a>,
-    pub(crate) lines: &'a str,
-    pub(crate) last: u64,
-    pub(crate) after: &'a str,
+pub struct Repeated<'a> {
+    pub run: Run<'a>,
+    pub lines: &'a str,
+    pub last: u64,
+    pub after: &'a str,
 }
 
 /// Appends so many letters.
@@ -23,14 +25,21 @@ fn push_letters(text: &mut String, count: &str) -> Result<(), NoMemory> {
     Ok(())
 }
 
+/// Appends a text that is let go then.
+fn push_owned(text: &mut String, more: String) -> Result<(), NoMemory> {
+    let pushed = text.push_str(more.as_str());
+    drop(more);
+    pushed?;
+    Ok(())
+}
+
 /// Appends what a sign between `<` and `>` stands for.
 fn push_sign(alloc: Global, text: &mut String, sign: &str, number: u64) -> Result<(), NoMemory> {
     match sign {
-        "" => text.push_str(format!(in alloc; "{number}")?.as_str())?,
-        "x" => text.push_str(format!(in alloc; "{number:012x}")?.as_str())?,
-        _ => push_letters(text, sign)?,
+        "" => push_owned(text, format!(in alloc; "{number}")?),
+        "x" => push_owned(text, format!(in alloc; "{number:012x}")?),
+        _ => push_letters(text, sign),
     }
-    Ok(())
 }
 
 /// Appends a text with what its signs stand for.
@@ -41,13 +50,14 @@ fn push_spelled(
     number: u64,
 ) -> Result<(), NoMemory> {
     for piece in lines.split('<') {
-        match piece.split_once('>') {
+        let rest = match piece.split_once('>') {
             Some((sign, rest)) => {
                 push_sign(alloc, text, sign, number)?;
-                text.push_str(rest)?;
+                rest
             }
-            None => text.push_str(piece)?,
-        }
+            None => piece,
+        };
+        text.push_str(rest)?;
     }
     Ok(())
 }
@@ -61,11 +71,13 @@ fn push_repeated(alloc: Global, text: &mut String, all: Repeated<'_>) -> Result<
 }
 
 /// Whether a run over such a script is answered as it says.
-pub(crate) fn is_well(alloc: Global, all: Repeated<'_>) -> Result<bool, NoMemory> {
+pub fn is_repeated_well(alloc: Global, all: Repeated<'_>) -> Result<bool, NoMemory> {
     let mut text = String::new(alloc);
     push_repeated(alloc, &mut text, all)?;
-    let wrong = wrong_in(alloc, text.as_str(), all.run);
-    let is = wrong.map(|line| line.is_empty());
+    let is = match wrong_in(alloc, text.as_str(), all.run) {
+        Ok(wrong) => Ok(wrong.is_empty()),
+        Err(why) => Err(why),
+    };
     drop(text);
     is
 }

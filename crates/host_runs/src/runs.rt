@@ -16,10 +16,10 @@ const HANDED_BOOT: u64 = 7;
 
 /// How a run ends: its exit status, how many entries are kept, and how many roots the host has.
 #[derive(Clone, Copy, PartialEq, Eq)]
-pub(crate) struct End {
-    pub(crate) status: u8,
-    pub(crate) kept: usize,
-    pub(crate) roots: usize,
+pub struct End {
+    pub status: u8,
+    pub kept: usize,
+    pub roots: usize,
 }
 
 fn words_of(alloc: Global, words: &[&str]) -> Result<Vec<String>, NoMemory> {
