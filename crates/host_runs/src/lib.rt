@@ -1,11 +1,10 @@
-//! Runs of the program beside a host, for the crates of tests: one run over objects in memory,
-//! scripts of requests with their exact replies, and scripts with lines that are repeated.
+//! Runs of the program beside a host, for the crates of tests: a text has runs one after the other,
+//! each with the words of its command line, its requests with their exact replies, and its end.
 #![tactic(auto)]
 
 mod repeats;
 mod runs;
 mod scripts;
 
-pub use repeats::{Repeated, is_repeated_well};
-pub use runs::End;
-pub use scripts::{Run, wrong_among};
+pub use repeats::is_spelled_well;
+pub use scripts::wrong_among;

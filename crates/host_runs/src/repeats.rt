@@ -1,20 +1,11 @@
-//! Scripts with lines that are repeated with numbers, and with long texts. In such a script `<N>`
-//! stands for N letters, and in a repeated line `<>` for the number of the time and `<x>` for its
-//! twelve hexadecimal digits.
+//! Runs with lines that are repeated, and with long texts. In such a run the lines between one of
+//! `*`, a space and a number, and one of `*` alone, stand there so many times. `<N>` stands for N
+//! letters, and in a repeated line `<>` for the number of the time and `<x>` for its twelve
+//! hexadecimal digits.
 
-use crate::scripts::{Run, wrong_in};
+use crate::scripts::wrong_in;
 use size_values::NoMemory;
 use std::alloc::Global;
-
-/// A run, lines that are repeated behind its script with each number from 1 to the last, and a
-/// script after them.
-#[derive(Clone, Copy)]
-pub struct Repeated<'a> {
-    pub run: Run<'a>,
-    pub lines: &'a str,
-    pub last: u64,
-    pub after: &'a str,
-}
 
 /// Appends so many letters.
 fn push_letters(text: &mut String, count: &str) -> Result<(), NoMemory> {
@@ -62,22 +53,37 @@ fn push_spelled(
     Ok(())
 }
 
-fn push_repeated(alloc: Global, text: &mut String, all: Repeated<'_>) -> Result<(), NoMemory> {
-    push_spelled(alloc, text, all.run.script, 0)?;
-    for number in 0..all.last {
-        push_spelled(alloc, text, all.lines, number.saturating_add(1))?;
+/// Appends a run with all its lines.
+fn push_run(alloc: Global, text: &mut String, run: &str) -> Result<(), NoMemory> {
+    let (before, rest) = run.split_once("* ").unwrap_or((run, ""));
+    let (block, after) = rest.split_once("*\n").unwrap_or((rest, ""));
+    let (count, lines) = block.split_once('\n').unwrap_or(("0", ""));
+    let count: u64 = count.parse().unwrap_or(0);
+    push_spelled(alloc, text, before, 0)?;
+    for number in 0..count {
+        push_spelled(alloc, text, lines, number.saturating_add(1))?;
     }
-    push_spelled(alloc, text, all.after, 0)
+    push_spelled(alloc, text, after, 0)
 }
 
-/// Whether a run over such a script is answered as it says.
-pub fn is_repeated_well(alloc: Global, all: Repeated<'_>) -> Result<bool, NoMemory> {
+/// Whether a run is answered as it says.
+fn is_run_well(alloc: Global, run: &str) -> Result<bool, NoMemory> {
     let mut text = String::new(alloc);
-    push_repeated(alloc, &mut text, all)?;
-    let is = match wrong_in(alloc, text.as_str(), all.run) {
+    push_run(alloc, &mut text, run)?;
+    let is = match wrong_in(alloc, text.as_str()) {
         Ok(wrong) => Ok(wrong.is_empty()),
         Err(why) => Err(why),
     };
     drop(text);
     is
+}
+
+/// Whether all runs are answered as they say.
+pub fn is_spelled_well(alloc: Global, runs: &str) -> Result<bool, NoMemory> {
+    for run in runs.split('~').skip(1) {
+        if !is_run_well(alloc, run)? {
+            return Ok(false);
+        }
+    }
+    Ok(true)
 }

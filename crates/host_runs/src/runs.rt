@@ -15,19 +15,20 @@ const HANDED_MOMENT: u64 = 86_400;
 const HANDED_BOOT: u64 = 7;
 
 /// How a run ends: its exit status, how many entries are kept, and how many roots the host has.
-#[derive(Clone, Copy, PartialEq, Eq)]
-pub struct End {
-    pub status: u8,
-    pub kept: usize,
-    pub roots: usize,
+#[derive(Clone, Copy)]
+struct End {
+    status: u8,
+    kept: usize,
+    roots: usize,
 }
 
-fn words_of(alloc: Global, words: &[&str]) -> Result<Vec<String>, NoMemory> {
-    let mut owned = Vec::new(alloc);
-    for word in words {
-        owned.push(String::from_str(alloc, word)?)?;
+/// The words of a text, with a space between them.
+fn words_of(alloc: Global, text: &str) -> Result<Vec<String>, NoMemory> {
+    let mut words = Vec::new(alloc);
+    for word in text.split(' ').filter(|word| !word.is_empty()) {
+        words.push(String::from_str(alloc, word)?)?;
     }
-    Ok(owned)
+    Ok(words)
 }
 
 /// How many entries the keeper has, or 0 where its load fails.
@@ -100,19 +101,33 @@ fn run_over(
     end
 }
 
-/// Runs over these bytes, appends what is written, and says how the run ends.
-pub(crate) fn run(
+/// Whether a text tells this end.
+fn is_told(alloc: Global, end: End, text: &str) -> Result<bool, NoMemory> {
+    let End {
+        status,
+        kept,
+        roots,
+    } = end;
+    let told = format!(in alloc; "{status} {kept} {roots}")?;
+    let is = told.as_str() == text;
+    drop(told);
+    Ok(is)
+}
+
+/// Runs over these bytes, appends what is written, and says whether the run ends so.
+pub(crate) fn run_end(
     alloc: Global,
-    words: &[&str],
+    words: &str,
     input: &[u8],
+    end: &str,
     written: &mut Vec<u8>,
-) -> Result<End, NoMemory> {
+) -> Result<bool, NoMemory> {
     let words = words_of(alloc, words)?;
     let mut sink = ByteSink::new(alloc, Seq::new(alloc));
-    let end = run_over(alloc, &words, input, &mut sink);
+    let ended = run_over(alloc, &words, input, &mut sink);
     drop(words);
     let copied = written.extend_from_slice(sink.bytes());
     drop(sink);
     copied?;
-    end
+    is_told(alloc, ended?, end)
 }

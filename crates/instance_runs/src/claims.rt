@@ -1,10 +1,11 @@
 //! What a creation that has not ended holds: its name, its profiles, its devices, its project, and
 //! its share.
 
-use host_runs::{End, Run};
+use host_runs::wrong_among;
 
-/// A name is held from the acceptance on and is taken when the instance is there.
-const NAMES: &str = r#"
+const RUNS: &str = r#"
+~ run --now 0 --boot 1 --steps 0 = 0 8 3
+# A name is held from the acceptance on and is taken when the instance is there.
 POST /1.0/storage-pools {"driver":"dir","name":"p0"}
 200 {"metadata":{},"status":"Success","status_code":200,"type":"sync"}
 PUT /1.0/profiles/default {"devices":{"root":{"path":"/","pool":"p0","size":"1GiB","type":"disk"}}}
@@ -49,11 +50,10 @@ POST /1.0/instances {"name":"A","source":{"type":"none"}}
 409 {"error":"name is taken","error_code":409,"metadata":{"kind":"instance","name":"A","rule":"N4"},"type":"error"}
 GET /1.0/operations?recursion=1
 200 {"metadata":{"success":[{"class":"task","created_at":"1970-01-01T00:00:00Z","err":"","id":"00000000-0001-8000-8000-000000000001","may_cancel":false,"metadata":null,"resources":{"instances":["/1.0/instances/a"]},"status":"Success","status_code":200,"updated_at":"1970-01-01T00:00:00Z"},{"class":"task","created_at":"1970-01-01T00:00:00Z","err":"","id":"00000000-0001-8000-8000-000000000003","may_cancel":false,"metadata":null,"resources":{"instances":["/1.0/instances/A"]},"status":"Success","status_code":200,"updated_at":"1970-01-01T00:00:00Z"}]},"status":"Success","status_code":200,"type":"sync"}
-"#;
 
-/// A profile that a creation names is neither changed nor renamed nor deleted; the lowest number is
-/// told.
-const PROFILES: &str = r#"
+~ run --now 0 --boot 1 --steps 0 = 0 11 2
+# A profile that a creation names is neither changed nor renamed nor deleted; the lowest number is
+# told.
 POST /1.0/storage-pools {"driver":"dir","name":"p0"}
 200 {"metadata":{},"status":"Success","status_code":200,"type":"sync"}
 PUT /1.0/profiles/default {"devices":{"root":{"path":"/","pool":"p0","size":"1GiB","type":"disk"}}}
@@ -136,10 +136,9 @@ GET /1.0/profiles/small
 200 {"metadata":{"config":{"limits.memory":"1GiB"},"description":"","devices":{},"name":"small","project":"default","used_by":["/1.0/instances/a?project=off","/1.0/instances/b"]},"status":"Success","status_code":200,"type":"sync"}
 DELETE /1.0/profiles/small
 400 {"error":"object is in use","error_code":400,"metadata":{"key":"/1.0/instances/b","kind":"profile","name":"small","rule":"B4"},"type":"error"}
-"#;
 
-/// A network, a pool and a volume that a creation names are in use.
-const DEVICES: &str = r#"
+~ run --now 0 --boot 1 --steps 0 = 0 17 3
+# A network, a pool and a volume that a creation names are in use.
 POST /1.0/storage-pools {"driver":"dir","name":"p0"}
 200 {"metadata":{},"status":"Success","status_code":200,"type":"sync"}
 POST /1.0/storage-pools {"driver":"zfs","name":"p1"}
@@ -208,10 +207,9 @@ DELETE /1.0/storage-pools/p1
 400 {"error":"object is in use","error_code":400,"metadata":{"key":"/1.0/instances/z?project=zoo","kind":"storage-pool","name":"p1","rule":"B4"},"type":"error"}
 DELETE /1.0/storage-pools/p0/volumes/custom/v
 400 {"error":"object is in use","error_code":400,"metadata":{"key":"/1.0/instances/b?project=abc","kind":"storage-volume","name":"v","rule":"B4"},"type":"error"}
-"#;
 
-/// A project in which an operation is live is not empty.
-const PROJECTS: &str = r#"
+~ run --now 0 --boot 1 --steps 0 --fail-host 1 = 0 6 1
+# A project in which an operation is live is not empty.
 POST /1.0/storage-pools {"driver":"dir","name":"p0"}
 200 {"metadata":{},"status":"Success","status_code":200,"type":"sync"}
 POST /1.0/projects {"name":"lab"}
@@ -258,10 +256,9 @@ PATCH /1.0/projects/shop {"config":{"features.networks":"true"}}
 400 {"error":"project is not empty","error_code":400,"metadata":{"name":"shop","rule":"B5"},"type":"error"}
 GET /1.0/projects/shop
 200 {"metadata":{"config":{"features.images":"true","features.networks":"false","features.profiles":"true","features.storage.buckets":"true","features.storage.volumes":"true","limits.instances":"1"},"description":"","name":"shop","used_by":["/1.0/instances/a?project=shop","/1.0/profiles/default?project=shop"]},"status":"Success","status_code":200,"type":"sync"}
-"#;
 
-/// The usage of a project counts its instances, its volumes and its live creations.
-const USAGE: &str = r#"
+~ run --now 0 --boot 1 --steps 0 = 0 8 2
+# The usage of a project counts its instances, its volumes and its live creations.
 POST /1.0/storage-pools {"driver":"dir","name":"p0"}
 200 {"metadata":{},"status":"Success","status_code":200,"type":"sync"}
 POST /1.0/projects {"config":{"limits.cpu":"10","limits.disk":"100GiB","limits.instances":"5"},"name":"lab"}
@@ -302,76 +299,8 @@ GET /1.0/projects/lab/state
 200 {"metadata":{"resources":{"containers":{"limit":-1,"usage":2},"cpu":{"limit":10,"usage":10},"disk":{"limit":107374182400,"usage":33285996544},"instances":{"limit":5,"usage":3},"memory":{"limit":-1,"usage":3073741824},"networks":{"limit":-1,"usage":0},"processes":{"limit":-1,"usage":107},"virtual-machines":{"limit":-1,"usage":1}}},"status":"Success","status_code":200,"type":"sync"}
 "#;
 
-/// The runs of these scripts.
-pub(crate) const RUNS: [Run<'static>; 5] = [
-    Run {
-        name: "names",
-        words: &["run", "--now", "0", "--boot", "1", "--steps", "0"],
-        script: NAMES,
-        tail: "",
-        written: "",
-        end: End {
-            status: 0,
-            kept: 8,
-            roots: 3,
-        },
-    },
-    Run {
-        name: "profiles",
-        words: &["run", "--now", "0", "--boot", "1", "--steps", "0"],
-        script: PROFILES,
-        tail: "",
-        written: "",
-        end: End {
-            status: 0,
-            kept: 11,
-            roots: 2,
-        },
-    },
-    Run {
-        name: "devices",
-        words: &["run", "--now", "0", "--boot", "1", "--steps", "0"],
-        script: DEVICES,
-        tail: "",
-        written: "",
-        end: End {
-            status: 0,
-            kept: 17,
-            roots: 3,
-        },
-    },
-    Run {
-        name: "projects",
-        words: &[
-            "run",
-            "--now",
-            "0",
-            "--boot",
-            "1",
-            "--steps",
-            "0",
-            "--fail-host",
-            "1",
-        ],
-        script: PROJECTS,
-        tail: "",
-        written: "",
-        end: End {
-            status: 0,
-            kept: 6,
-            roots: 1,
-        },
-    },
-    Run {
-        name: "usage",
-        words: &["run", "--now", "0", "--boot", "1", "--steps", "0"],
-        script: USAGE,
-        tail: "",
-        written: "",
-        end: End {
-            status: 0,
-            kept: 8,
-            roots: 2,
-        },
-    },
-];
+#[test]
+fn operations_hold_what_they_need(rt: HostRuntime) {
+    let wrong = wrong_among(rt.alloc(), RUNS);
+    assert!(rt; wrong == Ok(("", "")), "{wrong:?}");
+}

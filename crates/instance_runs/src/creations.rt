@@ -1,9 +1,10 @@
 //! Instances are made in the background, shown, listed, and found by what they use.
 
-use host_runs::{End, Run};
+use host_runs::wrong_among;
 
-/// An instance is its profiles in their order and then its own settings; a device counts whole.
-const LAYERS: &str = r#"
+const RUNS: &str = r#"
+~ run --now 0 --boot 1 = 0 13 6
+# An instance is its profiles in their order and then its own settings; a device counts whole.
 POST /1.0/storage-pools {"driver":"dir","name":"p0"}
 200 {"metadata":{},"status":"Success","status_code":200,"type":"sync"}
 POST /1.0/networks {"name":"br0"}
@@ -91,10 +92,9 @@ DELETE /1.0/networks/br0
 200 {"metadata":{},"status":"Success","status_code":200,"type":"sync"}
 GET /1.0/projects/default/state
 200 {"metadata":{"resources":{"containers":{"limit":-1,"usage":6},"cpu":{"limit":-1,"usage":11},"disk":{"limit":-1,"usage":12884901888},"instances":{"limit":-1,"usage":6},"memory":{"limit":-1,"usage":2000000},"networks":{"limit":-1,"usage":0},"processes":{"limit":-1,"usage":0},"virtual-machines":{"limit":-1,"usage":0}}},"status":"Success","status_code":200,"type":"sync"}
-"#;
 
-/// An instance of every form: both sources, both kinds, the whole body, and members that are null.
-const SOURCES: &str = r#"
+~ run --now 951782400 --boot 1 = 0 16 11
+# An instance of every form: both sources, both kinds, the whole body, and members that are null.
 POST /1.0/storage-pools {"driver":"dir","name":"p0"}
 200 {"metadata":{},"status":"Success","status_code":200,"type":"sync"}
 PUT /1.0/profiles/default {"devices":{"root":{"path":"/","pool":"p0","size":"1GiB","type":"disk"}}}
@@ -168,10 +168,9 @@ GET /1.0/projects/lab
 200 {"metadata":{"config":{"features.images":"true","features.profiles":"true","features.storage.buckets":"true","features.storage.volumes":"true"},"description":"","name":"lab","used_by":["/1.0/instances/a?project=lab","/1.0/profiles/default?project=lab"]},"status":"Success","status_code":200,"type":"sync"}
 GET /1.0/profiles/default?project=lab
 200 {"metadata":{"config":{},"description":"","devices":{"root":{"path":"/","pool":"p0","size":"1GiB","type":"disk"}},"name":"default","project":"lab","used_by":["/1.0/instances/a?project=lab"]},"status":"Success","status_code":200,"type":"sync"}
-"#;
 
-/// A project without profiles, networks and volumes of its own uses those of the project `default`.
-const HOMES: &str = r#"
+~ run --now 0 --boot 1 = 0 13 2
+# A project without profiles, networks and volumes of its own uses those of the project `default`.
 POST /1.0/storage-pools {"driver":"dir","name":"p0"}
 200 {"metadata":{},"status":"Success","status_code":200,"type":"sync"}
 POST /1.0/projects {"config":{"features.profiles":"false","features.storage.volumes":"false"},"name":"off"}
@@ -244,42 +243,8 @@ GET /1.0/projects/default/state
 200 {"metadata":{"resources":{"containers":{"limit":-1,"usage":0},"cpu":{"limit":-1,"usage":0},"disk":{"limit":-1,"usage":0},"instances":{"limit":-1,"usage":0},"memory":{"limit":-1,"usage":0},"networks":{"limit":-1,"usage":1},"processes":{"limit":-1,"usage":0},"virtual-machines":{"limit":-1,"usage":0}}},"status":"Success","status_code":200,"type":"sync"}
 "#;
 
-/// The runs of these scripts.
-pub(crate) const RUNS: [Run<'static>; 3] = [
-    Run {
-        name: "layers",
-        words: &["run", "--now", "0", "--boot", "1"],
-        script: LAYERS,
-        tail: "",
-        written: "",
-        end: End {
-            status: 0,
-            kept: 13,
-            roots: 6,
-        },
-    },
-    Run {
-        name: "sources",
-        words: &["run", "--now", "951782400", "--boot", "1"],
-        script: SOURCES,
-        tail: "",
-        written: "",
-        end: End {
-            status: 0,
-            kept: 16,
-            roots: 11,
-        },
-    },
-    Run {
-        name: "homes",
-        words: &["run", "--now", "0", "--boot", "1"],
-        script: HOMES,
-        tail: "",
-        written: "",
-        end: End {
-            status: 0,
-            kept: 13,
-            roots: 2,
-        },
-    },
-];
+#[test]
+fn instances_are_made(rt: HostRuntime) {
+    let wrong = wrong_among(rt.alloc(), RUNS);
+    assert!(rt; wrong == Ok(("", "")), "{wrong:?}");
+}

@@ -1,10 +1,11 @@
 //! Calls of the host and of the store that fail: the creation fails with what it tells, and all is
 //! as it was.
 
-use host_runs::{End, Run};
+use host_runs::wrong_among;
 
-/// The first call of a creation fails.
-const FIRST_CALL: &str = r#"
+const RUNS: &str = r#"
+~ run --now 0 --boot 1 --fail-host 1 = 0 6 1
+# The first call of a creation fails.
 POST /1.0/storage-pools {"driver":"dir","name":"p0"}
 200 {"metadata":{},"status":"Success","status_code":200,"type":"sync"}
 POST /1.0/projects {"name":"lab"}
@@ -31,10 +32,9 @@ GET /1.0/projects/lab/state
 200 {"metadata":{"resources":{"containers":{"limit":-1,"usage":1},"cpu":{"limit":-1,"usage":2},"disk":{"limit":-1,"usage":1073741824},"instances":{"limit":-1,"usage":1},"memory":{"limit":-1,"usage":0},"networks":{"limit":-1,"usage":0},"processes":{"limit":-1,"usage":0},"virtual-machines":{"limit":-1,"usage":0}}},"status":"Success","status_code":200,"type":"sync"}
 GET /1.0/instances/a/state?project=lab
 200 {"metadata":{"status":"Stopped","status_code":102},"status":"Success","status_code":200,"type":"sync"}
-"#;
 
-/// The second call of a creation fails.
-const SECOND_CALL: &str = r#"
+~ run --now 0 --boot 1 --fail-host 2 = 0 6 1
+# The second call of a creation fails.
 POST /1.0/storage-pools {"driver":"dir","name":"p0"}
 200 {"metadata":{},"status":"Success","status_code":200,"type":"sync"}
 POST /1.0/projects {"name":"lab"}
@@ -61,10 +61,9 @@ GET /1.0/projects/lab/state
 200 {"metadata":{"resources":{"containers":{"limit":-1,"usage":1},"cpu":{"limit":-1,"usage":2},"disk":{"limit":-1,"usage":1073741824},"instances":{"limit":-1,"usage":1},"memory":{"limit":-1,"usage":0},"networks":{"limit":-1,"usage":0},"processes":{"limit":-1,"usage":0},"virtual-machines":{"limit":-1,"usage":0}}},"status":"Success","status_code":200,"type":"sync"}
 GET /1.0/instances/a/state?project=lab
 200 {"metadata":{"status":"Stopped","status_code":102},"status":"Success","status_code":200,"type":"sync"}
-"#;
 
-/// The store fails when the instance is to be kept.
-const STORE: &str = r#"
+~ run --now 0 --boot 1 --fail-keeper 6 = 0 6 1
+# The store fails when the instance is to be kept.
 POST /1.0/storage-pools {"driver":"dir","name":"p0"}
 200 {"metadata":{},"status":"Success","status_code":200,"type":"sync"}
 POST /1.0/projects {"name":"lab"}
@@ -91,10 +90,9 @@ GET /1.0/projects/lab/state
 200 {"metadata":{"resources":{"containers":{"limit":-1,"usage":1},"cpu":{"limit":-1,"usage":2},"disk":{"limit":-1,"usage":1073741824},"instances":{"limit":-1,"usage":1},"memory":{"limit":-1,"usage":0},"networks":{"limit":-1,"usage":0},"processes":{"limit":-1,"usage":0},"virtual-machines":{"limit":-1,"usage":0}}},"status":"Success","status_code":200,"type":"sync"}
 GET /1.0/instances/a/state?project=lab
 200 {"metadata":{"status":"Stopped","status_code":102},"status":"Success","status_code":200,"type":"sync"}
-"#;
 
-/// The store fails at a change that is made at once.
-const STORE_AT_A_CHANGE: &str = r#"
+~ run --now 0 --boot 1 --fail-keeper 5 = 0 6 1
+# The store fails at a change that is made at once.
 POST /1.0/storage-pools {"driver":"dir","name":"p0"}
 200 {"metadata":{},"status":"Success","status_code":200,"type":"sync"}
 POST /1.0/projects {"name":"lab"}
@@ -113,10 +111,9 @@ GET /1.0/operations/00000000-0001-8000-8000-000000000001
 200 {"metadata":{"class":"task","created_at":"1970-01-01T00:00:00Z","err":"","id":"00000000-0001-8000-8000-000000000001","may_cancel":false,"metadata":null,"resources":{"instances":["/1.0/instances/a?project=lab"]},"status":"Success","status_code":200,"updated_at":"1970-01-01T00:00:00Z"},"status":"Success","status_code":200,"type":"sync"}
 GET /1.0/projects/lab/state
 200 {"metadata":{"resources":{"containers":{"limit":-1,"usage":1},"cpu":{"limit":-1,"usage":0},"disk":{"limit":-1,"usage":1073741824},"instances":{"limit":-1,"usage":1},"memory":{"limit":-1,"usage":0},"networks":{"limit":-1,"usage":0},"processes":{"limit":-1,"usage":0},"virtual-machines":{"limit":-1,"usage":0}}},"status":"Success","status_code":200,"type":"sync"}
-"#;
 
-/// Each failure tells how many were before it.
-const AGAIN_AND_AGAIN: &str = r#"
+~ run --now 0 --boot 1 --fail-host 1,2,4,7,9 --fail-keeper 6,7 = 0 7 3
+# Each failure tells how many were before it.
 POST /1.0/storage-pools {"driver":"dir","name":"p0"}
 200 {"metadata":{},"status":"Success","status_code":200,"type":"sync"}
 POST /1.0/projects {"name":"lab"}
@@ -165,10 +162,9 @@ GET /1.0/projects/lab/state
 200 {"metadata":{"resources":{"containers":{"limit":-1,"usage":2},"cpu":{"limit":-1,"usage":0},"disk":{"limit":-1,"usage":2147483648},"instances":{"limit":-1,"usage":2},"memory":{"limit":-1,"usage":0},"networks":{"limit":-1,"usage":0},"processes":{"limit":-1,"usage":0},"virtual-machines":{"limit":-1,"usage":0}}},"status":"Success","status_code":200,"type":"sync"}
 GET /1.0/instances?project=lab
 200 {"metadata":["/1.0/instances/a?project=lab","/1.0/instances/c?project=lab"],"status":"Success","status_code":200,"type":"sync"}
-"#;
 
-/// Failures between requests, step by step.
-const HELD_BACK: &str = r#"
+~ run --now 0 --boot 1 --steps 1 --fail-host 2,3 = 0 7 2
+# Failures between requests, step by step.
 POST /1.0/storage-pools {"driver":"dir","name":"p0"}
 200 {"metadata":{},"status":"Success","status_code":200,"type":"sync"}
 POST /1.0/projects {"name":"lab"}
@@ -205,10 +201,9 @@ GET /1.0/instances?project=lab
 200 {"metadata":["/1.0/instances/a?project=lab","/1.0/instances/b?project=lab"],"status":"Success","status_code":200,"type":"sync"}
 GET /1.0/projects/lab/state
 200 {"metadata":{"resources":{"containers":{"limit":-1,"usage":2},"cpu":{"limit":-1,"usage":0},"disk":{"limit":-1,"usage":2147483648},"instances":{"limit":-1,"usage":2},"memory":{"limit":-1,"usage":0},"networks":{"limit":-1,"usage":0},"processes":{"limit":-1,"usage":0},"virtual-machines":{"limit":-1,"usage":0}}},"status":"Success","status_code":200,"type":"sync"}
-"#;
 
-/// A wait for a creation that fails.
-const WAITED_FOR: &str = r#"
+~ run --now 0 --boot 1 --steps 0 --fail-host=2,3 --fail-keeper=6 = 0 6 2
+# A wait for a creation that fails.
 POST /1.0/storage-pools {"driver":"dir","name":"p0"}
 200 {"metadata":{},"status":"Success","status_code":200,"type":"sync"}
 POST /1.0/projects {"name":"lab"}
@@ -243,10 +238,9 @@ POST /1.0/instances?project=lab {"name":"a","source":{"type":"none"}}
 202 /1.0/operations/00000000-0001-8000-8000-000000000005 {"metadata":{"class":"task","created_at":"1970-01-01T00:00:00Z","err":"","id":"00000000-0001-8000-8000-000000000005","may_cancel":true,"metadata":null,"resources":{"instances":["/1.0/instances/a?project=lab"]},"status":"Pending","status_code":105,"updated_at":"1970-01-01T00:00:00Z"},"operation":"/1.0/operations/00000000-0001-8000-8000-000000000005","status":"Operation created","status_code":100,"type":"async"}
 POST /1.0/instances?project=lab {"name":"d","source":{"type":"none"}}
 409 {"error":"name is taken","error_code":409,"metadata":{"kind":"instance","name":"d","rule":"N4"},"type":"error"}
-"#;
 
-/// What a failed creation named is free again.
-const MISSING_NO_MORE: &str = r#"
+~ run --now 0 --boot 1 --steps 0 --fail-host 1 = 0 2 0
+# What a failed creation named is free again.
 POST /1.0/storage-pools {"driver":"dir","name":"p0"}
 200 {"metadata":{},"status":"Success","status_code":200,"type":"sync"}
 POST /1.0/networks {"name":"br0"}
@@ -271,142 +265,8 @@ GET /1.0/operations/00000000-0001-8000-8000-000000000001
 200 {"metadata":{"class":"task","created_at":"1970-01-01T00:00:00Z","err":"host call failed","id":"00000000-0001-8000-8000-000000000001","may_cancel":false,"metadata":{"after":1,"before":0,"call":1},"resources":{"instances":["/1.0/instances/a"]},"status":"Failure","status_code":400,"updated_at":"1970-01-01T00:00:00Z"},"status":"Success","status_code":200,"type":"sync"}
 "#;
 
-/// The runs of these scripts.
-pub(crate) const RUNS: [Run<'static>; 8] = [
-    Run {
-        name: "first call",
-        words: &["run", "--now", "0", "--boot", "1", "--fail-host", "1"],
-        script: FIRST_CALL,
-        tail: "",
-        written: "",
-        end: End {
-            status: 0,
-            kept: 6,
-            roots: 1,
-        },
-    },
-    Run {
-        name: "second call",
-        words: &["run", "--now", "0", "--boot", "1", "--fail-host", "2"],
-        script: SECOND_CALL,
-        tail: "",
-        written: "",
-        end: End {
-            status: 0,
-            kept: 6,
-            roots: 1,
-        },
-    },
-    Run {
-        name: "store",
-        words: &["run", "--now", "0", "--boot", "1", "--fail-keeper", "6"],
-        script: STORE,
-        tail: "",
-        written: "",
-        end: End {
-            status: 0,
-            kept: 6,
-            roots: 1,
-        },
-    },
-    Run {
-        name: "store at a change",
-        words: &["run", "--now", "0", "--boot", "1", "--fail-keeper", "5"],
-        script: STORE_AT_A_CHANGE,
-        tail: "",
-        written: "",
-        end: End {
-            status: 0,
-            kept: 6,
-            roots: 1,
-        },
-    },
-    Run {
-        name: "again and again",
-        words: &[
-            "run",
-            "--now",
-            "0",
-            "--boot",
-            "1",
-            "--fail-host",
-            "1,2,4,7,9",
-            "--fail-keeper",
-            "6,7",
-        ],
-        script: AGAIN_AND_AGAIN,
-        tail: "",
-        written: "",
-        end: End {
-            status: 0,
-            kept: 7,
-            roots: 3,
-        },
-    },
-    Run {
-        name: "held back",
-        words: &[
-            "run",
-            "--now",
-            "0",
-            "--boot",
-            "1",
-            "--steps",
-            "1",
-            "--fail-host",
-            "2,3",
-        ],
-        script: HELD_BACK,
-        tail: "",
-        written: "",
-        end: End {
-            status: 0,
-            kept: 7,
-            roots: 2,
-        },
-    },
-    Run {
-        name: "waited for",
-        words: &[
-            "run",
-            "--now",
-            "0",
-            "--boot",
-            "1",
-            "--steps",
-            "0",
-            "--fail-host=2,3",
-            "--fail-keeper=6",
-        ],
-        script: WAITED_FOR,
-        tail: "",
-        written: "",
-        end: End {
-            status: 0,
-            kept: 6,
-            roots: 2,
-        },
-    },
-    Run {
-        name: "missing no more",
-        words: &[
-            "run",
-            "--now",
-            "0",
-            "--boot",
-            "1",
-            "--steps",
-            "0",
-            "--fail-host",
-            "1",
-        ],
-        script: MISSING_NO_MORE,
-        tail: "",
-        written: "",
-        end: End {
-            status: 0,
-            kept: 2,
-            roots: 0,
-        },
-    },
-];
+#[test]
+fn faults_leave_nothing_behind(rt: HostRuntime) {
+    let wrong = wrong_among(rt.alloc(), RUNS);
+    assert!(rt; wrong == Ok(("", "")), "{wrong:?}");
+}

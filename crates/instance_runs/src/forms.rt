@@ -1,10 +1,11 @@
 //! Requests on instances and operations that are refused for their form or their names, and change
 //! nothing.
 
-use host_runs::{End, Run};
+use host_runs::wrong_among;
 
-/// Paths, methods, queries, and what is not built yet.
-const PATHS: &str = r#"
+const RUNS: &str = r#"
+~ run --now 0 --boot 1 = 0 5 2
+# Paths, methods, queries, and what is not built yet.
 POST /1.0/storage-pools {"driver":"dir","name":"p0"}
 200 {"metadata":{},"status":"Success","status_code":200,"type":"sync"}
 PUT /1.0/profiles/default {"devices":{"root":{"path":"/","pool":"p0","size":"1GiB","type":"disk"}}}
@@ -145,10 +146,9 @@ POST /1.0/instances {"name":"last","source":{"type":"none"}}
 202 /1.0/operations/00000000-0001-8000-8000-000000000002 {"metadata":{"class":"task","created_at":"1970-01-01T00:00:00Z","err":"","id":"00000000-0001-8000-8000-000000000002","may_cancel":true,"metadata":null,"resources":{"instances":["/1.0/instances/last"]},"status":"Pending","status_code":105,"updated_at":"1970-01-01T00:00:00Z"},"operation":"/1.0/operations/00000000-0001-8000-8000-000000000002","status":"Operation created","status_code":100,"type":"async"}
 GET /1.0/operations
 200 {"metadata":{"success":["/1.0/operations/00000000-0001-8000-8000-000000000001","/1.0/operations/00000000-0001-8000-8000-000000000002"]},"status":"Success","status_code":200,"type":"sync"}
-"#;
 
-/// Bodies of creations: the first bad member is told, in the order of the form.
-const BODIES: &str = r#"
+~ run --now 0 --boot 1 = 0 5 2
+# Bodies of creations: the first bad member is told, in the order of the form.
 POST /1.0/storage-pools {"driver":"dir","name":"p0"}
 200 {"metadata":{},"status":"Success","status_code":200,"type":"sync"}
 PUT /1.0/profiles/default {"devices":{"root":{"path":"/","pool":"p0","size":"1GiB","type":"disk"}}}
@@ -285,10 +285,9 @@ GET /1.0/operations
 200 {"metadata":{"success":["/1.0/operations/00000000-0001-8000-8000-000000000001"]},"status":"Success","status_code":200,"type":"sync"}
 POST /1.0/instances {"name":"last","source":{"type":"none"}}
 202 /1.0/operations/00000000-0001-8000-8000-000000000002 {"metadata":{"class":"task","created_at":"1970-01-01T00:00:00Z","err":"","id":"00000000-0001-8000-8000-000000000002","may_cancel":true,"metadata":null,"resources":{"instances":["/1.0/instances/last"]},"status":"Pending","status_code":105,"updated_at":"1970-01-01T00:00:00Z"},"operation":"/1.0/operations/00000000-0001-8000-8000-000000000002","status":"Operation created","status_code":100,"type":"async"}
-"#;
 
-/// Projects and objects that are missing, and names that are malformed or taken.
-const NAMES: &str = r#"
+~ run --now 0 --boot 1 = 0 7 2
+# Projects and objects that are missing, and names that are malformed or taken.
 POST /1.0/storage-pools {"driver":"dir","name":"p0"}
 200 {"metadata":{},"status":"Success","status_code":200,"type":"sync"}
 PUT /1.0/profiles/default {"devices":{"root":{"path":"/","pool":"p0","size":"1GiB","type":"disk"}}}
@@ -372,42 +371,8 @@ GET /1.0/operations
 200 {"metadata":{"success":["/1.0/operations/00000000-0001-8000-8000-000000000001","/1.0/operations/00000000-0001-8000-8000-000000000002"]},"status":"Success","status_code":200,"type":"sync"}
 "#;
 
-/// The runs of these scripts.
-pub(crate) const RUNS: [Run<'static>; 3] = [
-    Run {
-        name: "paths",
-        words: &["run", "--now", "0", "--boot", "1"],
-        script: PATHS,
-        tail: "",
-        written: "",
-        end: End {
-            status: 0,
-            kept: 5,
-            roots: 2,
-        },
-    },
-    Run {
-        name: "bodies",
-        words: &["run", "--now", "0", "--boot", "1"],
-        script: BODIES,
-        tail: "",
-        written: "",
-        end: End {
-            status: 0,
-            kept: 5,
-            roots: 2,
-        },
-    },
-    Run {
-        name: "names",
-        words: &["run", "--now", "0", "--boot", "1"],
-        script: NAMES,
-        tail: "",
-        written: "",
-        end: End {
-            status: 0,
-            kept: 7,
-            roots: 2,
-        },
-    },
-];
+#[test]
+fn malformed_requests_are_refused(rt: HostRuntime) {
+    let wrong = wrong_among(rt.alloc(), RUNS);
+    assert!(rt; wrong == Ok(("", "")), "{wrong:?}");
+}

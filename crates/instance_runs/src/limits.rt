@@ -1,10 +1,11 @@
 //! Limits of a project: each met exactly and exceeded by one, by instances and by creations that
 //! have not ended.
 
-use host_runs::{End, Run};
+use host_runs::wrong_among;
 
-/// limits.instances
-const INSTANCES: &str = r#"
+const RUNS: &str = r#"
+~ run --now 0 --boot 1 --steps 0 = 0 7 2
+# limits.instances
 POST /1.0/storage-pools {"driver":"dir","name":"p0"}
 200 {"metadata":{},"status":"Success","status_code":200,"type":"sync"}
 POST /1.0/projects {"config":{"limits.instances":"2"},"name":"lab"}
@@ -37,10 +38,9 @@ POST /1.0/instances?project=lab {"name":"m","source":{"type":"none"},"type":"vir
 202 /1.0/operations/00000000-0001-8000-8000-000000000003 {"metadata":{"class":"task","created_at":"1970-01-01T00:00:00Z","err":"","id":"00000000-0001-8000-8000-000000000003","may_cancel":true,"metadata":null,"resources":{"instances":["/1.0/instances/m?project=lab"]},"status":"Pending","status_code":105,"updated_at":"1970-01-01T00:00:00Z"},"operation":"/1.0/operations/00000000-0001-8000-8000-000000000003","status":"Operation created","status_code":100,"type":"async"}
 POST /1.0/instances?project=lab {"name":"d","source":{"type":"none"}}
 403 {"error":"limit is exceeded","error_code":403,"metadata":{"asked":"1","key":"limits.instances","limit":"3","project":"lab","rule":"L1","used":"3"},"type":"error"}
-"#;
 
-/// limits.containers
-const CONTAINERS: &str = r#"
+~ run --now 0 --boot 1 --steps 0 = 0 7 2
+# limits.containers
 POST /1.0/storage-pools {"driver":"dir","name":"p0"}
 200 {"metadata":{},"status":"Success","status_code":200,"type":"sync"}
 POST /1.0/projects {"config":{"limits.containers":"2"},"name":"lab"}
@@ -68,10 +68,9 @@ GET /1.0/projects/lab/state
 # what does not count for it
 POST /1.0/instances?project=lab {"name":"m","source":{"type":"none"},"type":"virtual-machine"}
 202 /1.0/operations/00000000-0001-8000-8000-000000000003 {"metadata":{"class":"task","created_at":"1970-01-01T00:00:00Z","err":"","id":"00000000-0001-8000-8000-000000000003","may_cancel":true,"metadata":null,"resources":{"instances":["/1.0/instances/m?project=lab"]},"status":"Pending","status_code":105,"updated_at":"1970-01-01T00:00:00Z"},"operation":"/1.0/operations/00000000-0001-8000-8000-000000000003","status":"Operation created","status_code":100,"type":"async"}
-"#;
 
-/// limits.virtual-machines
-const MACHINES: &str = r#"
+~ run --now 0 --boot 1 --steps 0 = 0 7 2
+# limits.virtual-machines
 POST /1.0/storage-pools {"driver":"dir","name":"p0"}
 200 {"metadata":{},"status":"Success","status_code":200,"type":"sync"}
 POST /1.0/projects {"config":{"limits.virtual-machines":"2"},"name":"lab"}
@@ -99,10 +98,9 @@ GET /1.0/projects/lab/state
 # what does not count for it
 POST /1.0/instances?project=lab {"name":"m","source":{"type":"none"}}
 202 /1.0/operations/00000000-0001-8000-8000-000000000003 {"metadata":{"class":"task","created_at":"1970-01-01T00:00:00Z","err":"","id":"00000000-0001-8000-8000-000000000003","may_cancel":true,"metadata":null,"resources":{"instances":["/1.0/instances/m?project=lab"]},"status":"Pending","status_code":105,"updated_at":"1970-01-01T00:00:00Z"},"operation":"/1.0/operations/00000000-0001-8000-8000-000000000003","status":"Operation created","status_code":100,"type":"async"}
-"#;
 
-/// limits.cpu
-const CPUS: &str = r#"
+~ run --now 0 --boot 1 --steps 0 = 0 7 2
+# limits.cpu
 POST /1.0/storage-pools {"driver":"dir","name":"p0"}
 200 {"metadata":{},"status":"Success","status_code":200,"type":"sync"}
 POST /1.0/projects {"config":{"limits.cpu":"6"},"name":"lab"}
@@ -133,10 +131,9 @@ POST /1.0/instances?project=lab {"config":{"limits.cpu":"2"},"name":"c","source"
 403 {"error":"limit is exceeded","error_code":403,"metadata":{"asked":"2","key":"limits.cpu","limit":"7","project":"lab","rule":"L4","used":"6"},"type":"error"}
 POST /1.0/instances?project=lab {"config":{"limits.cpu":"1"},"name":"c","source":{"type":"none"}}
 202 /1.0/operations/00000000-0001-8000-8000-000000000003 {"metadata":{"class":"task","created_at":"1970-01-01T00:00:00Z","err":"","id":"00000000-0001-8000-8000-000000000003","may_cancel":true,"metadata":null,"resources":{"instances":["/1.0/instances/c?project=lab"]},"status":"Pending","status_code":105,"updated_at":"1970-01-01T00:00:00Z"},"operation":"/1.0/operations/00000000-0001-8000-8000-000000000003","status":"Operation created","status_code":100,"type":"async"}
-"#;
 
-/// limits.memory
-const MEMORY: &str = r#"
+~ run --now 0 --boot 1 --steps 0 = 0 7 2
+# limits.memory
 POST /1.0/storage-pools {"driver":"dir","name":"p0"}
 200 {"metadata":{},"status":"Success","status_code":200,"type":"sync"}
 POST /1.0/projects {"config":{"limits.memory":"2GiB"},"name":"lab"}
@@ -163,10 +160,9 @@ GET /1.0/projects/lab/state
 200 {"metadata":{"resources":{"containers":{"limit":-1,"usage":2},"cpu":{"limit":-1,"usage":0},"disk":{"limit":-1,"usage":2147483648},"instances":{"limit":-1,"usage":2},"memory":{"limit":2147483648,"usage":2147483648},"networks":{"limit":-1,"usage":0},"processes":{"limit":-1,"usage":0},"virtual-machines":{"limit":-1,"usage":0}}},"status":"Success","status_code":200,"type":"sync"}
 POST /1.0/instances?project=lab {"config":{"limits.memory":"0"},"name":"c","source":{"type":"none"}}
 202 /1.0/operations/00000000-0001-8000-8000-000000000003 {"metadata":{"class":"task","created_at":"1970-01-01T00:00:00Z","err":"","id":"00000000-0001-8000-8000-000000000003","may_cancel":true,"metadata":null,"resources":{"instances":["/1.0/instances/c?project=lab"]},"status":"Pending","status_code":105,"updated_at":"1970-01-01T00:00:00Z"},"operation":"/1.0/operations/00000000-0001-8000-8000-000000000003","status":"Operation created","status_code":100,"type":"async"}
-"#;
 
-/// limits.processes
-const PROCESSES: &str = r#"
+~ run --now 0 --boot 1 --steps 0 = 0 7 2
+# limits.processes
 POST /1.0/storage-pools {"driver":"dir","name":"p0"}
 200 {"metadata":{},"status":"Success","status_code":200,"type":"sync"}
 POST /1.0/projects {"config":{"limits.processes":"100"},"name":"lab"}
@@ -196,10 +192,9 @@ POST /1.0/instances?project=lab {"name":"m","source":{"type":"none"},"type":"vir
 202 /1.0/operations/00000000-0001-8000-8000-000000000003 {"metadata":{"class":"task","created_at":"1970-01-01T00:00:00Z","err":"","id":"00000000-0001-8000-8000-000000000003","may_cancel":true,"metadata":null,"resources":{"instances":["/1.0/instances/m?project=lab"]},"status":"Pending","status_code":105,"updated_at":"1970-01-01T00:00:00Z"},"operation":"/1.0/operations/00000000-0001-8000-8000-000000000003","status":"Operation created","status_code":100,"type":"async"}
 POST /1.0/instances?project=lab {"config":{"limits.processes":"0"},"name":"c","source":{"type":"none"}}
 202 /1.0/operations/00000000-0001-8000-8000-000000000004 {"metadata":{"class":"task","created_at":"1970-01-01T00:00:00Z","err":"","id":"00000000-0001-8000-8000-000000000004","may_cancel":true,"metadata":null,"resources":{"instances":["/1.0/instances/c?project=lab"]},"status":"Pending","status_code":105,"updated_at":"1970-01-01T00:00:00Z"},"operation":"/1.0/operations/00000000-0001-8000-8000-000000000004","status":"Operation created","status_code":100,"type":"async"}
-"#;
 
-/// limits.disk
-const DISK: &str = r#"
+~ run --now 0 --boot 1 --steps 0 = 0 7 2
+# limits.disk
 POST /1.0/storage-pools {"driver":"dir","name":"p0"}
 200 {"metadata":{},"status":"Success","status_code":200,"type":"sync"}
 POST /1.0/projects {"config":{"limits.disk":"3GiB"},"name":"lab"}
@@ -239,10 +234,9 @@ DELETE /1.0/storage-pools/p0/volumes/custom/v?project=lab
 200 {"metadata":{},"status":"Success","status_code":200,"type":"sync"}
 GET /1.0/projects/lab/state
 200 {"metadata":{"resources":{"containers":{"limit":-1,"usage":4},"cpu":{"limit":-1,"usage":0},"disk":{"limit":3221225472,"usage":2147483649},"instances":{"limit":-1,"usage":4},"memory":{"limit":-1,"usage":0},"networks":{"limit":-1,"usage":0},"processes":{"limit":-1,"usage":0},"virtual-machines":{"limit":-1,"usage":0}}},"status":"Success","status_code":200,"type":"sync"}
-"#;
 
-/// Of several limits the first is told; a creation may break each of them.
-const SEVERAL: &str = r#"
+~ run --now 0 --boot 1 --steps 0 = 0 5 0
+# Of several limits the first is told; a creation may break each of them.
 POST /1.0/storage-pools {"driver":"dir","name":"p0"}
 200 {"metadata":{},"status":"Success","status_code":200,"type":"sync"}
 POST /1.0/projects {"config":{"limits.containers":"0","limits.cpu":"1","limits.disk":"1","limits.instances":"1","limits.memory":"1","limits.networks":"0","limits.processes":"1","limits.virtual-machines":"0"},"name":"lab"}
@@ -271,10 +265,9 @@ POST /1.0/instances?project=lab {"config":{"limits.cpu":"1","limits.memory":"1",
 403 {"error":"limit is exceeded","error_code":403,"metadata":{"asked":"1","key":"limits.instances","limit":"1","project":"lab","rule":"L1","used":"1"},"type":"error"}
 GET /1.0/projects/lab/state
 200 {"metadata":{"resources":{"containers":{"limit":-1,"usage":1},"cpu":{"limit":1,"usage":1},"disk":{"limit":1,"usage":1},"instances":{"limit":1,"usage":1},"memory":{"limit":1,"usage":1},"networks":{"limit":0,"usage":0},"processes":{"limit":1,"usage":1},"virtual-machines":{"limit":1,"usage":0}}},"status":"Success","status_code":200,"type":"sync"}
-"#;
 
-/// A limit may be set to what is used, and not below; what is not there yet counts.
-const CHANGED: &str = r#"
+~ run --now 0 --boot 1 --steps 0 = 0 6 1
+# A limit may be set to what is used, and not below; what is not there yet counts.
 POST /1.0/storage-pools {"driver":"dir","name":"p0"}
 200 {"metadata":{},"status":"Success","status_code":200,"type":"sync"}
 POST /1.0/projects {"config":{"limits.memory":"1GiB"},"name":"lab"}
@@ -315,10 +308,9 @@ PATCH /1.0/projects/default {"config":{"limits.instances":"0"}}
 200 {"metadata":{},"status":"Success","status_code":200,"type":"sync"}
 GET /1.0/projects/default/state
 200 {"metadata":{"resources":{"containers":{"limit":-1,"usage":0},"cpu":{"limit":-1,"usage":0},"disk":{"limit":-1,"usage":0},"instances":{"limit":0,"usage":0},"memory":{"limit":-1,"usage":0},"networks":{"limit":-1,"usage":0},"processes":{"limit":-1,"usage":0},"virtual-machines":{"limit":-1,"usage":0}}},"status":"Success","status_code":200,"type":"sync"}
-"#;
 
-/// A limited sum takes no instance without a number for it.
-const UNCOUNTED: &str = r#"
+~ run --now 0 --boot 1 --steps 0 = 0 21 8
+# A limited sum takes no instance without a number for it.
 POST /1.0/storage-pools {"driver":"dir","name":"p0"}
 200 {"metadata":{},"status":"Success","status_code":200,"type":"sync"}
 POST /1.0/projects {"name":"lab"}
@@ -433,10 +425,9 @@ PUT /1.0/profiles/default?project=prof {"config":{"limits.cpu":"6"},"devices":{"
 200 {"metadata":{},"status":"Success","status_code":200,"type":"sync"}
 GET /1.0/projects/prof/state
 200 {"metadata":{"resources":{"containers":{"limit":-1,"usage":2},"cpu":{"limit":8,"usage":8},"disk":{"limit":-1,"usage":2147483648},"instances":{"limit":-1,"usage":2},"memory":{"limit":-1,"usage":0},"networks":{"limit":-1,"usage":0},"processes":{"limit":-1,"usage":0},"virtual-machines":{"limit":-1,"usage":0}}},"status":"Success","status_code":200,"type":"sync"}
-"#;
 
-/// A profile that changes is judged in every project whose instances name it.
-const PROFILE: &str = r#"
+~ run --now 0 --boot 1 = 0 13 6
+# A profile that changes is judged in every project whose instances name it.
 POST /1.0/storage-pools {"driver":"dir","name":"p0"}
 200 {"metadata":{},"status":"Success","status_code":200,"type":"sync"}
 PUT /1.0/profiles/default {"devices":{"root":{"path":"/","pool":"p0","size":"1GiB","type":"disk"}}}
@@ -509,10 +500,9 @@ GET /1.0/projects/a/state
 200 {"metadata":{"resources":{"containers":{"limit":-1,"usage":2},"cpu":{"limit":100,"usage":2},"disk":{"limit":-1,"usage":2097152},"instances":{"limit":-1,"usage":2},"memory":{"limit":4294967296,"usage":4294967296},"networks":{"limit":-1,"usage":0},"processes":{"limit":-1,"usage":0},"virtual-machines":{"limit":-1,"usage":0}}},"status":"Success","status_code":200,"type":"sync"}
 GET /1.0/projects/b/state
 200 {"metadata":{"resources":{"containers":{"limit":-1,"usage":2},"cpu":{"limit":3,"usage":2},"disk":{"limit":4294967296,"usage":2097152},"instances":{"limit":-1,"usage":2},"memory":{"limit":8589934592,"usage":3221225472},"networks":{"limit":-1,"usage":0},"processes":{"limit":-1,"usage":0},"virtual-machines":{"limit":-1,"usage":0}}},"status":"Success","status_code":200,"type":"sync"}
-"#;
 
-/// Creations fill a limit before anything was made for them, and a failure frees it.
-const FREED: &str = r#"
+~ run --now 0 --boot 1 --steps 0 --fail-host 1,3 = 0 7 2
+# Creations fill a limit before anything was made for them, and a failure frees it.
 POST /1.0/storage-pools {"driver":"dir","name":"p0"}
 200 {"metadata":{},"status":"Success","status_code":200,"type":"sync"}
 POST /1.0/projects {"config":{"limits.instances":"2","limits.memory":"2GiB"},"name":"lab"}
@@ -557,160 +547,8 @@ GET /1.0/operations?project=lab&recursion=1
 200 {"metadata":{"failure":[{"class":"task","created_at":"1970-01-01T00:00:00Z","err":"host call failed","id":"00000000-0001-8000-8000-000000000001","may_cancel":false,"metadata":{"after":1,"before":0,"call":1},"resources":{"instances":["/1.0/instances/a?project=lab"]},"status":"Failure","status_code":400,"updated_at":"1970-01-01T00:00:00Z"},{"class":"task","created_at":"1970-01-01T00:00:00Z","err":"host call failed","id":"00000000-0001-8000-8000-000000000002","may_cancel":false,"metadata":{"after":2,"before":1,"call":2},"resources":{"instances":["/1.0/instances/b?project=lab"]},"status":"Failure","status_code":400,"updated_at":"1970-01-01T00:00:00Z"}],"success":[{"class":"task","created_at":"1970-01-01T00:00:00Z","err":"","id":"00000000-0001-8000-8000-000000000003","may_cancel":false,"metadata":null,"resources":{"instances":["/1.0/instances/c?project=lab"]},"status":"Success","status_code":200,"updated_at":"1970-01-01T00:00:00Z"},{"class":"task","created_at":"1970-01-01T00:00:00Z","err":"","id":"00000000-0001-8000-8000-000000000004","may_cancel":false,"metadata":null,"resources":{"instances":["/1.0/instances/a?project=lab"]},"status":"Success","status_code":200,"updated_at":"1970-01-01T00:00:00Z"}]},"status":"Success","status_code":200,"type":"sync"}
 "#;
 
-/// The runs of these scripts.
-pub(crate) const RUNS: [Run<'static>; 12] = [
-    Run {
-        name: "instances",
-        words: &["run", "--now", "0", "--boot", "1", "--steps", "0"],
-        script: INSTANCES,
-        tail: "",
-        written: "",
-        end: End {
-            status: 0,
-            kept: 7,
-            roots: 2,
-        },
-    },
-    Run {
-        name: "containers",
-        words: &["run", "--now", "0", "--boot", "1", "--steps", "0"],
-        script: CONTAINERS,
-        tail: "",
-        written: "",
-        end: End {
-            status: 0,
-            kept: 7,
-            roots: 2,
-        },
-    },
-    Run {
-        name: "machines",
-        words: &["run", "--now", "0", "--boot", "1", "--steps", "0"],
-        script: MACHINES,
-        tail: "",
-        written: "",
-        end: End {
-            status: 0,
-            kept: 7,
-            roots: 2,
-        },
-    },
-    Run {
-        name: "cpus",
-        words: &["run", "--now", "0", "--boot", "1", "--steps", "0"],
-        script: CPUS,
-        tail: "",
-        written: "",
-        end: End {
-            status: 0,
-            kept: 7,
-            roots: 2,
-        },
-    },
-    Run {
-        name: "memory",
-        words: &["run", "--now", "0", "--boot", "1", "--steps", "0"],
-        script: MEMORY,
-        tail: "",
-        written: "",
-        end: End {
-            status: 0,
-            kept: 7,
-            roots: 2,
-        },
-    },
-    Run {
-        name: "processes",
-        words: &["run", "--now", "0", "--boot", "1", "--steps", "0"],
-        script: PROCESSES,
-        tail: "",
-        written: "",
-        end: End {
-            status: 0,
-            kept: 7,
-            roots: 2,
-        },
-    },
-    Run {
-        name: "disk",
-        words: &["run", "--now", "0", "--boot", "1", "--steps", "0"],
-        script: DISK,
-        tail: "",
-        written: "",
-        end: End {
-            status: 0,
-            kept: 7,
-            roots: 2,
-        },
-    },
-    Run {
-        name: "several",
-        words: &["run", "--now", "0", "--boot", "1", "--steps", "0"],
-        script: SEVERAL,
-        tail: "",
-        written: "",
-        end: End {
-            status: 0,
-            kept: 5,
-            roots: 0,
-        },
-    },
-    Run {
-        name: "changed",
-        words: &["run", "--now", "0", "--boot", "1", "--steps", "0"],
-        script: CHANGED,
-        tail: "",
-        written: "",
-        end: End {
-            status: 0,
-            kept: 6,
-            roots: 1,
-        },
-    },
-    Run {
-        name: "uncounted",
-        words: &["run", "--now", "0", "--boot", "1", "--steps", "0"],
-        script: UNCOUNTED,
-        tail: "",
-        written: "",
-        end: End {
-            status: 0,
-            kept: 21,
-            roots: 8,
-        },
-    },
-    Run {
-        name: "profile",
-        words: &["run", "--now", "0", "--boot", "1"],
-        script: PROFILE,
-        tail: "",
-        written: "",
-        end: End {
-            status: 0,
-            kept: 13,
-            roots: 6,
-        },
-    },
-    Run {
-        name: "freed",
-        words: &[
-            "run",
-            "--now",
-            "0",
-            "--boot",
-            "1",
-            "--steps",
-            "0",
-            "--fail-host",
-            "1,3",
-        ],
-        script: FREED,
-        tail: "",
-        written: "",
-        end: End {
-            status: 0,
-            kept: 7,
-            roots: 2,
-        },
-    },
-];
+#[test]
+fn limits_hold(rt: HostRuntime) {
+    let wrong = wrong_among(rt.alloc(), RUNS);
+    assert!(rt; wrong == Ok(("", "")), "{wrong:?}");
+}

@@ -1,10 +1,11 @@
 //! What a restricted project forbids: by own settings, through profiles, of creations that have not
 //! ended.
 
-use host_runs::{End, Run};
+use host_runs::wrong_among;
 
-/// Own settings of an instance, by each rule.
-const OWN: &str = r#"
+const RUNS: &str = r#"
+~ run --now 0 --boot 1 = 0 13 5
+# Own settings of an instance, by each rule.
 POST /1.0/storage-pools {"driver":"dir","name":"p0"}
 200 {"metadata":{},"status":"Success","status_code":200,"type":"sync"}
 POST /1.0/projects {"config":{"restricted":"true"},"name":"r"}
@@ -94,10 +95,9 @@ PATCH /1.0/projects/r {"config":{"restricted.containers.lowlevel":"","restricted
 403 {"error":"setting is forbidden","error_code":403,"metadata":{"key":"security.nesting","name":"b","project":"r","rule":"F1"},"type":"error"}
 GET /1.0/instances?project=r
 200 {"metadata":["/1.0/instances/a?project=r","/1.0/instances/b?project=r","/1.0/instances/c?project=r","/1.0/instances/m?project=r","/1.0/instances/n?project=r"],"status":"Success","status_code":200,"type":"sync"}
-"#;
 
-/// Containers of a project that wants them isolated.
-const ISOLATED: &str = r#"
+~ run --now 0 --boot 1 = 0 8 3
+# Containers of a project that wants them isolated.
 POST /1.0/storage-pools {"driver":"dir","name":"p0"}
 200 {"metadata":{},"status":"Success","status_code":200,"type":"sync"}
 POST /1.0/projects {"config":{"restricted":"true","restricted.containers.privilege":"isolated"},"name":"r"}
@@ -134,10 +134,9 @@ PUT /1.0/profiles/default?project=r {"config":{"security.privileged":"on"},"devi
 403 {"error":"setting is forbidden","error_code":403,"metadata":{"key":"security.privileged","name":"default","project":"r","rule":"F2"},"type":"error"}
 GET /1.0/instances?project=r
 200 {"metadata":["/1.0/instances/a?project=r","/1.0/instances/b?project=r","/1.0/instances/m?project=r"],"status":"Success","status_code":200,"type":"sync"}
-"#;
 
-/// Words on devices and networks.
-const DEVICES: &str = r#"
+~ run --now 0 --boot 1 = 0 12 4
+# Words on devices and networks.
 POST /1.0/storage-pools {"driver":"dir","name":"p0"}
 200 {"metadata":{},"status":"Success","status_code":200,"type":"sync"}
 POST /1.0/networks {"name":"br0"}
@@ -190,10 +189,9 @@ PATCH /1.0/projects/r {"config":{"restricted.networks.access":"br1,br"}}
 403 {"error":"setting is forbidden","error_code":403,"metadata":{"key":"eth0","name":"d","project":"r","rule":"F7"},"type":"error"}
 GET /1.0/instances?project=r
 200 {"metadata":["/1.0/instances/a?project=r","/1.0/instances/b?project=r","/1.0/instances/c?project=r","/1.0/instances/d?project=r"],"status":"Success","status_code":200,"type":"sync"}
-"#;
 
-/// Settings that come through profiles: of the project itself, and of the project `default`.
-const PROFILES: &str = r#"
+~ run --now 0 --boot 1 --steps 0 = 0 14 7
+# Settings that come through profiles: of the project itself, and of the project `default`.
 POST /1.0/storage-pools {"driver":"dir","name":"p0"}
 200 {"metadata":{},"status":"Success","status_code":200,"type":"sync"}
 PUT /1.0/profiles/default {"config":{"security.privileged":"true"},"devices":{"root":{"path":"/","pool":"p0","size":"1GiB","type":"disk"}}}
@@ -278,11 +276,10 @@ GET /1.0/projects/r/state
 200 {"metadata":{"resources":{"containers":{"limit":-1,"usage":3},"cpu":{"limit":-1,"usage":0},"disk":{"limit":-1,"usage":4294967296},"instances":{"limit":-1,"usage":4},"memory":{"limit":-1,"usage":0},"networks":{"limit":-1,"usage":0},"processes":{"limit":-1,"usage":0},"virtual-machines":{"limit":-1,"usage":1}}},"status":"Success","status_code":200,"type":"sync"}
 GET /1.0/projects/u/state
 200 {"metadata":{"resources":{"containers":{"limit":-1,"usage":3},"cpu":{"limit":-1,"usage":0},"disk":{"limit":-1,"usage":3221225472},"instances":{"limit":-1,"usage":3},"memory":{"limit":-1,"usage":0},"networks":{"limit":-1,"usage":0},"processes":{"limit":-1,"usage":0},"virtual-machines":{"limit":-1,"usage":0}}},"status":"Success","status_code":200,"type":"sync"}
-"#;
 
-/// A project that becomes restricted: of several objects the lowest rule, then profiles, instances
-/// and creations.
-const CHANGED: &str = r#"
+~ run --now 0 --boot 1 --steps 0 = 0 8 3
+# A project that becomes restricted: of several objects the lowest rule, then profiles, instances
+# and creations.
 POST /1.0/storage-pools {"driver":"dir","name":"p0"}
 200 {"metadata":{},"status":"Success","status_code":200,"type":"sync"}
 POST /1.0/projects {"name":"u"}
@@ -329,66 +326,8 @@ GET /1.0/projects/u
 200 {"metadata":{"config":{"features.images":"true","features.profiles":"true","features.storage.buckets":"true","features.storage.volumes":"true","restricted":"true","restricted.containers.lowlevel":"allow","restricted.containers.nesting":"allow","restricted.containers.privilege":"allow"},"description":"","name":"u","used_by":["/1.0/instances/a?project=u","/1.0/instances/b?project=u","/1.0/instances/c?project=u","/1.0/profiles/default?project=u"]},"status":"Success","status_code":200,"type":"sync"}
 "#;
 
-/// The runs of these scripts.
-pub(crate) const RUNS: [Run<'static>; 5] = [
-    Run {
-        name: "own",
-        words: &["run", "--now", "0", "--boot", "1"],
-        script: OWN,
-        tail: "",
-        written: "",
-        end: End {
-            status: 0,
-            kept: 13,
-            roots: 5,
-        },
-    },
-    Run {
-        name: "isolated",
-        words: &["run", "--now", "0", "--boot", "1"],
-        script: ISOLATED,
-        tail: "",
-        written: "",
-        end: End {
-            status: 0,
-            kept: 8,
-            roots: 3,
-        },
-    },
-    Run {
-        name: "devices",
-        words: &["run", "--now", "0", "--boot", "1"],
-        script: DEVICES,
-        tail: "",
-        written: "",
-        end: End {
-            status: 0,
-            kept: 12,
-            roots: 4,
-        },
-    },
-    Run {
-        name: "profiles",
-        words: &["run", "--now", "0", "--boot", "1", "--steps", "0"],
-        script: PROFILES,
-        tail: "",
-        written: "",
-        end: End {
-            status: 0,
-            kept: 14,
-            roots: 7,
-        },
-    },
-    Run {
-        name: "changed",
-        words: &["run", "--now", "0", "--boot", "1", "--steps", "0"],
-        script: CHANGED,
-        tail: "",
-        written: "",
-        end: End {
-            status: 0,
-            kept: 8,
-            roots: 3,
-        },
-    },
-];
+#[test]
+fn policies_forbid(rt: HostRuntime) {
+    let wrong = wrong_among(rt.alloc(), RUNS);
+    assert!(rt; wrong == Ok(("", "")), "{wrong:?}");
+}

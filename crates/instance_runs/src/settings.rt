@@ -1,9 +1,10 @@
 //! Settings, devices and profiles of instances that are refused.
 
-use host_runs::{End, Run};
+use host_runs::wrong_among;
 
-/// Keys that are unknown, and values that are malformed; the first key decides.
-const KEYS: &str = r#"
+const RUNS: &str = r#"
+~ run --now 0 --boot 1 = 0 5 2
+# Keys that are unknown, and values that are malformed; the first key decides.
 POST /1.0/storage-pools {"driver":"dir","name":"p0"}
 200 {"metadata":{},"status":"Success","status_code":200,"type":"sync"}
 PUT /1.0/profiles/default {"devices":{"root":{"path":"/","pool":"p0","size":"1GiB","type":"disk"}}}
@@ -137,10 +138,9 @@ GET /1.0/instances
 200 {"metadata":["/1.0/instances/a","/1.0/instances/all"],"status":"Success","status_code":200,"type":"sync"}
 GET /1.0/operations
 200 {"metadata":{"success":["/1.0/operations/00000000-0001-8000-8000-000000000001","/1.0/operations/00000000-0001-8000-8000-000000000002"]},"status":"Success","status_code":200,"type":"sync"}
-"#;
 
-/// Devices that are malformed: name, type, keys, values, and shape; the first device decides.
-const DEVICES: &str = r#"
+~ run --now 0 --boot 1 = 0 4 1
+# Devices that are malformed: name, type, keys, values, and shape; the first device decides.
 POST /1.0/storage-pools {"driver":"dir","name":"p0"}
 200 {"metadata":{},"status":"Success","status_code":200,"type":"sync"}
 PUT /1.0/profiles/default {"devices":{"root":{"path":"/","pool":"p0","size":"1GiB","type":"disk"}}}
@@ -213,10 +213,9 @@ GET /1.0/instances
 200 {"metadata":["/1.0/instances/all"],"status":"Success","status_code":200,"type":"sync"}
 GET /1.0/operations
 200 {"metadata":{"success":["/1.0/operations/00000000-0001-8000-8000-000000000001"]},"status":"Success","status_code":200,"type":"sync"}
-"#;
 
-/// An instance needs exactly one root disk, and all that it names.
-const ROOTS: &str = r#"
+~ run --now 0 --boot 1 = 0 7 2
+# An instance needs exactly one root disk, and all that it names.
 POST /1.0/storage-pools {"driver":"dir","name":"p0"}
 200 {"metadata":{},"status":"Success","status_code":200,"type":"sync"}
 POST /1.0/networks {"name":"br0"}
@@ -298,42 +297,8 @@ GET /1.0/operations
 200 {"metadata":{"success":["/1.0/operations/00000000-0001-8000-8000-000000000001","/1.0/operations/00000000-0001-8000-8000-000000000002"]},"status":"Success","status_code":200,"type":"sync"}
 "#;
 
-/// The runs of these scripts.
-pub(crate) const RUNS: [Run<'static>; 3] = [
-    Run {
-        name: "keys",
-        words: &["run", "--now", "0", "--boot", "1"],
-        script: KEYS,
-        tail: "",
-        written: "",
-        end: End {
-            status: 0,
-            kept: 5,
-            roots: 2,
-        },
-    },
-    Run {
-        name: "devices",
-        words: &["run", "--now", "0", "--boot", "1"],
-        script: DEVICES,
-        tail: "",
-        written: "",
-        end: End {
-            status: 0,
-            kept: 4,
-            roots: 1,
-        },
-    },
-    Run {
-        name: "roots",
-        words: &["run", "--now", "0", "--boot", "1"],
-        script: ROOTS,
-        tail: "",
-        written: "",
-        end: End {
-            status: 0,
-            kept: 7,
-            roots: 2,
-        },
-    },
-];
+#[test]
+fn wrong_settings_are_refused(rt: HostRuntime) {
+    let wrong = wrong_among(rt.alloc(), RUNS);
+    assert!(rt; wrong == Ok(("", "")), "{wrong:?}");
+}

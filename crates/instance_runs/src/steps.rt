@@ -1,10 +1,11 @@
 //! A background operation beside the steps of its worker: how far it is after each request, how it
 //! is listed, and how it is waited for.
 
-use host_runs::{End, Run};
+use host_runs::wrong_among;
 
-/// Without steps a creation stays pending.
-const NO_STEP: &str = r#"
+const RUNS: &str = r#"
+~ run --now 0 --boot 1 --steps 0 = 0 3 0
+# Without steps a creation stays pending.
 POST /1.0/storage-pools {"driver":"dir","name":"p0"}
 200 {"metadata":{},"status":"Success","status_code":200,"type":"sync"}
 PUT /1.0/profiles/default {"devices":{"root":{"path":"/","pool":"p0","size":"1GiB","type":"disk"}}}
@@ -25,10 +26,9 @@ GET /1.0/operations?recursion=1
 200 {"metadata":{"pending":[{"class":"task","created_at":"1970-01-01T00:00:00Z","err":"","id":"00000000-0001-8000-8000-000000000001","may_cancel":true,"metadata":null,"resources":{"instances":["/1.0/instances/a"]},"status":"Pending","status_code":105,"updated_at":"1970-01-01T00:00:00Z"}]},"status":"Success","status_code":200,"type":"sync"}
 GET /1.0/instances/a/state
 404 {"error":"object is missing","error_code":404,"metadata":{"kind":"instance","name":"a","rule":"N2"},"type":"error"}
-"#;
 
-/// One step after each reply: the operation is taken, then its two calls are made.
-const ONE_STEP: &str = r#"
+~ run --now 0 --boot 1 --steps 1 = 0 4 1
+# One step after each reply: the operation is taken, then its two calls are made.
 POST /1.0/storage-pools {"driver":"dir","name":"p0"}
 200 {"metadata":{},"status":"Success","status_code":200,"type":"sync"}
 PUT /1.0/profiles/default {"devices":{"root":{"path":"/","pool":"p0","size":"1GiB","type":"disk"}}}
@@ -49,10 +49,9 @@ GET /1.0/instances/a
 200 {"metadata":{"config":{},"created_at":"1970-01-01T00:00:00Z","description":"","devices":{},"ephemeral":false,"expanded_config":{},"expanded_devices":{"root":{"path":"/","pool":"p0","size":"1GiB","type":"disk"}},"name":"a","profiles":["default"],"project":"default","stateful":false,"status":"Stopped","status_code":102,"type":"container"},"status":"Success","status_code":200,"type":"sync"}
 GET /1.0/projects/default/state
 200 {"metadata":{"resources":{"containers":{"limit":-1,"usage":1},"cpu":{"limit":-1,"usage":0},"disk":{"limit":-1,"usage":1073741824},"instances":{"limit":-1,"usage":1},"memory":{"limit":-1,"usage":0},"networks":{"limit":-1,"usage":0},"processes":{"limit":-1,"usage":0},"virtual-machines":{"limit":-1,"usage":0}}},"status":"Success","status_code":200,"type":"sync"}
-"#;
 
-/// Two steps after each reply.
-const TWO_STEPS: &str = r#"
+~ run --now 0 --boot 1 --steps=2 = 0 4 1
+# Two steps after each reply.
 POST /1.0/storage-pools {"driver":"dir","name":"p0"}
 200 {"metadata":{},"status":"Success","status_code":200,"type":"sync"}
 PUT /1.0/profiles/default {"devices":{"root":{"path":"/","pool":"p0","size":"1GiB","type":"disk"}}}
@@ -69,10 +68,9 @@ GET /1.0/instances/a
 200 {"metadata":{"config":{},"created_at":"1970-01-01T00:00:00Z","description":"","devices":{},"ephemeral":false,"expanded_config":{},"expanded_devices":{"root":{"path":"/","pool":"p0","size":"1GiB","type":"disk"}},"name":"a","profiles":["default"],"project":"default","stateful":false,"status":"Stopped","status_code":102,"type":"container"},"status":"Success","status_code":200,"type":"sync"}
 GET /1.0/projects/default/state
 200 {"metadata":{"resources":{"containers":{"limit":-1,"usage":1},"cpu":{"limit":-1,"usage":0},"disk":{"limit":-1,"usage":1073741824},"instances":{"limit":-1,"usage":1},"memory":{"limit":-1,"usage":0},"networks":{"limit":-1,"usage":0},"processes":{"limit":-1,"usage":0},"virtual-machines":{"limit":-1,"usage":0}}},"status":"Success","status_code":200,"type":"sync"}
-"#;
 
-/// Three steps after each reply make the whole operation.
-const THREE_STEPS: &str = r#"
+~ run --now 0 --boot=1 --steps 3 = 0 4 1
+# Three steps after each reply make the whole operation.
 POST /1.0/storage-pools {"driver":"dir","name":"p0"}
 200 {"metadata":{},"status":"Success","status_code":200,"type":"sync"}
 PUT /1.0/profiles/default {"devices":{"root":{"path":"/","pool":"p0","size":"1GiB","type":"disk"}}}
@@ -87,10 +85,9 @@ GET /1.0/instances/a
 200 {"metadata":{"config":{},"created_at":"1970-01-01T00:00:00Z","description":"","devices":{},"ephemeral":false,"expanded_config":{},"expanded_devices":{"root":{"path":"/","pool":"p0","size":"1GiB","type":"disk"}},"name":"a","profiles":["default"],"project":"default","stateful":false,"status":"Stopped","status_code":102,"type":"container"},"status":"Success","status_code":200,"type":"sync"}
 GET /1.0/projects/default/state
 200 {"metadata":{"resources":{"containers":{"limit":-1,"usage":1},"cpu":{"limit":-1,"usage":0},"disk":{"limit":-1,"usage":1073741824},"instances":{"limit":-1,"usage":1},"memory":{"limit":-1,"usage":0},"networks":{"limit":-1,"usage":0},"processes":{"limit":-1,"usage":0},"virtual-machines":{"limit":-1,"usage":0}}},"status":"Success","status_code":200,"type":"sync"}
-"#;
 
-/// More steps than there is to do.
-const MANY_STEPS: &str = r#"
+~ run --now 0 --boot 1 --steps 1000 = 0 4 1
+# More steps than there is to do.
 POST /1.0/storage-pools {"driver":"dir","name":"p0"}
 200 {"metadata":{},"status":"Success","status_code":200,"type":"sync"}
 PUT /1.0/profiles/default {"devices":{"root":{"path":"/","pool":"p0","size":"1GiB","type":"disk"}}}
@@ -105,10 +102,9 @@ GET /1.0/instances/a
 200 {"metadata":{"config":{},"created_at":"1970-01-01T00:00:00Z","description":"","devices":{},"ephemeral":false,"expanded_config":{},"expanded_devices":{"root":{"path":"/","pool":"p0","size":"1GiB","type":"disk"}},"name":"a","profiles":["default"],"project":"default","stateful":false,"status":"Stopped","status_code":102,"type":"container"},"status":"Success","status_code":200,"type":"sync"}
 GET /1.0/projects/default/state
 200 {"metadata":{"resources":{"containers":{"limit":-1,"usage":1},"cpu":{"limit":-1,"usage":0},"disk":{"limit":-1,"usage":1073741824},"instances":{"limit":-1,"usage":1},"memory":{"limit":-1,"usage":0},"networks":{"limit":-1,"usage":0},"processes":{"limit":-1,"usage":0},"virtual-machines":{"limit":-1,"usage":0}}},"status":"Success","status_code":200,"type":"sync"}
-"#;
 
-/// All steps, by the word and by default.
-const ALL_STEPS: &str = r#"
+~ run --now 0 --boot 1 --steps all = 0 4 1
+# All steps, by the word and by default.
 POST /1.0/storage-pools {"driver":"dir","name":"p0"}
 200 {"metadata":{},"status":"Success","status_code":200,"type":"sync"}
 PUT /1.0/profiles/default {"devices":{"root":{"path":"/","pool":"p0","size":"1GiB","type":"disk"}}}
@@ -123,10 +119,9 @@ GET /1.0/instances/a
 200 {"metadata":{"config":{},"created_at":"1970-01-01T00:00:00Z","description":"","devices":{},"ephemeral":false,"expanded_config":{},"expanded_devices":{"root":{"path":"/","pool":"p0","size":"1GiB","type":"disk"}},"name":"a","profiles":["default"],"project":"default","stateful":false,"status":"Stopped","status_code":102,"type":"container"},"status":"Success","status_code":200,"type":"sync"}
 GET /1.0/projects/default/state
 200 {"metadata":{"resources":{"containers":{"limit":-1,"usage":1},"cpu":{"limit":-1,"usage":0},"disk":{"limit":-1,"usage":1073741824},"instances":{"limit":-1,"usage":1},"memory":{"limit":-1,"usage":0},"networks":{"limit":-1,"usage":0},"processes":{"limit":-1,"usage":0},"virtual-machines":{"limit":-1,"usage":0}}},"status":"Success","status_code":200,"type":"sync"}
-"#;
 
-/// The steps follow each reply, also that of a refusal and of a request that changes nothing.
-const REFUSALS_STEP_TOO: &str = r#"
+~ run --now 0 --boot 1 --steps 1 = 0 5 2
+# The steps follow each reply, also that of a refusal and of a request that changes nothing.
 POST /1.0/storage-pools {"driver":"dir","name":"p0"}
 200 {"metadata":{},"status":"Success","status_code":200,"type":"sync"}
 PUT /1.0/profiles/default {"devices":{"root":{"path":"/","pool":"p0","size":"1GiB","type":"disk"}}}
@@ -153,10 +148,9 @@ GET /1.0/operations
 200 {"metadata":{"success":["/1.0/operations/00000000-0001-8000-8000-000000000001","/1.0/operations/00000000-0001-8000-8000-000000000002"]},"status":"Success","status_code":200,"type":"sync"}
 GET /1.0/operations
 200 {"metadata":{"success":["/1.0/operations/00000000-0001-8000-8000-000000000001","/1.0/operations/00000000-0001-8000-8000-000000000002"]},"status":"Success","status_code":200,"type":"sync"}
-"#;
 
-/// The lowest pending operation is taken first, and each one is made to its end before the next.
-const IN_TURN: &str = r#"
+~ run --now 0 --boot 1 --steps 2 = 0 8 3
+# The lowest pending operation is taken first, and each one is made to its end before the next.
 POST /1.0/storage-pools {"driver":"dir","name":"p0"}
 200 {"metadata":{},"status":"Success","status_code":200,"type":"sync"}
 PUT /1.0/profiles/default {"devices":{"root":{"path":"/","pool":"p0","size":"1GiB","type":"disk"}}}
@@ -193,10 +187,9 @@ GET /1.0/operations?recursion=3
 400 {"error":"query is malformed","error_code":400,"metadata":{"key":"recursion","rule":"A3"},"type":"error"}
 GET /1.0/operations?filter=x
 400 {"error":"query is malformed","error_code":400,"metadata":{"key":"filter","rule":"A3"},"type":"error"}
-"#;
 
-/// A wait of no time is answered at once; any other one when its operation has ended.
-const WAITS: &str = r#"
+~ run --now 1700000000 --boot 1 --steps 0 = 0 8 5
+# A wait of no time is answered at once; any other one when its operation has ended.
 POST /1.0/storage-pools {"driver":"dir","name":"p0"}
 200 {"metadata":{},"status":"Success","status_code":200,"type":"sync"}
 PUT /1.0/profiles/default {"devices":{"root":{"path":"/","pool":"p0","size":"1GiB","type":"disk"}}}
@@ -249,10 +242,9 @@ GET /1.0/operations/00000000-0001-8000-8000-000000000005/wait?timeout=1&timeout=
 200 {"metadata":{"class":"task","created_at":"2023-11-14T22:13:20Z","err":"","id":"00000000-0001-8000-8000-000000000005","may_cancel":false,"metadata":null,"resources":{"instances":["/1.0/instances/e"]},"status":"Success","status_code":200,"updated_at":"2023-11-14T22:13:20Z"},"status":"Success","status_code":200,"type":"sync"}
 GET /1.0/instances
 200 {"metadata":["/1.0/instances/a","/1.0/instances/b","/1.0/instances/c","/1.0/instances/d","/1.0/instances/e"],"status":"Success","status_code":200,"type":"sync"}
-"#;
 
-/// A wait ends its operation and those before it, and leaves those behind it.
-const WAITS_FOR_OTHERS: &str = r#"
+~ run --now 0 --boot 1 --steps 0 = 0 6 3
+# A wait ends its operation and those before it, and leaves those behind it.
 POST /1.0/storage-pools {"driver":"dir","name":"p0"}
 200 {"metadata":{},"status":"Success","status_code":200,"type":"sync"}
 PUT /1.0/profiles/default {"devices":{"root":{"path":"/","pool":"p0","size":"1GiB","type":"disk"}}}
@@ -279,10 +271,9 @@ GET /1.0/operations
 200 {"metadata":{"success":["/1.0/operations/00000000-0001-8000-8000-000000000001","/1.0/operations/00000000-0001-8000-8000-000000000002","/1.0/operations/00000000-0001-8000-8000-000000000003"]},"status":"Success","status_code":200,"type":"sync"}
 GET /1.0/instances
 200 {"metadata":["/1.0/instances/a","/1.0/instances/b","/1.0/instances/c"],"status":"Success","status_code":200,"type":"sync"}
-"#;
 
-/// A wait for an operation whose first call is out.
-const WAITS_UNDER_WAY: &str = r#"
+~ run --now 0 --boot 1 --steps 1 = 0 6 3
+# A wait for an operation whose first call is out.
 POST /1.0/storage-pools {"driver":"dir","name":"p0"}
 200 {"metadata":{},"status":"Success","status_code":200,"type":"sync"}
 PUT /1.0/profiles/default {"devices":{"root":{"path":"/","pool":"p0","size":"1GiB","type":"disk"}}}
@@ -303,10 +294,9 @@ GET /1.0/operations/00000000-0001-8000-8000-000000000003/wait
 200 {"metadata":{"class":"task","created_at":"1970-01-01T00:00:00Z","err":"","id":"00000000-0001-8000-8000-000000000003","may_cancel":false,"metadata":null,"resources":{"instances":["/1.0/instances/c"]},"status":"Success","status_code":200,"updated_at":"1970-01-01T00:00:00Z"},"status":"Success","status_code":200,"type":"sync"}
 GET /1.0/operations
 200 {"metadata":{"success":["/1.0/operations/00000000-0001-8000-8000-000000000001","/1.0/operations/00000000-0001-8000-8000-000000000002","/1.0/operations/00000000-0001-8000-8000-000000000003"]},"status":"Success","status_code":200,"type":"sync"}
-"#;
 
-/// The texts that name an operation of this run.
-const IDS: &str = r#"
+~ run --now 0 --boot 281474976710657 --steps 0 = 0 3 0
+# The texts that name an operation of this run.
 POST /1.0/storage-pools {"driver":"dir","name":"p0"}
 200 {"metadata":{},"status":"Success","status_code":200,"type":"sync"}
 PUT /1.0/profiles/default {"devices":{"root":{"path":"/","pool":"p0","size":"1GiB","type":"disk"}}}
@@ -374,10 +364,9 @@ GET /1.0/operations/00000000-0001-8000-8000-000000000001?project=nope
 200 {"metadata":{"class":"task","created_at":"1970-01-01T00:00:00Z","err":"","id":"00000000-0001-8000-8000-000000000001","may_cancel":true,"metadata":null,"resources":{"instances":["/1.0/instances/a"]},"status":"Pending","status_code":105,"updated_at":"1970-01-01T00:00:00Z"},"status":"Success","status_code":200,"type":"sync"}
 GET /1.0/operations/00000000-0001-8000-8000-000000000001/wait?timeout=0&project=nope
 200 {"metadata":{"class":"task","created_at":"1970-01-01T00:00:00Z","err":"","id":"00000000-0001-8000-8000-000000000001","may_cancel":true,"metadata":null,"resources":{"instances":["/1.0/instances/a"]},"status":"Pending","status_code":105,"updated_at":"1970-01-01T00:00:00Z"},"status":"Success","status_code":200,"type":"sync"}
-"#;
 
-/// Of the boot word 48 bits are told, in letters of hexadecimal digits.
-const LARGE_BOOT: &str = r#"
+~ run --now 253402300799 --boot 18446744073709551615 = 0 4 1
+# Of the boot word 48 bits are told, in letters of hexadecimal digits.
 POST /1.0/storage-pools {"driver":"dir","name":"p0"}
 200 {"metadata":{},"status":"Success","status_code":200,"type":"sync"}
 PUT /1.0/profiles/default {"devices":{"root":{"path":"/","pool":"p0","size":"1GiB","type":"disk"}}}
@@ -394,176 +383,8 @@ GET /1.0/instances/a
 200 {"metadata":{"config":{},"created_at":"9999-12-31T23:59:59Z","description":"","devices":{},"ephemeral":false,"expanded_config":{},"expanded_devices":{"root":{"path":"/","pool":"p0","size":"1GiB","type":"disk"}},"name":"a","profiles":["default"],"project":"default","stateful":false,"status":"Stopped","status_code":102,"type":"container"},"status":"Success","status_code":200,"type":"sync"}
 "#;
 
-/// The runs of these scripts.
-pub(crate) const RUNS: [Run<'static>; 13] = [
-    Run {
-        name: "no step",
-        words: &["run", "--now", "0", "--boot", "1", "--steps", "0"],
-        script: NO_STEP,
-        tail: "",
-        written: "",
-        end: End {
-            status: 0,
-            kept: 3,
-            roots: 0,
-        },
-    },
-    Run {
-        name: "one step",
-        words: &["run", "--now", "0", "--boot", "1", "--steps", "1"],
-        script: ONE_STEP,
-        tail: "",
-        written: "",
-        end: End {
-            status: 0,
-            kept: 4,
-            roots: 1,
-        },
-    },
-    Run {
-        name: "two steps",
-        words: &["run", "--now", "0", "--boot", "1", "--steps=2"],
-        script: TWO_STEPS,
-        tail: "",
-        written: "",
-        end: End {
-            status: 0,
-            kept: 4,
-            roots: 1,
-        },
-    },
-    Run {
-        name: "three steps",
-        words: &["run", "--now", "0", "--boot=1", "--steps", "3"],
-        script: THREE_STEPS,
-        tail: "",
-        written: "",
-        end: End {
-            status: 0,
-            kept: 4,
-            roots: 1,
-        },
-    },
-    Run {
-        name: "many steps",
-        words: &["run", "--now", "0", "--boot", "1", "--steps", "1000"],
-        script: MANY_STEPS,
-        tail: "",
-        written: "",
-        end: End {
-            status: 0,
-            kept: 4,
-            roots: 1,
-        },
-    },
-    Run {
-        name: "all steps",
-        words: &["run", "--now", "0", "--boot", "1", "--steps", "all"],
-        script: ALL_STEPS,
-        tail: "",
-        written: "",
-        end: End {
-            status: 0,
-            kept: 4,
-            roots: 1,
-        },
-    },
-    Run {
-        name: "refusals step too",
-        words: &["run", "--now", "0", "--boot", "1", "--steps", "1"],
-        script: REFUSALS_STEP_TOO,
-        tail: "",
-        written: "",
-        end: End {
-            status: 0,
-            kept: 5,
-            roots: 2,
-        },
-    },
-    Run {
-        name: "in turn",
-        words: &["run", "--now", "0", "--boot", "1", "--steps", "2"],
-        script: IN_TURN,
-        tail: "",
-        written: "",
-        end: End {
-            status: 0,
-            kept: 8,
-            roots: 3,
-        },
-    },
-    Run {
-        name: "waits",
-        words: &["run", "--now", "1700000000", "--boot", "1", "--steps", "0"],
-        script: WAITS,
-        tail: "",
-        written: "",
-        end: End {
-            status: 0,
-            kept: 8,
-            roots: 5,
-        },
-    },
-    Run {
-        name: "waits for others",
-        words: &["run", "--now", "0", "--boot", "1", "--steps", "0"],
-        script: WAITS_FOR_OTHERS,
-        tail: "",
-        written: "",
-        end: End {
-            status: 0,
-            kept: 6,
-            roots: 3,
-        },
-    },
-    Run {
-        name: "waits under way",
-        words: &["run", "--now", "0", "--boot", "1", "--steps", "1"],
-        script: WAITS_UNDER_WAY,
-        tail: "",
-        written: "",
-        end: End {
-            status: 0,
-            kept: 6,
-            roots: 3,
-        },
-    },
-    Run {
-        name: "ids",
-        words: &[
-            "run",
-            "--now",
-            "0",
-            "--boot",
-            "281474976710657",
-            "--steps",
-            "0",
-        ],
-        script: IDS,
-        tail: "",
-        written: "",
-        end: End {
-            status: 0,
-            kept: 3,
-            roots: 0,
-        },
-    },
-    Run {
-        name: "large boot",
-        words: &[
-            "run",
-            "--now",
-            "253402300799",
-            "--boot",
-            "18446744073709551615",
-        ],
-        script: LARGE_BOOT,
-        tail: "",
-        written: "",
-        end: End {
-            status: 0,
-            kept: 4,
-            roots: 1,
-        },
-    },
-];
+#[test]
+fn operations_go_on_step_by_step(rt: HostRuntime) {
+    let wrong = wrong_among(rt.alloc(), RUNS);
+    assert!(rt; wrong == Ok(("", "")), "{wrong:?}");
+}
