@@ -3,8 +3,6 @@
 #![tactic(auto)]
 
 #[cfg(test)]
-mod all_runs;
-#[cfg(test)]
 mod claims;
 #[cfg(test)]
 mod creations;

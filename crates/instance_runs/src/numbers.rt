@@ -1,23 +1,18 @@
 //! Many operations: how many may be live, how many ended ones are kept, and the sizes of rows.
 
-use host_runs::{End, Repeated, Run, is_repeated_well};
+use host_runs::is_spelled_well;
 
-/// What there is before the repeated lines.
-const LIVE_FIRST: &str = r#"
+const RUNS: &str = r#"
+~ run --now 0 --boot 1 --steps 0 = 0 1029 1026
+# There are at most 1,024 live operations; of the ended ones 256 are kept.
 POST /1.0/storage-pools {"driver":"dir","name":"p0"}
 200 {"metadata":{},"status":"Success","status_code":200,"type":"sync"}
 PUT /1.0/profiles/default {"devices":{"root":{"path":"/","pool":"p0","size":"1GiB","type":"disk"}}}
 200 {"metadata":{},"status":"Success","status_code":200,"type":"sync"}
-"#;
-
-/// One of the creations.
-const LIVE_REPEATED: &str = r#"
+* 1024
 POST /1.0/instances {"name":"i<>","source":{"type":"none"}}
 202 /1.0/operations/00000000-0001-8000-8000-<x> {"metadata":{"class":"task","created_at":"1970-01-01T00:00:00Z","err":"","id":"00000000-0001-8000-8000-<x>","may_cancel":true,"metadata":null,"resources":{"instances":["/1.0/instances/i<>"]},"status":"Pending","status_code":105,"updated_at":"1970-01-01T00:00:00Z"},"operation":"/1.0/operations/00000000-0001-8000-8000-<x>","status":"Operation created","status_code":100,"type":"async"}
-"#;
-
-/// There are at most 1,024 live operations; of the ended ones 256 are kept.
-const LIVE_AFTER: &str = r#"
+*
 # no room for one more: names, settings, and limits go before that, the size of the row after it
 POST /1.0/instances {"name":"more","source":{"type":"none"}}
 409 {"error":"too many live operations","error_code":409,"metadata":{"number":1024,"rule":"O4"},"type":"error"}
@@ -89,43 +84,17 @@ GET /1.0/operations/00000000-0001-8000-8000-000000000303
 200 {"metadata":{"class":"task","created_at":"1970-01-01T00:00:00Z","err":"","id":"00000000-0001-8000-8000-000000000303","may_cancel":false,"metadata":null,"resources":{"instances":["/1.0/instances/i771"]},"status":"Success","status_code":200,"updated_at":"1970-01-01T00:00:00Z"},"status":"Success","status_code":200,"type":"sync"}
 GET /1.0/projects/default/state
 200 {"metadata":{"resources":{"containers":{"limit":-1,"usage":1026},"cpu":{"limit":-1,"usage":0},"disk":{"limit":-1,"usage":1101659111424},"instances":{"limit":-1,"usage":1026},"memory":{"limit":-1,"usage":0},"networks":{"limit":-1,"usage":0},"processes":{"limit":-1,"usage":0},"virtual-machines":{"limit":-1,"usage":0}}},"status":"Success","status_code":200,"type":"sync"}
-"#;
 
-/// There are at most 1,024 live operations; of the ended ones 256 are kept.
-const LIVE_RUN: Repeated<'static> = Repeated {
-    run: Run {
-        name: "live",
-        words: &["run", "--now", "0", "--boot", "1", "--steps", "0"],
-        script: LIVE_FIRST,
-        tail: "",
-        written: "",
-        end: End {
-            status: 0,
-            kept: 1029,
-            roots: 1026,
-        },
-    },
-    lines: LIVE_REPEATED,
-    last: 1024,
-    after: LIVE_AFTER,
-};
-
-/// What there is before the repeated lines.
-const ENDED_FIRST: &str = r#"
+~ run --now 0 --boot 1 = 0 261 258
+# An ended operation is dropped by the 256th end after it.
 POST /1.0/storage-pools {"driver":"dir","name":"p0"}
 200 {"metadata":{},"status":"Success","status_code":200,"type":"sync"}
 PUT /1.0/profiles/default {"devices":{"root":{"path":"/","pool":"p0","size":"1GiB","type":"disk"}}}
 200 {"metadata":{},"status":"Success","status_code":200,"type":"sync"}
-"#;
-
-/// One of the creations.
-const ENDED_REPEATED: &str = r#"
+* 256
 POST /1.0/instances {"name":"i<>","source":{"type":"none"}}
 202 /1.0/operations/00000000-0001-8000-8000-<x> {"metadata":{"class":"task","created_at":"1970-01-01T00:00:00Z","err":"","id":"00000000-0001-8000-8000-<x>","may_cancel":true,"metadata":null,"resources":{"instances":["/1.0/instances/i<>"]},"status":"Pending","status_code":105,"updated_at":"1970-01-01T00:00:00Z"},"operation":"/1.0/operations/00000000-0001-8000-8000-<x>","status":"Operation created","status_code":100,"type":"async"}
-"#;
-
-/// An ended operation is dropped by the 256th end after it.
-const ENDED_AFTER: &str = r#"
+*
 GET /1.0/operations/00000000-0001-8000-8000-000000000001
 200 {"metadata":{"class":"task","created_at":"1970-01-01T00:00:00Z","err":"","id":"00000000-0001-8000-8000-000000000001","may_cancel":false,"metadata":null,"resources":{"instances":["/1.0/instances/i1"]},"status":"Success","status_code":200,"updated_at":"1970-01-01T00:00:00Z"},"status":"Success","status_code":200,"type":"sync"}
 GET /1.0/operations/00000000-0001-8000-8000-000000000001/wait
@@ -152,29 +121,9 @@ GET /1.0/operations/00000000-0001-8000-8000-000000000102
 200 {"metadata":{"class":"task","created_at":"1970-01-01T00:00:00Z","err":"","id":"00000000-0001-8000-8000-000000000102","may_cancel":false,"metadata":null,"resources":{"instances":["/1.0/instances/last"]},"status":"Success","status_code":200,"updated_at":"1970-01-01T00:00:00Z"},"status":"Success","status_code":200,"type":"sync"}
 POST /1.0/instances {"name":"i1","source":{"type":"none"}}
 409 {"error":"name is taken","error_code":409,"metadata":{"kind":"instance","name":"i1","rule":"N4"},"type":"error"}
-"#;
 
-/// An ended operation is dropped by the 256th end after it.
-const ENDED_RUN: Repeated<'static> = Repeated {
-    run: Run {
-        name: "ended",
-        words: &["run", "--now", "0", "--boot", "1"],
-        script: ENDED_FIRST,
-        tail: "",
-        written: "",
-        end: End {
-            status: 0,
-            kept: 261,
-            roots: 258,
-        },
-    },
-    lines: ENDED_REPEATED,
-    last: 256,
-    after: ENDED_AFTER,
-};
-
-/// Rows about the most bytes of one, 65,536.
-const SIZES: &str = r#"
+~ run --now 0 --boot 1 = 0 7 4
+# Rows about the most bytes of one, 65,536.
 POST /1.0/storage-pools {"driver":"dir","name":"p0"}
 200 {"metadata":{},"status":"Success","status_code":200,"type":"sync"}
 PUT /1.0/profiles/default {"devices":{"root":{"path":"/","pool":"p0","size":"1GiB","type":"disk"}}}
@@ -215,31 +164,7 @@ GET /1.0/operations
 200 {"metadata":{"success":["/1.0/operations/00000000-0001-8000-8000-000000000001","/1.0/operations/00000000-0001-8000-8000-000000000002","/1.0/operations/00000000-0001-8000-8000-000000000003","/1.0/operations/00000000-0001-8000-8000-000000000004"]},"status":"Success","status_code":200,"type":"sync"}
 "#;
 
-/// Rows about the most bytes of one, 65,536.
-const SIZES_RUN: Repeated<'static> = Repeated {
-    run: Run {
-        name: "sizes",
-        words: &["run", "--now", "0", "--boot", "1"],
-        script: SIZES,
-        tail: "",
-        written: "",
-        end: End {
-            status: 0,
-            kept: 7,
-            roots: 4,
-        },
-    },
-    lines: "",
-    last: 0,
-    after: "",
-};
-
-/// The runs of these scripts.
-const RUNS: [Repeated<'static>; 3] = [LIVE_RUN, ENDED_RUN, SIZES_RUN];
-
 #[test]
 fn many_operations(rt: HostRuntime) {
-    for all in RUNS {
-        assert!(rt; is_repeated_well(rt.alloc(), all) == Ok(true));
-    }
+    assert!(rt; is_spelled_well(rt.alloc(), RUNS) == Ok(true));
 }
