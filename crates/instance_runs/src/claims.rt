@@ -1,7 +1,9 @@
 //! What a creation that has not ended holds: its name, its profiles, its devices, its project, and
 //! its share.
 
+use crate::all_runs::Wrong;
 use host_runs::wrong_among;
+use std::alloc::Global;
 
 const RUNS: &str = r#"
 ~ run --now 0 --boot 1 --steps 0 = 0 8 3
@@ -299,8 +301,7 @@ GET /1.0/projects/lab/state
 200 {"metadata":{"resources":{"containers":{"limit":-1,"usage":2},"cpu":{"limit":10,"usage":10},"disk":{"limit":107374182400,"usage":33285996544},"instances":{"limit":5,"usage":3},"memory":{"limit":-1,"usage":3073741824},"networks":{"limit":-1,"usage":0},"processes":{"limit":-1,"usage":107},"virtual-machines":{"limit":-1,"usage":1}}},"status":"Success","status_code":200,"type":"sync"}
 "#;
 
-#[test]
-fn operations_hold_what_they_need(rt: HostRuntime) {
-    let wrong = wrong_among(rt.alloc(), RUNS);
-    assert!(rt; wrong == Ok(("", "")), "{wrong:?}");
+/// What is wrong in these runs.
+pub(crate) fn wrong_run(alloc: Global) -> Wrong {
+    wrong_among(alloc, RUNS)
 }

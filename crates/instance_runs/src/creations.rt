@@ -1,6 +1,8 @@
 //! Instances are made in the background, shown, listed, and found by what they use.
 
+use crate::all_runs::Wrong;
 use host_runs::wrong_among;
+use std::alloc::Global;
 
 const RUNS: &str = r#"
 ~ run --now 0 --boot 1 = 0 13 6
@@ -243,8 +245,7 @@ GET /1.0/projects/default/state
 200 {"metadata":{"resources":{"containers":{"limit":-1,"usage":0},"cpu":{"limit":-1,"usage":0},"disk":{"limit":-1,"usage":0},"instances":{"limit":-1,"usage":0},"memory":{"limit":-1,"usage":0},"networks":{"limit":-1,"usage":1},"processes":{"limit":-1,"usage":0},"virtual-machines":{"limit":-1,"usage":0}}},"status":"Success","status_code":200,"type":"sync"}
 "#;
 
-#[test]
-fn instances_are_made(rt: HostRuntime) {
-    let wrong = wrong_among(rt.alloc(), RUNS);
-    assert!(rt; wrong == Ok(("", "")), "{wrong:?}");
+/// What is wrong in these runs.
+pub(crate) fn wrong_run(alloc: Global) -> Wrong {
+    wrong_among(alloc, RUNS)
 }

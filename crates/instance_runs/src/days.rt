@@ -1,6 +1,8 @@
 //! Small runs, each of one thought, and the clock and the boot word that are handed in.
 
+use crate::all_runs::Wrong;
 use host_runs::wrong_among;
+use std::alloc::Global;
 
 const RUNS: &str = r#"
 ~ run = 0 4 1
@@ -184,8 +186,7 @@ GET /1.0/projects/default/state
 200 {"metadata":{"resources":{"containers":{"limit":-1,"usage":1},"cpu":{"limit":-1,"usage":0},"disk":{"limit":-1,"usage":1073741824},"instances":{"limit":-1,"usage":1},"memory":{"limit":-1,"usage":0},"networks":{"limit":-1,"usage":0},"processes":{"limit":-1,"usage":0},"virtual-machines":{"limit":-1,"usage":0}}},"status":"Success","status_code":200,"type":"sync"}
 "#;
 
-#[test]
-fn small_runs(rt: HostRuntime) {
-    let wrong = wrong_among(rt.alloc(), RUNS);
-    assert!(rt; wrong == Ok(("", "")), "{wrong:?}");
+/// What is wrong in these runs.
+pub(crate) fn wrong_run(alloc: Global) -> Wrong {
+    wrong_among(alloc, RUNS)
 }

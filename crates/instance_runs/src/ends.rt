@@ -1,6 +1,8 @@
 //! How runs with operations end: the steps that follow the last reply, and those that do not come.
 
+use crate::all_runs::Wrong;
 use host_runs::wrong_among;
+use std::alloc::Global;
 
 const RUNS: &str = r#"
 ~ run --now 0 --boot 1 --steps 0 = 0 3 0
@@ -165,8 +167,7 @@ GET /1.0/events?type=x
 >>{"error":"events need a WebSocket","error_code":400,"metadata":{"rule":"A6"},"type":"error"}
 "#;
 
-#[test]
-fn runs_end(rt: HostRuntime) {
-    let wrong = wrong_among(rt.alloc(), RUNS);
-    assert!(rt; wrong == Ok(("", "")), "{wrong:?}");
+/// What is wrong in these runs.
+pub(crate) fn wrong_run(alloc: Global) -> Wrong {
+    wrong_among(alloc, RUNS)
 }

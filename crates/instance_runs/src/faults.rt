@@ -1,7 +1,9 @@
 //! Calls of the host and of the store that fail: the creation fails with what it tells, and all is
 //! as it was.
 
+use crate::all_runs::Wrong;
 use host_runs::wrong_among;
+use std::alloc::Global;
 
 const RUNS: &str = r#"
 ~ run --now 0 --boot 1 --fail-host 1 = 0 6 1
@@ -265,8 +267,7 @@ GET /1.0/operations/00000000-0001-8000-8000-000000000001
 200 {"metadata":{"class":"task","created_at":"1970-01-01T00:00:00Z","err":"host call failed","id":"00000000-0001-8000-8000-000000000001","may_cancel":false,"metadata":{"after":1,"before":0,"call":1},"resources":{"instances":["/1.0/instances/a"]},"status":"Failure","status_code":400,"updated_at":"1970-01-01T00:00:00Z"},"status":"Success","status_code":200,"type":"sync"}
 "#;
 
-#[test]
-fn faults_leave_nothing_behind(rt: HostRuntime) {
-    let wrong = wrong_among(rt.alloc(), RUNS);
-    assert!(rt; wrong == Ok(("", "")), "{wrong:?}");
+/// What is wrong in these runs.
+pub(crate) fn wrong_run(alloc: Global) -> Wrong {
+    wrong_among(alloc, RUNS)
 }

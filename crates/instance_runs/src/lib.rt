@@ -3,6 +3,8 @@
 #![tactic(auto)]
 
 #[cfg(test)]
+mod all_runs;
+#[cfg(test)]
 mod claims;
 #[cfg(test)]
 mod creations;
@@ -13,14 +15,6 @@ mod ends;
 #[cfg(test)]
 mod faults;
 #[cfg(test)]
-mod forms;
-#[cfg(test)]
-mod limits;
-#[cfg(test)]
 mod numbers;
-#[cfg(test)]
-mod policies;
-#[cfg(test)]
-mod settings;
 #[cfg(test)]
 mod steps;

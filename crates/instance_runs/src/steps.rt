@@ -1,7 +1,9 @@
 //! A background operation beside the steps of its worker: how far it is after each request, how it
 //! is listed, and how it is waited for.
 
+use crate::all_runs::Wrong;
 use host_runs::wrong_among;
+use std::alloc::Global;
 
 const RUNS: &str = r#"
 ~ run --now 0 --boot 1 --steps 0 = 0 3 0
@@ -383,8 +385,7 @@ GET /1.0/instances/a
 200 {"metadata":{"config":{},"created_at":"9999-12-31T23:59:59Z","description":"","devices":{},"ephemeral":false,"expanded_config":{},"expanded_devices":{"root":{"path":"/","pool":"p0","size":"1GiB","type":"disk"}},"name":"a","profiles":["default"],"project":"default","stateful":false,"status":"Stopped","status_code":102,"type":"container"},"status":"Success","status_code":200,"type":"sync"}
 "#;
 
-#[test]
-fn operations_go_on_step_by_step(rt: HostRuntime) {
-    let wrong = wrong_among(rt.alloc(), RUNS);
-    assert!(rt; wrong == Ok(("", "")), "{wrong:?}");
+/// What is wrong in these runs.
+pub(crate) fn wrong_run(alloc: Global) -> Wrong {
+    wrong_among(alloc, RUNS)
 }

@@ -1,6 +1,8 @@
 //! Settings, devices and profiles of instances that are refused.
 
+use crate::all_runs::Wrong;
 use host_runs::wrong_among;
+use std::alloc::Global;
 
 const RUNS: &str = r#"
 ~ run --now 0 --boot 1 = 0 5 2
@@ -297,8 +299,7 @@ GET /1.0/operations
 200 {"metadata":{"success":["/1.0/operations/00000000-0001-8000-8000-000000000001","/1.0/operations/00000000-0001-8000-8000-000000000002"]},"status":"Success","status_code":200,"type":"sync"}
 "#;
 
-#[test]
-fn wrong_settings_are_refused(rt: HostRuntime) {
-    let wrong = wrong_among(rt.alloc(), RUNS);
-    assert!(rt; wrong == Ok(("", "")), "{wrong:?}");
+/// What is wrong in these runs.
+pub(crate) fn wrong_run(alloc: Global) -> Wrong {
+    wrong_among(alloc, RUNS)
 }

@@ -1,7 +1,9 @@
 //! What a restricted project forbids: by own settings, through profiles, of creations that have not
 //! ended.
 
+use crate::all_runs::Wrong;
 use host_runs::wrong_among;
+use std::alloc::Global;
 
 const RUNS: &str = r#"
 ~ run --now 0 --boot 1 = 0 13 5
@@ -326,8 +328,7 @@ GET /1.0/projects/u
 200 {"metadata":{"config":{"features.images":"true","features.profiles":"true","features.storage.buckets":"true","features.storage.volumes":"true","restricted":"true","restricted.containers.lowlevel":"allow","restricted.containers.nesting":"allow","restricted.containers.privilege":"allow"},"description":"","name":"u","used_by":["/1.0/instances/a?project=u","/1.0/instances/b?project=u","/1.0/instances/c?project=u","/1.0/profiles/default?project=u"]},"status":"Success","status_code":200,"type":"sync"}
 "#;
 
-#[test]
-fn policies_forbid(rt: HostRuntime) {
-    let wrong = wrong_among(rt.alloc(), RUNS);
-    assert!(rt; wrong == Ok(("", "")), "{wrong:?}");
+/// What is wrong in these runs.
+pub(crate) fn wrong_run(alloc: Global) -> Wrong {
+    wrong_among(alloc, RUNS)
 }

@@ -1,7 +1,9 @@
 //! Limits of a project: each met exactly and exceeded by one, by instances and by creations that
 //! have not ended.
 
+use crate::all_runs::Wrong;
 use host_runs::wrong_among;
+use std::alloc::Global;
 
 const RUNS: &str = r#"
 ~ run --now 0 --boot 1 --steps 0 = 0 7 2
@@ -547,8 +549,7 @@ GET /1.0/operations?project=lab&recursion=1
 200 {"metadata":{"failure":[{"class":"task","created_at":"1970-01-01T00:00:00Z","err":"host call failed","id":"00000000-0001-8000-8000-000000000001","may_cancel":false,"metadata":{"after":1,"before":0,"call":1},"resources":{"instances":["/1.0/instances/a?project=lab"]},"status":"Failure","status_code":400,"updated_at":"1970-01-01T00:00:00Z"},{"class":"task","created_at":"1970-01-01T00:00:00Z","err":"host call failed","id":"00000000-0001-8000-8000-000000000002","may_cancel":false,"metadata":{"after":2,"before":1,"call":2},"resources":{"instances":["/1.0/instances/b?project=lab"]},"status":"Failure","status_code":400,"updated_at":"1970-01-01T00:00:00Z"}],"success":[{"class":"task","created_at":"1970-01-01T00:00:00Z","err":"","id":"00000000-0001-8000-8000-000000000003","may_cancel":false,"metadata":null,"resources":{"instances":["/1.0/instances/c?project=lab"]},"status":"Success","status_code":200,"updated_at":"1970-01-01T00:00:00Z"},{"class":"task","created_at":"1970-01-01T00:00:00Z","err":"","id":"00000000-0001-8000-8000-000000000004","may_cancel":false,"metadata":null,"resources":{"instances":["/1.0/instances/a?project=lab"]},"status":"Success","status_code":200,"updated_at":"1970-01-01T00:00:00Z"}]},"status":"Success","status_code":200,"type":"sync"}
 "#;
 
-#[test]
-fn limits_hold(rt: HostRuntime) {
-    let wrong = wrong_among(rt.alloc(), RUNS);
-    assert!(rt; wrong == Ok(("", "")), "{wrong:?}");
+/// What is wrong in these runs.
+pub(crate) fn wrong_run(alloc: Global) -> Wrong {
+    wrong_among(alloc, RUNS)
 }
