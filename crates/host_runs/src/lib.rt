@@ -7,4 +7,4 @@ mod runs;
 mod scripts;
 
 pub use repeats::is_spelled_well;
-pub use scripts::wrong_among;
+pub use scripts::{Wrong, first_wrong, wrong_among};

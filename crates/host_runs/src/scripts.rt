@@ -189,14 +189,27 @@ pub(crate) fn wrong_in<'a>(alloc: Global, run: &'a str) -> Result<&'a str, NoMem
     wrong
 }
 
-/// The first line of the first run that goes wrong, and what is wrong in it; empty texts where
-/// none does.
-pub fn wrong_among<'a>(alloc: Global, runs: &'a str) -> Result<(&'a str, &'a str), NoMemory> {
+/// The first line of the first run that goes wrong, and what is wrong in it; empty texts where none
+/// does.
+pub type Wrong = Result<(&'static str, &'static str), NoMemory>;
+
+/// What is wrong in the runs of a text.
+pub fn wrong_among(alloc: Global, runs: &'static str) -> Wrong {
     for run in runs.split('~').skip(1) {
         let wrong = wrong_in(alloc, run)?;
         if !wrong.is_empty() {
             let (header, _) = run.split_once('\n').unwrap_or((run, ""));
             return Ok((header, wrong));
+        }
+    }
+    Ok(("", ""))
+}
+
+/// The first of these in which something is wrong.
+pub fn first_wrong(all: &[Wrong]) -> Wrong {
+    for wrong in all {
+        if *wrong != Ok(("", "")) {
+            return *wrong;
         }
     }
     Ok(("", ""))

@@ -1,8 +1,7 @@
 //! What a creation that has not ended holds: its name, its profiles, its devices, its project, and
 //! its share.
 
-use crate::all_runs::Wrong;
-use host_runs::wrong_among;
+use host_runs::{Wrong, wrong_among};
 use std::alloc::Global;
 
 const RUNS: &str = r#"

@@ -1,7 +1,6 @@
 //! Instances are made in the background, shown, listed, and found by what they use.
 
-use crate::all_runs::Wrong;
-use host_runs::wrong_among;
+use host_runs::{Wrong, wrong_among};
 use std::alloc::Global;
 
 const RUNS: &str = r#"

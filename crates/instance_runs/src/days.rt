@@ -1,7 +1,6 @@
 //! Small runs, each of one thought, and the clock and the boot word that are handed in.
 
-use crate::all_runs::Wrong;
-use host_runs::wrong_among;
+use host_runs::{Wrong, wrong_among};
 use std::alloc::Global;
 
 const RUNS: &str = r#"

@@ -1,7 +1,6 @@
 //! How runs with operations end: the steps that follow the last reply, and those that do not come.
 
-use crate::all_runs::Wrong;
-use host_runs::wrong_among;
+use host_runs::{Wrong, wrong_among};
 use std::alloc::Global;
 
 const RUNS: &str = r#"

@@ -1,8 +1,7 @@
 //! Calls of the host and of the store that fail: the creation fails with what it tells, and all is
 //! as it was.
 
-use crate::all_runs::Wrong;
-use host_runs::wrong_among;
+use host_runs::{Wrong, wrong_among};
 use std::alloc::Global;
 
 const RUNS: &str = r#"

@@ -1,8 +1,7 @@
 //! A background operation beside the steps of its worker: how far it is after each request, how it
 //! is listed, and how it is waited for.
 
-use crate::all_runs::Wrong;
-use host_runs::wrong_among;
+use host_runs::{Wrong, wrong_among};
 use std::alloc::Global;
 
 const RUNS: &str = r#"

@@ -1,25 +1,11 @@
 //! The runs of all files, judged by one test, since each test is proved by itself.
 
 use crate::{forms, limits, policies, settings};
-use size_values::NoMemory;
+use host_runs::{Wrong, first_wrong};
 use std::alloc::Global;
 
-/// The first line of the first run that goes wrong, and what is wrong in it; empty texts where none
-/// does.
-pub(crate) type Wrong = Result<(&'static str, &'static str), NoMemory>;
-
-/// The first of these in which something is wrong.
-fn first_wrong(all: [Wrong; 4]) -> Wrong {
-    for wrong in all {
-        if wrong != Ok(("", "")) {
-            return wrong;
-        }
-    }
-    Ok(("", ""))
-}
-
 fn wrong_run(alloc: Global) -> Wrong {
-    first_wrong([
+    first_wrong(&[
         limits::wrong_run(alloc),
         forms::wrong_run(alloc),
         settings::wrong_run(alloc),

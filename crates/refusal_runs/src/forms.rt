@@ -1,8 +1,7 @@
 //! Requests on instances and operations that are refused for their form or their names, and change
 //! nothing.
 
-use crate::all_runs::Wrong;
-use host_runs::wrong_among;
+use host_runs::{Wrong, wrong_among};
 use std::alloc::Global;
 
 const RUNS: &str = r#"

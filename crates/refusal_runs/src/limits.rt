@@ -1,8 +1,7 @@
 //! Limits of a project: each met exactly and exceeded by one, by instances and by creations that
 //! have not ended.
 
-use crate::all_runs::Wrong;
-use host_runs::wrong_among;
+use host_runs::{Wrong, wrong_among};
 use std::alloc::Global;
 
 const RUNS: &str = r#"

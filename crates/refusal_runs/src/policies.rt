@@ -1,8 +1,7 @@
 //! What a restricted project forbids: by own settings, through profiles, of creations that have not
 //! ended.
 
-use crate::all_runs::Wrong;
-use host_runs::wrong_among;
+use host_runs::{Wrong, wrong_among};
 use std::alloc::Global;
 
 const RUNS: &str = r#"

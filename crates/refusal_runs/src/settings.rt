@@ -1,7 +1,6 @@
 //! Settings, devices and profiles of instances that are refused.
 
-use crate::all_runs::Wrong;
-use host_runs::wrong_among;
+use host_runs::{Wrong, wrong_among};
 use std::alloc::Global;
 
 const RUNS: &str = r#"
