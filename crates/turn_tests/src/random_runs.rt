@@ -1,0 +1,62 @@
+//! Random runs, each named by its seed.
+
+use crate::chance::Chance;
+use crate::events::{SETUP, happens};
+use crate::judging::all_stands;
+use crate::server::Server;
+use size_values::NoMemory;
+use std::alloc::Global;
+
+/// The seed behind the last one.
+const RUNS: u64 = 13;
+
+/// How many events a run has.
+const EVENTS: u64 = 250;
+
+/// Calls of the keeper that fail. The first two are the load and the first commit, and the next
+/// twelve those before the first event.
+const FAILS: [u64; 12] = [17, 18, 23, 31, 32, 33, 41, 50, 55, 63, 71, 90];
+
+/// Where a run goes wrong: its seed, and how many events were well.
+type Wrong = Option<(u64, u64)>;
+
+/// The first event after which something does not stand.
+fn wrong_event(alloc: Global, server: &mut Server, seed: u64) -> Result<Wrong, NoMemory> {
+    let mut chance = Chance::of(seed);
+    for event in 0..EVENTS {
+        if !happens(alloc, server, &mut chance)? || !all_stands(alloc, server)? {
+            return Ok(Some((seed, event)));
+        }
+    }
+    Ok(None)
+}
+
+/// The run of a seed, on a server with two projects more than its own.
+fn wrong_run(alloc: Global, seed: u64) -> Result<Wrong, NoMemory> {
+    let Some(mut server) = Server::new(alloc, &FAILS)? else {
+        return Ok(Some((seed, 0)));
+    };
+    for line in SETUP {
+        drop(server.ask(alloc, line)?);
+    }
+    let wrong = wrong_event(alloc, &mut server, seed);
+    drop(server);
+    wrong
+}
+
+/// The first run that goes wrong.
+fn wrong_among(alloc: Global) -> Result<Wrong, NoMemory> {
+    for seed in 1..RUNS {
+        let wrong = wrong_run(alloc, seed)?;
+        if wrong.is_some() {
+            return Ok(wrong);
+        }
+    }
+    Ok(None)
+}
+
+#[test]
+fn random_runs_keep_to_the_limits(rt: HostRuntime) {
+    let wrong = wrong_among(rt.alloc());
+    assert!(rt; wrong == Ok(None), "{wrong:?}");
+}
