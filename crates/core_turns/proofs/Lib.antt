@@ -3,4 +3,4 @@ mod Dropping
 mod Holding
 mod Ordered
 mod Turning
-mod Working
+mod Workers

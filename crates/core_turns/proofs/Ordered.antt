@@ -1,8 +1,8 @@
 -- Rows whose settings and devices stand in order, list by list.
-use Rattle.std.proofs.Common.{◌≡◌, ◌<◌, ℕ, ◌+◌, List, [], ◌∷◌, ◌++◌, length, get_or, take, map, Option, Some, None, refl, ap, sym, subst, ◌∙◌}
+use Rattle.std.proofs.Common.{◌≡◌, ◌<◌, ◌≤◌, ℕ, ◌+◌, List, [], ◌∷◌, ◌++◌, length, get_or, take, map, Option, Some, None, refl, ap, sym, subst, ◌∙◌}
 use Rattle.std.specs.Prelude.{IfSome}
 use Rattle.std.specs.List.{filter_map}
-use Rattle.std.proofs.lemmas.List.{take_more}
+use Rattle.std.proofs.lemmas.List.{take_all, take_more}
 use Rattle.plain_lists.specs.Members.{Each, Mem}
 use Rattle.plain_lists.proofs.Elements.{Each-none, Each-cons, Each-head, Each-tail, Each-append, Each-push}
 use Rattle.plain_lists.proofs.Readings.{Mem-from_read}
@@ -22,6 +22,10 @@ use Rattle.machine_laws.specs.Sorted.{AreSortedRows, IsSortedRow}
 pub each-next : {X : Type 0} (P : X → Type 0) (xs : List X) (i : ℕ) (x : X) → i < length xs → x ≡ get_or xs i x → P x → Each P (take i xs)
     → Each P (take (i + 1) xs)
 each-next P xs i x below is p e = rw (take_more xs i x below) (Each-push P e (subst P is p))
+
+-- all of them
+pub each-all : {X : Type 0} (P : X → Type 0) (xs : List X) (i : ℕ) → length xs ≤ i → Each P (take i xs) → Each P xs
+each-all P xs i all e = subst (Each P) (take_all i xs all) e
 
 -- rows of one kind
 each-row : {X : Type 0} (P : Row → Type 0) (as_row : X → Row) (xs : List X) → Each (λ x. P (as_row x)) xs → Each P (map as_row xs)
@@ -44,12 +48,12 @@ each-read P read xs e = record {
 pub all-ordered : (s : State) → Each (λ (r : Profile). IsSortedRow (row.Profile r)) s.profiles → Each (λ (r : Instance). IsSortedRow (row.Instance r)) s.instances
     → Each (λ (r : Snapshot). IsSortedRow (row.Snapshot r)) s.snapshots → Each (λ (o : Operation Task). IfSome o.work.claim IsSortedRow) s.operations.live
     → AreSortedRows s
-all-ordered s profiles instances snapshots claims = Each-append
-    (Each-append (each-free IsSortedRow row.Project s.projects (λ r. tt))
-    (Each-append (each-row IsSortedRow row.Profile s.profiles profiles)
-    (Each-append (each-free IsSortedRow row.Network s.networks (λ r. tt))
-    (Each-append (each-free IsSortedRow row.Pool s.pools (λ r. tt))
-    (Each-append (each-free IsSortedRow row.Volume s.volumes (λ r. tt))
-    (Each-append (each-row IsSortedRow row.Instance s.instances instances)
-    (each-row IsSortedRow row.Snapshot s.snapshots snapshots)))))))
-    (each-read IsSortedRow (λ (o : Operation Task). o.work.claim) s.operations.live claims)
+all-ordered s profiles instances snapshots claims =
+    let networks = each-free IsSortedRow row.Network s.networks (λ r. tt) in
+    let pools = each-free IsSortedRow row.Pool s.pools (λ r. tt) in
+    let volumes = each-free IsSortedRow row.Volume s.volumes (λ r. tt) in
+    let first = Each-append (each-free IsSortedRow row.Project s.projects (λ r. tt)) (each-row IsSortedRow row.Profile s.profiles profiles) in
+    let without_instances = Each-append (Each-append (Each-append first networks) pools) volumes in
+    let rows = Each-append (Each-append without_instances (each-row IsSortedRow row.Instance s.instances instances))
+        (each-row IsSortedRow row.Snapshot s.snapshots snapshots) in
+    Each-append rows (each-read IsSortedRow (λ (o : Operation Task). o.work.claim) s.operations.live claims)

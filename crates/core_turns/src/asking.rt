@@ -1,5 +1,6 @@
 //! The turn of a client: a command, or a look at an operation.
-ghost use Rattle.std.specs.Prelude.{◌≡◌, ◌<◌, [], true, false, is_some};
+ghost use Rattle.std.specs.Prelude.{◌≡◌, ◌&&◌, [], false, not, is_some};
+ghost use Rattle.std.specs.Option.{option_copied};
 ghost use Rattle.operations.specs.Kept.{live_at};
 ghost use Rattle.record_keeper.specs.Store.{Store};
 ghost use Rattle.row_machine.specs.declared.events.Event.TheVariants as event_of;
@@ -12,18 +13,29 @@ ghost use Rattle.core_turns.specs.Turns.{Comes, IsServed};
 use core_instances::do_instance;
 use core_objects::do_object;
 use core_rows::Estate;
+use operations::Operation;
 use record_keeper::Keeper;
 use records::{Command, Reply, What};
-use row_machine::Answer;
+use row_machine::{Answer, Work};
 use row_readings::View;
 use size_values::ObjectKind;
 use std::alloc::Global;
+
+/// The live operation of a number.
+fn live_at<'x>(view: &View<'x>, number: u64) -> Option<&'x Operation<Work>>
+    ensures { option_copied result ≡ live_at view.now.operations number }
+{
+    view.live.iter().find(|o| o.number == number)
+}
 
 /// Whether the operation of a number is live.
 pub(crate) fn is_live(view: &View<'_>, number: u64) -> bool
     ensures { result ≡ is_some (live_at view.now.operations number) }
 {
-    view.live.iter().find(|o| o.number == number).is_some()
+    match live_at(view, number) {
+        Some(_) => true,
+        None => false,
+    }
 }
 
 fn is_zero(timeout: i64) -> bool

@@ -4,7 +4,9 @@ use Rattle.std.specs.Option.{is_some, option_map}
 use Rattle.host_model.specs.declared.call.HostCall.{HostCall}
 use Rattle.host_model.specs.declared.report.Report.{Report}
 use Rattle.operations.specs.declared.operation.Operation.{Operation}
+use Rattle.operations.specs.declared.status.Status.TheVariants.{Running}
 use Rattle.operations.specs.Kept.{live_at}
+use Rattle.size_values.specs.declared.entry.Entry.{Entry}
 use Rattle.record_keeper.specs.Store.{Store}
 use Rattle.records.specs.declared.notices.Untold.{Untold}
 use Rattle.row_machine.specs.declared.events.Answer.TheVariants as answer
@@ -15,7 +17,7 @@ use Rattle.row_machine.specs.machine.Step.{well, step, first_pending, handed_out
 use Rattle.row_machine.specs.machine.Task.{Task}
 use Rattle.row_machine.specs.machine.Work.{handing_out, moved, with_task}
 use Rattle.row_machine.specs.opening.Records.{records_of}
-use Rattle.row_machine.specs.shown.Notices.{telling}
+use Rattle.row_machine.specs.shown.Notices.{operation_notice, telling}
 use Rattle.machine_laws.proofs.BooksSteps.{telling-keeps}
 use Rattle.core_rows.specs.Jobs.{IsReported, IsTaken, answer_of}
 use Rattle.core_rows.specs.declared.jobs.Turned.{Turned}
@@ -41,14 +43,16 @@ records-told ns s = telling-keeps (λ t. records_of t ≡ records_of s) (λ t so
 records-handed : (s : State) (o : Operation Task) (moment : ℕ) (calls : List HostCall) → records_of (handed_out s o moment calls).state ≡ records_of s
 unfolding records_of
 records-handed s o moment [] = refl
-records-handed s o moment (call ∷ rest) = records-told _ _
+records-handed s o moment (call ∷ rest) =
+    let t = with_task o.number (handing_out o.work rest) (moved o.number Running moment s) in
+    records-told (operation_notice t o.number moment) t
 
 records-taken : (s : State) (moment : ℕ) (found : Option (Operation Task)) → records_of (taken s moment found).state ≡ records_of s
 records-taken s moment None = refl
 records-taken s moment (Some o) = records-handed s o moment o.work.calls
 
 -- the records of a state that a step may come to
-abbrev records_after : State → Option After → _
+abbrev records_after : State → Option After → List Entry
 records_after s None = records_of s
 records_after s (Some a) = records_of a.state
 
