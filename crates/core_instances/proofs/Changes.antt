@@ -18,7 +18,7 @@ use Rattle.machine_laws.proofs.Commands.{command_of, target}
 use Rattle.machine_laws.proofs.Speaking.{about-patch}
 use Rattle.object_plans.specs.Planning.{changes_in}
 use Rattle.core_objects.proofs.ObjectChanges.{its-object}
-use Rattle.core_instances.specs.Commands.{is_command, is_read, is_instance}
+use Rattle.core_instances.specs.Commands.{is_command, is_creation, is_read, is_instance}
 
 -- an instance that is there
 there : (body : Body) (o : Option Instance) → is_some o ≡ true → changes_in (if_there (plan_patch body) (option_map row.Instance o)) ≡ None → ⊥
@@ -30,13 +30,13 @@ patches : (s : State) (project : List ℕ) (k : ObjectKind) (pool instance name 
 patches s project kind.Instance pool instance name body is found e = there body (instance_named s.instances project name) found e
 patches s project other pool instance name body is found e = cc
 
-by-what : (s : State) (project : List ℕ) (w : What) (moment : ℕ) → is_command w ≡ true → is_read w ≡ false → names_broken s (command_of project w) ≡ None
+by-what : (s : State) (project : List ℕ) (w : What) (moment : ℕ) → is_command w ≡ true → is_read w ≡ false → is_creation w ≡ false → names_broken s (command_of project w) ≡ None
     → changes_in (plan_of s (command_of project w) moment) ≡ None → ⊥
 unfolding plan_of
-by-what s project (what.Patch of body) moment is reads free e =
+by-what s project (what.Patch of body) moment is reads makes free e =
     patches s project of.kind of.pool of.instance of.name body is (its-object s project (what.Patch of body) of (about-patch of body) free) e
-by-what s project other moment is reads free e = cc
+by-what s project other moment is reads makes free e = cc
 
-pub changes-some : (s : State) (c : Command) (moment : ℕ) → is_command c.what ≡ true → is_read c.what ≡ false → names_broken s c ≡ None
+pub changes-some : (s : State) (c : Command) (moment : ℕ) → is_command c.what ≡ true → is_read c.what ≡ false → is_creation c.what ≡ false → names_broken s c ≡ None
     → changes_in (plan_of s c moment) ≢ None
-changes-some s c moment is reads free = by-what s c.project c.what moment is reads free
+changes-some s c moment is reads makes free = by-what s c.project c.what moment is reads makes free

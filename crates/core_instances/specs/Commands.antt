@@ -3,6 +3,7 @@ use Rattle.std.specs.Prelude.{ℤ, pos, negsuc, ◌==◌, Bool, true, false, not
 use Rattle.size_values.specs.declared.kinds.ObjectKind.{ObjectKind}
 use Rattle.size_values.specs.declared.kinds.ObjectKind.TheVariants as kind
 use Rattle.operations.specs.Kept.{live_at}
+use Rattle.records.specs.Built.{is_built_origin}
 use Rattle.records.specs.declared.commands.What.{What}
 use Rattle.records.specs.declared.commands.What.TheVariants as what
 use Rattle.row_machine.specs.machine.State.{State}
@@ -18,11 +19,12 @@ is_listed kind.Instance = true
 is_listed kind.Operation = true
 is_listed other = false
 
--- a command on instances or operations that is carried out
+-- a command on instances or operations that is carried out: of creations those that copy nothing
 abbrev pub is_command : What → Bool
 is_command (what.List of recursion) = is_listed of.kind
 is_command (what.Get of) = is_instance of.kind
 is_command (what.State of) = is_instance of.kind
+is_command (what.Create of body) = is_instance of.kind && is_built_origin body.origin
 is_command (what.Patch of body) = is_instance of.kind
 is_command (what.GetOp op) = true
 is_command (what.Wait op timeout) = true
@@ -36,6 +38,11 @@ is_read (what.State of) = true
 is_read (what.GetOp op) = true
 is_read (what.Wait op timeout) = true
 is_read other = false
+
+-- whether it makes an object
+abbrev pub is_creation : What → Bool
+is_creation (what.Create of body) = true
+is_creation other = false
 
 -- whether a number of seconds is none
 abbrev pub is_zero : ℤ → Bool

@@ -1,8 +1,9 @@
 ghost use Rattle.std.specs.Prelude.{◌≡◌, ◌<◌, [], true, false};
 ghost use Rattle.records.specs.Forms.{is_formed};
 ghost use Rattle.core_rows.specs.Planned.{Follows};
-ghost use Rattle.core_instances.specs.Commands.{is_command, is_held, is_read};
+ghost use Rattle.core_instances.specs.Commands.{is_command, is_creation, is_held, is_read};
 
+use crate::creating::create_instance;
 use core_objects::{answer_read, change_at_once, first_broken};
 use core_rows::{Estate, refused_reply};
 use record_keeper::Keeper;
@@ -33,6 +34,29 @@ fn is_read(asked: &What) -> bool
     }
 }
 
+/// Whether a command makes an object.
+fn is_creation(asked: &What) -> bool
+    ensures { result ≡ is_creation asked.now }
+{
+    match asked {
+        What::Create { .. } => true,
+        What::Root
+        | What::Server
+        | What::List { .. }
+        | What::Get { .. }
+        | What::State { .. }
+        | What::Put { .. }
+        | What::Patch { .. }
+        | What::Move { .. }
+        | What::Delete { .. }
+        | What::Act { .. }
+        | What::Restore { .. }
+        | What::GetOp { .. }
+        | What::Cancel { .. }
+        | What::Wait { .. } => false,
+    }
+}
+
 /// Carries one command out, of those on instances and operations that are built. A command that breaks a rule changes
 /// nothing, and neither does one whose changes the keeper did not commit. A wait that is to be held is not asked here.
 /// The notices of a change are left with the estate. The moment is in seconds since 1970
@@ -56,6 +80,9 @@ pub fn do_instance<R: Keeper>(
     }
     if is_read(&command.what) {
         return answer_read(alloc, &estate.view(), command);
+    }
+    if is_creation(&command.what) {
+        return create_instance(alloc, estate, command, moment);
     }
     change_at_once(alloc, estate, keeper, command, moment)
 }

@@ -1,1 +1,4 @@
+pub mod Commands
+pub mod Opens
 pub mod Turns
+pub mod View

@@ -2,6 +2,7 @@
 use Rattle.std.specs.Prelude.{◌≡◌, ◌<◌, ℕ, true, List, [], Option, Some, option_map}
 use Rattle.size_values.specs.Moments.{moment_limit}
 use Rattle.record_keeper.specs.Store.{Store}
+use Rattle.records.specs.declared.notices.Untold.{Untold}
 use Rattle.records.specs.Built.{is_built_command}
 use Rattle.records.specs.Forms.{is_formed}
 use Rattle.row_machine.specs.declared.changes.RowChange.{RowChange}
@@ -11,6 +12,7 @@ use Rattle.row_machine.specs.declared.events.Event.TheVariants as event
 use Rattle.row_machine.specs.machine.State.{State}
 use Rattle.row_machine.specs.machine.Accept.{After, and_then}
 use Rattle.row_machine.specs.machine.Step.{Outcome, step}
+use Rattle.row_machine.specs.shown.Notices.{telling}
 use Rattle.core_rows.specs.Asked.{changes_of}
 use Rattle.core_rows.specs.Jobs.{changes_reported}
 use Rattle.core_rows.specs.Stores.{IsCaused, KeepsRecords, Stores}
@@ -49,5 +51,13 @@ pub record Turns (s : State) (store : Store) (e : Event) (outcome : Outcome) (a 
 pub record IsTurn (s : State) (store : Store) (e : Event) (a : Answer) (s' : State) (store' : Store) : Type 0 where
   pub outcome : Outcome
   pub turns : Turns s store e outcome a s' store'
+  pub caused : IsCaused outcome store.failures store'.failures
+  pub kept : KeepsRecords store.told s store'.told s'
+
+-- An event was answered as one step of the machine, and these notices are left untold: a turn before its notices are dropped.
+pub record Comes (s : State) (store : Store) (e : Event) (a : Answer) (s' : State) (untold : List Untold) (store' : Store) : Type 0 where
+  pub outcome : Outcome
+  pub is : step s e outcome ≡ Some (and_then a (telling untold s'))
+  pub stored : Stores (changes_by s e) outcome store store'
   pub caused : IsCaused outcome store.failures store'.failures
   pub kept : KeepsRecords store.told s store'.told s'

@@ -43,5 +43,21 @@ change_at_once-requires g c =
       formed = c.requires.formed;
       moment = c.requires.moment;
       free = free;
-      changes = changes-some s command c.args.moment c.requires.command (sym c.is_read.ensures ∙ c.if-is_read.false) (both-free s command free).0;
+      changes = changes-some s command c.args.moment c.requires.command (sym c.is_read.ensures ∙ c.if-is_read.false) (sym c.is_creation.ensures ∙ c.if-is_creation.false) (both-free s command free).0;
     }
+
+pub create_instance-requires : goal.create_instance-requires
+create_instance-requires g c =
+    let s = c.args.estate.now.state in
+    let command = c.args.command.now in
+    record {
+      quiet = c.requires.quiet;
+      formed = c.requires.formed;
+      moment = c.requires.moment;
+      command = c.requires.command;
+      creation = sym c.is_creation.ensures ∙ c.if-is_creation.true;
+      free = subst (λ t. first (names_broken t command ∷ standing_broken t command ∷ []) ≡ None) c.view.ensures.state c.in_default.ensures;
+    }
+
+pub returns-then-is_creation : goal.returns-then-is_creation
+returns-then-is_creation g c = c.create_instance.ensures (g.R.Keeper.store c.args.keeper.now)

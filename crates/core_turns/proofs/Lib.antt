@@ -1,0 +1,6 @@
+mod Built
+mod Dropping
+mod Holding
+mod Ordered
+mod Turning
+mod Workers

@@ -1,0 +1,164 @@
+//! The turn of a client: a command, or a look at an operation.
+ghost use Rattle.std.specs.Prelude.{◌≡◌, ◌&&◌, [], false, not, is_some};
+ghost use Rattle.std.specs.Option.{option_copied};
+ghost use Rattle.operations.specs.Kept.{live_at};
+ghost use Rattle.record_keeper.specs.Store.{Store};
+ghost use Rattle.row_machine.specs.declared.events.Event.TheVariants as event_of;
+ghost use Rattle.core_instances.specs.Commands.{is_held, is_listed, is_zero};
+ghost use Rattle.core_rows.specs.Asked.{answered};
+ghost use Rattle.core_rows.specs.Planned.{Follows};
+ghost use Rattle.core_turns.specs.Commands.{held_for, is_on_instances};
+ghost use Rattle.core_turns.specs.Turns.{Comes, IsServed};
+
+use core_instances::do_instance;
+use core_objects::do_object;
+use core_rows::Estate;
+use operations::Operation;
+use record_keeper::Keeper;
+use records::{Command, Reply, What};
+use row_machine::{Answer, Work};
+use row_readings::View;
+use size_values::ObjectKind;
+use std::alloc::Global;
+
+/// The live operation of a number.
+fn live_at<'x>(view: &View<'x>, number: u64) -> Option<&'x Operation<Work>>
+    ensures { option_copied result ≡ live_at view.now.operations number }
+{
+    view.live.iter().find(|o| o.number == number)
+}
+
+/// Whether the operation of a number is live.
+pub(crate) fn is_live(view: &View<'_>, number: u64) -> bool
+    ensures { result ≡ is_some (live_at view.now.operations number) }
+{
+    match live_at(view, number) {
+        Some(_) => true,
+        None => false,
+    }
+}
+
+fn is_zero(timeout: i64) -> bool
+    ensures { result ≡ is_zero timeout }
+{
+    timeout == 0
+}
+
+/// Whether a wait is to be held: its operation is live, and it waits for some time.
+fn is_held(view: &View<'_>, number: u64, timeout: i64) -> bool
+    ensures { result ≡ is_some (live_at view.now.operations number) && not (is_zero timeout) }
+{
+    is_live(view, number) && !is_zero(timeout)
+}
+
+/// The live operation for which a command is to wait.
+fn held_for(view: &View<'_>, asked: &What) -> Option<u64>
+    ensures { result ≡ held_for view.now asked.now }
+{
+    match asked {
+        What::Wait { op, timeout } => {
+            if is_held(view, *op, *timeout) {
+                Some(*op)
+            } else {
+                None
+            }
+        }
+        _ => None,
+    }
+}
+
+/// Instances and operations.
+fn is_listed(kind: ObjectKind) -> bool
+    ensures { result ≡ is_listed kind }
+{
+    match kind {
+        ObjectKind::Instance | ObjectKind::Operation => true,
+        ObjectKind::Project
+        | ObjectKind::Profile
+        | ObjectKind::Network
+        | ObjectKind::Pool
+        | ObjectKind::Volume
+        | ObjectKind::Snapshot => false,
+    }
+}
+
+/// Whether a command that is built is about instances or operations.
+fn is_on_instances(asked: &What) -> bool
+    ensures { result ≡ is_on_instances asked.now }
+{
+    match asked {
+        What::List { of, .. } => is_listed(of.kind),
+        What::Get { of } => is_listed(of.kind),
+        What::State { of } => is_listed(of.kind),
+        What::Create { of, .. } => is_listed(of.kind),
+        What::GetOp { .. } | What::Wait { .. } => true,
+        What::Root
+        | What::Server
+        | What::Put { .. }
+        | What::Patch { .. }
+        | What::Move { .. }
+        | What::Delete { .. }
+        | What::Act { .. }
+        | What::Restore { .. }
+        | What::Cancel { .. } => false,
+    }
+}
+
+/// Carries out a command that is answered at once.
+fn carry_out<R: Keeper>(
+    alloc: Global,
+    estate: &mut Estate,
+    keeper: &mut R,
+    command: &Command,
+    moment: u64,
+) -> Reply
+    requires quiet { estate.old.untold ≡ [] }
+    requires served { IsServed (event_of.Ask command.now moment) }
+    requires answered { is_held estate.old.state command.now.what ≡ false }
+    ensures { Follows estate.old.state command.now moment estate.new.state estate.new.untold result (R.store keeper.old) (R.store keeper.new) }
+{
+    if is_on_instances(&command.what) {
+        return do_instance(alloc, estate, keeper, command, moment);
+    }
+    do_object(alloc, estate, keeper, command, moment)
+}
+
+/// The answer that a reply is: out of memory is an answer of its own.
+fn answered(reply: Reply) -> Answer
+    ensures { result ≡ answered reply }
+{
+    match reply {
+        Reply::NoMemory => Answer::NoMemory,
+        _ => Answer::Reply(reply),
+    }
+}
+
+/// A client asks for a command. A wait for a live operation is held, unless it waits for no time; it breaks no rule.
+pub(crate) fn ask<R: Keeper>(
+    alloc: Global,
+    estate: &mut Estate,
+    keeper: &mut R,
+    command: &Command,
+    moment: u64,
+) -> Answer
+    requires quiet { estate.old.untold ≡ [] }
+    requires served { IsServed (event_of.Ask command.now moment) }
+    ensures { Comes estate.old.state (R.store keeper.old) (event_of.Ask command.now moment) result estate.new.state estate.new.untold (R.store keeper.new) }
+{
+    match held_for(&estate.view(), &command.what) {
+        Some(number) => Answer::Hold(number),
+        None => answered(carry_out(alloc, estate, keeper, command, moment)),
+    }
+}
+
+/// A client that waits looks at its operation.
+pub(crate) fn look(estate: &Estate, number: u64) -> Answer
+    requires quiet { estate.now.untold ≡ [] }
+    ensures { (store : Store) → Comes estate.now.state store (event_of.Look number) result estate.now.state estate.now.untold store }
+{
+    if is_live(&estate.view(), number) {
+        Answer::NotYet(number)
+    } else {
+        Answer::Ended(number)
+    }
+}
