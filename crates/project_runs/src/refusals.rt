@@ -334,15 +334,15 @@ GET /1.0/events?project=shop&type=operation,lifecycle
 400 {"error":"events need a WebSocket","error_code":400,"metadata":{"rule":"A6"},"type":"error"}
 
 # A0, before the query and the body
-GET /1.0/instances?recursion=9
+GET /1.0/instances/c1/snapshots?recursion=9
 501 {"error":"not built yet","error_code":501,"metadata":{"rule":"A0"},"type":"error"}
-POST /1.0/instances {"name":"c1","source":{"type":"none"}}
+POST /1.0/instances/c1/snapshots {"name":"s1"}
 501 {"error":"not built yet","error_code":501,"metadata":{"rule":"A0"},"type":"error"}
-POST /1.0/instances?project=shop {
+POST /1.0/instances/c1/snapshots?project=shop {
 501 {"error":"not built yet","error_code":501,"metadata":{"rule":"A0"},"type":"error"}
-GET /1.0/operations
+DELETE /1.0/operations/x
 501 {"error":"not built yet","error_code":501,"metadata":{"rule":"A0"},"type":"error"}
-POST /1.0/instances?filter {"name":"c1","config":{}}
+POST /1.0/instances/c1/snapshots?filter {"name":"s1","config":{}}
 501 {"error":"not built yet","error_code":501,"metadata":{"rule":"A0"},"type":"error"}
 PUT /1.0/instances/c1 {"description":"x"}
 501 {"error":"not built yet","error_code":501,"metadata":{"rule":"A0"},"type":"error"}
@@ -352,7 +352,7 @@ POST /1.0/instances/c1 {"name":"x"}
 501 {"error":"not built yet","error_code":501,"metadata":{"rule":"A0"},"type":"error"}
 DELETE /1.0/instances/c1/snapshots/s
 501 {"error":"not built yet","error_code":501,"metadata":{"rule":"A0"},"type":"error"}
-GET /1.0/instances/c1/state
+PUT /1.0/instances/c1/state {"action":"start"}
 501 {"error":"not built yet","error_code":501,"metadata":{"rule":"A0"},"type":"error"}
 
 # the same of a project that is there, in the order of the rules

@@ -18,7 +18,7 @@ const SERVER: &str = "GET /1.0 HTTP/1.1\r\n\r\n";
 
 const PROJECTS: &str = "GET /1.0/projects HTTP/1.1\r\n\r\n";
 
-const INSTANCES: &str = "GET /1.0/instances HTTP/1.1\r\n\r\n";
+const SNAPSHOTS: &str = "GET /1.0/instances/c1/snapshots HTTP/1.1\r\n\r\n";
 
 const CUT_BODY: &str = "POST /1.0/projects HTTP/1.1\r\nContent-Length: 10\r\n\r\n{\"na";
 
@@ -131,7 +131,7 @@ const RUNS: &[(&str, &[&str], u8, &[&str], usize)] = &[
         &[MADE, WITH_LAB, TAKEN, WITH_LAB],
         4,
     ),
-    ("not built", &[LAB, INSTANCES], 0, &[MADE, NOT_BUILT], 4),
+    ("not built", &[LAB, SNAPSHOTS], 0, &[MADE, NOT_BUILT], 4),
     (
         "blank lines",
         &["\r\n\n", SHOP, "\r", ROOT, "\n\n"],
@@ -212,7 +212,7 @@ fn stops_reading(alloc: Global, call: u64, replies: &[&str], kept: usize) -> boo
         ..WELL
     };
     let end = End { status: 4, kept };
-    is_run(alloc, &[LAB, INSTANCES, SHOP], setting, end, replies, true) == Ok(true)
+    is_run(alloc, &[LAB, SNAPSHOTS, SHOP], setting, end, replies, true) == Ok(true)
 }
 
 #[test]
@@ -232,7 +232,7 @@ fn stops_writing(alloc: Global, call: u64, replies: &[&str], kept: usize) -> boo
         ..WELL
     };
     let end = End { status: 5, kept };
-    is_run(alloc, &[LAB, INSTANCES, SHOP], setting, end, replies, false) == Ok(true)
+    is_run(alloc, &[LAB, SNAPSHOTS, SHOP], setting, end, replies, false) == Ok(true)
 }
 
 #[test]
