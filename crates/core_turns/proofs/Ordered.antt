@@ -53,5 +53,5 @@ all-ordered s profiles instances snapshots claims =
     let first = Each-append (each-free IsSortedRow row.Project s.projects (λ r. tt)) (each-row IsSortedRow row.Profile s.profiles profiles) in
     let without_instances = Each-append (Each-append (Each-append first networks) pools) volumes in
     let rows = Each-append (Each-append without_instances (each-row IsSortedRow row.Instance s.instances instances))
-        (each-row IsSortedRow row.Snapshot s.snapshots snapshots) in
+    (each-row IsSortedRow row.Snapshot s.snapshots snapshots) in
     Each-append rows (each-read IsSortedRow (λ (o : Operation Task). o.work.claim) s.operations.live claims)
