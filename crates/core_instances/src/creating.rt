@@ -36,7 +36,8 @@ fn plan_creation(
     }
 }
 
-/// Begins the creation of an instance that breaks no rule on names and on what stands in the way. The store is not asked.
+/// Begins the creation of an instance that breaks no rule on names and on what stands in the way.
+/// The store is not asked.
 pub(crate) fn create_instance(
     alloc: Global,
     estate: &mut Estate,
@@ -48,8 +49,10 @@ pub(crate) fn create_instance(
     requires moment { moment < MOMENT_LIMIT }
     requires command { is_command command.now.what ≡ true }
     requires creation { is_creation command.now.what ≡ true }
-    requires free { first (names_broken estate.old.state command.now ∷ standing_broken estate.old.state command.now ∷ []) ≡ None }
-    ensures { (store : Store) → Follows estate.old.state command.now moment estate.new.state estate.new.untold result store store }
+    requires free { first (names_broken estate.old.state command.now ∷ standing_broken
+        estate.old.state command.now ∷ []) ≡ None }
+    ensures { (store : Store) → Follows estate.old.state command.now moment estate.new.state
+        estate.new.untold result store store }
 {
     let Ok(planned) = plan_creation(alloc, &estate.view(), command, moment) else {
         return Reply::NoMemory;

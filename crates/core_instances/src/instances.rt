@@ -11,7 +11,8 @@ use records::{Command, Reply, What};
 use size_values::MOMENT_LIMIT;
 use std::alloc::Global;
 
-/// Whether a command only reads, and is answered at once: a wait that is not held as the operation stands.
+/// Whether a command only reads, and is answered at once: a wait that is not held as the operation
+/// stands.
 fn is_read(asked: &What) -> bool
     ensures { result ≡ is_read asked.now }
 {
@@ -57,10 +58,10 @@ fn is_creation(asked: &What) -> bool
     }
 }
 
-/// Carries one command out, of those on instances and operations that are built. A command that breaks a rule changes
-/// nothing, and neither does one whose changes the keeper did not commit. A wait that is to be held is not asked here.
-/// The notices of a change are left with the estate. The moment is in seconds since 1970
-/// (<https://linuxcontainers.org/incus/docs/main/rest-api/>).
+/// Carries one command out, of those on instances and operations that are built. A command that
+/// breaks a rule changes nothing, and neither does one whose changes the keeper did not commit. A
+/// wait that is to be held is not asked here. The notices of a change are left with the estate. The
+/// moment is in seconds since 1970 (<https://linuxcontainers.org/incus/docs/main/rest-api/>).
 pub fn do_instance<R: Keeper>(
     alloc: Global,
     estate: &mut Estate,
@@ -73,7 +74,8 @@ pub fn do_instance<R: Keeper>(
     requires command { is_command command.now.what ≡ true }
     requires answered { is_held estate.old.state command.now.what ≡ false }
     requires moment { moment < MOMENT_LIMIT }
-    ensures { Follows estate.old.state command.now moment estate.new.state estate.new.untold result (R.store keeper.old) (R.store keeper.new) }
+    ensures { Follows estate.old.state command.now moment estate.new.state estate.new.untold
+        result (R.store keeper.old) (R.store keeper.new) }
 {
     if let Err(why) = first_broken(alloc, &estate.view(), command) {
         return refused_reply(why);

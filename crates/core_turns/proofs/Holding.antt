@@ -1,6 +1,6 @@
 -- A wait for a live operation breaks no rule, and is held.
 use Rattle.std.specs.Prelude.{ℤ, pos, negsuc}
-use Rattle.std.proofs.Common.{◌≡◌, ℕ, Bool, true, false, ◌&&◌, not, cond, List, [], ◌∷◌, Option, Some, None, refl, ap, sym, subst, ◌∙◌}
+use Rattle.std.proofs.Common.{◌≡◌, ℕ, Bool, true, false, ◌&&◌, not, cond, List, [], ◌∷◌, Option, Some, None, refl, ap, subst, ◌∙◌}
 use Rattle.std.specs.Option.{is_some, option_or}
 use Rattle.size_values.specs.declared.kinds.ObjectKind.TheVariants as kind
 use Rattle.operations.specs.Kept.{live_at}

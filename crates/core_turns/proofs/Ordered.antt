@@ -1,9 +1,9 @@
 -- Rows whose settings and devices stand in order, list by list.
-use Rattle.std.proofs.Common.{◌≡◌, ◌<◌, ◌≤◌, ℕ, ◌+◌, List, [], ◌∷◌, ◌++◌, length, get_or, take, map, Option, Some, None, refl, ap, sym, subst, ◌∙◌}
+use Rattle.std.proofs.Common.{◌≡◌, ◌<◌, ◌≤◌, ℕ, ◌+◌, List, [], ◌∷◌, length, get_or, take, map, Option, subst}
 use Rattle.std.specs.Prelude.{IfSome}
 use Rattle.std.specs.List.{filter_map}
 use Rattle.std.proofs.lemmas.List.{take_all, take_more}
-use Rattle.plain_lists.specs.Members.{Each, Mem}
+use Rattle.plain_lists.specs.Members.{Each}
 use Rattle.plain_lists.proofs.Elements.{Each-none, Each-cons, Each-head, Each-tail, Each-append, Each-push}
 use Rattle.plain_lists.proofs.Readings.{Mem-from_read}
 use Rattle.operations.specs.declared.operation.Operation.{Operation}
@@ -12,10 +12,8 @@ use Rattle.records.specs.declared.rows.Profile.{Profile}
 use Rattle.records.specs.declared.rows.Row.{Row}
 use Rattle.records.specs.declared.rows.Row.TheVariants as row
 use Rattle.records.specs.declared.rows.Snapshot.{Snapshot}
-use Rattle.row_machine.specs.facts.Whole.{claims_of}
 use Rattle.row_machine.specs.machine.State.{State}
 use Rattle.row_machine.specs.machine.Task.{Task}
-use Rattle.row_machine.specs.opening.Records.{rows_of}
 use Rattle.machine_laws.specs.Sorted.{AreSortedRows, IsSortedRow}
 
 -- one more element
@@ -55,5 +53,5 @@ all-ordered s profiles instances snapshots claims =
     let first = Each-append (each-free IsSortedRow row.Project s.projects (λ r. tt)) (each-row IsSortedRow row.Profile s.profiles profiles) in
     let without_instances = Each-append (Each-append (Each-append first networks) pools) volumes in
     let rows = Each-append (Each-append without_instances (each-row IsSortedRow row.Instance s.instances instances))
-        (each-row IsSortedRow row.Snapshot s.snapshots snapshots) in
+    (each-row IsSortedRow row.Snapshot s.snapshots snapshots) in
     Each-append rows (each-read IsSortedRow (λ (o : Operation Task). o.work.claim) s.operations.live claims)

@@ -1,5 +1,5 @@
 -- Turns of the server: each is one step of the machine, whose notices nobody hears.
-use Rattle.std.specs.Prelude.{◌≡◌, ◌<◌, ℕ, true, List, [], Option, Some, option_map}
+use Rattle.std.specs.Prelude.{◌≡◌, ◌<◌, true, List, [], Option, Some, option_map}
 use Rattle.size_values.specs.Moments.{moment_limit}
 use Rattle.record_keeper.specs.Store.{Store}
 use Rattle.records.specs.declared.notices.Untold.{Untold}

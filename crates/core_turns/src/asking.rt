@@ -115,7 +115,8 @@ fn carry_out<R: Keeper>(
     requires quiet { estate.old.untold ≡ [] }
     requires served { IsServed (event_of.Ask command.now moment) }
     requires answered { is_held estate.old.state command.now.what ≡ false }
-    ensures { Follows estate.old.state command.now moment estate.new.state estate.new.untold result (R.store keeper.old) (R.store keeper.new) }
+    ensures { Follows estate.old.state command.now moment estate.new.state estate.new.untold
+        result (R.store keeper.old) (R.store keeper.new) }
 {
     if is_on_instances(&command.what) {
         return do_instance(alloc, estate, keeper, command, moment);
@@ -133,7 +134,8 @@ fn answered(reply: Reply) -> Answer
     }
 }
 
-/// A client asks for a command. A wait for a live operation is held, unless it waits for no time; it breaks no rule.
+/// A client asks for a command. A wait for a live operation is held, unless it waits for no time;
+/// it breaks no rule.
 pub(crate) fn ask<R: Keeper>(
     alloc: Global,
     estate: &mut Estate,
@@ -143,7 +145,8 @@ pub(crate) fn ask<R: Keeper>(
 ) -> Answer
     requires quiet { estate.old.untold ≡ [] }
     requires served { IsServed (event_of.Ask command.now moment) }
-    ensures { Comes estate.old.state (R.store keeper.old) (event_of.Ask command.now moment) result estate.new.state estate.new.untold (R.store keeper.new) }
+    ensures { Comes estate.old.state (R.store keeper.old) (event_of.Ask command.now moment)
+        result estate.new.state estate.new.untold (R.store keeper.new) }
 {
     match held_for(&estate.view(), &command.what) {
         Some(number) => Answer::Hold(number),
@@ -154,7 +157,8 @@ pub(crate) fn ask<R: Keeper>(
 /// A client that waits looks at its operation.
 pub(crate) fn look(estate: &Estate, number: u64) -> Answer
     requires quiet { estate.now.untold ≡ [] }
-    ensures { (store : Store) → Comes estate.now.state store (event_of.Look number) result estate.now.state estate.now.untold store }
+    ensures { (store : Store) → Comes estate.now.state store (event_of.Look number) result
+        estate.now.state estate.now.untold store }
 {
     if is_live(&estate.view(), number) {
         Answer::NotYet(number)

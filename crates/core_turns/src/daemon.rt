@@ -7,8 +7,7 @@ ghost use Rattle.size_values.specs.Moments.{moment_limit};
 ghost use Rattle.core_turns.specs.Opens.{Opens};
 ghost use Rattle.core_turns.specs.Turns.{IsServed, IsTurn};
 
-use crate::asking;
-use crate::working;
+use crate::{asking, working};
 use core_rows::{Estate, OpenFault, load_rows};
 use host_model::Report;
 use record_keeper::Keeper;
@@ -18,8 +17,8 @@ use row_readings::View;
 use std::alloc::Global;
 use std::marker::Model;
 
-/// The server as one value: its rows and its background operations. It takes one turn after the other, and each is one step
-/// of the row machine, whose notices are dropped: nobody hears them
+/// The server as one value: its rows and its background operations. It takes one turn after the
+/// other, and each is one step of the row machine, whose notices are dropped: nobody hears them
 /// (<https://linuxcontainers.org/incus/docs/main/rest-api/>).
 #[derive(Drop)]
 pub struct Daemon {
@@ -39,8 +38,8 @@ impl Model for Daemon {
 }
 
 impl Daemon {
-    /// The server over the rows of a keeper, which must have no entries yet: it gets the project `default` and its profile
-    /// `default`, in one commit.
+    /// The server over the rows of a keeper, which must have no entries yet: it gets the project
+    /// `default` and its profile `default`, in one commit.
     pub fn begin<R: Keeper>(alloc: Global, keeper: &mut R) -> Result<Daemon, OpenFault>
         ensures { Opens result (R.store keeper.old) (R.store keeper.new) }
     {
@@ -63,7 +62,8 @@ impl Daemon {
         asking::is_live(&self.estate.view(), number)
     }
 
-    /// A client asks for a command. What the keeper did not commit is not done. The moment is in seconds since 1970.
+    /// A client asks for a command. What the keeper did not commit is not done. The moment is in
+    /// seconds since 1970.
     pub fn ask<R: Keeper>(
         &mut self,
         alloc: Global,
@@ -72,7 +72,8 @@ impl Daemon {
         moment: u64,
     ) -> Answer
         requires served { IsServed (event_of.Ask command.now moment) }
-        ensures { IsTurn self.old (R.store keeper.old) (event_of.Ask command.now moment) result self.new (R.store keeper.new) }
+        ensures { IsTurn self.old (R.store keeper.old) (event_of.Ask command.now moment) result
+            self.new (R.store keeper.new) }
     {
         let answer = asking::ask(alloc, &mut self.estate, keeper, command, moment);
         self.estate.forget_told();
@@ -81,7 +82,8 @@ impl Daemon {
 
     /// A client that waits for an operation looks at it.
     fn look(&mut self, number: u64) -> Answer
-        ensures { (store : Store) → IsTurn self.old store (event_of.Look number) result self.new store }
+        ensures { (store : Store) → IsTurn self.old store (event_of.Look number) result self.new
+            store }
     {
         let answer = asking::look(&self.estate, number);
         self.estate.forget_told();
@@ -91,7 +93,8 @@ impl Daemon {
     /// A worker asks for a call to make on the host.
     pub fn take(&mut self, moment: u64) -> Answer
         requires early { moment < moment_limit }
-        ensures { (store : Store) → IsTurn self.old store (event_of.Take moment) result self.new store }
+        ensures { (store : Store) → IsTurn self.old store (event_of.Take moment) result self.new
+            store }
     {
         let answer = working::take(&mut self.estate, moment);
         self.estate.forget_told();
@@ -108,7 +111,8 @@ impl Daemon {
         moment: u64,
     ) -> Answer
         requires early { moment < moment_limit }
-        ensures { IsTurn self.old (R.store keeper.old) (event_of.Done number report moment) result self.new (R.store keeper.new) }
+        ensures { IsTurn self.old (R.store keeper.old) (event_of.Done number report moment)
+            result self.new (R.store keeper.new) }
     {
         let answer = working::report(alloc, &mut self.estate, keeper, number, report, moment);
         self.estate.forget_told();

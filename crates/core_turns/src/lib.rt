@@ -1,4 +1,5 @@
-//! The server as one value, and its turns: each event is answered as one step of the row machine, whose notices nobody hears.
+//! The server as one value, and its turns: each event is answered as one step of the row machine,
+//! whose notices nobody hears.
 #![tactic(auto)]
 
 mod asking;

@@ -1,4 +1,5 @@
-//! The promise of the server, as it stands at every moment: functions that change nothing, whose contracts say it.
+//! The promise of the server, as it stands at every moment: functions that change nothing, whose
+//! contracts say it.
 ghost use Rattle.std.specs.Prelude.{◌≡◌, Some, IfSome};
 ghost use Rattle.expansion.specs.Layers.{IsLayer};
 ghost use Rattle.machine_laws.specs.Headline.{StandsAsPromised};
@@ -90,10 +91,11 @@ fn rows_are_ordered(view: &View<'_>)
     claims_are_ordered(view.live);
 }
 
-/// At every moment, so after each turn: what each project uses, with what live operations have claimed for it, stands within
-/// every limit that it sets; nothing that a restricted project forbids is in it; each instance has what its profiles in
-/// their order and then its own settings say; and of the shares that were granted to operations each was converted, returned
-/// or is still held.
+/// At every moment, so after each turn: what each project uses, with what live operations have
+/// claimed for it, stands within every limit that it sets; nothing that a restricted project
+/// forbids is in it; each instance has what its profiles in their order and then its own settings
+/// say; and of the shares that were granted to operations each was converted, returned or is still
+/// held.
 pub fn no_project_is_above_its_limits(daemon: &Daemon)
     ensures { StandsAsPromised daemon.now }
 {

@@ -17,14 +17,19 @@ use std::alloc::Global;
 fn nothing_to_do(closed: bool) -> Answer
     ensures { result ≡ (if closed then answer.Closed else answer.NoJob) }
 {
-    if closed { Answer::Closed } else { Answer::NoJob }
+    if closed {
+        Answer::Closed
+    } else {
+        Answer::NoJob
+    }
 }
 
 /// A worker asks for a call.
 pub(crate) fn take(estate: &mut Estate, moment: u64) -> Answer
     requires quiet { estate.old.untold ≡ [] }
     requires early { moment < moment_limit }
-    ensures { (store : Store) → Comes estate.old.state store (event_of.Take moment) result estate.new.state estate.new.untold store }
+    ensures { (store : Store) → Comes estate.old.state store (event_of.Take moment) result
+        estate.new.state estate.new.untold store }
 {
     match estate.take_job(moment) {
         Some((number, call)) => Answer::Job(number, call),
@@ -54,7 +59,8 @@ pub(crate) fn report<R: Keeper>(
 ) -> Answer
     requires quiet { estate.old.untold ≡ [] }
     requires early { moment < moment_limit }
-    ensures { Comes estate.old.state (R.store keeper.old) (event_of.Done number report moment) result estate.new.state estate.new.untold (R.store keeper.new) }
+    ensures { Comes estate.old.state (R.store keeper.old) (event_of.Done number report moment)
+        result estate.new.state estate.new.untold (R.store keeper.new) }
 {
     let turned = estate.done_job(alloc, keeper, number, report, moment);
     answer_of(number, turned)
@@ -63,7 +69,8 @@ pub(crate) fn report<R: Keeper>(
 /// The server is told to close.
 pub(crate) fn close(estate: &mut Estate) -> Answer
     requires quiet { estate.old.untold ≡ [] }
-    ensures { (store : Store) → Comes estate.old.state store event_of.Close result estate.new.state estate.new.untold store }
+    ensures { (store : Store) → Comes estate.old.state store event_of.Close result
+        estate.new.state estate.new.untold store }
 {
     estate.close();
     Answer::Closed
