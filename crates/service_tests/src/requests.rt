@@ -45,6 +45,8 @@ fn word_of(what: &What) -> &'static str {
         What::Patch { of: _, body: _ } => "patch",
         What::Move { of: _, to: _ } => "move",
         What::Delete { of: _ } => "delete",
+        What::GetOp { op: _ } => "operation",
+        What::Wait { op: _, timeout: _ } => "wait",
         _ => "",
     }
 }

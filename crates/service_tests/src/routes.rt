@@ -60,7 +60,16 @@ const PLACES: &[(&str, &[Want; 5])] = &[
             A2,
         ],
     ),
-    ("/1.0/instances", &[A0, A0, A2, A2, A2]),
+    (
+        "/1.0/instances",
+        &[
+            Want::Of("list", ObjectKind::Instance, ""),
+            Want::Refused(Rule::A5, "source"),
+            A2,
+            A2,
+            A2,
+        ],
+    ),
     (
         "/1.0/projects/lab",
         &[
@@ -91,7 +100,10 @@ const PLACES: &[(&str, &[Want; 5])] = &[
             Want::Of("delete", ObjectKind::Network, "br0"),
         ],
     ),
-    ("/1.0/instances/c1", &[A0, A0, A0, A0, A0]),
+    (
+        "/1.0/instances/c1",
+        &[Want::Of("get", ObjectKind::Instance, "c1"), A0, A0, A0, A0],
+    ),
     (
         "/1.0/storage-pools/ssd",
         &[
@@ -142,12 +154,30 @@ const PLACES: &[(&str, &[Want; 5])] = &[
             Want::In("delete", "ssd", "v"),
         ],
     ),
-    ("/1.0/instances/c1/state", &[A0, A2, A0, A2, A2]),
+    (
+        "/1.0/instances/c1/state",
+        &[
+            Want::Of("state", ObjectKind::Instance, "c1"),
+            A2,
+            A0,
+            A2,
+            A2,
+        ],
+    ),
     ("/1.0/instances/c1/snapshots", &[A0, A0, A2, A2, A2]),
     ("/1.0/instances/c1/snapshots/s", &[A0, A2, A2, A2, A0]),
-    ("/1.0/operations", &[A0, A2, A2, A2, A2]),
-    ("/1.0/operations/o", &[A0, A2, A2, A2, A0]),
-    ("/1.0/operations/o/wait", &[A0, A2, A2, A2, A2]),
+    (
+        "/1.0/operations",
+        &[Want::Of("list", ObjectKind::Operation, ""), A2, A2, A2, A2],
+    ),
+    (
+        "/1.0/operations/00000000-0000-8000-8000-000000000001",
+        &[Want::Asked("operation", "default", ""), A2, A2, A2, A0],
+    ),
+    (
+        "/1.0/operations/00000000-0000-8000-8000-000000000001/wait",
+        &[Want::Asked("wait", "default", ""), A2, A2, A2, A2],
+    ),
     ("/1.0/events", &[A6, A2, A2, A2, A2]),
 ];
 
@@ -169,10 +199,10 @@ const PATHS: &[(&str, &str, Rule)] = &[
     ("POST", "/1.0/storage-pools/p?recursion=9", Rule::A2),
     ("PUT", "/1.0/instances/i/snapshots/s", Rule::A2),
     ("POST", "/1.0/operations/o/wait", Rule::A2),
-    ("GET", "/1.0/instances?recursion=9", Rule::A0),
-    ("POST", "/1.0/instances", Rule::A0),
+    ("GET", "/1.0/instances/c1/snapshots?recursion=9", Rule::A0),
+    ("POST", "/1.0/instances/c1/snapshots", Rule::A0),
     ("PUT", "/1.0/instances/c1", Rule::A0),
-    ("GET", "/1.0/instances/c1/state", Rule::A0),
+    ("PUT", "/1.0/instances/c1/state", Rule::A0),
     ("PATCH", "/1.0/instances/c1", Rule::A0),
     ("GET", "/1.0/instances/c1/snapshots", Rule::A0),
     ("DELETE", "/1.0/operations/o", Rule::A0),
@@ -591,6 +621,30 @@ const COMMANDS: &[(&str, &str, &str, &str, &str, &str)] = &[
         "move",
         "default",
         "default",
+    ),
+    (
+        "GET",
+        "/1.0/instances?project=lab&recursion=1",
+        "",
+        "list objects",
+        "lab",
+        "",
+    ),
+    (
+        "POST",
+        "/1.0/instances",
+        "{\"name\":\"c1\",\"source\":{\"type\":\"none\"}}",
+        "create",
+        "default",
+        "c1",
+    ),
+    (
+        "GET",
+        "/1.0/operations/00000000-0000-8000-8000-00000000000f/wait?timeout=5",
+        "",
+        "wait",
+        "default",
+        "",
     ),
 ];
 
