@@ -15,6 +15,8 @@ mod ends;
 #[cfg(test)]
 mod faults;
 #[cfg(test)]
+mod live;
+#[cfg(test)]
 mod numbers;
 #[cfg(test)]
 mod steps;

@@ -24,129 +24,122 @@ pub(crate) const SETUP: [&str; 12] = [
     r#"PATCH /1.0/projects/default {"config":{"limits.disk":"20GiB"}}"#,
 ];
 
-const NAMES: [&str; 12] = ["a", "b", "c", "d", "e", "f", "g", "h", "i", "j", "k", "9"];
-
-const KINDS: [&str; 3] = ["container", "container", "virtual-machine"];
-
-const PROFILES: [&str; 5] = [
-    r#""default""#,
-    r#""default","small""#,
-    r#""small","default""#,
-    r#""small""#,
-    r#""default","nope""#,
+/// Requests of every kind. A sign `$` and the letter behind it stand for one of the texts of that
+/// letter.
+const REQUESTS: [&str; 18] = [
+    CREATION,
+    CREATION,
+    CREATION,
+    CREATION,
+    CREATION,
+    CREATION,
+    CREATION,
+    r#"PATCH /1.0/projects/$p {"config":{"limits.memory":"$s"}}"#,
+    r#"PATCH /1.0/projects/$p {"config":{"limits.disk":"$s"}}"#,
+    r#"PATCH /1.0/projects/$p {"config":{"$l":"$c"}}"#,
+    r#"PATCH /1.0/profiles/small?project=$p {"config":{"limits.memory":"$s","limits.processes":"$c"}}"#,
+    r#"PATCH /1.0/profiles/default?project=$p {"config":{"limits.cpu":"$c"},"devices":{$d}}"#,
+    r#"POST /1.0/storage-pools/p0/volumes?project=$p {"config":{"size":"$s"},"name":"$n"}"#,
+    r#"PATCH /1.0/storage-pools/p0/volumes/custom/$n?project=$p {"config":{"size":"$s"}}"#,
+    "DELETE /1.0/storage-pools/p0/volumes/custom/$n?project=$p",
+    r#"POST /1.0/networks?project=$p {"name":"br$n"}"#,
+    "DELETE /1.0/networks/br$n?project=$p",
+    "GET $r",
 ];
 
-const COUNTS: [&str; 8] = ["", "0", "1", "2", "3", "5", "8", "0-1"];
+const CREATION: &str =
+    r#"POST /1.0/instances?project=$p {"name":"$n","type":"$k","profiles":[$f],"config":{"limits.cpu":"$c","limits.memory":"$s"},"devices":{$d},"source":{"type":"none"}}"#;
 
-const SIZES: [&str; 9] = [
-    "", "0", "1", "512MiB", "1GiB", "2GiB", "3GiB", "5GiB", "50%",
+/// The texts of the letters.
+const TEXTS: [(char, &[&str]); 9] = [
+    ('p', &PROJECTS),
+    (
+        'n',
+        &["a", "b", "c", "d", "e", "f", "g", "h", "i", "j", "k", "9"],
+    ),
+    ('k', &["container", "container", "virtual-machine"]),
+    (
+        'f',
+        &[
+            r#""default""#,
+            r#""default","small""#,
+            r#""small","default""#,
+            r#""small""#,
+            r#""default","nope""#,
+        ],
+    ),
+    ('c', &["", "0", "1", "2", "3", "5", "8", "0-1"]),
+    (
+        's',
+        &[
+            "", "0", "1", "512MiB", "1GiB", "2GiB", "3GiB", "5GiB", "50%",
+        ],
+    ),
+    (
+        'd',
+        &[
+            "",
+            "",
+            r#""root":{"path":"/","pool":"p0","size":"1GiB","type":"disk"}"#,
+            r#""root":{"path":"/","pool":"p0","type":"disk"}"#,
+            r#""other":{"path":"/","pool":"p0","size":"2GiB","type":"disk"},"root":{"type":"none"}"#,
+            r#""eth0":{"network":"br0","type":"nic"}"#,
+        ],
+    ),
+    (
+        'l',
+        &[
+            "limits.instances",
+            "limits.containers",
+            "limits.virtual-machines",
+            "limits.cpu",
+            "limits.processes",
+            "limits.networks",
+        ],
+    ),
+    (
+        'r',
+        &[
+            "/1.0/instances?recursion=1",
+            "/1.0/operations?recursion=1&project=lab",
+            "/1.0/operations/00000000-0001-8000-8000-000000000005/wait?timeout=0",
+            "/1.0/operations/00000000-0001-8000-8000-000000000009/wait",
+            "/1.0/storage-pools/p0",
+            "/1.0/instances/a/state?project=off",
+            "/1.0/projects?recursion=1",
+        ],
+    ),
 ];
 
-const DEVICES: [&str; 6] = [
-    "",
-    "",
-    r#""root":{"path":"/","pool":"p0","size":"1GiB","type":"disk"}"#,
-    r#""root":{"path":"/","pool":"p0","type":"disk"}"#,
-    r#""other":{"path":"/","pool":"p0","size":"2GiB","type":"disk"},"root":{"type":"none"}"#,
-    r#""eth0":{"network":"br0","type":"nic"}"#,
-];
-
-const COUNTED: [&str; 6] = [
-    "limits.instances",
-    "limits.containers",
-    "limits.virtual-machines",
-    "limits.cpu",
-    "limits.processes",
-    "limits.networks",
-];
-
-const READS: [&str; 6] = [
-    "GET /1.0/instances?recursion=1",
-    "GET /1.0/operations?recursion=1&project=lab",
-    "GET /1.0/profiles/small",
-    "GET /1.0/storage-pools/p0",
-    "GET /1.0/instances/a/state?project=off",
-    "GET /1.0/projects?recursion=1",
-];
-
-/// A creation of an instance.
-fn creation(alloc: Global, chance: &mut Chance) -> Result<String, NoMemory> {
-    let project = chance.one_of(&PROJECTS);
-    let name = chance.one_of(&NAMES);
-    let kind = chance.one_of(&KINDS);
-    let profiles = chance.one_of(&PROFILES);
-    let cpu = chance.one_of(&COUNTS);
-    let memory = chance.one_of(&SIZES);
-    let devices = chance.one_of(&DEVICES);
-    let config = format!(in alloc; "\"limits.cpu\":\"{cpu}\",\"limits.memory\":\"{memory}\"")?;
-    Ok(format!(in alloc;
-        "POST /1.0/instances?project={project} {{\"name\":\"{name}\",\"type\":\"{kind}\",\"profiles\":[{profiles}],\
-         \"config\":{{{config}}},\"devices\":{{{devices}}},\"source\":{{\"type\":\"none\"}}}}"
-    )?)
+/// One of the texts of a letter.
+fn text_of(chance: &mut Chance, letter: char) -> &'static str {
+    for (sign, texts) in TEXTS {
+        if sign == letter {
+            return chance.one_of(texts);
+        }
+    }
+    ""
 }
 
-/// A change of a limit of a project.
-fn limit_change(alloc: Global, chance: &mut Chance) -> Result<String, NoMemory> {
-    let project = chance.one_of(&PROJECTS);
-    let (key, value) = match chance.below(3) {
-        0 => ("limits.memory", chance.one_of(&SIZES)),
-        1 => ("limits.disk", chance.one_of(&SIZES)),
-        _ => (chance.one_of(&COUNTED), chance.one_of(&COUNTS)),
-    };
-    Ok(format!(in alloc; "PATCH /1.0/projects/{project} {{\"config\":{{\"{key}\":\"{value}\"}}}}")?)
-}
-
-/// A change of a profile.
-fn profile_change(alloc: Global, chance: &mut Chance) -> Result<String, NoMemory> {
-    let project = chance.one_of(&PROJECTS);
-    let profile = chance.one_of(&["default", "small"]);
-    let (key, value) = match chance.below(3) {
-        0 => ("limits.memory", chance.one_of(&SIZES)),
-        1 => ("limits.processes", chance.one_of(&COUNTS)),
-        _ => ("limits.cpu", chance.one_of(&COUNTS)),
-    };
-    let devices = chance.one_of(&DEVICES);
-    Ok(format!(in alloc;
-        "PATCH /1.0/profiles/{profile}?project={project} {{\"config\":{{\"{key}\":\"{value}\"}},\"devices\":{{{devices}}}}}"
-    )?)
-}
-
-/// A creation, a change or a deletion of a volume.
-fn volume_change(alloc: Global, chance: &mut Chance) -> Result<String, NoMemory> {
-    let project = chance.one_of(&PROJECTS);
-    let name = chance.one_of(&NAMES);
-    let size = chance.one_of(&SIZES);
-    let path = "/1.0/storage-pools/p0/volumes/custom";
-    Ok(match chance.below(4) {
-        0 => format!(in alloc; "DELETE {path}/{name}?project={project}")?,
-        1 => format!(in alloc;
-            "PATCH {path}/{name}?project={project} {{\"config\":{{\"size\":\"{size}\"}}}}"
-        )?,
-        _ => format!(in alloc;
-            "POST {path}?project={project} {{\"config\":{{\"size\":\"{size}\"}},\"name\":\"{name}\"}}"
-        )?,
-    })
-}
-
-/// A creation or a deletion of a network.
-fn network_change(alloc: Global, chance: &mut Chance) -> Result<String, NoMemory> {
-    let project = chance.one_of(&PROJECTS);
-    let name = chance.one_of(&["br0", "br1", "br2"]);
-    Ok(match chance.below(3) {
-        0 => format!(in alloc; "DELETE /1.0/networks/{name}?project={project}")?,
-        _ => format!(in alloc; "POST /1.0/networks?project={project} {{\"name\":\"{name}\"}}")?,
-    })
-}
-
-/// A wait of no time, or any reading.
-fn reading(alloc: Global, chance: &mut Chance) -> Result<String, NoMemory> {
-    let number = chance.below(40);
-    Ok(match chance.below(2) {
-        0 => format!(in alloc;
-            "GET /1.0/operations/00000000-0001-8000-8000-{number:012x}/wait?timeout=0"
-        )?,
-        _ => String::from_str(alloc, chance.one_of(&READS))?,
-    })
+/// A request of some kind.
+fn request(alloc: Global, chance: &mut Chance) -> Result<String, NoMemory> {
+    let mut line = String::new(alloc);
+    for piece in chance.one_of(&REQUESTS).split('$') {
+        let mut letters = piece.chars();
+        let sign = if line.is_empty() {
+            None
+        } else {
+            letters.next()
+        };
+        match sign {
+            Some(letter) => {
+                line.push_str(text_of(chance, letter))?;
+                line.push_str(letters.as_str())?;
+            }
+            None => line.push_str(piece)?,
+        }
+    }
+    Ok(line)
 }
 
 /// Asks for something, and says whether nothing changed where it was refused.
@@ -156,18 +149,6 @@ fn asks(alloc: Global, server: &mut Server, line: &str) -> Result<bool, NoMemory
     let is_idle = changes_nothing(&answer);
     drop(answer);
     Ok(!is_idle || mark_of(&server.view()) == before)
-}
-
-/// A request of some kind.
-fn request(alloc: Global, chance: &mut Chance) -> Result<String, NoMemory> {
-    match chance.below(12) {
-        0 => reading(alloc, chance),
-        1 => volume_change(alloc, chance),
-        2 => network_change(alloc, chance),
-        3 => limit_change(alloc, chance),
-        4 => profile_change(alloc, chance),
-        _ => creation(alloc, chance),
-    }
 }
 
 /// The number of an operation, mostly of a live one.

@@ -8,7 +8,7 @@ use size_values::NoMemory;
 use std::alloc::Global;
 
 /// The seed behind the last one.
-const RUNS: u64 = 13;
+const RUNS: u64 = 9;
 
 /// How many events a run has.
 const EVENTS: u64 = 250;
