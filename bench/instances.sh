@@ -1,17 +1,17 @@
 #!/usr/bin/env bash
-# Creates instances through `incus_run run`, in a project without limits and in a restricted one with five, up to 10,000: at 10,
-# 100, 250, 1,000 and 10,000 instances the acceptance of a creation, its wait, lists, the usage of the project, and a change of the
+# Creates instances through `incus_run run`, in a project without limits and in a restricted one with five, up to 1,000: at 10,
+# 100, 250 and 1,000 instances, and at 10,000 where MOST says so, the acceptance of a creation, its wait, lists, the usage of the project, and a change of the
 # profile that all use: requests a second and memory held, a line for each. The worker makes no step but while a request waits
 # (`--steps 0`), so an acceptance and the work behind it are told apart.
 #
 #   PROGRAM   the program, ../bin/incus_run without it
 #   RUNS      how many times each stream is run, as far as there is time, 3 without it
-#   MOST      how many instances there are at the end, 10000 without it
-#   LIMIT     after how many seconds it ends with an error, 600 without it
+#   MOST      how many instances there are at the end, 1000 without it; 10000 take some three minutes without limits, and with them
+#             more than sixteen
+#   LIMIT     after how many seconds it ends with an error, 175 without it
 set -eu
-LIMIT=${LIMIT:-600}
 . "$(dirname "$0")/sections.sh"
-most=${MOST:-10000}
+most=${MOST:-1000}
 options="--steps 0 --now 0 --boot 0"
 
 rows() { # WHAT: how a section is shown, with the number of instances behind it
