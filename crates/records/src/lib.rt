@@ -3,7 +3,6 @@
 //! the store speaks of them.
 #![tactic(auto)]
 
-mod built;
 mod commands;
 mod notices;
 mod refusals;
@@ -11,7 +10,6 @@ mod replies;
 mod rows;
 mod texts;
 
-pub use built::{is_built_kind, is_built_state};
 pub use commands::{Body, Command, Origin, Target, What};
 pub use config_lists::{Changes, Config, Device, Devices};
 pub use notices::{Filter, Life, Notice, Told, Untold};

@@ -5,8 +5,7 @@ use std::alloc::Global;
 
 /// The rules by which a request is refused, in the order in which they are judged: of the head of a request (H), its
 /// form (A), names (N), what stands in the way (B), settings (V), the policy of a restricted project (F), its limits
-/// (L), operations (O), the size of tables and rows (C), the store (K) and memory (M). That a request is not built yet
-/// (A0) is judged after its path and method (A1, A2) and before the rest of its form.
+/// (L), operations (O), the size of tables and rows (C), the store (K) and memory (M).
 #[derive(Clone, Copy, PartialEq, Eq)]
 pub enum Rule {
     /// 400: the head of the request is malformed (RFC 9112, section 2.1).
@@ -17,8 +16,6 @@ pub enum Rule {
     H3,
     /// 400: the body is longer than 1,048,576 bytes.
     H4,
-    /// 501: the request is not built yet.
-    A0,
     /// 404: the path is none of the REST API.
     A1,
     /// 405: the method is not offered at this path.

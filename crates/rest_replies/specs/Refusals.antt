@@ -1,7 +1,7 @@
 -- Refusals as JSON: what each rule is called, how it is answered, and what is told with it.
 use Rattle.std.specs.Prelude.{ℕ, List, [], ◌∷◌, codes, decimal}
 use Rattle.records.specs.declared.refusals.Rule.{Rule}
-use Rattle.records.specs.declared.refusals.Rule.TheVariants.{H1, H2, H3, H4, A0, A1, A2, A3, A4, A5, A6, N1, N2, N3, N4}
+use Rattle.records.specs.declared.refusals.Rule.TheVariants.{H1, H2, H3, H4, A1, A2, A3, A4, A5, A6, N1, N2, N3, N4}
 use Rattle.records.specs.declared.refusals.Rule.TheVariants.{N5, B1, B2, B3, B4, B5, B6, V1, V2, V3, V4, V5, F1, F2, F3}
 use Rattle.records.specs.declared.refusals.Rule.TheVariants.{F4, F5, F6, F7, F8, L0, L1, L2, L3, L4, L5, L6, L7, L8, O1}
 use Rattle.records.specs.declared.refusals.Rule.TheVariants.{O2, O3, O4, O5, C1, C2, K1, M1}
@@ -39,7 +39,6 @@ rule_line H1 = line (codes "H1") 400 (codes "head is malformed") []
 rule_line H2 = line (codes "H2") 400 (codes "head is too long") []
 rule_line H3 = line (codes "H3") 400 (codes "length is malformed") []
 rule_line H4 = line (codes "H4") 400 (codes "body is too long") []
-rule_line A0 = line (codes "A0") 501 (codes "not built yet") []
 rule_line A1 = line (codes "A1") 404 (codes "path is unknown") []
 rule_line A2 = line (codes "A2") 405 (codes "method is not offered here") []
 rule_line A3 = line (codes "A3") 400 (codes "query is malformed") (part.Key ∷ [])

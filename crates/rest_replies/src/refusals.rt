@@ -74,7 +74,6 @@ fn rule_line(rule: Rule) -> RuleLine
         Rule::H2 => line("H2", 400, "head is too long", &[]),
         Rule::H3 => line("H3", 400, "length is malformed", &[]),
         Rule::H4 => line("H4", 400, "body is too long", &[]),
-        Rule::A0 => line("A0", 501, "not built yet", &[]),
         Rule::A1 => line("A1", 404, "path is unknown", &[]),
         Rule::A2 => line("A2", 405, "method is not offered here", &[]),
         Rule::A3 => line("A3", 400, "query is malformed", &[Part::Key]),
