@@ -233,7 +233,10 @@ impl Estate {
         ensures { (store : Store) → Follows self.old.state command.now moment self.new.state self.new.untold result store
             store }
     {
-        let _ = (alloc, command, number, moment);
+        let _ = alloc;
+        let _ = command;
+        let _ = number;
+        let _ = moment;
         Reply::NoMemory
     }
 

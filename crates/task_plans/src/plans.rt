@@ -19,6 +19,9 @@ pub fn plan_task(
 ) -> Result<Option<Work>, NoMemory>
     ensures { IfOk result (λ w. w ≡ task_in (plan_of view.now command.now moment)) }
 {
-    let _ = (alloc, view, command, moment);
+    let _ = alloc;
+    let _ = view;
+    let _ = command;
+    let _ = moment;
     Err(NoMemory)
 }
