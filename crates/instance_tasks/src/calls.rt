@@ -42,7 +42,11 @@ fn push_make(
 }
 
 /// A new root of an image, or an empty one.
-pub(crate) fn create_calls(alloc: Global, at: &Place, image: &str) -> Result<Seq<HostCall>, NoMemory>
+pub(crate) fn create_calls(
+    alloc: Global,
+    at: &Place,
+    image: &str,
+) -> Result<Seq<HostCall>, NoMemory>
     ensures { IfOk result (λ calls. calls ≡ create_calls at.now image.now) }
 {
     let mut calls = Seq::new(alloc);

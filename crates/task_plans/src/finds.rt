@@ -9,11 +9,7 @@ use row_readings::{View, instance_named, snapshot_named};
 use size_values::{ObjectKind, Text};
 
 /// The instance of a path that names one.
-pub(crate) fn instance_at<'x>(
-    view: &View<'x>,
-    project: &Text,
-    of: &Target,
-) -> Option<&'x Instance>
+pub(crate) fn instance_at<'x>(view: &View<'x>, project: &Text, of: &Target) -> Option<&'x Instance>
     ensures { option_copied result ≡ instance_in (row_of view.now project.now of.now) }
 {
     match of.kind {
@@ -23,11 +19,7 @@ pub(crate) fn instance_at<'x>(
 }
 
 /// The snapshot of a path that names one.
-pub(crate) fn snapshot_at<'x>(
-    view: &View<'x>,
-    project: &Text,
-    of: &Target,
-) -> Option<&'x Snapshot>
+pub(crate) fn snapshot_at<'x>(view: &View<'x>, project: &Text, of: &Target) -> Option<&'x Snapshot>
     ensures { option_copied result ≡ snapshot_in (row_of view.now project.now of.now) }
 {
     match of.kind {

@@ -1,4 +1,5 @@
-//! What each command begins in the background: the row that its operation claims, and the calls that it makes on the host.
+//! What each command begins in the background: the row that its operation claims, and the calls that it makes on the
+//! host.
 #![tactic(auto)]
 
 mod acts;

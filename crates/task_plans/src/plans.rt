@@ -52,8 +52,8 @@ fn plan_return(
     }
 }
 
-/// What a command begins in the background; nothing where it is a read, a cancel or a change at once, or where what it speaks
-/// of is missing. The moment is in seconds since 1970.
+/// What a command begins in the background; nothing where it is a read, a cancel or a change at once, or where what it
+/// speaks of is missing. The moment is in seconds since 1970.
 #[tactic(auto, unfolding(row_machine::specs::machine::Plans::plan_of))]
 pub fn plan_task(
     alloc: Global,

@@ -86,11 +86,7 @@ fn names_of(alloc: Global, old: &Instance) -> Result<Names, NoMemory>
 }
 
 /// An instance after a PUT.
-pub(crate) fn put_instance(
-    alloc: Global,
-    old: &Instance,
-    body: &Body,
-) -> Result<Instance, NoMemory>
+pub(crate) fn put_instance(alloc: Global, old: &Instance, body: &Body) -> Result<Instance, NoMemory>
     ensures { IfOk result (λ r. r ≡ put_instance old.now body.now) }
 {
     let texts = both(names_of(alloc, old), new_description(alloc, body));
@@ -119,7 +115,12 @@ pub(crate) fn restored_instance(
     ensures { IfOk result (λ r. r ≡ restored_instance old.now snapshot.now) }
 {
     let texts = both(names_of(alloc, old), old.description.copy(alloc));
-    let parts = copied_parts(alloc, &snapshot.profiles, &snapshot.config, &snapshot.devices);
+    let parts = copied_parts(
+        alloc,
+        &snapshot.profiles,
+        &snapshot.config,
+        &snapshot.devices,
+    );
     let (texts, parts) = both(texts, parts)?;
     let names = texts.0;
     Ok(Instance {

@@ -49,12 +49,7 @@ fn made_snapshot(
 }
 
 /// The name that a new snapshot of an instance gets: where the request gives none, the next one.
-fn name_of(
-    alloc: Global,
-    view: &View<'_>,
-    of: &Target,
-    row: &Instance,
-) -> Result<Text, NoMemory>
+fn name_of(alloc: Global, view: &View<'_>, of: &Target, row: &Instance) -> Result<Text, NoMemory>
     ensures { IfOk result (λ t. t
         ≡ (if length of.now.name == 0 then next_snapshot view.now row.now else of.now.name)) }
 {
@@ -119,7 +114,10 @@ fn snapshot_creation(
 ) -> Result<Work, NoMemory>
     ensures { IfOk result (λ w. w ≡ snapshot_creation project.now of.now moment row.now) }
 {
-    let names = both(about(alloc, project, of), snapshot_place(alloc, project, of));
+    let names = both(
+        about(alloc, project, of),
+        snapshot_place(alloc, project, of),
+    );
     let made = made_snapshot(alloc, row, &of.name, moment);
     let made = both(made, snap_calls(alloc, project, of));
     let (names, made) = both(names, made)?;

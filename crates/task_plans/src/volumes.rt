@@ -20,12 +20,7 @@ use size_values::{Deed, NoMemory, Seq, Text};
 use std::alloc::Global;
 
 /// Where the root of a volume stands.
-fn volume_place(
-    alloc: Global,
-    project: &str,
-    pool: &Text,
-    name: &Text,
-) -> Result<Place, NoMemory>
+fn volume_place(alloc: Global, project: &str, pool: &Text, name: &Text) -> Result<Place, NoMemory>
     ensures { IfOk result (λ p. p ≡ volume_place project.now pool.now name.now) }
 {
     let names = both(pool.copy(alloc), name.copy(alloc));
@@ -39,12 +34,7 @@ fn volume_place(
 }
 
 /// The volume that a volume is copied from.
-fn volume_source(
-    alloc: Global,
-    of: &Target,
-    from: &Text,
-    pool: &Text,
-) -> Result<Target, NoMemory>
+fn volume_source(alloc: Global, of: &Target, from: &Text, pool: &Text) -> Result<Target, NoMemory>
     ensures { IfOk result (λ t. t ≡ volume_source of.now from.now pool.now) }
 {
     let names = both(pool.copy(alloc), from.copy(alloc));
@@ -70,7 +60,10 @@ fn copied_volume(
 {
     let names = both(of.pool.copy(alloc), of.name.copy(alloc));
     let names = both(Text::from_text(alloc, project), names);
-    let content = both(new_description(alloc, body), patched_config(&source.config, body));
+    let content = both(
+        new_description(alloc, body),
+        patched_config(&source.config, body),
+    );
     let (names, content) = both(names, content)?;
     let of = names.1;
     Ok(Volume {
@@ -92,8 +85,10 @@ fn copying(
     pool: &Text,
 ) -> Result<(Place, Seq<HostCall>), NoMemory>
     ensures { IfOk result (λ c. c
-        ≡ (volume_place project.now of.now.pool of.now.name,
-        copy_calls (volume_place project.now pool.now from.now) [] (volume_place project.now of.now.pool of.now.name))) }
+        ≡ (
+          volume_place project.now of.now.pool of.now.name,
+          copy_calls (volume_place project.now pool.now from.now) [] (volume_place project.now of.now.pool of.now.name),
+        )) }
 {
     let at = volume_place(alloc, project, &of.pool, &of.name);
     let (at, from) = both(at, volume_place(alloc, project, pool, from))?;

@@ -11,11 +11,7 @@ use size_values::{Deed, NoMemory, Seq, Text};
 use std::alloc::Global;
 
 /// What an operation is about: its project and its object.
-pub(crate) fn about(
-    alloc: Global,
-    project: &Text,
-    of: &Target,
-) -> Result<(Text, Target), NoMemory>
+pub(crate) fn about(alloc: Global, project: &Text, of: &Target) -> Result<(Text, Target), NoMemory>
     ensures { IfOk result (λ a. a ≡ (project.now, of.now)) }
 {
     both(project.copy(alloc), of.copy(alloc))

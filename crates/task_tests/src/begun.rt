@@ -17,8 +17,8 @@ pub(crate) struct Call(
 );
 
 /// An operation: its deed, project and the name of its object; the name and the settings of its claimed row; the
-/// instance that this row replaces, and the source of a copy; its calls, and the one that takes it back. Texts are empty
-/// where there is nothing.
+/// instance that this row replaces, and the source of a copy; its calls, and the one that takes it back. Texts are
+/// empty where there is nothing.
 #[derive(Clone, Copy)]
 pub(crate) struct Begun {
     pub(crate) deed: Deed,
@@ -95,9 +95,7 @@ fn is_config(config: &Config, settings: Settings) -> bool {
 fn is_row(project: &Text, name: &Text, config: &Config, begun: &Begun) -> bool {
     match begun.claim {
         Some((wanted, settings)) => {
-            project.view() == begun.project
-                && name.view() == wanted
-                && is_config(config, settings)
+            project.view() == begun.project && name.view() == wanted && is_config(config, settings)
         }
         None => false,
     }

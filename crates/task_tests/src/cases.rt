@@ -95,7 +95,10 @@ const COPIES: &[Case] = &[
     ),
     (
         "default",
-        Asked::Make((ObjectKind::Instance, "", "n1"), From::Copy("c1", "snap0", "")),
+        Asked::Make(
+            (ObjectKind::Instance, "", "n1"),
+            From::Copy("c1", "snap0", ""),
+        ),
         Begun {
             deed: Deed::Copy,
             project: "default",
@@ -219,10 +222,15 @@ const CHANGES: &[Case] = &[
     ),
 ];
 
-/// Actions on an instance, which is ephemeral or not, and their calls. An instance is started with two processors of its
-/// profile.
+/// Actions on an instance, which is ephemeral or not, and their calls. An instance is started with the two processors
+/// of its profile.
 const ACTS: &[(&str, Action, bool, &[Call])] = &[
-    ("c1", Action::Start, false, &[Call(CallName::Start, "c1", "2")]),
+    (
+        "c1",
+        Action::Start,
+        false,
+        &[Call(CallName::Start, "c1", "2")],
+    ),
     ("c1", Action::Stop, false, &[Call(CallName::Stop, "c1", "")]),
     (
         "e1",
@@ -242,8 +250,18 @@ const ACTS: &[(&str, Action, bool, &[Call])] = &[
             Call(CallName::Start, "c1", "2"),
         ],
     ),
-    ("c1", Action::Freeze, false, &[Call(CallName::Freeze, "c1", "")]),
-    ("c1", Action::Unfreeze, false, &[Call(CallName::Thaw, "c1", "")]),
+    (
+        "c1",
+        Action::Freeze,
+        false,
+        &[Call(CallName::Freeze, "c1", "")],
+    ),
+    (
+        "c1",
+        Action::Unfreeze,
+        false,
+        &[Call(CallName::Thaw, "c1", "")],
+    ),
 ];
 
 /// What begins nothing: reads, changes at once, and commands on what is missing.
@@ -253,10 +271,19 @@ const NOTHING: &[(&str, Asked)] = &[
     ("default", Asked::Patch((ObjectKind::Instance, "", "c1"))),
     ("default", Asked::Put((ObjectKind::Volume, "p0", "v1"))),
     ("default", Asked::Put((ObjectKind::Instance, "", "c2"))),
-    ("default", Asked::Move((ObjectKind::Profile, "", "base"), "more")),
-    ("default", Asked::Move((ObjectKind::Instance, "", "c2"), "c3")),
+    (
+        "default",
+        Asked::Move((ObjectKind::Profile, "", "base"), "more"),
+    ),
+    (
+        "default",
+        Asked::Move((ObjectKind::Instance, "", "c2"), "c3"),
+    ),
     ("default", Asked::Delete((ObjectKind::Volume, "p0", "v1"))),
-    ("default", Asked::Delete((ObjectKind::Snapshot, "c1", "snap1"))),
+    (
+        "default",
+        Asked::Delete((ObjectKind::Snapshot, "c1", "snap1")),
+    ),
     ("lab", Asked::Delete((ObjectKind::Instance, "", "c1"))),
     ("default", Asked::Act("c2", Action::Start)),
     ("default", Asked::Restore("c2", "snap0")),

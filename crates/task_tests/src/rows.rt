@@ -127,7 +127,9 @@ impl Rows {
     }
 
     fn add_volumes(&mut self, alloc: Global) {
-        let _ = self.volumes.push(volume(alloc, "default", &[("size", "1GiB")]));
+        let _ = self
+            .volumes
+            .push(volume(alloc, "default", &[("size", "1GiB")]));
         let _ = self.volumes.push(volume(alloc, "own", &[("size", "3GiB")]));
     }
 
