@@ -1,7 +1,8 @@
 //! The body of a new instance: the first field that is at fault, and what the fields say.
 
+use crate::faults::has_fault;
 use records::{Body, Origin};
-use rest_bodies::{Shape, body_of, judge_fields, object_in};
+use rest_bodies::{Shape, body_of, object_in};
 use serde_json::Value;
 use size_values::{Kind, NoMemory, Seq, Text};
 use std::alloc::Global;
@@ -120,24 +121,6 @@ const ORDER: &[(&str, &str)] = &[
     ("description", "start"),
 ];
 
-fn is_fault(value: &Value, key: &str) -> bool {
-    match judge_fields(Shape::NewInstance, value) {
-        Some(found) => found == key,
-        None => key.is_empty(),
-    }
-}
-
-fn has_fault(alloc: Global, body: &str, key: &str) -> bool {
-    match object_in(alloc, body.as_bytes()) {
-        Ok(Some(value)) => {
-            let is = is_fault(&value, key);
-            drop(value);
-            is
-        }
-        _ => false,
-    }
-}
-
 fn with_source(alloc: Global, source: &str) -> Result<Text, NoMemory> {
     let mut text = String::from_str(alloc, "{\"name\":\"a\",\"source\":")?;
     text.push_str(source)?;
@@ -148,7 +131,7 @@ fn with_source(alloc: Global, source: &str) -> Result<Text, NoMemory> {
 fn source_has_fault(alloc: Global, source: &str, key: &str) -> bool {
     match with_source(alloc, source) {
         Ok(body) => {
-            let is = has_fault(alloc, body.view(), key);
+            let is = has_fault(alloc, Shape::NewInstance, body.view(), key);
             drop(body);
             is
         }
@@ -168,7 +151,12 @@ fn with_field(alloc: Global, key: &str, value: &str) -> Result<Text, NoMemory> {
 fn field_is(alloc: Global, key: &str, value: &str, fits: bool) -> bool {
     match with_field(alloc, key, value) {
         Ok(body) => {
-            let is = has_fault(alloc, body.view(), if fits { "" } else { key });
+            let is = has_fault(
+                alloc,
+                Shape::NewInstance,
+                body.view(),
+                if fits { "" } else { key },
+            );
             drop(body);
             is
         }
@@ -189,7 +177,7 @@ fn with_two_bad(alloc: Global, first: &str, second: &str) -> Result<Text, NoMemo
 fn is_judged_first(alloc: Global, first: &str, second: &str) -> bool {
     match with_two_bad(alloc, first, second) {
         Ok(body) => {
-            let is = has_fault(alloc, body.view(), first);
+            let is = has_fault(alloc, Shape::NewInstance, body.view(), first);
             drop(body);
             is
         }
@@ -200,7 +188,10 @@ fn is_judged_first(alloc: Global, first: &str, second: &str) -> bool {
 #[test]
 fn first_faults_are_named(rt: HostRuntime) {
     for (body, key) in FAULTS {
-        assert!(rt; has_fault(rt.alloc(), body, key), "{body}");
+        assert!(rt;
+            has_fault(rt.alloc(), Shape::NewInstance, body, key),
+            "{body}"
+        );
     }
 }
 
