@@ -53,10 +53,13 @@ change_shape kind.Instance verb = Some (instance_change verb)
 change_shape kind.Snapshot verb = None
 change_shape kind.Operation verb = None
 
--- the shape of the body that a method sends to an object: POST renames it
+-- the shape of the body that a method sends to an object: POST renames it, PUT and PATCH change it
 abbrev pub object_shape : ObjectKind → Verb → Option Shape
+object_shape kind verb.Get = None
 object_shape kind verb.Post = rename_shape kind
-object_shape kind other = change_shape kind other
+object_shape kind verb.Put = change_shape kind verb.Put
+object_shape kind verb.Patch = change_shape kind verb.Patch
+object_shape kind verb.Delete = None
 
 -- the shape of the body that a method sends to a place, if one is sent there
 abbrev pub shape_of : Place → Verb → Data → Option Shape

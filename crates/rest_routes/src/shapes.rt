@@ -76,12 +76,16 @@ fn change_shape(kind: ObjectKind, verb: Verb) -> Option<Shape>
     }
 }
 
+/// The body that a method sends to an object: POST renames it.
 fn object_shape(kind: ObjectKind, verb: Verb) -> Option<Shape>
     ensures { result ≡ object_shape kind verb }
 {
     match verb {
+        Verb::Get => None,
         Verb::Post => rename_shape(kind),
-        _ => change_shape(kind, verb),
+        Verb::Put => change_shape(kind, verb),
+        Verb::Patch => change_shape(kind, verb),
+        Verb::Delete => None,
     }
 }
 
