@@ -38,6 +38,7 @@ use Rattle.row_machine.specs.machine.Task.{Task}
 use Rattle.row_machine.specs.machine.Work.{cancelled, moved}
 use Rattle.row_machine.specs.opening.Records.{records_of}
 use Rattle.row_machine.specs.shown.Notices.{telling}
+use Rattle.machine_laws.proofs.Base.{live-number}
 use Rattle.machine_laws.proofs.CancelsBegin.{live-kept}
 use Rattle.machine_laws.proofs.ChangeKinds.{cancels-keep, cancelled-keeps}
 use Rattle.machine_laws.proofs.Commands.{command_of}
@@ -55,7 +56,7 @@ use Rattle.core_rows.proofs.Comings.{cancelled-silent, cancelled-next, own-live}
 use Rattle.core_rows.proofs.Following.{follows-why}
 use Rattle.core_rows.proofs.Handing.{notice_of, told-kept, moved-live}
 use Rattle.core_rows.proofs.Reporting.{as_ended, cancelled-kept}
-use Rattle.core_rows.proofs.Turning.{IsLive, is-live, as-live}
+use Rattle.core_rows.proofs.Turning.{IsLive, is-live}
 
 -- ---- which operations can be cancelled
 
@@ -85,8 +86,8 @@ kept-stops s number o h kept free = by o.may_cancel o.status refl refl free wher
 
   by : (may : Bool) (now : Status) → o.may_cancel ≡ may → o.status ≡ now
       → option_and_then (cancel_refusal number) (result_err (cancel_of may now)) ≡ None → CanStop s number
-  by true status.Pending may now e = waiting (as-live s number o (live (ap is_live now)) status.Pending now) may
-  by true status.Running may now e = running (as-live s number o (live (ap is_live now)) status.Running now) may
+  by true status.Pending may now e = waiting (record { of = o; live = live (ap is_live now); numbered = live-number s number o (live (ap is_live now)); status = now }) may
+  by true status.Running may now e = running (record { of = o; live = live (ap is_live now); numbered = live-number s number o (live (ap is_live now)); status = now }) may
   by true status.Cancelling may now e = cc
   by true status.Success may now e = cc
   by true status.Failure may now e = cc

@@ -8,25 +8,19 @@ use Rattle.core_rows.specs.Kept.{Kept}
 use Rattle.core_rows.specs.Planned.{Follows}
 use Rattle.core_rows.specs.Waiting.{told_by}
 use Rattle.core_rows.proofs.Failing.{live-holds}
-use Rattle.core_rows.proofs.Silent.{none-wait, still-quiet}
+use Rattle.core_rows.proofs.Silent.{none-wait}
 use Rattle.core_rows.proofs.Stops.{can-stop, stops-live, stopped-is, cancel-refused, cancel-follows}
 use Rattle.core_rows.proofs.estate.Estate.cancel_operation.Goals as goal
 
 pub returns-in-Err : goal.returns-in-Err
 returns-in-Err c = λ store.
-    let s = c.self.inside.draft.state in
+    let s = c.args.self.now.state in
     let command = c.args.command.now in
     let is = ap (λ (k : Kept). k.state) c.self.view_is in
-    let names = subst (λ t. names_broken t command ≡ None) (sym is) c.requires.names in
-    let standing = subst (λ t. standing_broken t command ≡ None) (sym is) c.requires.standing in
-    subst
-    (λ t. Follows t command c.args.moment s (map (told_by s.operations) c.self.inside.untold.items)
-    c.refused_reply.result store store) is
-    (cancel-refused s command c.args.number c.args.moment c.requires.asked names standing _ c.in-Err.why
-    c.refused_reply.result store
-    (subst (λ t. Refuses c.in-Err.why (cancel_broken t command.what)) c.view.ensures c.in-Err.ensures)
-    (still-quiet _ _ c.self.inside.untold.items (ap (λ (k : Kept). k.untold) c.self.view_is ∙ c.requires.quiet))
-    c.refused_reply.ensures)
+    cancel-refused s command c.args.number c.args.moment c.requires.asked c.requires.names c.requires.standing
+    c.args.self.now.untold c.in-Err.why c.refused_reply.result store
+    (subst (λ t. Refuses c.in-Err.why (cancel_broken t command.what)) (c.view.ensures ∙ is) c.in-Err.ensures)
+    c.requires.quiet c.refused_reply.ensures
 
 pub stop-requires-clause-live : goal.stop-requires-clause-live
 stop-requires-clause-live c =
@@ -35,7 +29,7 @@ stop-requires-clause-live c =
     let is = ap (λ (k : Kept). k.state) c.self.view_is in
     let names = subst (λ t. names_broken t command ≡ None) (sym is) c.requires.names in
     let standing = subst (λ t. standing_broken t command ≡ None) (sym is) c.requires.standing in
-    let free = ap (λ t. cancel_broken t command.what) (sym c.view.ensures) ∙ c.in_default-judged.ensures in
+    let free = ap (λ t. cancel_broken t command.what) (sym c.view.ensures) ∙ c.in_default.ensures in
     stops-live s c.args.number
     (can-stop s command c.args.number c.args.moment c.requires.asked names standing c.self.invariant.whole free)
 
@@ -46,7 +40,7 @@ stop-requires-clause-held c =
     let is = ap (λ (k : Kept). k.state) c.self.view_is in
     let names = subst (λ t. names_broken t command ≡ None) (sym is) c.requires.names in
     let standing = subst (λ t. standing_broken t command ≡ None) (sym is) c.requires.standing in
-    let free = ap (λ t. cancel_broken t command.what) (sym c.view.ensures) ∙ c.in_default-judged.ensures in
+    let free = ap (λ t. cancel_broken t command.what) (sym c.view.ensures) ∙ c.in_default.ensures in
     live-holds s c.args.number c.self.invariant.whole
     (stops-live s c.args.number
     (can-stop s command c.args.number c.args.moment c.requires.asked names standing c.self.invariant.whole free))
@@ -64,7 +58,7 @@ invariant_of-self c =
     let is = ap (λ (k : Kept). k.state) c.self.view_is in
     let names = subst (λ t. names_broken t command ≡ None) (sym is) c.requires.names in
     let standing = subst (λ t. standing_broken t command ≡ None) (sym is) c.requires.standing in
-    let free = ap (λ t. cancel_broken t command.what) (sym c.view.ensures) ∙ c.in_default-judged.ensures in
+    let free = ap (λ t. cancel_broken t command.what) (sym c.view.ensures) ∙ c.in_default.ensures in
     let none = none-wait _ c.self.inside.untold.items
     (ap (λ (k : Kept). k.untold) c.self.view_is ∙ c.requires.quiet) in
     let stopped = stopped-is s c.args.number c.args.moment c.stop.new.draft.state c.self.inside.untold.items
@@ -86,7 +80,7 @@ returns c = λ store.
     let is = ap (λ (k : Kept). k.state) c.self.view_is in
     let names = subst (λ t. names_broken t command ≡ None) (sym is) c.requires.names in
     let standing = subst (λ t. standing_broken t command ≡ None) (sym is) c.requires.standing in
-    let free = ap (λ t. cancel_broken t command.what) (sym c.view.ensures) ∙ c.in_default-judged.ensures in
+    let free = ap (λ t. cancel_broken t command.what) (sym c.view.ensures) ∙ c.in_default.ensures in
     let none = none-wait _ c.self.inside.untold.items
     (ap (λ (k : Kept). k.untold) c.self.view_is ∙ c.requires.quiet) in
     let stopped = stopped-is s c.args.number c.args.moment c.stop.new.draft.state c.self.inside.untold.items
