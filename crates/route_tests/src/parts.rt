@@ -10,8 +10,13 @@ use std::alloc::Global;
 const NOTHING: &str = "nothing";
 
 /// A body with every field.
-const WHOLE: &str =
-    "{\"name\":\"n\",\"description\":\"d\",\"config\":{\"a\":\"b\"},\"devices\":{\"eth0\":{\"type\":\"nic\"}},\"profiles\":[\"p\"],\"type\":\"container\",\"ephemeral\":true,\"driver\":\"dir\",\"source\":{\"type\":\"copy\",\"name\":\"v\",\"source\":\"a/s\"},\"action\":\"start\",\"restore\":\"s\"}";
+const WHOLE: &str = r#"{
+    "name": "n", "description": "d", "config": {"a": "b"},
+    "devices": {"eth0": {"type": "nic"}}, "profiles": ["p"],
+    "type": "container", "ephemeral": true, "driver": "dir",
+    "source": {"type": "copy", "name": "v", "source": "a/s"},
+    "action": "start", "restore": "s"
+}"#;
 
 /// The parts that a body of each shape has, of all those that the whole body could say.
 const PARTS: &[(Shape, &str)] = &[
@@ -46,47 +51,47 @@ const PARTS: &[(Shape, &str)] = &[
 
 /// What the source of a copy names: the instance and its snapshot, or nothing, which is at fault.
 const COPIED: &[(&str, &str, &str)] = &[
-    ("\"a\"", "a", ""),
-    ("\"a/s\"", "a", "s"),
-    ("\"A b/snap0\"", "A b", "snap0"),
-    ("\"../s\"", "..", "s"),
-    ("\"\"", NOTHING, ""),
-    ("\"/\"", NOTHING, ""),
-    ("\"a/\"", NOTHING, ""),
-    ("\"/s\"", NOTHING, ""),
-    ("\"//\"", NOTHING, ""),
-    ("\"a//s\"", NOTHING, ""),
-    ("\"a/s/\"", NOTHING, ""),
-    ("\"/a/s\"", NOTHING, ""),
-    ("\"a/b/c\"", NOTHING, ""),
+    (r#""a""#, "a", ""),
+    (r#""a/s""#, "a", "s"),
+    (r#""A b/snap0""#, "A b", "snap0"),
+    (r#""../s""#, "..", "s"),
+    (r#""""#, NOTHING, ""),
+    (r#""/""#, NOTHING, ""),
+    (r#""a/""#, NOTHING, ""),
+    (r#""/s""#, NOTHING, ""),
+    (r#""//""#, NOTHING, ""),
+    (r#""a//s""#, NOTHING, ""),
+    (r#""a/s/""#, NOTHING, ""),
+    (r#""/a/s""#, NOTHING, ""),
+    (r#""a/b/c""#, NOTHING, ""),
     ("null", NOTHING, ""),
     ("5", NOTHING, ""),
     ("false", NOTHING, ""),
-    ("[\"a\"]", NOTHING, ""),
-    ("{\"a\":\"s\"}", NOTHING, ""),
+    (r#"["a"]"#, NOTHING, ""),
+    (r#"{"a":"s"}"#, NOTHING, ""),
 ];
 
 /// Bodies with the action that they ask for.
 const ACTIONS: &[(&str, Option<Action>)] = &[
-    ("{\"action\":\"start\"}", Some(Action::Start)),
-    ("{\"action\":\"stop\"}", Some(Action::Stop)),
-    ("{\"action\":\"restart\"}", Some(Action::Restart)),
-    ("{\"action\":\"freeze\"}", Some(Action::Freeze)),
-    ("{\"action\":\"unfreeze\"}", Some(Action::Unfreeze)),
-    ("{\"action\":\"Stop\"}", None),
-    ("{\"action\":\"\"}", None),
-    ("{\"action\":5}", None),
-    ("{\"action\":null}", None),
+    (r#"{"action":"start"}"#, Some(Action::Start)),
+    (r#"{"action":"stop"}"#, Some(Action::Stop)),
+    (r#"{"action":"restart"}"#, Some(Action::Restart)),
+    (r#"{"action":"freeze"}"#, Some(Action::Freeze)),
+    (r#"{"action":"unfreeze"}"#, Some(Action::Unfreeze)),
+    (r#"{"action":"Stop"}"#, None),
+    (r#"{"action":""}"#, None),
+    (r#"{"action":5}"#, None),
+    (r#"{"action":null}"#, None),
     ("{}", None),
-    ("{\"start\":\"action\"}", None),
+    (r#"{"start":"action"}"#, None),
 ];
 
 /// Bodies with the snapshot that they restore.
 const RESTORED: &[(&str, &str)] = &[
-    ("{\"restore\":\"s\"}", "s"),
-    ("{\"restore\":\"\",\"config\":5}", ""),
-    ("{\"restore\":null}", NOTHING),
-    ("{\"restore\":5}", NOTHING),
+    (r#"{"restore":"s"}"#, "s"),
+    (r#"{"restore":"","config":5}"#, ""),
+    (r#"{"restore":null}"#, NOTHING),
+    (r#"{"restore":5}"#, NOTHING),
     ("{}", NOTHING),
 ];
 
@@ -169,10 +174,7 @@ fn has_fitting_source(value: &Value) -> bool {
 }
 
 fn with_source(alloc: Global, source: &str) -> Result<Text, NoMemory> {
-    let mut text = String::from_str(
-        alloc,
-        "{\"name\":\"b\",\"source\":{\"type\":\"copy\",\"source\":",
-    )?;
+    let mut text = String::from_str(alloc, r#"{"name":"b","source":{"type":"copy","source":"#)?;
     text.push_str(source)?;
     text.push_str("}}")?;
     Ok(Text::from_string(text))

@@ -7,62 +7,59 @@ use std::alloc::Global;
 
 /// Copies of instances, whose own type is ignored.
 const COPIES: &[(&str, &str)] = &[
+    (r#"{"name":"b","source":{"type":"copy","source":"a"}}"#, ""),
     (
-        "{\"name\":\"b\",\"source\":{\"type\":\"copy\",\"source\":\"a\"}}",
+        r#"{"name":"b","type":"vm","source":{"type":"copy","source":"a"}}"#,
         "",
     ),
     (
-        "{\"name\":\"b\",\"type\":\"vm\",\"source\":{\"type\":\"copy\",\"source\":\"a\"}}",
+        r#"{"name":"b","type":5,"source":{"type":"copy","source":"a"}}"#,
         "",
     ),
     (
-        "{\"name\":\"b\",\"type\":5,\"source\":{\"type\":\"copy\",\"source\":\"a\"}}",
+        r#"{"name":"b","type":null,"source":{"type":"copy","source":"a"}}"#,
         "",
     ),
+    (r#"{"source":{"type":"copy","source":"a"}}"#, "name"),
     (
-        "{\"name\":\"b\",\"type\":null,\"source\":{\"type\":\"copy\",\"source\":\"a\"}}",
-        "",
-    ),
-    ("{\"source\":{\"type\":\"copy\",\"source\":\"a\"}}", "name"),
-    (
-        "{\"name\":null,\"source\":{\"type\":\"copy\",\"source\":\"a\"}}",
+        r#"{"name":null,"source":{"type":"copy","source":"a"}}"#,
         "name",
     ),
-    ("{\"name\":5,\"source\":{\"type\":\"copy\"}}", "name"),
+    (r#"{"name":5,"source":{"type":"copy"}}"#, "name"),
     (
-        "{\"name\":\"b\",\"profiles\":5,\"source\":{\"type\":\"copy\"}}",
+        r#"{"name":"b","profiles":5,"source":{"type":"copy"}}"#,
         "source",
     ),
     (
-        "{\"name\":\"b\",\"config\":5,\"profiles\":[\"p\",\"p\"],\"source\":{\"type\":\"copy\",\"source\":\"a\"}}",
+        r#"{"name":"b","config":5,"profiles":["p","p"],"source":{"type":"copy","source":"a"}}"#,
         "profiles",
     ),
     (
-        "{\"name\":\"b\",\"devices\":5,\"config\":5,\"source\":{\"type\":\"copy\",\"source\":\"a\"}}",
+        r#"{"name":"b","devices":5,"config":5,"source":{"type":"copy","source":"a"}}"#,
         "config",
     ),
     (
-        "{\"name\":\"b\",\"ephemeral\":5,\"devices\":5,\"source\":{\"type\":\"copy\",\"source\":\"a\"}}",
+        r#"{"name":"b","ephemeral":5,"devices":5,"source":{"type":"copy","source":"a"}}"#,
         "devices",
     ),
     (
-        "{\"name\":\"b\",\"description\":5,\"ephemeral\":0,\"source\":{\"type\":\"copy\",\"source\":\"a\"}}",
+        r#"{"name":"b","description":5,"ephemeral":0,"source":{"type":"copy","source":"a"}}"#,
         "ephemeral",
     ),
     (
-        "{\"name\":\"b\",\"start\":true,\"description\":5,\"source\":{\"type\":\"copy\",\"source\":\"a\"}}",
+        r#"{"name":"b","start":true,"description":5,"source":{"type":"copy","source":"a"}}"#,
         "description",
     ),
     (
-        "{\"name\":\"b\",\"start\":true,\"source\":{\"type\":\"copy\",\"source\":\"a\"}}",
+        r#"{"name":"b","start":true,"source":{"type":"copy","source":"a"}}"#,
         "start",
     ),
     (
-        "{\"name\":\"b\",\"start\":0,\"source\":{\"type\":\"copy\",\"source\":\"a\"}}",
+        r#"{"name":"b","start":0,"source":{"type":"copy","source":"a"}}"#,
         "start",
     ),
     (
-        "{\"name\":\"b\",\"start\":false,\"profiles\":[],\"restore\":5,\"stateful\":true,\"source\":{\"type\":\"copy\",\"source\":\"a\"}}",
+        r#"{"name":"b","start":false,"restore":5,"source":{"type":"copy","source":"a"}}"#,
         "",
     ),
 ];
@@ -71,128 +68,122 @@ const COPIES: &[(&str, &str)] = &[
 const CHANGES: &[(&str, &str)] = &[
     ("{}", ""),
     (
-        "{\"description\":\"d\",\"config\":{},\"devices\":{},\"profiles\":[],\"ephemeral\":false}",
+        r#"{"description":"d","config":{},"devices":{},"profiles":[],"ephemeral":false}"#,
         "",
     ),
     (
-        "{\"description\":null,\"config\":null,\"devices\":null,\"profiles\":null,\"ephemeral\":null,\"restore\":null}",
+        r#"{"description":null,"config":null,"devices":null,"profiles":null,"ephemeral":null}"#,
         "",
     ),
     (
-        "{\"name\":5,\"type\":\"vm\",\"source\":5,\"start\":true,\"stateful\":true,\"action\":5}",
+        r#"{"name":5,"type":"vm","source":5,"start":true,"stateful":true,"action":5}"#,
         "",
     ),
-    ("{\"config\":5,\"description\":5}", "description"),
-    ("{\"devices\":5,\"config\":{\"\":\"a\"}}", "config"),
-    ("{\"profiles\":5,\"devices\":{\"eth0\":5}}", "devices"),
-    ("{\"ephemeral\":5,\"profiles\":[\"a\",\"a\"]}", "profiles"),
-    ("{\"ephemeral\":0}", "ephemeral"),
-    ("{\"profiles\":\"a\"}", "profiles"),
+    (r#"{"config":5,"description":5}"#, "description"),
+    (r#"{"devices":5,"config":{"":"a"}}"#, "config"),
+    (r#"{"profiles":5,"devices":{"eth0":5}}"#, "devices"),
+    (r#"{"ephemeral":5,"profiles":["a","a"]}"#, "profiles"),
+    (r#"{"ephemeral":0}"#, "ephemeral"),
+    (r#"{"profiles":"a"}"#, "profiles"),
 ];
 
 /// Changes by PUT, which may put the instance back to a snapshot.
 const PUTS: &[(&str, &str)] = &[
-    ("{\"restore\":\"s\"}", ""),
-    ("{\"restore\":\"\"}", ""),
+    (r#"{"restore":"s"}"#, ""),
+    (r#"{"restore":""}"#, ""),
     (
-        "{\"restore\":\"s\",\"description\":5,\"config\":5,\"devices\":5,\"profiles\":5,\"ephemeral\":5}",
+        r#"{"restore":"s","description":5,"config":5,"devices":5,"profiles":5,"ephemeral":5}"#,
         "",
     ),
-    ("{\"restore\":5}", "restore"),
-    ("{\"restore\":false}", "restore"),
-    ("{\"restore\":{}}", "restore"),
-    ("{\"restore\":[\"s\"]}", "restore"),
-    ("{\"restore\":5,\"ephemeral\":0}", "ephemeral"),
-    ("{\"restore\":5,\"description\":5}", "description"),
-    ("{\"restore\":null,\"config\":5}", "config"),
+    (r#"{"restore":5}"#, "restore"),
+    (r#"{"restore":false}"#, "restore"),
+    (r#"{"restore":{}}"#, "restore"),
+    (r#"{"restore":["s"]}"#, "restore"),
+    (r#"{"restore":5,"ephemeral":0}"#, "ephemeral"),
+    (r#"{"restore":5,"description":5}"#, "description"),
+    (r#"{"restore":null,"config":5}"#, "config"),
 ];
 
 /// Changes by PATCH, which has no such field.
 const PATCHES: &[(&str, &str)] = &[
-    ("{\"restore\":5}", ""),
-    ("{\"restore\":\"s\"}", ""),
-    ("{\"restore\":\"s\",\"config\":5}", "config"),
+    (r#"{"restore":5}"#, ""),
+    (r#"{"restore":"s"}"#, ""),
+    (r#"{"restore":"s","config":5}"#, "config"),
 ];
 
 /// Renames of all objects.
 const RENAMES: &[(&str, &str)] = &[
     ("{}", "name"),
-    ("{\"name\":null}", "name"),
-    ("{\"name\":5}", "name"),
-    ("{\"name\":\"\"}", ""),
-    ("{\"name\":\"b\"}", ""),
+    (r#"{"name":null}"#, "name"),
+    (r#"{"name":5}"#, "name"),
+    (r#"{"name":""}"#, ""),
+    (r#"{"name":"b"}"#, ""),
     (
-        "{\"name\":\"b\",\"description\":5,\"config\":5,\"stateful\":5}",
+        r#"{"name":"b","description":5,"config":5,"stateful":5}"#,
         "",
     ),
 ];
 
 /// Renames of objects that are no instances.
-const PLAIN_RENAMES: &[(&str, &str)] = &[(
-    "{\"name\":\"b\",\"migration\":true,\"project\":\"p\"}",
-    "",
-)];
+const PLAIN_RENAMES: &[(&str, &str)] = &[(r#"{"name":"b","migration":true,"project":"p"}"#, "")];
 
 /// Renames of instances, which stay where they are.
 const INSTANCE_RENAMES: &[(&str, &str)] = &[
-    ("{\"name\":\"b\",\"migration\":false}", ""),
-    ("{\"name\":\"b\",\"migration\":null,\"project\":null}", ""),
-    ("{\"name\":\"b\",\"migration\":true}", "migration"),
-    ("{\"name\":\"b\",\"migration\":0}", "migration"),
-    ("{\"name\":\"b\",\"migration\":\"false\"}", "migration"),
-    ("{\"name\":\"b\",\"project\":\"p\"}", "project"),
-    ("{\"name\":\"b\",\"project\":\"\"}", "project"),
-    ("{\"name\":\"b\",\"project\":5}", "project"),
-    ("{\"name\":\"b\",\"project\":false}", "project"),
-    ("{\"name\":5,\"project\":\"p\",\"migration\":true}", "name"),
+    (r#"{"name":"b","migration":false}"#, ""),
+    (r#"{"name":"b","migration":null,"project":null}"#, ""),
+    (r#"{"name":"b","migration":true}"#, "migration"),
+    (r#"{"name":"b","migration":0}"#, "migration"),
+    (r#"{"name":"b","migration":"false"}"#, "migration"),
+    (r#"{"name":"b","project":"p"}"#, "project"),
+    (r#"{"name":"b","project":""}"#, "project"),
+    (r#"{"name":"b","project":5}"#, "project"),
+    (r#"{"name":"b","project":false}"#, "project"),
+    (r#"{"name":5,"project":"p","migration":true}"#, "name"),
     (
-        "{\"name\":\"b\",\"project\":\"p\",\"migration\":true}",
+        r#"{"name":"b","project":"p","migration":true}"#,
         "migration",
     ),
 ];
 
 /// Changes of the state of an instance.
 const STATES: &[(&str, &str)] = &[
-    ("{\"action\":\"start\"}", ""),
-    ("{\"action\":\"stop\"}", ""),
-    ("{\"action\":\"restart\"}", ""),
-    ("{\"action\":\"freeze\"}", ""),
-    ("{\"action\":\"unfreeze\"}", ""),
+    (r#"{"action":"start"}"#, ""),
+    (r#"{"action":"stop"}"#, ""),
+    (r#"{"action":"restart"}"#, ""),
+    (r#"{"action":"freeze"}"#, ""),
+    (r#"{"action":"unfreeze"}"#, ""),
     ("{}", "action"),
-    ("{\"action\":null}", "action"),
-    ("{\"action\":5}", "action"),
-    ("{\"action\":\"\"}", "action"),
-    ("{\"action\":\"Start\"}", "action"),
-    ("{\"action\":\"starts\"}", "action"),
-    ("{\"action\":\"pause\"}", "action"),
-    ("{\"action\":[\"start\"]}", "action"),
-    (
-        "{\"action\":\"stop\",\"timeout\":\"x\",\"force\":\"x\"}",
-        "",
-    ),
-    ("{\"action\":\"stop\",\"stateful\":false}", ""),
-    ("{\"action\":\"stop\",\"stateful\":null}", ""),
-    ("{\"action\":\"stop\",\"stateful\":true}", "stateful"),
-    ("{\"action\":\"stop\",\"stateful\":0}", "stateful"),
-    ("{\"action\":\"stop\",\"stateful\":\"false\"}", "stateful"),
-    ("{\"stateful\":true}", "action"),
+    (r#"{"action":null}"#, "action"),
+    (r#"{"action":5}"#, "action"),
+    (r#"{"action":""}"#, "action"),
+    (r#"{"action":"Start"}"#, "action"),
+    (r#"{"action":"starts"}"#, "action"),
+    (r#"{"action":"pause"}"#, "action"),
+    (r#"{"action":["start"]}"#, "action"),
+    (r#"{"action":"stop","timeout":"x","force":"x"}"#, ""),
+    (r#"{"action":"stop","stateful":false}"#, ""),
+    (r#"{"action":"stop","stateful":null}"#, ""),
+    (r#"{"action":"stop","stateful":true}"#, "stateful"),
+    (r#"{"action":"stop","stateful":0}"#, "stateful"),
+    (r#"{"action":"stop","stateful":"false"}"#, "stateful"),
+    (r#"{"stateful":true}"#, "action"),
 ];
 
 /// New snapshots.
 const SNAPSHOTS: &[(&str, &str)] = &[
     ("{}", ""),
-    ("{\"name\":null}", ""),
-    ("{\"name\":\"\"}", ""),
-    ("{\"name\":\"s\"}", ""),
-    ("{\"name\":5}", "name"),
-    ("{\"name\":false}", "name"),
-    ("{\"name\":\"s\",\"stateful\":false}", ""),
-    ("{\"stateful\":null}", ""),
-    ("{\"stateful\":true}", "stateful"),
-    ("{\"stateful\":0}", "stateful"),
-    ("{\"stateful\":\"false\"}", "stateful"),
-    ("{\"stateful\":true,\"name\":5}", "name"),
-    ("{\"description\":5,\"config\":5,\"expires_at\":5}", ""),
+    (r#"{"name":null}"#, ""),
+    (r#"{"name":""}"#, ""),
+    (r#"{"name":"s"}"#, ""),
+    (r#"{"name":5}"#, "name"),
+    (r#"{"name":false}"#, "name"),
+    (r#"{"name":"s","stateful":false}"#, ""),
+    (r#"{"stateful":null}"#, ""),
+    (r#"{"stateful":true}"#, "stateful"),
+    (r#"{"stateful":0}"#, "stateful"),
+    (r#"{"stateful":"false"}"#, "stateful"),
+    (r#"{"stateful":true,"name":5}"#, "name"),
+    (r#"{"description":5,"config":5,"expires_at":5}"#, ""),
 ];
 
 fn have_faults(alloc: Global, shape: Shape, bodies: &[(&str, &str)]) -> bool {
