@@ -89,7 +89,7 @@ pub record HasNoUndo (s : State) (number : ℕ) : Type 0 where
   pub undo : cancelling.of.work.undo ≡ None
 
 module _ (s : State) (number : ℕ) (o : Operation Task) (live : live_at s.operations number ≡ Some o) where
-  pub as-live : (now : Status) → o.status ≡ now → IsLive s number now
+  as-live : (now : Status) → o.status ≡ now → IsLive s number now
   as-live now is = record { of = o; live = live; numbered = live-number s number o live; status = is }
 
   next-while : (now : Status) (r : Report) → o.status ≡ now → turn_while o r now ≡ turn.Next → HasNext s number r
