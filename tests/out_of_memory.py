@@ -25,7 +25,7 @@ import tempfile
 from pathlib import Path
 
 TOP = Path(__file__).resolve().parent.parent
-WORDS = ["run", "--now", "0", "--boot", "0"]
+WORDS = ["run", "--now", "0", "--boot", "1"]
 PAD = b"GET / HTTP/1.1\r\nHost: localhost\r\n\r\n"
 
 
