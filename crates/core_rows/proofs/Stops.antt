@@ -1,7 +1,6 @@
 -- What a cancel comes to, as one step of the machine, with the facts that hold of the rows after it.
 use Rattle.std.proofs.Common.{◌≡◌, ℕ, ◌<◌, Bool, true, false, List, [], ◌∷◌, ◌++◌, map, Option, Some, None, IsSome}
 use Rattle.std.proofs.Common.{refl, ap, sym, subst, ◌∙◌}
-use Rattle.std.specs.Prelude.{Ok}
 use Rattle.std.specs.Fmt.{decimal}
 use Rattle.std.specs.Option.{option_and_then, option_map, option_map_or, is_some}
 use Rattle.std.specs.Result.{result_err}
@@ -52,9 +51,9 @@ use Rattle.core_rows.specs.Turns.{shown_at}
 use Rattle.core_rows.specs.Waiting.{told_by}
 use Rattle.core_rows.specs.declared.waiting.Waiting.{Waiting}
 use Rattle.core_rows.proofs.Begun.{shown-told}
-use Rattle.core_rows.proofs.Comings.{cancelled-silent, cancelled-next, own-live}
+use Rattle.core_rows.proofs.Comings.{cancelled-silent, cancelled-next}
 use Rattle.core_rows.proofs.Following.{follows-why}
-use Rattle.core_rows.proofs.Handing.{notice_of, told-kept, moved-live}
+use Rattle.core_rows.proofs.Handing.{told-kept, moved-live}
 use Rattle.core_rows.proofs.Reporting.{as_ended, cancelled-kept}
 use Rattle.core_rows.proofs.Turning.{IsLive, is-live}
 

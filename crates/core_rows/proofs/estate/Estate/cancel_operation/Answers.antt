@@ -2,7 +2,6 @@ use Rattle.std.proofs.Common.{None, length, map, ap, sym, subst, ◌≡◌, ◌�
 use Rattle.size_values.specs.Causes.{Refuses}
 use Rattle.records.specs.declared.replies.Reply.TheVariants as reply
 use Rattle.row_machine.specs.machine.Rules.{names_broken, standing_broken}
-use Rattle.row_machine.specs.machine.State.{State}
 use Rattle.row_machine.specs.machine.TableRules.{cancel_broken}
 use Rattle.core_rows.specs.Kept.{Kept}
 use Rattle.core_rows.specs.Planned.{Follows}
