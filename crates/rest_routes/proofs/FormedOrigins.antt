@@ -51,12 +51,12 @@ FoundNames (Some names) = AreNames names
 
 part_name : (text : List ℕ) → is_part text ≡ true → AreNames (text, [])
 unfolding is_part
-part_name text h = rw (both (not (is_empty text)) (not (has_slash text)) h) refl
+part_name text h = and_true _ _ (and_true _ _ h refl) refl
 
 parts_names : (name snapshot : List ℕ) → is_part name ≡ true → is_part snapshot ≡ true → AreNames (name, snapshot)
 unfolding is_part
 parts_names name snapshot h k =
-    rw (both (not (is_empty name)) (not (has_slash name)) h, (both (not (is_empty snapshot)) (not (has_slash snapshot)) k).1) refl
+    and_true _ _ (and_true _ _ h (both (not (is_empty snapshot)) (not (has_slash snapshot)) k).1) refl
 
 two_names : (name snapshot : List ℕ) → FoundNames (two_parts name snapshot)
 two_names name snapshot = by (is_part name) (is_part snapshot) (parts_names name snapshot)
