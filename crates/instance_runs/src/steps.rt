@@ -136,7 +136,7 @@ GET /nothing
 GET /1.0/operations/00000000-0001-8000-8000-000000000001
 200 {"metadata":{"class":"task","created_at":"1970-01-01T00:00:00Z","err":"","id":"00000000-0001-8000-8000-000000000001","may_cancel":false,"metadata":null,"resources":{"instances":["/1.0/instances/a"]},"status":"Success","status_code":200,"updated_at":"1970-01-01T00:00:00Z"},"status":"Success","status_code":200,"type":"sync"}
 PATCH /1.0/instances/a {
-501 {"error":"not built yet","error_code":501,"metadata":{"rule":"A0"},"type":"error"}
+400 {"error":"body is no JSON object","error_code":400,"metadata":{"rule":"A4"},"type":"error"}
 GET /1.0/operations
 200 {"metadata":{"running":["/1.0/operations/00000000-0001-8000-8000-000000000002"],"success":["/1.0/operations/00000000-0001-8000-8000-000000000001"]},"status":"Success","status_code":200,"type":"sync"}
 GET /1.0?recursion=9

@@ -346,11 +346,17 @@ DELETE /1.0/storage-pools/p0/volumes/custom?recursion=9
 DELETE /1.0/storage-pools/nope/volumes
 405 {"error":"method is not offered here","error_code":405,"metadata":{"rule":"A2"},"type":"error"}
 
-# A0: a copy, before the query, the fields and the names
-POST /1.0/storage-pools/p0/volumes?project=lab {"name":"c","source":{"name":"v","type":"copy"}}
-501 {"error":"not built yet","error_code":501,"metadata":{"rule":"A0"},"type":"error"}
+# a copy: its source is missing, its name is taken, and it is judged as another request is
+POST /1.0/storage-pools/p0/volumes?project=lab {"name":"c","source":{"name":"nope","type":"copy"}}
+404 {"error":"object is missing","error_code":404,"metadata":{"kind":"storage-volume","name":"nope","rule":"N2"},"type":"error"}
+POST /1.0/storage-pools/p0/volumes?project=lab {"name":"c","source":{"name":"v","pool":"nope","type":"copy"}}
+404 {"error":"object is missing","error_code":404,"metadata":{"kind":"storage-pool","name":"nope","rule":"N2"},"type":"error"}
+POST /1.0/storage-pools/p0/volumes?project=lab {"name":"v","source":{"name":"v","type":"copy"}}
+409 {"error":"name is taken","error_code":409,"metadata":{"kind":"storage-volume","name":"v","rule":"N4"},"type":"error"}
+POST /1.0/storage-pools/p0/volumes?project=lab {"config":{"size":"x"},"name":"c","source":{"name":"v","type":"copy"}}
+400 {"error":"value is malformed","error_code":400,"metadata":{"key":"size","number":2,"rule":"V2"},"type":"error"}
 POST /1.0/storage-pools/nope/volumes/custom?project=shop&recursion=9 {"source":{"type":"copy"}}
-501 {"error":"not built yet","error_code":501,"metadata":{"rule":"A0"},"type":"error"}
+400 {"error":"query is malformed","error_code":400,"metadata":{"key":"recursion","rule":"A3"},"type":"error"}
 
 # A3
 GET /1.0/storage-pools/p0/volumes?project=shop&recursion=x

@@ -333,27 +333,27 @@ GET /1.0/events
 GET /1.0/events?project=shop&type=operation,lifecycle
 400 {"error":"events need a WebSocket","error_code":400,"metadata":{"rule":"A6"},"type":"error"}
 
-# A0, before the query and the body
+# instances, snapshots and operations that are not there
 GET /1.0/instances/c1/snapshots?recursion=9
-501 {"error":"not built yet","error_code":501,"metadata":{"rule":"A0"},"type":"error"}
+400 {"error":"query is malformed","error_code":400,"metadata":{"key":"recursion","rule":"A3"},"type":"error"}
 POST /1.0/instances/c1/snapshots {"name":"s1"}
-501 {"error":"not built yet","error_code":501,"metadata":{"rule":"A0"},"type":"error"}
+404 {"error":"object is missing","error_code":404,"metadata":{"kind":"instance","name":"c1","rule":"N2"},"type":"error"}
 POST /1.0/instances/c1/snapshots?project=shop {
-501 {"error":"not built yet","error_code":501,"metadata":{"rule":"A0"},"type":"error"}
+400 {"error":"body is no JSON object","error_code":400,"metadata":{"rule":"A4"},"type":"error"}
 DELETE /1.0/operations/x
-501 {"error":"not built yet","error_code":501,"metadata":{"rule":"A0"},"type":"error"}
+404 {"error":"object is missing","error_code":404,"metadata":{"kind":"operation","name":"x","rule":"N2"},"type":"error"}
 POST /1.0/instances/c1/snapshots?filter {"name":"s1","config":{}}
-501 {"error":"not built yet","error_code":501,"metadata":{"rule":"A0"},"type":"error"}
+400 {"error":"query is malformed","error_code":400,"metadata":{"key":"filter","rule":"A3"},"type":"error"}
 PUT /1.0/instances/c1 {"description":"x"}
-501 {"error":"not built yet","error_code":501,"metadata":{"rule":"A0"},"type":"error"}
+404 {"error":"object is missing","error_code":404,"metadata":{"kind":"instance","name":"c1","rule":"N2"},"type":"error"}
 PATCH /1.0/instances/c1 {"description":"x"}
-501 {"error":"not built yet","error_code":501,"metadata":{"rule":"A0"},"type":"error"}
+404 {"error":"object is missing","error_code":404,"metadata":{"kind":"instance","name":"c1","rule":"N2"},"type":"error"}
 POST /1.0/instances/c1 {"name":"x"}
-501 {"error":"not built yet","error_code":501,"metadata":{"rule":"A0"},"type":"error"}
+404 {"error":"object is missing","error_code":404,"metadata":{"kind":"instance","name":"c1","rule":"N2"},"type":"error"}
 DELETE /1.0/instances/c1/snapshots/s
-501 {"error":"not built yet","error_code":501,"metadata":{"rule":"A0"},"type":"error"}
+404 {"error":"object is missing","error_code":404,"metadata":{"kind":"instance","name":"c1","rule":"N2"},"type":"error"}
 PUT /1.0/instances/c1/state {"action":"start"}
-501 {"error":"not built yet","error_code":501,"metadata":{"rule":"A0"},"type":"error"}
+404 {"error":"object is missing","error_code":404,"metadata":{"kind":"instance","name":"c1","rule":"N2"},"type":"error"}
 
 # the same of a project that is there, in the order of the rules
 POST /1.0/projects?filter {"name":"x","config":{}}

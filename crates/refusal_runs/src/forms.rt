@@ -6,7 +6,7 @@ use std::alloc::Global;
 
 const RUNS: &str = r#"
 ~ run --now 0 --boot 1 = 0 5 2
-# Paths, methods, queries, and what is not built yet.
+# Paths, methods and queries, and their order.
 POST /1.0/storage-pools {"driver":"dir","name":"p0"}
 200 {"metadata":{},"status":"Success","status_code":200,"type":"sync"}
 PUT /1.0/profiles/default {"devices":{"root":{"path":"/","pool":"p0","size":"1GiB","type":"disk"}}}
@@ -59,41 +59,51 @@ HEAD /1.0/instances
 405 {"error":"method is not offered here","error_code":405,"metadata":{"rule":"A2"},"type":"error"}
 get /1.0/instances
 405 {"error":"method is not offered here","error_code":405,"metadata":{"rule":"A2"},"type":"error"}
-# what is not built yet, before its query and its body are judged
-PUT /1.0/instances/here {}
-501 {"error":"not built yet","error_code":501,"metadata":{"rule":"A0"},"type":"error"}
+# the query goes before the body, the body before its members, and these before the names
+PUT /1.0/instances/here?recursion=9 {
+400 {"error":"query is malformed","error_code":400,"metadata":{"key":"recursion","rule":"A3"},"type":"error"}
 PATCH /1.0/instances/here {
-501 {"error":"not built yet","error_code":501,"metadata":{"rule":"A0"},"type":"error"}
-POST /1.0/instances/here {"name":"there"}
-501 {"error":"not built yet","error_code":501,"metadata":{"rule":"A0"},"type":"error"}
+400 {"error":"body is no JSON object","error_code":400,"metadata":{"rule":"A4"},"type":"error"}
+PATCH /1.0/instances/nope {"config":5}
+400 {"error":"field is malformed","error_code":400,"metadata":{"key":"config","rule":"A5"},"type":"error"}
+POST /1.0/instances/here {"name":5}
+400 {"error":"field is malformed","error_code":400,"metadata":{"key":"name","rule":"A5"},"type":"error"}
 DELETE /1.0/instances/here?recursion=9
-501 {"error":"not built yet","error_code":501,"metadata":{"rule":"A0"},"type":"error"}
+400 {"error":"query is malformed","error_code":400,"metadata":{"key":"recursion","rule":"A3"},"type":"error"}
 DELETE /1.0/instances/nope
-501 {"error":"not built yet","error_code":501,"metadata":{"rule":"A0"},"type":"error"}
-PUT /1.0/instances/here/state {"action":"start"}
-501 {"error":"not built yet","error_code":501,"metadata":{"rule":"A0"},"type":"error"}
+404 {"error":"object is missing","error_code":404,"metadata":{"kind":"instance","name":"nope","rule":"N2"},"type":"error"}
+PUT /1.0/instances/here/state {"action":"halt"}
+400 {"error":"field is malformed","error_code":400,"metadata":{"key":"action","rule":"A5"},"type":"error"}
 PUT /1.0/instances/nope/state {
-501 {"error":"not built yet","error_code":501,"metadata":{"rule":"A0"},"type":"error"}
-GET /1.0/instances/here/snapshots
-501 {"error":"not built yet","error_code":501,"metadata":{"rule":"A0"},"type":"error"}
-POST /1.0/instances/here/snapshots {}
-501 {"error":"not built yet","error_code":501,"metadata":{"rule":"A0"},"type":"error"}
+400 {"error":"body is no JSON object","error_code":400,"metadata":{"rule":"A4"},"type":"error"}
+PUT /1.0/instances/nope/state {"action":"start"}
+404 {"error":"object is missing","error_code":404,"metadata":{"kind":"instance","name":"nope","rule":"N2"},"type":"error"}
+GET /1.0/instances/nope/snapshots
+404 {"error":"object is missing","error_code":404,"metadata":{"kind":"instance","name":"nope","rule":"N2"},"type":"error"}
+POST /1.0/instances/nope/snapshots {}
+404 {"error":"object is missing","error_code":404,"metadata":{"kind":"instance","name":"nope","rule":"N2"},"type":"error"}
+POST /1.0/instances/here/snapshots {"stateful":true}
+400 {"error":"field is malformed","error_code":400,"metadata":{"key":"stateful","rule":"A5"},"type":"error"}
 GET /1.0/instances/here/snapshots/s
-501 {"error":"not built yet","error_code":501,"metadata":{"rule":"A0"},"type":"error"}
+404 {"error":"object is missing","error_code":404,"metadata":{"kind":"snapshot","name":"s","rule":"N2"},"type":"error"}
 DELETE /1.0/instances/here/snapshots/s
-501 {"error":"not built yet","error_code":501,"metadata":{"rule":"A0"},"type":"error"}
+404 {"error":"object is missing","error_code":404,"metadata":{"kind":"snapshot","name":"s","rule":"N2"},"type":"error"}
 DELETE /1.0/operations/x?filter
-501 {"error":"not built yet","error_code":501,"metadata":{"rule":"A0"},"type":"error"}
+400 {"error":"query is malformed","error_code":400,"metadata":{"key":"filter","rule":"A3"},"type":"error"}
+DELETE /1.0/operations/x
+404 {"error":"object is missing","error_code":404,"metadata":{"kind":"operation","name":"x","rule":"N2"},"type":"error"}
 DELETE /1.0/operations/00000000-0001-8000-8000-000000000001
-501 {"error":"not built yet","error_code":501,"metadata":{"rule":"A0"},"type":"error"}
-POST /1.0/instances {"name":"a","source":{"type":"copy","source":"here"}}
-501 {"error":"not built yet","error_code":501,"metadata":{"rule":"A0"},"type":"error"}
+400 {"error":"operation has ended","error_code":400,"metadata":{"key":"Success","number":1,"rule":"O1"},"type":"error"}
+POST /1.0/instances {"name":"a","source":{"type":"copy","source":"nope"}}
+404 {"error":"object is missing","error_code":404,"metadata":{"kind":"instance","name":"nope","rule":"N2"},"type":"error"}
 POST /1.0/instances?filter {"source":{"type":"copy"}}
-501 {"error":"not built yet","error_code":501,"metadata":{"rule":"A0"},"type":"error"}
+400 {"error":"query is malformed","error_code":400,"metadata":{"key":"filter","rule":"A3"},"type":"error"}
 POST /1.0/instances?project=nope {"name":5,"type":6,"source":{"source":7,"type":"copy"}}
-501 {"error":"not built yet","error_code":501,"metadata":{"rule":"A0"},"type":"error"}
+400 {"error":"field is malformed","error_code":400,"metadata":{"key":"name","rule":"A5"},"type":"error"}
+POST /1.0/instances?project=nope {"name":"a","type":6,"source":{"source":7,"type":"copy"}}
+400 {"error":"field is malformed","error_code":400,"metadata":{"key":"source","rule":"A5"},"type":"error"}
 POST /1.0/storage-pools/p0/volumes {"name":"v","source":{"type":"copy","name":"w"}}
-501 {"error":"not built yet","error_code":501,"metadata":{"rule":"A0"},"type":"error"}
+404 {"error":"object is missing","error_code":404,"metadata":{"kind":"storage-volume","name":"w","rule":"N2"},"type":"error"}
 # queries
 GET /1.0/instances?recursion=3
 400 {"error":"query is malformed","error_code":400,"metadata":{"key":"recursion","rule":"A3"},"type":"error"}

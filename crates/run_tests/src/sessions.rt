@@ -49,8 +49,8 @@ const STABLE: &str =
 const WITH_LAB: &str =
     "HTTP/1.1 200 OK\r\nContent-Type: application/json\r\nContent-Length: 109\r\n\r\n{\"metadata\":[\"/1.0/projects/default\",\"/1.0/projects/lab\"],\"status\":\"Success\",\"status_code\":200,\"type\":\"sync\"}";
 
-const NOT_BUILT: &str =
-    "HTTP/1.1 501 Not Implemented\r\nContent-Type: application/json\r\nContent-Length: 82\r\n\r\n{\"error\":\"not built yet\",\"error_code\":501,\"metadata\":{\"rule\":\"A0\"},\"type\":\"error\"}";
+const MISSING: &str =
+    "HTTP/1.1 404 Not Found\r\nContent-Type: application/json\r\nContent-Length: 116\r\n\r\n{\"error\":\"object is missing\",\"error_code\":404,\"metadata\":{\"kind\":\"instance\",\"name\":\"c1\",\"rule\":\"N2\"},\"type\":\"error\"}";
 
 const BAD_HEAD: &str =
     "HTTP/1.1 400 Bad Request\r\nContent-Type: application/json\r\nContent-Length: 86\r\nConnection: close\r\n\r\n{\"error\":\"head is malformed\",\"error_code\":400,\"metadata\":{\"rule\":\"H1\"},\"type\":\"error\"}";
@@ -131,7 +131,7 @@ const RUNS: &[(&str, &[&str], u8, &[&str], usize)] = &[
         &[MADE, WITH_LAB, TAKEN, WITH_LAB],
         4,
     ),
-    ("not built", &[LAB, SNAPSHOTS], 0, &[MADE, NOT_BUILT], 4),
+    ("missing", &[LAB, SNAPSHOTS], 0, &[MADE, MISSING], 4),
     (
         "blank lines",
         &["\r\n\n", SHOP, "\r", ROOT, "\n\n"],
@@ -200,7 +200,7 @@ fn runs_in_whatever_pieces(rt: HostRuntime) {
 const FAILING: &[(u64, &[&str], usize, usize)] = &[
     (1, &[], 2, 4),
     (2, &[MADE], 4, 4),
-    (3, &[MADE, NOT_BUILT], 4, 6),
+    (3, &[MADE, MISSING], 4, 6),
 ];
 
 /// Whether a run in which this read fails answers the whole messages before it. A read gives one message and the first bytes of the
