@@ -73,7 +73,7 @@ from-where k body e =
     (both_true (fields && has_forms body) (may_come_from k body.origin) needed.0).1
 
 never : {b : Bool} → b ≡ true → b ≡ false → ⊥
-never yes no_b = cc
+never is isnt = cc
 
 -- ---- each creation
 

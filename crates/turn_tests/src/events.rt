@@ -5,6 +5,7 @@ use crate::chance::Chance;
 use crate::judging::{PROJECTS, changes_nothing, mark_of};
 use crate::server::Server;
 use host_model::Report;
+use rest_routes::Router;
 use size_values::{NoMemory, Rise};
 use std::alloc::Global;
 
@@ -158,21 +159,26 @@ fn request(alloc: Global, chance: &mut Chance) -> Result<String, NoMemory> {
 }
 
 /// Asks for something, and says whether nothing changed where it was refused.
-fn asks(alloc: Global, server: &mut Server, line: &str) -> Result<bool, NoMemory> {
+fn asks(
+    alloc: Global,
+    router: &Router,
+    server: &mut Server,
+    line: &str,
+) -> Result<bool, NoMemory> {
     let before = mark_of(&server.view());
-    let answer = server.ask(alloc, line)?;
+    let answer = server.ask(alloc, router, line)?;
     let is_idle = changes_nothing(&answer);
     drop(answer);
     Ok(!is_idle || mark_of(&server.view()) == before)
 }
 
 /// Cancels an operation, and says whether nothing changed where that was refused.
-fn cancels(alloc: Global, server: &mut Server, number: u64) -> Result<bool, NoMemory> {
+fn cancels(alloc: Global, server: &mut Server, number: u64) -> bool {
     let before = mark_of(&server.view());
     let answer = server.cancel(alloc, number);
     let is_idle = changes_nothing(&answer);
     drop(answer);
-    Ok(!is_idle || mark_of(&server.view()) == before)
+    !is_idle || mark_of(&server.view()) == before
 }
 
 /// The number of an operation, mostly of a live one.
@@ -198,6 +204,7 @@ fn report(chance: &mut Chance) -> Report {
 /// One event, and whether nothing changed where nothing should have.
 pub(crate) fn happens(
     alloc: Global,
+    router: &Router,
     server: &mut Server,
     chance: &mut Chance,
 ) -> Result<bool, NoMemory> {
@@ -213,11 +220,11 @@ pub(crate) fn happens(
         }
         7 => {
             let number = number(server, chance);
-            cancels(alloc, server, number)
+            Ok(cancels(alloc, server, number))
         }
         _ => {
             let line = request(alloc, chance)?;
-            let is = asks(alloc, server, line.as_str());
+            let is = asks(alloc, router, server, line.as_str());
             drop(line);
             is
         }

@@ -5,6 +5,7 @@ use crate::sums::{Sums, claim_sums, project_named, sums_of};
 use operations::Operation;
 use records::{LimitKeyName, Project, Reply, UsageLine};
 use reservations::Hold;
+use rest_routes::Router;
 use row_machine::{Answer, Work};
 use row_readings::View;
 use size_values::{Amounts, NoMemory, read_count, read_size};
@@ -114,9 +115,14 @@ fn is_told(view: &View<'_>, name: &str, answer: &Option<Answer>) -> bool {
 }
 
 /// Whether the server tells what a project uses, within its limits.
-fn stands(alloc: Global, server: &mut Server, name: &str) -> Result<bool, NoMemory> {
+fn stands(
+    alloc: Global,
+    router: &Router,
+    server: &mut Server,
+    name: &str,
+) -> Result<bool, NoMemory> {
     let line = format!(in alloc; "GET /1.0/projects/{name}/state")?;
-    let answer = server.ask(alloc, line.as_str());
+    let answer = server.ask(alloc, router, line.as_str());
     drop(line);
     let answer = answer?;
     let is = is_told(&server.view(), name, &answer);
@@ -198,9 +204,13 @@ fn shares_stand(view: &View<'_>) -> bool {
 
 /// Whether all stands as it should: what the server tells of each project, and what its operations
 /// hold.
-pub(crate) fn all_stands(alloc: Global, server: &mut Server) -> Result<bool, NoMemory> {
+pub(crate) fn all_stands(
+    alloc: Global,
+    router: &Router,
+    server: &mut Server,
+) -> Result<bool, NoMemory> {
     for project in PROJECTS {
-        if !stands(alloc, server, project)? {
+        if !stands(alloc, router, server, project)? {
             return Ok(false);
         }
     }

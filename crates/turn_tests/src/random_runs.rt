@@ -4,6 +4,7 @@ use crate::chance::Chance;
 use crate::events::{SETUP, happens};
 use crate::judging::all_stands;
 use crate::server::Server;
+use rest_routes::Router;
 use size_values::NoMemory;
 use std::alloc::Global;
 
@@ -20,34 +21,45 @@ const FAILS: [u64; 12] = [17, 18, 23, 31, 32, 33, 41, 50, 55, 63, 71, 90];
 /// Where a run goes wrong: its seed, and how many events were well.
 type Wrong = Option<(u64, u64)>;
 
+/// Makes what is there before the first event.
+fn set_up(alloc: Global, router: &Router, server: &mut Server) -> Result<(), NoMemory> {
+    for line in SETUP {
+        drop(server.ask(alloc, router, line)?);
+    }
+    Ok(())
+}
+
 /// The first event after which something does not stand.
-fn wrong_event(alloc: Global, server: &mut Server, seed: u64) -> Result<Wrong, NoMemory> {
+fn wrong_event(
+    alloc: Global,
+    router: &Router,
+    server: &mut Server,
+    seed: u64,
+) -> Result<Wrong, NoMemory> {
+    set_up(alloc, router, server)?;
     let mut chance = Chance::of(seed);
     for event in 0..EVENTS {
-        if !happens(alloc, server, &mut chance)? || !all_stands(alloc, server)? {
+        if !happens(alloc, router, server, &mut chance)? || !all_stands(alloc, router, server)? {
             return Ok(Some((seed, event)));
         }
     }
     Ok(None)
 }
 
-/// The run of a seed, on a server with two projects more than its own.
-fn wrong_run(alloc: Global, seed: u64) -> Result<Wrong, NoMemory> {
+/// The run of a seed, on a server with three projects more than its own.
+fn wrong_run(alloc: Global, router: &Router, seed: u64) -> Result<Wrong, NoMemory> {
     let Some(mut server) = Server::new(alloc, &FAILS)? else {
         return Ok(Some((seed, 0)));
     };
-    for line in SETUP {
-        drop(server.ask(alloc, line)?);
-    }
-    let wrong = wrong_event(alloc, &mut server, seed);
+    let wrong = wrong_event(alloc, router, &mut server, seed);
     drop(server);
     wrong
 }
 
 /// The first run that goes wrong.
-fn wrong_among(alloc: Global) -> Result<Wrong, NoMemory> {
+fn wrong_among(alloc: Global, router: &Router) -> Result<Wrong, NoMemory> {
     for seed in 1..RUNS {
-        let wrong = wrong_run(alloc, seed)?;
+        let wrong = wrong_run(alloc, router, seed)?;
         if wrong.is_some() {
             return Ok(wrong);
         }
@@ -55,8 +67,16 @@ fn wrong_among(alloc: Global) -> Result<Wrong, NoMemory> {
     Ok(None)
 }
 
+/// The same, with the reader of requests that all runs use.
+fn wrong_of_all(alloc: Global) -> Result<Wrong, NoMemory> {
+    let router = Router::new(alloc)?;
+    let wrong = wrong_among(alloc, &router);
+    drop(router);
+    wrong
+}
+
 #[test]
 fn random_runs_keep_to_the_limits(rt: HostRuntime) {
-    let wrong = wrong_among(rt.alloc());
+    let wrong = wrong_of_all(rt.alloc());
     assert!(rt; wrong == Ok(None), "{wrong:?}");
 }

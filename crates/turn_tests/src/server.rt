@@ -14,12 +14,11 @@ use std::alloc::Global;
 /// The moment of every turn.
 const NOW: u64 = 1_700_000_000;
 
-/// A server, the store of its rows, and the reader of its requests.
+/// A server and the store of its rows.
 #[derive(Drop)]
 pub(crate) struct Server {
     daemon: Daemon,
     keeper: MapKeeper,
-    router: Router,
 }
 
 /// The request of a line: the method, the target and the body, with a space between them.
@@ -38,19 +37,13 @@ fn request_of(alloc: Global, line: &str) -> Result<Request, NoMemory> {
 }
 
 impl Server {
-    /// A server over a keeper of which these calls fail.
+    /// A server over a keeper of which these calls fail; none where it does not open.
     pub(crate) fn new(alloc: Global, fails: &[u64]) -> Result<Option<Server>, NoMemory> {
-        let router = Router::new(alloc)?;
         let fails = Seq::from_vec(Vec::from_slice(alloc, fails)?);
         let mut keeper = MapKeeper::new(alloc, fails);
         match Daemon::begin(alloc, &mut keeper) {
-            Ok(daemon) => Ok(Some(Server {
-                daemon,
-                keeper,
-                router,
-            })),
+            Ok(daemon) => Ok(Some(Server { daemon, keeper })),
             Err(_) => {
-                drop(router);
                 drop(keeper);
                 Ok(None)
             }
@@ -63,9 +56,14 @@ impl Server {
     }
 
     /// Asks for what a request wants; none where its form is refused.
-    pub(crate) fn ask(&mut self, alloc: Global, line: &str) -> Result<Option<Answer>, NoMemory> {
+    pub(crate) fn ask(
+        &mut self,
+        alloc: Global,
+        router: &Router,
+        line: &str,
+    ) -> Result<Option<Answer>, NoMemory> {
         let request = request_of(alloc, line)?;
-        let routed = self.router.route(alloc, &request, 1);
+        let routed = router.route(alloc, &request, 1);
         drop(request);
         match routed {
             Ok(command) => {
