@@ -6,8 +6,8 @@
 #
 #   PROGRAM   the program, ../bin/incus_run without it
 #   RUNS      how many times each stream is run, as far as there is time, 3 without it
-#   MOST      how many instances there are at the end, 1000 without it; 10000 take some three minutes without limits, and with them
-#             more than sixteen
+#   MOST      how many instances there are at the end, 1000 without it; 10000 take some three minutes each. Above 1,000 the limits
+#             are taken away while the instances are made, and set again before anything is measured
 #   LIMIT     after how many seconds it ends with an error, 175 without it
 set -eu
 . "$(dirname "$0")/sections.sh"
@@ -17,10 +17,13 @@ options="--steps 0 --now 0 --boot 0"
 rows() { # WHAT: how a section is shown, with the number of instances behind it
     printf '%-40s %6d instances' "$1" "$count"
 }
-grow() { # LAST: instances up to this number are made, each waited for
+grow() { # LAST: instances up to this number are made, each waited for; many of them while the project has no limits
     local first=$((count + 1)) last=$1
     [ "$last" -ge "$first" ] || return 0
+    local lifted=$([ -n "$limits" ] && [ "$last" -gt 1000 ] && echo yes)
+    [ -z "$lifted" ] || add 1 "" limits "$project" off
     add $((2 * (last - first + 1))) "" made "$project" "$first" "$last" "$first"
+    [ -z "$lifted" ] || add 1 "" limits "$project" on
     count=$last
 }
 try_at() { # ROWS: what is measured at this number of instances

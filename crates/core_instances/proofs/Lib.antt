@@ -1,3 +1,5 @@
-mod Beginnings
 mod Changes
+mod Making
+mod Planned
 mod Reading
+mod Records

@@ -1,6 +1,6 @@
--- A read of instances or operations as one step of the machine.
+-- A read as one step of the machine.
 use Rattle.std.specs.Prelude.{pos, negsuc}
-use Rattle.std.proofs.Common.{◌≡◌, ℕ, true, false, cond, List, refl, ap}
+use Rattle.std.proofs.Common.{◌≡◌, ℕ, false, cond, List, refl, ap}
 use Rattle.records.specs.declared.commands.Command.{Command}
 use Rattle.records.specs.declared.commands.What.{What}
 use Rattle.records.specs.declared.commands.What.TheVariants as what
@@ -12,11 +12,15 @@ use Rattle.row_machine.specs.machine.TableRules.{cancel_broken}
 use Rattle.row_machine.specs.shown.Views.{read}
 use Rattle.machine_laws.proofs.Commands.{command_of}
 use Rattle.core_objects.proofs.ReadSteps.{ReadsOnly}
-use Rattle.core_instances.specs.Commands.{is_read, is_held}
+use Rattle.core_instances.specs.declared.ways.Way.TheVariants as way
+use Rattle.core_instances.specs.Waits.{is_held}
+use Rattle.core_instances.specs.Ways.{way_of}
 
 -- each of them only reads, but for a wait that is held
-reads-only : (s : State) (project : List ℕ) (w : What) (moment : ℕ) → is_read w ≡ true → is_held s w ≡ false → ReadsOnly s (command_of project w) moment
+reads-only : (s : State) (project : List ℕ) (w : What) (moment : ℕ) → way_of w ≡ way.Read → is_held s w ≡ false → ReadsOnly s (command_of project w) moment
 unfolding plan_of cancel_broken read
+reads-only s project what.Root moment is answered = record { plan = refl; uncancelled = refl; answers = refl }
+reads-only s project what.Server moment is answered = record { plan = refl; uncancelled = refl; answers = refl }
 reads-only s project (what.List of recursion) moment is answered = record { plan = refl; uncancelled = refl; answers = refl }
 reads-only s project (what.Get of) moment is answered = record { plan = refl; uncancelled = refl; answers = refl }
 reads-only s project (what.State of) moment is answered = record { plan = refl; uncancelled = refl; answers = refl }
@@ -33,5 +37,5 @@ reads-only s project (what.Wait op (negsuc n)) moment is answered = record {
 }
 reads-only s project other moment is answered = cc
 
-pub reads : (s : State) (c : Command) (moment : ℕ) → is_read c.what ≡ true → is_held s c.what ≡ false → ReadsOnly s c moment
+pub reads : (s : State) (c : Command) (moment : ℕ) → way_of c.what ≡ way.Read → is_held s c.what ≡ false → ReadsOnly s c moment
 reads s c moment is answered = reads-only s c.project c.what moment is answered

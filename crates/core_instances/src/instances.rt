@@ -1,64 +1,19 @@
 ghost use Rattle.std.specs.Prelude.{◌≡◌, ◌<◌, [], true, false};
 ghost use Rattle.records.specs.Forms.{is_formed};
+ghost use Rattle.core_objects.specs.Commands.{is_object_command};
 ghost use Rattle.core_rows.specs.Planned.{Follows};
-ghost use Rattle.core_instances.specs.Commands.{is_command, is_creation, is_held, is_read};
+ghost use Rattle.core_instances.specs.Waits.{is_held};
 
-use crate::creating::create_instance;
+use crate::beginning::begin_task;
+use crate::ways::{Way, way_of};
 use core_objects::{answer_read, change_at_once, first_broken};
 use core_rows::{Estate, refused_reply};
 use record_keeper::Keeper;
-use records::{Command, Reply, What};
+use records::{Command, Reply};
 use size_values::MOMENT_LIMIT;
 use std::alloc::Global;
 
-/// Whether a command only reads, and is answered at once: a wait that is not held as the operation
-/// stands.
-fn is_read(asked: &What) -> bool
-    ensures { result ≡ is_read asked.now }
-{
-    match asked {
-        What::List { .. }
-        | What::Get { .. }
-        | What::State { .. }
-        | What::GetOp { .. }
-        | What::Wait { .. } => true,
-        What::Root
-        | What::Server
-        | What::Create { .. }
-        | What::Put { .. }
-        | What::Patch { .. }
-        | What::Move { .. }
-        | What::Delete { .. }
-        | What::Act { .. }
-        | What::Restore { .. }
-        | What::Cancel { .. } => false,
-    }
-}
-
-/// Whether a command makes an object.
-fn is_creation(asked: &What) -> bool
-    ensures { result ≡ is_creation asked.now }
-{
-    match asked {
-        What::Create { .. } => true,
-        What::Root
-        | What::Server
-        | What::List { .. }
-        | What::Get { .. }
-        | What::State { .. }
-        | What::Put { .. }
-        | What::Patch { .. }
-        | What::Move { .. }
-        | What::Delete { .. }
-        | What::Act { .. }
-        | What::Restore { .. }
-        | What::GetOp { .. }
-        | What::Cancel { .. }
-        | What::Wait { .. } => false,
-    }
-}
-
-/// Carries one command out, of those on instances and operations that are built. A command that
+/// Carries one command out that is not about objects whose rows are changed at once. A command that
 /// breaks a rule changes nothing, and neither does one whose changes the keeper did not commit. A
 /// wait that is to be held is not asked here. The notices of a change are left with the estate. The
 /// moment is in seconds since 1970 (<https://linuxcontainers.org/incus/docs/main/rest-api/>).
@@ -71,7 +26,7 @@ pub fn do_instance<R: Keeper>(
 ) -> Reply
     requires quiet { estate.old.untold ≡ [] }
     requires formed { is_formed command.now ≡ true }
-    requires command { is_command command.now.what ≡ true }
+    requires command { is_object_command command.now.what ≡ false }
     requires answered { is_held estate.old.state command.now.what ≡ false }
     requires moment { moment < MOMENT_LIMIT }
     ensures { Follows estate.old.state command.now moment estate.new.state estate.new.untold
@@ -80,11 +35,10 @@ pub fn do_instance<R: Keeper>(
     if let Err(why) = first_broken(alloc, &estate.view(), command) {
         return refused_reply(why);
     }
-    if is_read(&command.what) {
-        return answer_read(alloc, &estate.view(), command);
+    match way_of(&command.what) {
+        Way::Read => answer_read(alloc, &estate.view(), command),
+        Way::Cancel(number) => estate.cancel_operation(alloc, command, number, moment),
+        Way::Change => change_at_once(alloc, estate, keeper, command, moment),
+        Way::Begin => begin_task(alloc, estate, command, moment),
     }
-    if is_creation(&command.what) {
-        return create_instance(alloc, estate, command, moment);
-    }
-    change_at_once(alloc, estate, keeper, command, moment)
 }

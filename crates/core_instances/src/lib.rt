@@ -1,9 +1,10 @@
-//! One command on instances and operations, from its first rule to its reply: a read is answered, a
-//! change of an instance's row at once is judged, committed and made, and the creation of an
-//! instance begins in the background.
+//! One command on instances, their snapshots, copies and operations, from its first rule to its reply:
+//! a read is answered, an operation is cancelled, a change of an instance's row at once is judged,
+//! committed and made, and all else begins in the background.
 #![tactic(auto)]
 
-mod creating;
+mod beginning;
 mod instances;
+mod ways;
 
 pub use instances::do_instance;

@@ -2,6 +2,8 @@
 //! is judged, committed and made.
 #![tactic(auto)]
 
+mod commands;
 mod objects;
 
+pub use commands::is_object_command;
 pub use objects::{answer_read, change_at_once, do_object, first_broken};

@@ -14,5 +14,6 @@ mod Reports
 mod Silent
 pub mod Started
 pub mod Stepping
+mod Stops
 mod Successes
 mod Turning

@@ -1,4 +1,5 @@
 pub mod Asked
+pub mod Cancels
 pub mod Jobs
 pub mod Kept
 pub mod Opening

@@ -12,7 +12,8 @@ ghost use Rattle.core_rows.specs.Planned.{Follows, IsToDo, IsToStart};
 ghost use Rattle.core_rows.specs.Asked.{IsAsked};
 ghost use Rattle.record_keeper.specs.Store.{Store};
 
-use crate::changing::{commit, copy_changes, give_up, judge};
+use crate::cancels::stop;
+use crate::changing::{commit, copy_changes, give_up, judge, refused_reply};
 use crate::jobs::{Turned, begin, first_pending, tell};
 use crate::reported::take_report;
 use crate::starting::{judge_claim, make_beginning, settle_beginning};
@@ -28,6 +29,7 @@ use row_readings::View;
 use size_values::{NoMemory, Seq};
 use std::alloc::Global;
 use std::marker::Model;
+use table_rules::cancel_broken;
 
 /// The rows of the server, of which the facts hold at all times, and what is to be told. Contracts see the state of the
 /// row machine with these rows, and the notices that were not yet taken.
@@ -233,8 +235,12 @@ impl Estate {
         ensures { (store : Store) → Follows self.old.state command.now moment self.new.state self.new.untold result store
             store }
     {
-        let _ = (alloc, command, number, moment);
-        Reply::NoMemory
+        let judged = cancel_broken(alloc, &self.draft.view(), &command.what);
+        if let Err(why) = judged {
+            return refused_reply(why);
+        }
+        stop(&mut self.draft, &mut self.untold, number, moment);
+        Reply::Empty
     }
 
     /// Hands out the first notice that was not yet taken.

@@ -54,7 +54,8 @@ pub(crate) fn tell(untold: &mut Vec<Waiting>, view: &View<'_>, number: u64, mome
     }
 }
 
-fn is_pending(status: Status) -> bool
+/// Whether an operation of this status waits for its first call.
+pub(crate) fn is_pending(status: Status) -> bool
     ensures { result ≡ is_pending status }
 {
     match status {

@@ -2,6 +2,7 @@
 //! made, judged, committed to a keeper, and taken back where a rule is broken or the keeper fails.
 #![tactic(auto)]
 
+mod cancels;
 mod changing;
 mod ends;
 mod entries;

@@ -28,7 +28,7 @@ use Rattle.row_machine.specs.shown.Views.{read}
 use Rattle.machine_laws.proofs.CancelsBegin.{live-kept}
 use Rattle.machine_laws.proofs.Commands.{command_of}
 use Rattle.core_rows.specs.Asked.{changes_of, unless_refused}
-use Rattle.core_instances.specs.Commands.{is_held, is_zero}
+use Rattle.core_instances.specs.Waits.{is_held, is_zero}
 use Rattle.core_turns.specs.Commands.{held_for}
 use Rattle.core_turns.specs.Turns.{Comes}
 use Rattle.core_turns.proofs.Turning.{still-comes}

@@ -1,4 +1,3 @@
-mod Built
 mod Dropping
 mod Holding
 mod Ordered

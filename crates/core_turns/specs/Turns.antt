@@ -3,7 +3,6 @@ use Rattle.std.specs.Prelude.{◌≡◌, ◌<◌, true, List, [], Option, Some, 
 use Rattle.size_values.specs.Moments.{moment_limit}
 use Rattle.record_keeper.specs.Store.{Store}
 use Rattle.records.specs.declared.notices.Untold.{Untold}
-use Rattle.records.specs.Built.{is_built_command}
 use Rattle.records.specs.Forms.{is_formed}
 use Rattle.row_machine.specs.declared.changes.RowChange.{RowChange}
 use Rattle.row_machine.specs.declared.events.Answer.{Answer}
@@ -17,9 +16,10 @@ use Rattle.core_rows.specs.Asked.{changes_of}
 use Rattle.core_rows.specs.Jobs.{changes_reported}
 use Rattle.core_rows.specs.Stores.{IsCaused, KeepsRecords, Stores}
 
--- The events that are served so far: commands that are built, looks, jobs and their reports, and the close. Nobody fetches yet.
+-- The events that are served so far: the commands that a request can give, looks, jobs and their reports, and the close. Nobody
+-- fetches yet.
 abbrev pub IsServed : Event → Type 0
-IsServed (event.Ask c moment) = (is_formed c ≡ true) × (is_built_command c ≡ true) × (moment < moment_limit)
+IsServed (event.Ask c moment) = (is_formed c ≡ true) × (moment < moment_limit)
 IsServed (event.Look number) = Unit {0}
 IsServed (event.Take moment) = moment < moment_limit
 IsServed (event.Done number report moment) = moment < moment_limit

@@ -4,21 +4,20 @@ ghost use Rattle.std.specs.Option.{option_copied};
 ghost use Rattle.operations.specs.Kept.{live_at};
 ghost use Rattle.record_keeper.specs.Store.{Store};
 ghost use Rattle.row_machine.specs.declared.events.Event.TheVariants as event_of;
-ghost use Rattle.core_instances.specs.Commands.{is_held, is_listed, is_zero};
+ghost use Rattle.core_instances.specs.Waits.{is_held, is_zero};
 ghost use Rattle.core_rows.specs.Asked.{answered};
 ghost use Rattle.core_rows.specs.Planned.{Follows};
-ghost use Rattle.core_turns.specs.Commands.{held_for, is_on_instances};
+ghost use Rattle.core_turns.specs.Commands.{held_for};
 ghost use Rattle.core_turns.specs.Turns.{Comes, IsServed};
 
 use core_instances::do_instance;
-use core_objects::do_object;
+use core_objects::{do_object, is_object_command};
 use core_rows::Estate;
 use operations::Operation;
 use record_keeper::Keeper;
 use records::{Command, Reply, What};
 use row_machine::{Answer, Work};
 use row_readings::View;
-use size_values::ObjectKind;
 use std::alloc::Global;
 
 /// The live operation of a number.
@@ -67,43 +66,6 @@ fn held_for(view: &View<'_>, asked: &What) -> Option<u64>
     }
 }
 
-/// Instances and operations.
-fn is_listed(kind: ObjectKind) -> bool
-    ensures { result ≡ is_listed kind }
-{
-    match kind {
-        ObjectKind::Instance | ObjectKind::Operation => true,
-        ObjectKind::Project
-        | ObjectKind::Profile
-        | ObjectKind::Network
-        | ObjectKind::Pool
-        | ObjectKind::Volume
-        | ObjectKind::Snapshot => false,
-    }
-}
-
-/// Whether a command that is built is about instances or operations.
-fn is_on_instances(asked: &What) -> bool
-    ensures { result ≡ is_on_instances asked.now }
-{
-    match asked {
-        What::List { of, .. } => is_listed(of.kind),
-        What::Get { of } => is_listed(of.kind),
-        What::State { of } => is_listed(of.kind),
-        What::Create { of, .. } => is_listed(of.kind),
-        What::GetOp { .. } | What::Wait { .. } => true,
-        What::Root
-        | What::Server
-        | What::Put { .. }
-        | What::Patch { .. }
-        | What::Move { .. }
-        | What::Delete { .. }
-        | What::Act { .. }
-        | What::Restore { .. }
-        | What::Cancel { .. } => false,
-    }
-}
-
 /// Carries out a command that is answered at once.
 fn carry_out<R: Keeper>(
     alloc: Global,
@@ -118,10 +80,10 @@ fn carry_out<R: Keeper>(
     ensures { Follows estate.old.state command.now moment estate.new.state estate.new.untold
         result (R.store keeper.old) (R.store keeper.new) }
 {
-    if is_on_instances(&command.what) {
-        return do_instance(alloc, estate, keeper, command, moment);
+    if is_object_command(&command.what) {
+        return do_object(alloc, estate, keeper, command, moment);
     }
-    do_object(alloc, estate, keeper, command, moment)
+    do_instance(alloc, estate, keeper, command, moment)
 }
 
 /// The answer that a reply is: out of memory is an answer of its own.

@@ -1,8 +1,13 @@
-//! What the creation of an instance begins: the row that it claims, and the task that makes its root.
+//! What the creation of an instance begins: the row that it claims, and the task that makes its root. What makes its
+//! parts serves other operations too.
 #![tactic(auto)]
 
+mod calls;
 mod making;
 mod pairs;
 mod tasks;
 
+pub use calls::{copy_calls, place_of, push_clear};
+pub use making::copy_texts;
+pub use pairs::both;
 pub use tasks::instance_creation;

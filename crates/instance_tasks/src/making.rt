@@ -22,7 +22,8 @@ pub(crate) fn image_of(origin: &Origin) -> &str
     }
 }
 
-fn copy_texts(alloc: Global, texts: &[Text]) -> Result<Seq<Text>, NoMemory>
+/// A list of its own with the same texts.
+pub fn copy_texts(alloc: Global, texts: &[Text]) -> Result<Seq<Text>, NoMemory>
     ensures { IfOk result (λ c. c ≡ texts.now) }
 {
     let mut copy = Seq::new(alloc);

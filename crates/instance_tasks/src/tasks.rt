@@ -1,5 +1,5 @@
 //! What the creation of an instance does in the background, and the row that it claims.
-ghost use Rattle.std.specs.Prelude.{◌≡◌, IfOk, OnOk, ◌++◌, ◌∷◌, [], Some};
+ghost use Rattle.std.specs.Prelude.{◌≡◌, IfOk, Some};
 ghost use Rattle.std.specs.Option.{option_copied};
 ghost use Rattle.size_values.specs.declared.kinds.Deed.TheVariants as deed;
 ghost use Rattle.host_model.specs.declared.call.HostCall.TheVariants as call;
@@ -10,6 +10,7 @@ ghost use Rattle.row_machine.specs.machine.Plans.{instance_target, snapshot_targ
 ghost use Rattle.row_machine.specs.machine.Tasks.{plain_task, creation, copy};
 ghost use Rattle.instance_tasks.specs.Planned.{planned};
 
+use crate::calls::{copy_calls, create_calls, place_of};
 use crate::making::{Source, copied_instance, image_of, made_instance};
 use crate::pairs::both;
 use host_model::{HostCall, Place};
@@ -18,81 +19,6 @@ use row_machine::Work;
 use row_readings::{View, instance_named, snapshot_named};
 use size_values::{Deed, NoMemory, ObjectKind, Seq, Text};
 use std::alloc::Global;
-
-/// Where the root of an instance stands.
-fn place_of(alloc: Global, project: &Text, name: &Text) -> Result<Place, NoMemory>
-    ensures { IfOk result (λ p. p ≡ place_of project.now name.now) }
-{
-    let (project, name) = both(project.copy(alloc), name.copy(alloc))?;
-    Ok(Place {
-        volume: false,
-        project,
-        pool: Text::new(alloc),
-        name,
-    })
-}
-
-fn push_clear(alloc: Global, calls: &mut Seq<HostCall>, at: &Place) -> Result<(), NoMemory>
-    ensures { OnOk result (calls.new ≡ calls.old ++ call.Clear at.now ∷ []) }
-{
-    let at = at.copy(alloc)?;
-    calls.push(HostCall::Clear { at })
-}
-
-fn push_make(
-    alloc: Global,
-    calls: &mut Seq<HostCall>,
-    at: &Place,
-    image: &str,
-) -> Result<(), NoMemory>
-    ensures { OnOk result (calls.new ≡ calls.old ++ call.MakeRoot at.now image.now ∷ []) }
-{
-    let (at, origin) = both(at.copy(alloc), Text::from_text(alloc, image))?;
-    calls.push(HostCall::MakeRoot { at, origin })
-}
-
-/// A new root of an image, or an empty one.
-fn create_calls(alloc: Global, at: &Place, image: &str) -> Result<Seq<HostCall>, NoMemory>
-    ensures { IfOk result (λ calls. calls ≡ create_calls at.now image.now) }
-{
-    let mut calls = Seq::new(alloc);
-    push_clear(alloc, &mut calls, at)?;
-    push_make(alloc, &mut calls, at, image)?;
-    Ok(calls)
-}
-
-fn push_copy(
-    alloc: Global,
-    calls: &mut Seq<HostCall>,
-    from: &Place,
-    snapshot: &str,
-    to: &Place,
-) -> Result<(), NoMemory>
-    ensures { OnOk result (calls.new ≡ calls.old ++ call.CopyRoot from.now snapshot.now to.now ∷ []) }
-{
-    let places = both(from.copy(alloc), to.copy(alloc));
-    let (places, snapshot) = both(places, Text::from_text(alloc, snapshot))?;
-    calls.push(HostCall::CopyRoot {
-        from: places.0,
-        snapshot,
-        to: places.1,
-    })
-}
-
-/// A new root with the content of another one, or of its snapshot.
-fn copy_calls(
-    alloc: Global,
-    from: &Place,
-    snapshot: &str,
-    to: &Place,
-) -> Result<Seq<HostCall>, NoMemory>
-    ensures { IfOk result (λ calls. calls ≡ copy_calls from.now snapshot.now to.now) }
-{
-    let mut calls = Seq::new(alloc);
-    push_clear(alloc, &mut calls, to)?;
-    push_copy(alloc, &mut calls, from, snapshot, to)?;
-    Ok(calls)
-}
 
 /// What a task is about, where the new root will stand, and the calls that make it.
 #[derive(Drop)]

@@ -9,6 +9,7 @@ use Rattle.size_values.specs.declared.kinds.Kind.{Kind}
 use Rattle.size_values.specs.declared.kinds.Kind.TheVariants as kind
 use Rattle.records.specs.declared.commands.Origin.{Origin}
 use Rattle.records.specs.declared.commands.Origin.TheVariants as origin
+use Rattle.rest_bodies.specs.Copies.{copied_fault}
 use Rattle.rest_bodies.specs.Members.{given, text_at, unless}
 use Rattle.rest_bodies.specs.Origins.{has_word}
 
@@ -57,12 +58,13 @@ named_fault (Some fingerprint) source = text_fault (codes "fingerprint") fingerp
 abbrev pub image_fault : Data → Option (List ℕ)
 image_fault source = named_fault (given (codes "fingerprint") source) source
 
--- nothing, or an image: copies are not built yet, and are refused before their form is judged
+-- nothing, an image or a copy
 unfoldable pub typed_fault : Data → Option (List ℕ)
 typed_fault source =
     if has_word (codes "none") (given (codes "type") source) then None
     else (if has_word (codes "image") (given (codes "type") source) then image_fault source
-    else Some (codes "type"))
+    else (if has_word (codes "copy") (given (codes "type") source) then copied_fault source
+    else Some (codes "type")))
 
 -- the key of the first part of a source that is at fault, or that of the source itself, which has to be an object
 unfoldable pub source_fault : Data → Option (List ℕ)
@@ -74,11 +76,17 @@ source_fault source = if is_some (as_object source) then typed_fault source else
 unfoldable pub image_name : Data → List ℕ
 image_name source = unwrap_or (text_at (codes "fingerprint") source) (unwrap_or (text_at (codes "alias") source) [])
 
--- what a source makes an instance from: an image, or nothing
+-- what a source that is no copy makes an instance from: an image, or nothing
 unfoldable pub instance_made : Data → Origin
 instance_made source =
     if has_word (codes "image") (given (codes "type") source) then origin.Image (image_name source) else origin.None
 
--- what a body makes a new instance from
+-- what a body that asks for no copy makes a new instance from
 unfoldable pub instance_origin : Data → Origin
 instance_origin body = option_map_or instance_made (given (codes "source") body) origin.None
+
+-- ---- what an instance is put back to
+
+-- the snapshot that a body restores, if it names one
+unfoldable pub restore_at : Data → Option (List ℕ)
+restore_at body = text_at (codes "restore") body

@@ -1,4 +1,6 @@
+pub mod Actions
 pub mod Bodies
+pub mod Copies
 pub mod Drivers
 pub mod Fields
 pub mod Instances

@@ -1,15 +1,15 @@
-ghost use Rattle.std.specs.Prelude.{◌≡◌, IfOk, option_map};
+ghost use Rattle.std.specs.Prelude.{◌≡◌, IfOk, codes};
 ghost use Rattle.serde_json.specs.View.{view};
-ghost use Rattle.rest_bodies.specs.Bodies.{config_at, devices_at, part_of, has_config, has_devices, has_driver};
-ghost use Rattle.rest_bodies.specs.Bodies.{is_of_instances, origin_of, body_of};
+ghost use Rattle.rest_bodies.specs.Bodies.{config_at, devices_at, part_of, is_of_instances, has_kind, describes};
+ghost use Rattle.rest_bodies.specs.Bodies.{has_devices, has_driver, origin_of, body_of};
 ghost use Rattle.rest_bodies.specs.Drivers.{driver_at};
-ghost use Rattle.rest_bodies.specs.Fields.{fields_of, first_fault};
 ghost use Rattle.rest_bodies.specs.Instances.{kind_at, ephemeral_at};
 ghost use Rattle.rest_bodies.specs.Members.{text_at};
 ghost use Rattle.rest_bodies.specs.Profiles.{profiles_at};
 
+use crate::copies::copy_origin;
 use crate::drivers::driver_at;
-use crate::fields::{Shape, fields_of, first_fault};
+use crate::fields::Shape;
 use crate::instances::{ephemeral_at, instance_origin, kind_at};
 use crate::members::{given, text_at};
 use crate::origins::volume_origin;
@@ -20,13 +20,6 @@ use records::{Body, Driver, Origin};
 use serde_json::Value;
 use size_values::{Kind, NoMemory, Seq, Text};
 use std::alloc::Global;
-
-/// The key of the first field of a body that is at fault, if one is.
-pub fn judge_fields(shape: Shape, body: &Value) -> Option<&'static str>
-    ensures { option_map (λ k. k.now) result ≡ first_fault (fields_of shape) (view body.now) }
-{
-    first_fault(fields_of(shape), body)
-}
 
 #[tactic(auto, unfolding(crate::specs::Bodies::config_at))]
 fn config_at(alloc: Global, body: &Value) -> Result<Option<Changes>, NoMemory>
@@ -48,12 +41,38 @@ fn devices_at(alloc: Global, body: &Value) -> Result<Option<Devices>, NoMemory>
     }
 }
 
-/// Whether a body of this shape has settings.
-fn has_config(shape: Shape) -> bool
-    ensures { result ≡ has_config shape }
+/// Whether a body of this shape says what instances alone have.
+fn is_of_instances(shape: Shape) -> bool
+    ensures { result ≡ is_of_instances shape }
 {
     match shape {
+        Shape::NewInstance => true,
+        Shape::InstanceCopy => true,
+        Shape::InstancePut => true,
+        Shape::InstancePatch => true,
+        _ => false,
+    }
+}
+
+/// Whether a body of this shape has a kind of instance, which a copy has from what is copied.
+fn has_kind(shape: Shape) -> bool
+    ensures { result ≡ has_kind shape }
+{
+    match shape {
+        Shape::NewInstance => true,
+        _ => false,
+    }
+}
+
+/// Whether a body of this shape has a description and settings.
+fn describes(shape: Shape) -> bool
+    ensures { result ≡ describes shape }
+{
+    match shape {
+        Shape::NewSnapshot => false,
         Shape::Rename => false,
+        Shape::InstanceRename => false,
+        Shape::StateChange => false,
         _ => true,
     }
 }
@@ -65,15 +84,33 @@ fn has_devices(shape: Shape) -> bool
     match shape {
         Shape::NewProfile => true,
         Shape::ProfileChange => true,
-        Shape::NewInstance => true,
+        _ => is_of_instances(shape),
+    }
+}
+
+/// Whether a body of this shape has a driver.
+fn has_driver(shape: Shape) -> bool
+    ensures { result ≡ has_driver shape }
+{
+    match shape {
+        Shape::NewPool => true,
         _ => false,
     }
 }
 
-fn config_part(alloc: Global, shape: Shape, body: &Value) -> Result<Option<Changes>, NoMemory>
-    ensures { IfOk result (λ o. o ≡ part_of (has_config shape) (config_at (view body.now))) }
+fn description_part(alloc: Global, shape: Shape, body: &Value) -> Result<Option<Text>, NoMemory>
+    ensures { IfOk result (λ o. o ≡ part_of (describes shape) (text_at (codes "description") (view body.now))) }
 {
-    if has_config(shape) {
+    if describes(shape) {
+        return text_at(alloc, "description", body);
+    }
+    Ok(None)
+}
+
+fn config_part(alloc: Global, shape: Shape, body: &Value) -> Result<Option<Changes>, NoMemory>
+    ensures { IfOk result (λ o. o ≡ part_of (describes shape) (config_at (view body.now))) }
+{
+    if describes(shape) {
         return config_at(alloc, body);
     }
     Ok(None)
@@ -88,16 +125,6 @@ fn devices_part(alloc: Global, shape: Shape, body: &Value) -> Result<Option<Devi
     Ok(None)
 }
 
-/// Whether a body of this shape has a driver.
-fn has_driver(shape: Shape) -> bool
-    ensures { result ≡ has_driver shape }
-{
-    match shape {
-        Shape::NewPool => true,
-        _ => false,
-    }
-}
-
 fn driver_part(shape: Shape, body: &Value) -> Option<Driver>
     ensures { result ≡ part_of (has_driver shape) (driver_at (view body.now)) }
 {
@@ -105,16 +132,6 @@ fn driver_part(shape: Shape, body: &Value) -> Option<Driver>
         return driver_at(body);
     }
     None
-}
-
-/// Whether a body of this shape says what instances alone have.
-fn is_of_instances(shape: Shape) -> bool
-    ensures { result ≡ is_of_instances shape }
-{
-    match shape {
-        Shape::NewInstance => true,
-        _ => false,
-    }
 }
 
 fn profiles_part(alloc: Global, shape: Shape, body: &Value) -> Result<Option<Seq<Text>>, NoMemory>
@@ -127,9 +144,9 @@ fn profiles_part(alloc: Global, shape: Shape, body: &Value) -> Result<Option<Seq
 }
 
 fn kind_part(shape: Shape, body: &Value) -> Option<Kind>
-    ensures { result ≡ part_of (is_of_instances shape) (kind_at (view body.now)) }
+    ensures { result ≡ part_of (has_kind shape) (kind_at (view body.now)) }
 {
-    if is_of_instances(shape) {
+    if has_kind(shape) {
         return kind_at(body);
     }
     None
@@ -151,6 +168,7 @@ fn origin_of(alloc: Global, shape: Shape, body: &Value, pool: &str) -> Result<Or
     match shape {
         Shape::NewVolume => volume_origin(alloc, body, pool),
         Shape::NewInstance => instance_origin(alloc, body),
+        Shape::InstanceCopy => copy_origin(alloc, body),
         _ => Ok(Origin::None),
     }
 }
@@ -161,7 +179,7 @@ pub fn body_of(alloc: Global, shape: Shape, body: &Value, pool: &str) -> Result<
     ensures { IfOk result (λ b. b ≡ body_of shape (view body.now) pool.now) }
 {
     Ok(Body {
-        description: text_at(alloc, "description", body)?,
+        description: description_part(alloc, shape, body)?,
         config: config_part(alloc, shape, body)?,
         devices: devices_part(alloc, shape, body)?,
         profiles: profiles_part(alloc, shape, body)?,

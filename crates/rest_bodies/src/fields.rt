@@ -1,39 +1,58 @@
 ghost use Rattle.std.specs.Prelude.{◌≡◌, option_map};
 ghost use Rattle.serde_json.specs.View.{view};
 ghost use Rattle.rest_bodies.specs.Fields.{fields_of, key_of, fits, value_fault, absent_fault, fault_of, first_fault};
+ghost use Rattle.rest_bodies.specs.Fields.{judged_fields, body_fault};
 
+use crate::actions::action_in;
 use crate::drivers::driver_in;
-use crate::instances::{is_false, kind_in, source_fault};
+use crate::instances::{is_false, is_restoration, kind_in, source_fault};
 use crate::members::{given, is_word};
 use crate::origins::fits_source;
 use crate::profiles::fits_profiles;
 use crate::settings::{fits_devices, fits_settings};
 use serde_json::Value;
 
-/// The fields of bodies, each in its form: a name is a text that has to be there, the driver of a pool one of four
-/// words that has to be there, the type of a network `bridge` and that of a volume `custom`, a description a text,
-/// `config` an object of texts, `devices` an object of such objects, and the source of a volume an object that names a
-/// volume. The type of an instance is one of two words, its source an object that has to be there, `profiles` a list of
-/// texts, `ephemeral` a truth value, and `start` may only be `false`.
+/// The fields of bodies, each in its form.
 #[derive(Clone, Copy)]
 pub enum Field {
+    /// A text that has to be there.
     Name,
+    /// A text. A snapshot without one gets the next name of its pattern.
+    SnapshotName,
+    /// The driver of a pool, one of four words, which has to be there.
     Driver,
+    /// `bridge`.
     NetworkType,
+    /// `custom`.
     VolumeType,
-    Description,
-    Config,
-    Devices,
-    VolumeSource,
+    /// `container` or `virtual-machine`.
     InstanceType,
-    InstanceSource,
+    Description,
+    /// An object of texts.
+    Config,
+    /// An object of such objects.
+    Devices,
+    /// A list of texts, each once.
     Profiles,
+    /// A truth value.
     Ephemeral,
+    /// An object that names the volume to copy.
+    VolumeSource,
+    /// An object that has to be there: nothing, an image, or what is copied.
+    InstanceSource,
+    /// `false`, as the next two.
     Start,
+    Stateful,
+    Migration,
+    /// Nothing: an instance can't be moved to another project.
+    Project,
+    /// One of five words, which has to be there.
+    Action,
+    /// A text, the name of a snapshot.
+    Restore,
 }
 
-/// The shapes of bodies: which fields they have. Those of PUT and PATCH are alike, for all objects but profiles, and
-/// those of all renames.
+/// The shapes of bodies: which fields they have. Those of PUT and PATCH are alike for all objects but instances.
 #[derive(Clone, Copy)]
 pub enum Shape {
     NewProject,
@@ -42,13 +61,19 @@ pub enum Shape {
     NewPool,
     NewVolume,
     NewInstance,
+    InstanceCopy,
+    NewSnapshot,
     Change,
     ProfileChange,
+    InstancePut,
+    InstancePatch,
     Rename,
+    InstanceRename,
+    StateChange,
 }
 
-/// The fields of a shape, in the order in which they are judged.
-pub(crate) fn fields_of(shape: Shape) -> &'static [Field]
+/// The fields of a shape, in the order in which they are judged. A copy has no type of its own.
+fn fields_of(shape: Shape) -> &'static [Field]
     ensures { result.now ≡ fields_of shape }
 {
     match shape {
@@ -89,9 +114,37 @@ pub(crate) fn fields_of(shape: Shape) -> &'static [Field]
             Field::Description,
             Field::Start,
         ],
+        Shape::InstanceCopy => &[
+            Field::Name,
+            Field::InstanceSource,
+            Field::Profiles,
+            Field::Config,
+            Field::Devices,
+            Field::Ephemeral,
+            Field::Description,
+            Field::Start,
+        ],
+        Shape::NewSnapshot => &[Field::SnapshotName, Field::Stateful],
         Shape::Change => &[Field::Description, Field::Config],
         Shape::ProfileChange => &[Field::Description, Field::Config, Field::Devices],
+        Shape::InstancePut => &[
+            Field::Description,
+            Field::Config,
+            Field::Devices,
+            Field::Profiles,
+            Field::Ephemeral,
+            Field::Restore,
+        ],
+        Shape::InstancePatch => &[
+            Field::Description,
+            Field::Config,
+            Field::Devices,
+            Field::Profiles,
+            Field::Ephemeral,
+        ],
         Shape::Rename => &[Field::Name],
+        Shape::InstanceRename => &[Field::Name, Field::Migration, Field::Project],
+        Shape::StateChange => &[Field::Action, Field::Stateful],
     }
 }
 
@@ -100,18 +153,24 @@ fn key_of(field: Field) -> &'static str
 {
     match field {
         Field::Name => "name",
+        Field::SnapshotName => "name",
         Field::Driver => "driver",
         Field::NetworkType => "type",
         Field::VolumeType => "type",
+        Field::InstanceType => "type",
         Field::Description => "description",
         Field::Config => "config",
         Field::Devices => "devices",
-        Field::VolumeSource => "source",
-        Field::InstanceType => "type",
-        Field::InstanceSource => "source",
         Field::Profiles => "profiles",
         Field::Ephemeral => "ephemeral",
+        Field::VolumeSource => "source",
+        Field::InstanceSource => "source",
         Field::Start => "start",
+        Field::Stateful => "stateful",
+        Field::Migration => "migration",
+        Field::Project => "project",
+        Field::Action => "action",
+        Field::Restore => "restore",
     }
 }
 
@@ -120,18 +179,24 @@ fn fits(field: Field, value: &Value) -> bool
 {
     match field {
         Field::Name => value.as_str().is_some(),
+        Field::SnapshotName => value.as_str().is_some(),
         Field::Driver => driver_in(value).is_some(),
         Field::NetworkType => is_word("bridge", value),
         Field::VolumeType => is_word("custom", value),
+        Field::InstanceType => kind_in(value).is_some(),
         Field::Description => value.as_str().is_some(),
         Field::Config => fits_settings(value),
         Field::Devices => fits_devices(value),
-        Field::VolumeSource => fits_source(value),
-        Field::InstanceType => kind_in(value).is_some(),
-        Field::InstanceSource => source_fault(value).is_none(),
         Field::Profiles => fits_profiles(value),
         Field::Ephemeral => value.as_bool().is_some(),
+        Field::VolumeSource => fits_source(value),
+        Field::InstanceSource => source_fault(value).is_none(),
         Field::Start => is_false(value),
+        Field::Stateful => is_false(value),
+        Field::Migration => is_false(value),
+        Field::Project => false,
+        Field::Action => action_in(value).is_some(),
+        Field::Restore => value.as_str().is_some(),
     }
 }
 
@@ -156,6 +221,7 @@ fn absent_fault(field: Field) -> Option<&'static str>
         Field::Name => Some("name"),
         Field::Driver => Some("driver"),
         Field::InstanceSource => Some("source"),
+        Field::Action => Some("action"),
         _ => None,
     }
 }
@@ -172,7 +238,7 @@ fn fault_of(field: Field, body: &Value) -> Option<&'static str>
 }
 
 /// The key of the first field that is at fault.
-pub(crate) fn first_fault(fields: &[Field], body: &Value) -> Option<&'static str>
+fn first_fault(fields: &[Field], body: &Value) -> Option<&'static str>
     ensures { option_map (λ k. k.now) result ≡ first_fault fields.now (view body.now) }
 {
     for field in fields {
@@ -182,4 +248,24 @@ pub(crate) fn first_fault(fields: &[Field], body: &Value) -> Option<&'static str
         }
     }
     None
+}
+
+/// The fields of a body that are judged: those of its shape, but none where an instance is put back to a snapshot.
+fn judged_fields(shape: Shape, body: &Value) -> &'static [Field]
+    ensures { result.now ≡ judged_fields shape (view body.now) }
+{
+    if let Shape::InstancePut = shape
+        && is_restoration(body)
+    {
+        return &[];
+    }
+    fields_of(shape)
+}
+
+/// The key of the first field of a body that is at fault, if one is.
+#[tactic(auto, unfolding(crate::specs::Fields::body_fault))]
+pub fn judge_fields(shape: Shape, body: &Value) -> Option<&'static str>
+    ensures { option_map (λ k. k.now) result ≡ body_fault shape (view body.now) }
+{
+    first_fault(judged_fields(shape, body), body)
 }

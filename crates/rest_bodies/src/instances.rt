@@ -1,10 +1,11 @@
-ghost use Rattle.std.specs.Prelude.{◌≡◌, IfOk, option_map};
+ghost use Rattle.std.specs.Prelude.{◌≡◌, IfOk, option_map, is_some};
 ghost use Rattle.serde_json.specs.View.{view};
 ghost use Rattle.rest_bodies.specs.Instances.{kind_of, kind_in, kind_at, is_false, ephemeral_at, text_fault};
 ghost use Rattle.rest_bodies.specs.Instances.{needed_fault, named_fault, image_fault, typed_fault, source_fault};
-ghost use Rattle.rest_bodies.specs.Instances.{image_name, instance_made, instance_origin};
+ghost use Rattle.rest_bodies.specs.Instances.{image_name, instance_made, instance_origin, restore_at};
 
-use crate::members::{given, is_word, str_at};
+use crate::copies::copied_fault;
+use crate::members::{given, is_word, str_at, text_at};
 use crate::origins::has_word;
 use records::Origin;
 use serde_json::Value;
@@ -116,6 +117,9 @@ fn typed_fault(source: &Value) -> Option<&'static str>
     if has_word("image", given("type", source)) {
         return image_fault(source);
     }
+    if has_word("copy", given("type", source)) {
+        return copied_fault(source);
+    }
     Some("type")
 }
 
@@ -155,7 +159,7 @@ fn instance_made(alloc: Global, source: &Value) -> Result<Origin, NoMemory>
     Ok(Origin::None)
 }
 
-/// What the body of a new instance makes it from: an image, or nothing.
+/// What the body of a new instance that is no copy makes it from: an image, or nothing.
 #[tactic(auto, unfolding(crate::specs::Instances::instance_origin))]
 pub(crate) fn instance_origin(alloc: Global, body: &Value) -> Result<Origin, NoMemory>
     ensures { IfOk result (λ o. o ≡ instance_origin (view body.now)) }
@@ -164,4 +168,20 @@ pub(crate) fn instance_origin(alloc: Global, body: &Value) -> Result<Origin, NoM
         Some(source) => instance_made(alloc, source),
         None => Ok(Origin::None),
     }
+}
+
+/// The snapshot that an instance is put back to, if the body names one. The other fields of such a body are ignored.
+#[tactic(auto, unfolding(crate::specs::Instances::restore_at))]
+pub fn restore_at(alloc: Global, body: &Value) -> Result<Option<Text>, NoMemory>
+    ensures { IfOk result (λ o. o ≡ restore_at (view body.now)) }
+{
+    text_at(alloc, "restore", body)
+}
+
+/// Whether a body puts an instance back to a snapshot.
+#[tactic(auto, unfolding(crate::specs::Instances::restore_at))]
+pub(crate) fn is_restoration(body: &Value) -> bool
+    ensures { result ≡ is_some (restore_at (view body.now)) }
+{
+    str_at("restore", body).is_some()
 }

@@ -2,7 +2,9 @@
 //! and what they say of an object.
 #![tactic(auto)]
 
+mod actions;
 mod bodies;
+mod copies;
 mod drivers;
 mod fields;
 mod instances;
@@ -12,8 +14,10 @@ mod origins;
 mod profiles;
 mod settings;
 
-pub use bodies::{body_of, judge_fields};
-pub use fields::{Field, Shape};
+pub use actions::action_at;
+pub use bodies::body_of;
+pub use fields::{Field, Shape, judge_fields};
+pub use instances::restore_at;
 pub use laws::names_first_bad;
 pub use members::{given, name_at, object_in};
 pub use origins::{asks_for_copy, volume_origin};

@@ -6,8 +6,8 @@ use Rattle.matchit.specs.Router.{RouteOf}
 use Rattle.matchit.specs.Rows.{RowsOf}
 use Rattle.matchit.specs.Seek.{has_slash, slash}
 use Rattle.size_values.specs.declared.kinds.ObjectKind.TheVariants as kind
-use Rattle.rest_paths.specs.Filled.{filled, names_in, is_of_snapshots, NamesFill}
-use Rattle.rest_paths.specs.Paths.{is_slash, before_slash, after_slash, after_three, name_of, pool_of}
+use Rattle.rest_paths.specs.Filled.{filled, names_in, NamesFill}
+use Rattle.rest_paths.specs.Paths.{is_slash, before_slash, after_slash, after_three, name_of, pool_of, instance_of}
 use Rattle.rest_paths.specs.Places.{routes, rows}
 use Rattle.rest_paths.specs.declared.places.Line.{Line}
 use Rattle.rest_paths.proofs.Matching.{AreParts, Fits, In, params_in, has_catch_all, sound}
@@ -63,6 +63,12 @@ unfolding after_slash after_three
 volume-name p q clean last =
     ap (λ r. before_slash (after_slash (after_slash r))) (after-part p (codes "volumes/custom/" ++ (q ++ [])) clean) ∙ before-end q last
 
+-- the name of a snapshot, behind its instance
+snapshot-name : (p q : List ℕ) → has_slash p ≡ false → has_slash q ≡ false → before_slash (after_slash (after_slash (p ++ slash ∷ (codes "snapshots/" ++ (q ++ []))))) ≡ q
+unfolding after_slash
+snapshot-name p q clean last =
+    ap (λ r. before_slash (after_slash r)) (after-part p (codes "snapshots/" ++ (q ++ [])) clean) ∙ before-end q last
+
 -- ---- patterns with no, one and two parameters
 
 module _ {path : List ℕ} where
@@ -112,56 +118,56 @@ of-row P ((u, k) ∷ more) each t key (inr h) = of-row P more each.1 t key h
 
 -- a path that fits a row has its names
 abbrev Names : List ℕ → List ℕ → RouteOf Line → Type 0
-Names path t route = Fits t path ⊎ (has_catch_all t ≡ true) → is_of_snapshots route.value.place ≡ false → path ≡ filled route.pattern (names_in route.value.place path)
+Names path t route = Fits t path ⊎ (has_catch_all t ≡ true) → path ≡ filled route.pattern (names_in route.value.place path)
 
 each-names : (path : List ℕ) → Each (Names path) rows
 unfolding matchit_on_literals routes rows before_slash after_slash after_three
 each-names path = (
-  λ f s. plain _ refl refl f,
+  λ f. plain _ refl refl f,
   (
-    λ f s. cc,
+    λ f. two _ (instance_of kind.Snapshot) (name_of kind.Snapshot) refl refl (λ p q clean. before-next p _ clean) snapshot-name f,
     (
-      λ f s. cc,
+      λ f. one _ (instance_of kind.Snapshot) refl refl (λ p clean. before-next p _ clean) f,
       (
-        λ f s. one _ (name_of kind.Instance) refl refl (λ p clean. before-next p _ clean) f,
+        λ f. one _ (name_of kind.Instance) refl refl (λ p clean. before-next p _ clean) f,
         (
-          λ f s. one _ (name_of kind.Instance) refl refl (λ p clean. before-end p clean) f,
+          λ f. one _ (name_of kind.Instance) refl refl (λ p clean. before-end p clean) f,
           (
-            λ f s. plain _ refl refl f,
+            λ f. plain _ refl refl f,
             (
-              λ f s. one _ (name_of kind.Network) refl refl (λ p clean. before-end p clean) f,
+              λ f. one _ (name_of kind.Network) refl refl (λ p clean. before-end p clean) f,
               (
-                λ f s. plain _ refl refl f,
+                λ f. plain _ refl refl f,
                 (
-                  λ f s. one _ (name_of kind.Operation) refl refl (λ p clean. before-next p _ clean) f,
+                  λ f. one _ (name_of kind.Operation) refl refl (λ p clean. before-next p _ clean) f,
                   (
-                    λ f s. one _ (name_of kind.Operation) refl refl (λ p clean. before-end p clean) f,
+                    λ f. one _ (name_of kind.Operation) refl refl (λ p clean. before-end p clean) f,
                     (
-                      λ f s. plain _ refl refl f,
+                      λ f. plain _ refl refl f,
                       (
-                        λ f s. one _ (name_of kind.Profile) refl refl (λ p clean. before-end p clean) f,
+                        λ f. one _ (name_of kind.Profile) refl refl (λ p clean. before-end p clean) f,
                         (
-                          λ f s. plain _ refl refl f,
+                          λ f. plain _ refl refl f,
                           (
-                            λ f s. one _ (name_of kind.Project) refl refl (λ p clean. before-next p _ clean) f,
+                            λ f. one _ (name_of kind.Project) refl refl (λ p clean. before-next p _ clean) f,
                             (
-                              λ f s. one _ (name_of kind.Project) refl refl (λ p clean. before-end p clean) f,
+                              λ f. one _ (name_of kind.Project) refl refl (λ p clean. before-end p clean) f,
                               (
-                                λ f s. plain _ refl refl f,
+                                λ f. plain _ refl refl f,
                                 (
-                                  λ f s. two _ (pool_of kind.Volume) (name_of kind.Volume) refl refl (λ p q clean. before-next p _ clean) volume-name f,
+                                  λ f. two _ (pool_of kind.Volume) (name_of kind.Volume) refl refl (λ p q clean. before-next p _ clean) volume-name f,
                                   (
-                                    λ f s. one _ (pool_of kind.Volume) refl refl (λ p clean. before-next p _ clean) f,
+                                    λ f. one _ (pool_of kind.Volume) refl refl (λ p clean. before-next p _ clean) f,
                                     (
-                                      λ f s. one _ (pool_of kind.Volume) refl refl (λ p clean. before-next p _ clean) f,
+                                      λ f. one _ (pool_of kind.Volume) refl refl (λ p clean. before-next p _ clean) f,
                                       (
-                                        λ f s. one _ (name_of kind.Pool) refl refl (λ p clean. before-end p clean) f,
+                                        λ f. one _ (name_of kind.Pool) refl refl (λ p clean. before-end p clean) f,
                                         (
-                                          λ f s. plain _ refl refl f,
+                                          λ f. plain _ refl refl f,
                                           (
-                                            λ f s. plain _ refl refl f,
+                                            λ f. plain _ refl refl f,
                                             (
-                                              λ f s. plain _ refl refl f,
+                                              λ f. plain _ refl refl f,
                                               tt,
                                             ),
                                           ),
@@ -188,6 +194,6 @@ each-names path = (
 )
 
 pub names-fill : NamesFill
-names-fill path route text e named =
+names-fill path route text e =
     let found = sound path 0 rows route text e in
-    of-row (Names path) rows (each-names path) found.pattern route found.there found.fits named
+    of-row (Names path) rows (each-names path) found.pattern route found.there found.fits

@@ -1,11 +1,11 @@
 -- The pattern of a listed path with the names of a path in place of its parameters.
-use Rattle.std.specs.Prelude.{◌≡◌, ℕ, ◌==◌, Bool, true, false, List, [], ◌∷◌, ◌++◌, Some, if◌then◌else◌}
+use Rattle.std.specs.Prelude.{◌≡◌, ℕ, ◌==◌, List, [], ◌∷◌, ◌++◌, Some, if◌then◌else◌}
 use Rattle.matchit.specs.Level.{IsText}
 use Rattle.matchit.specs.Router.{RouteOf}
 use Rattle.matchit.specs.Rows.{param_token}
 use Rattle.matchit.specs.Seek.{first}
 use Rattle.size_values.specs.declared.kinds.ObjectKind.TheVariants as kind
-use Rattle.rest_paths.specs.Paths.{name_of, pool_of}
+use Rattle.rest_paths.specs.Paths.{name_of, pool_of, instance_of}
 use Rattle.rest_paths.specs.Places.{rows}
 use Rattle.rest_paths.specs.declared.places.Line.{Line}
 use Rattle.rest_paths.specs.declared.places.Place.{Place}
@@ -21,21 +21,17 @@ filled (token ∷ more) (part ∷ parts) =
 -- the names that requests at a place read off its path
 abbrev pub names_in : Place → List ℕ → List (List ℕ)
 names_in (place.List kind.Volume) path = pool_of kind.Volume path ∷ []
+names_in (place.List kind.Snapshot) path = instance_of kind.Snapshot path ∷ []
 names_in (place.One kind.Volume) path = pool_of kind.Volume path ∷ name_of kind.Volume path ∷ []
+names_in (place.One kind.Snapshot) path = instance_of kind.Snapshot path ∷ name_of kind.Snapshot path ∷ []
 names_in (place.One kind) path = name_of kind path ∷ []
-names_in (place.State kind) path = name_of kind path ∷ []
+names_in place.Usage path = name_of kind.Project path ∷ []
+names_in place.State path = name_of kind.Instance path ∷ []
 names_in place.Wait path = name_of kind.Operation path ∷ []
 names_in other path = []
-
--- the places of snapshots, whose names no request reads yet
-abbrev pub is_of_snapshots : Place → Bool
-is_of_snapshots (place.List kind.Snapshot) = true
-is_of_snapshots (place.One kind.Snapshot) = true
-is_of_snapshots other = false
 
 -- each listed path is the pattern that the router finds for it, with the names read off it in place of the parameters
 abbrev pub NamesFill : Type 0
 NamesFill =
     (path : List ℕ) (route : RouteOf Line) → IsText path → first rows path ≡ Some route
-    → is_of_snapshots route.value.place ≡ false
     → path ≡ filled route.pattern (names_in route.value.place path)

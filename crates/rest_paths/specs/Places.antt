@@ -8,14 +8,10 @@ use Rattle.matchit.specs.Router.{RouteOf, route_from, nearest}
 use Rattle.matchit.specs.Rows.{RowsOf}
 use Rattle.matchit.specs.Seek.{first}
 use Rattle.matchit.specs.declared.error.InsertError.{InsertError}
-use Rattle.records.specs.Built.{is_built_kind, is_built_state}
-use Rattle.size_values.specs.declared.kinds.ObjectKind.{ObjectKind}
-use Rattle.size_values.specs.declared.kinds.ObjectKind.TheVariants as kind
 use Rattle.rest_paths.specs.declared.places.TheConstants.{ROUTES}
 use Rattle.rest_paths.specs.declared.places.Line.{Line}
 use Rattle.rest_paths.specs.declared.places.Methods.{Methods}
 use Rattle.rest_paths.specs.declared.places.Place.{Place}
-use Rattle.rest_paths.specs.declared.places.Place.TheVariants as place
 use Rattle.rest_paths.specs.declared.places.Verb.{Verb}
 use Rattle.rest_paths.specs.declared.places.Verb.TheVariants as verb
 
@@ -97,26 +93,3 @@ if_offered methods verb = if is_offered methods verb then Some verb else None
 -- the method of this name, if a line of the table offers it
 unfoldable pub verb_offered : Line → List ℕ → Option Verb
 verb_offered line method = option_and_then (if_offered line.offers) (verb_of method)
-
--- ---- what is built yet
-
--- a method that asks for what there is, and changes nothing
-abbrev pub is_get : Verb → Bool
-is_get verb.Get = true
-is_get other = false
-
--- Instances and operations are shown, and not changed yet.
-abbrev pub is_built_on : ObjectKind → Verb → Bool
-is_built_on kind.Instance verb = is_get verb
-is_built_on kind.Operation verb = is_get verb
-is_built_on other verb = true
-
--- a request that is built yet, as far as its path and its method tell
-abbrev pub is_built : Place → Verb → Bool
-is_built place.Root verb = true
-is_built place.Server verb = true
-is_built (place.List kind) verb = is_built_kind kind
-is_built (place.One kind) verb = is_built_kind kind && is_built_on kind verb
-is_built (place.State kind) verb = is_built_state kind && is_get verb
-is_built place.Wait verb = is_built_kind kind.Operation
-is_built place.Events verb = true

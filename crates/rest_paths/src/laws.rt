@@ -10,7 +10,7 @@ pub fn paths_do_not_conflict()
 {}
 
 /// The names that requests read off a path are what stands in it in place of the braces of its line in the table, where
-/// the router finds one, but for snapshots, whose requests are not read yet.
+/// the router finds one.
 pub fn names_fill_the_braces()
     ensures { NamesFill }
 {}

@@ -1,5 +1,5 @@
 ghost use Rattle.std.specs.Prelude.{◌≡◌};
-ghost use Rattle.rest_paths.specs.Paths.{before_slash, after_slash, after_three, path_of, query_of, name_of, pool_of};
+ghost use Rattle.rest_paths.specs.Paths.{before_slash, after_slash, after_three, path_of, query_of, name_of, pool_of, instance_of};
 
 use size_values::ObjectKind;
 
@@ -55,13 +55,15 @@ fn after_three(path: &str) -> &str
     after_slash(after_slash(after_slash(path)))
 }
 
-/// The name of the object in a path `/1.0/profiles/NAME`, or for volumes
-/// `/1.0/storage-pools/POOL/volumes/custom/NAME`.
+/// The name of the object in a path `/1.0/profiles/NAME`, for volumes
+/// `/1.0/storage-pools/POOL/volumes/custom/NAME`, and for snapshots
+/// `/1.0/instances/INSTANCE/snapshots/NAME`.
 pub fn name_of(kind: ObjectKind, path: &str) -> &str
     ensures { result.now ≡ name_of kind path.now }
 {
     match kind {
         ObjectKind::Volume => before_slash(after_three(after_three(path))),
+        ObjectKind::Snapshot => before_slash(after_slash(after_slash(after_three(path)))),
         _ => before_slash(after_three(path)),
     }
 }
@@ -72,6 +74,16 @@ pub fn pool_of(kind: ObjectKind, path: &str) -> &str
 {
     match kind {
         ObjectKind::Volume => before_slash(after_three(path)),
+        _ => "",
+    }
+}
+
+/// The instance in a path of snapshots, `/1.0/instances/INSTANCE/snapshots`. Other objects stand in none.
+pub fn instance_of(kind: ObjectKind, path: &str) -> &str
+    ensures { result.now ≡ instance_of kind path.now }
+{
+    match kind {
+        ObjectKind::Snapshot => before_slash(after_three(path)),
         _ => "",
     }
 }

@@ -1,18 +1,18 @@
 ghost use Rattle.std.specs.Prelude.{◌≡◌};
-ghost use Rattle.rest_paths.specs.Places.{verb_of, has_body, is_offered, verb_offered, is_get, is_built_on, is_built};
+ghost use Rattle.rest_paths.specs.Places.{verb_of, has_body, is_offered, verb_offered};
 
-use records::{is_built_kind, is_built_state};
 use size_values::ObjectKind;
 
 /// What stands at a path of the REST API: the root, the server at `/1.0`, the list of a kind of objects, one object,
-/// the state of one, the wait for an operation, and the events.
+/// the usage of a project, the state of an instance, the wait for an operation, and the events.
 #[derive(Clone, Copy)]
 pub enum Place {
     Root,
     Server,
     List(ObjectKind),
     One(ObjectKind),
-    State(ObjectKind),
+    Usage,
+    State,
     Wait,
     Events,
 }
@@ -124,11 +124,7 @@ pub(crate) const ROUTES: &[(&str, Place, Methods)] = &[
         Place::One(ObjectKind::Pool),
         NO_RENAME,
     ),
-    (
-        "/1.0/projects/{name}/state",
-        Place::State(ObjectKind::Project),
-        GET,
-    ),
+    ("/1.0/projects/{name}/state", Place::Usage, GET),
     (
         "/1.0/storage-pools/{pool}/volumes",
         Place::List(ObjectKind::Volume),
@@ -144,11 +140,7 @@ pub(crate) const ROUTES: &[(&str, Place, Methods)] = &[
         Place::One(ObjectKind::Volume),
         ALL,
     ),
-    (
-        "/1.0/instances/{name}/state",
-        Place::State(ObjectKind::Instance),
-        GET_PUT,
-    ),
+    ("/1.0/instances/{name}/state", Place::State, GET_PUT),
     (
         "/1.0/instances/{name}/snapshots",
         Place::List(ObjectKind::Snapshot),
@@ -231,40 +223,5 @@ pub fn verb_offered(line: Line, method: &str) -> Option<Verb>
             }
         }
         None => None,
-    }
-}
-
-fn is_get(verb: Verb) -> bool
-    ensures { result ≡ is_get verb }
-{
-    match verb {
-        Verb::Get => true,
-        _ => false,
-    }
-}
-
-/// Whether a method is built for one object of a kind. Instances and operations are shown, and not changed yet.
-fn is_built_on(kind: ObjectKind, verb: Verb) -> bool
-    ensures { result ≡ is_built_on kind verb }
-{
-    match kind {
-        ObjectKind::Instance => is_get(verb),
-        ObjectKind::Operation => is_get(verb),
-        _ => true,
-    }
-}
-
-/// Whether requests of this path and method are built yet.
-pub fn is_built(place: Place, verb: Verb) -> bool
-    ensures { result ≡ is_built place verb }
-{
-    match place {
-        Place::Root => true,
-        Place::Server => true,
-        Place::List(kind) => is_built_kind(kind),
-        Place::One(kind) => is_built_kind(kind) && is_built_on(kind, verb),
-        Place::State(kind) => is_built_state(kind) && is_get(verb),
-        Place::Wait => is_built_kind(ObjectKind::Operation),
-        Place::Events => true,
     }
 }

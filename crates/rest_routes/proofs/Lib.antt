@@ -1,1 +1,6 @@
-pub mod Formed
+mod FormedBodies
+mod FormedCommands
+mod FormedOrigins
+mod FormedProfiles
+mod FormedRequests
+mod FormedSettings

@@ -6,6 +6,10 @@
 mod commands;
 mod laws;
 mod router;
+mod shapes;
+mod targets;
+mod with_body;
+mod without_body;
 
 pub use laws::what_is_routed_is_formed;
 pub use rest_bodies::names_first_bad;

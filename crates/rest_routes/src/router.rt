@@ -1,5 +1,4 @@
 ghost use Rattle.std.specs.Prelude.{◌≡◌, IfOk, IsTrue};
-ghost use Rattle.records.specs.Built.{is_built_command};
 ghost use Rattle.records.specs.Forms.{is_formed};
 ghost use Rattle.rest_paths.specs.Answers.{Gives};
 ghost use Rattle.rest_paths.specs.Places.{rows};
@@ -41,7 +40,6 @@ impl Router {
     pub fn route(&self, alloc: Global, request: &Request, boot: u64) -> Result<Command, Or<Refusal>>
         ensures gives { Gives result (command_of request.now boot) }
         ensures formed { IfOk result (λ c. IsTrue (is_formed c)) }
-        ensures built { IfOk result (λ c. IsTrue (is_built_command c)) }
     {
         command_of(alloc, &self.table, request, boot)
     }

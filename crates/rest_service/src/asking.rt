@@ -1,6 +1,5 @@
 //! How a command comes to its reply.
 ghost use Rattle.std.specs.Prelude.{◌≡◌, true, Ok};
-ghost use Rattle.records.specs.Built.{is_built_command};
 ghost use Rattle.records.specs.Forms.{is_formed};
 ghost use Rattle.core_rows.specs.Asked.{answered};
 ghost use Rattle.rest_routes.specs.Commands.{command_of};
@@ -82,7 +81,6 @@ fn carry_out<R: Keeper, H: Host, C: Clock>(
     command: Command,
 ) -> Reply
     requires formed { is_formed command ≡ true }
-    requires built { is_built_command command ≡ true }
     ensures { Reaches (site daemon.old (R.store keeper.old) (hosted H.told H.failures host.old)
         (C.readings clock.old))
         (Ok command) result

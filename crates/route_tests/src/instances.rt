@@ -1,110 +1,99 @@
 //! The body of a new instance: the first field that is at fault, and what the fields say.
 
+use crate::faults::has_fault;
 use records::{Body, Origin};
-use rest_bodies::{Shape, body_of, judge_fields, object_in};
+use rest_bodies::{Shape, body_of, object_in};
 use serde_json::Value;
 use size_values::{Kind, NoMemory, Seq, Text};
 use std::alloc::Global;
 
 /// Bodies with the key of the first field that is at fault, empty where none is.
 const FAULTS: &[(&str, &str)] = &[
-    ("{\"name\":\"a\",\"source\":{\"type\":\"none\"}}", ""),
-    ("{\"source\":{\"type\":\"none\"}}", "name"),
-    ("{\"name\":null,\"source\":{\"type\":\"none\"}}", "name"),
-    ("{\"name\":5,\"source\":{\"type\":\"none\"}}", "name"),
+    (r#"{"name":"a","source":{"type":"none"}}"#, ""),
+    (r#"{"source":{"type":"none"}}"#, "name"),
+    (r#"{"name":null,"source":{"type":"none"}}"#, "name"),
+    (r#"{"name":5,"source":{"type":"none"}}"#, "name"),
     (
-        "{\"name\":\"a\",\"type\":\"container\",\"source\":{\"type\":\"none\"}}",
+        r#"{"name":"a","type":"container","source":{"type":"none"}}"#,
         "",
     ),
     (
-        "{\"name\":\"a\",\"type\":\"virtual-machine\",\"source\":{\"type\":\"none\"}}",
+        r#"{"name":"a","type":"virtual-machine","source":{"type":"none"}}"#,
         "",
     ),
+    (r#"{"name":"a","type":null,"source":{"type":"none"}}"#, ""),
     (
-        "{\"name\":\"a\",\"type\":null,\"source\":{\"type\":\"none\"}}",
-        "",
-    ),
-    (
-        "{\"name\":\"a\",\"type\":\"vm\",\"source\":{\"type\":\"none\"}}",
+        r#"{"name":"a","type":"vm","source":{"type":"none"}}"#,
         "type",
     ),
-    (
-        "{\"name\":\"a\",\"type\":\"\",\"source\":{\"type\":\"none\"}}",
-        "type",
-    ),
-    (
-        "{\"name\":\"a\",\"type\":7,\"source\":{\"type\":\"none\"}}",
-        "type",
-    ),
+    (r#"{"name":"a","type":"","source":{"type":"none"}}"#, "type"),
+    (r#"{"name":"a","type":7,"source":{"type":"none"}}"#, "type"),
 ];
 
 /// Sources with the key of what is at fault in them, empty where nothing is.
 const SOURCES: &[(&str, &str)] = &[
     ("null", "source"),
-    ("\"none\"", "source"),
+    (r#""none""#, "source"),
     ("[]", "source"),
     ("{}", "type"),
-    ("{\"type\":null}", "type"),
-    ("{\"type\":1}", "type"),
-    ("{\"type\":\"None\"}", "type"),
-    ("{\"type\":\"migration\"}", "type"),
-    ("{\"type\":\"none\"}", ""),
-    ("{\"type\":\"none\",\"alias\":5}", ""),
-    ("{\"type\":\"image\"}", "alias"),
-    ("{\"type\":\"image\",\"alias\":null}", "alias"),
-    ("{\"type\":\"image\",\"alias\":5}", "alias"),
-    ("{\"type\":\"image\",\"alias\":\"\"}", ""),
-    ("{\"type\":\"image\",\"alias\":\"debian\"}", ""),
-    ("{\"type\":\"image\",\"fingerprint\":\"\"}", ""),
-    ("{\"type\":\"image\",\"fingerprint\":5}", "fingerprint"),
+    (r#"{"type":null}"#, "type"),
+    (r#"{"type":1}"#, "type"),
+    (r#"{"type":"None"}"#, "type"),
+    (r#"{"type":"migration"}"#, "type"),
+    (r#"{"type":"none"}"#, ""),
+    (r#"{"type":"none","alias":5}"#, ""),
+    (r#"{"type":"image"}"#, "alias"),
+    (r#"{"type":"image","alias":null}"#, "alias"),
+    (r#"{"type":"image","alias":5}"#, "alias"),
+    (r#"{"type":"image","alias":""}"#, ""),
+    (r#"{"type":"image","alias":"debian"}"#, ""),
+    (r#"{"type":"image","fingerprint":""}"#, ""),
+    (r#"{"type":"image","fingerprint":5}"#, "fingerprint"),
     (
-        "{\"type\":\"image\",\"fingerprint\":5,\"alias\":\"debian\"}",
+        r#"{"type":"image","fingerprint":5,"alias":"debian"}"#,
         "fingerprint",
     ),
-    ("{\"type\":\"image\",\"fingerprint\":\"f\",\"alias\":5}", ""),
+    (r#"{"type":"image","fingerprint":"f","alias":5}"#, ""),
     (
-        "{\"type\":\"image\",\"fingerprint\":null,\"alias\":\"debian\"}",
+        r#"{"type":"image","fingerprint":null,"alias":"debian"}"#,
         "",
     ),
-    (
-        "{\"type\":\"image\",\"fingerprint\":null,\"alias\":5}",
-        "alias",
-    ),
+    (r#"{"type":"image","fingerprint":null,"alias":5}"#, "alias"),
 ];
 
 /// Values of fields behind the source, with whether they have the form of the field.
 const VALUES: &[(&str, &str, bool)] = &[
     ("profiles", "null", true),
     ("profiles", "[]", true),
-    ("profiles", "[\"default\"]", true),
-    ("profiles", "[\"b\",\"a\",\"\"]", true),
-    ("profiles", "[\"a\",\"b\",\"a\"]", false),
-    ("profiles", "[\"a\",5]", false),
+    ("profiles", r#"["default"]"#, true),
+    ("profiles", r#"["b","a",""]"#, true),
+    ("profiles", r#"["a","b","a"]"#, false),
+    ("profiles", r#"["a",5]"#, false),
     ("profiles", "[null]", false),
-    ("profiles", "\"default\"", false),
+    ("profiles", r#""default""#, false),
     ("profiles", "{}", false),
     ("config", "null", true),
-    ("config", "{\"user.a\":\"\"}", true),
-    ("config", "{\"user.a\":null}", false),
-    ("config", "{\"\":\"a\"}", false),
+    ("config", r#"{"user.a":""}"#, true),
+    ("config", r#"{"user.a":null}"#, false),
+    ("config", r#"{"":"a"}"#, false),
     ("config", "[]", false),
     ("devices", "null", true),
-    ("devices", "{\"eth0\":{\"type\":\"nic\"}}", true),
-    ("devices", "{\"eth0\":null}", false),
-    ("devices", "{\"eth0\":{\"\":\"a\"}}", false),
+    ("devices", r#"{"eth0":{"type":"nic"}}"#, true),
+    ("devices", r#"{"eth0":null}"#, false),
+    ("devices", r#"{"eth0":{"":"a"}}"#, false),
     ("ephemeral", "null", true),
     ("ephemeral", "true", true),
     ("ephemeral", "false", true),
-    ("ephemeral", "\"true\"", false),
+    ("ephemeral", r#""true""#, false),
     ("ephemeral", "0", false),
     ("description", "null", true),
-    ("description", "\"\"", true),
+    ("description", r#""""#, true),
     ("description", "5", false),
     ("start", "null", true),
     ("start", "false", true),
     ("start", "true", false),
     ("start", "0", false),
-    ("start", "\"false\"", false),
+    ("start", r#""false""#, false),
     ("other", "5", true),
 ];
 
@@ -120,26 +109,8 @@ const ORDER: &[(&str, &str)] = &[
     ("description", "start"),
 ];
 
-fn is_fault(value: &Value, key: &str) -> bool {
-    match judge_fields(Shape::NewInstance, value) {
-        Some(found) => found == key,
-        None => key.is_empty(),
-    }
-}
-
-fn has_fault(alloc: Global, body: &str, key: &str) -> bool {
-    match object_in(alloc, body.as_bytes()) {
-        Ok(Some(value)) => {
-            let is = is_fault(&value, key);
-            drop(value);
-            is
-        }
-        _ => false,
-    }
-}
-
 fn with_source(alloc: Global, source: &str) -> Result<Text, NoMemory> {
-    let mut text = String::from_str(alloc, "{\"name\":\"a\",\"source\":")?;
+    let mut text = String::from_str(alloc, r#"{"name":"a","source":"#)?;
     text.push_str(source)?;
     text.push_str("}")?;
     Ok(Text::from_string(text))
@@ -148,7 +119,7 @@ fn with_source(alloc: Global, source: &str) -> Result<Text, NoMemory> {
 fn source_has_fault(alloc: Global, source: &str, key: &str) -> bool {
     match with_source(alloc, source) {
         Ok(body) => {
-            let is = has_fault(alloc, body.view(), key);
+            let is = has_fault(alloc, Shape::NewInstance, body.view(), key);
             drop(body);
             is
         }
@@ -157,9 +128,9 @@ fn source_has_fault(alloc: Global, source: &str, key: &str) -> bool {
 }
 
 fn with_field(alloc: Global, key: &str, value: &str) -> Result<Text, NoMemory> {
-    let mut text = String::from_str(alloc, "{\"name\":\"a\",\"source\":{\"type\":\"none\"},\"")?;
+    let mut text = String::from_str(alloc, r#"{"name":"a","source":{"type":"none"},""#)?;
     text.push_str(key)?;
-    text.push_str("\":")?;
+    text.push_str(r#"":"#)?;
     text.push_str(value)?;
     text.push_str("}")?;
     Ok(Text::from_string(text))
@@ -168,7 +139,12 @@ fn with_field(alloc: Global, key: &str, value: &str) -> Result<Text, NoMemory> {
 fn field_is(alloc: Global, key: &str, value: &str, fits: bool) -> bool {
     match with_field(alloc, key, value) {
         Ok(body) => {
-            let is = has_fault(alloc, body.view(), if fits { "" } else { key });
+            let is = has_fault(
+                alloc,
+                Shape::NewInstance,
+                body.view(),
+                if fits { "" } else { key },
+            );
             drop(body);
             is
         }
@@ -178,18 +154,18 @@ fn field_is(alloc: Global, key: &str, value: &str, fits: bool) -> bool {
 
 /// A body with the number 5 in two fields, which is of no field's form.
 fn with_two_bad(alloc: Global, first: &str, second: &str) -> Result<Text, NoMemory> {
-    let mut text = String::from_str(alloc, "{\"name\":\"a\",\"source\":{\"type\":\"none\"},\"")?;
+    let mut text = String::from_str(alloc, r#"{"name":"a","source":{"type":"none"},""#)?;
     text.push_str(second)?;
-    text.push_str("\":5,\"")?;
+    text.push_str(r#"":5,""#)?;
     text.push_str(first)?;
-    text.push_str("\":5}")?;
+    text.push_str(r#"":5}"#)?;
     Ok(Text::from_string(text))
 }
 
 fn is_judged_first(alloc: Global, first: &str, second: &str) -> bool {
     match with_two_bad(alloc, first, second) {
         Ok(body) => {
-            let is = has_fault(alloc, body.view(), first);
+            let is = has_fault(alloc, Shape::NewInstance, body.view(), first);
             drop(body);
             is
         }
@@ -200,7 +176,10 @@ fn is_judged_first(alloc: Global, first: &str, second: &str) -> bool {
 #[test]
 fn first_faults_are_named(rt: HostRuntime) {
     for (body, key) in FAULTS {
-        assert!(rt; has_fault(rt.alloc(), body, key), "{body}");
+        assert!(rt;
+            has_fault(rt.alloc(), Shape::NewInstance, body, key),
+            "{body}"
+        );
     }
 }
 
@@ -230,9 +209,9 @@ fn fields_are_judged_in_order(rt: HostRuntime) {
 
 /// A list of so many names.
 fn names(alloc: Global, count: u64) -> Result<Text, NoMemory> {
-    let mut text = String::from_str(alloc, "[\"default\"")?;
+    let mut text = String::from_str(alloc, r#"["default""#)?;
     for number in 1..count {
-        let name = format!(in alloc; ",\"{number}\"")?;
+        let name = format!(in alloc; r#","{number}""#)?;
         text.push_str(&name)?;
     }
     text.push_str("]")?;
@@ -270,7 +249,7 @@ struct Said {
 const SAID: &[(&str, &str, Said)] = &[
     (
         "",
-        "{\"type\":\"none\",\"alias\":\"debian\"}",
+        r#"{"type":"none","alias":"debian"}"#,
         Said {
             machine: None,
             ephemeral: None,
@@ -279,8 +258,8 @@ const SAID: &[(&str, &str, Said)] = &[
         },
     ),
     (
-        "\"type\":\"container\",\"ephemeral\":false,\"profiles\":[],",
-        "{\"type\":\"image\",\"alias\":\"debian\"}",
+        r#""type":"container","ephemeral":false,"profiles":[],"#,
+        r#"{"type":"image","alias":"debian"}"#,
         Said {
             machine: Some(false),
             ephemeral: Some(false),
@@ -289,8 +268,8 @@ const SAID: &[(&str, &str, Said)] = &[
         },
     ),
     (
-        "\"type\":\"virtual-machine\",\"ephemeral\":true,\"profiles\":[\"b\",\"a\"],",
-        "{\"type\":\"image\",\"alias\":\"debian\",\"fingerprint\":\"f0\"}",
+        r#""type":"virtual-machine","ephemeral":true,"profiles":["b","a"],"#,
+        r#"{"type":"image","alias":"debian","fingerprint":"f0"}"#,
         Said {
             machine: Some(true),
             ephemeral: Some(true),
@@ -299,8 +278,8 @@ const SAID: &[(&str, &str, Said)] = &[
         },
     ),
     (
-        "\"profiles\":null,\"type\":null,\"ephemeral\":null,",
-        "{\"type\":\"image\",\"alias\":\"debian\",\"fingerprint\":\"\"}",
+        r#""profiles":null,"type":null,"ephemeral":null,"#,
+        r#"{"type":"image","alias":"debian","fingerprint":""}"#,
         Said {
             machine: None,
             ephemeral: None,
@@ -381,9 +360,9 @@ fn body_says(alloc: Global, body: &str, said: &Said) -> bool {
 }
 
 fn with_fields(alloc: Global, fields: &str, source: &str) -> Result<Text, NoMemory> {
-    let mut text = String::from_str(alloc, "{\"name\":\"a\",")?;
+    let mut text = String::from_str(alloc, r#"{"name":"a","#)?;
     text.push_str(fields)?;
-    text.push_str("\"source\":")?;
+    text.push_str(r#""source":"#)?;
     text.push_str(source)?;
     text.push_str("}")?;
     Ok(Text::from_string(text))

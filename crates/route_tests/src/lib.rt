@@ -1,6 +1,11 @@
-//! Tests of the bodies of requests whose paths are not built yet, over the public calls of `rest_bodies`. There is nothing
-//! else here.
+//! Tests of the bodies of requests, over the public calls of `rest_bodies`. There is nothing else here.
 #![tactic(auto)]
 
 #[cfg(test)]
+mod faults;
+#[cfg(test)]
 mod instances;
+#[cfg(test)]
+mod parts;
+#[cfg(test)]
+mod shapes;

@@ -5,11 +5,17 @@
 #[cfg(test)]
 mod bodies;
 #[cfg(test)]
+mod commands;
+#[cfg(test)]
+mod instance_requests;
+#[cfg(test)]
 mod replies;
 #[cfg(test)]
 mod requests;
 #[cfg(test)]
 mod routes;
+#[cfg(test)]
+mod sent_bodies;
 #[cfg(test)]
 mod services;
 #[cfg(test)]

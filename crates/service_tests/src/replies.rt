@@ -16,9 +16,6 @@ const LINKS: &str =
 const TAKEN: &str =
     "{\"error\":\"name is taken\",\"error_code\":409,\"metadata\":{\"kind\":\"project\",\"name\":\"lab\",\"rule\":\"N4\"},\"type\":\"error\"}";
 
-const NOT_BUILT: &str =
-    "{\"error\":\"not built yet\",\"error_code\":501,\"metadata\":{\"rule\":\"A0\"},\"type\":\"error\"}";
-
 const NO_MEMORY: &str =
     "{\"error\":\"no memory\",\"error_code\":500,\"metadata\":{\"rule\":\"M1\"},\"type\":\"error\"}";
 
@@ -124,7 +121,6 @@ const REPLIES: &[(Case, u16, &str, &str)] = &[
     (Case::Empty, 200, "", MADE),
     (Case::Links, 200, "", LINKS),
     (Case::Refused(Rule::N4), 409, "", TAKEN),
-    (Case::Refused(Rule::A0), 501, "", NOT_BUILT),
     (Case::NoMemory, 500, "", NO_MEMORY),
     (Case::Started, 202, OPERATION, STARTED),
     (Case::Usage, 200, "", USAGE),

@@ -2,9 +2,9 @@
 
 use config_lists::Config;
 use http_heads::Request;
-use records::{Body, Command, Refusal, Rule, Target, What};
+use records::{Body, Command, Origin, Refusal, Rule, Target, What};
 use rest_routes::Router;
-use size_values::{NoMemory, ObjectKind, Or, Seq, Text};
+use size_values::{Action, NoMemory, ObjectKind, Or, Seq, Text};
 use std::alloc::Global;
 
 fn request(alloc: Global, method: &str, target: &str, body: &str) -> Result<Request, NoMemory> {
@@ -33,6 +33,32 @@ fn is_refused(answer: &Result<Command, Or<Refusal>>, rule: Rule, key: &str) -> b
     }
 }
 
+/// Whether this is the refusal of an operation that is not there.
+fn is_missing(answer: &Result<Command, Or<Refusal>>, id: &str) -> bool {
+    match answer {
+        Ok(_) => false,
+        Err(Or::NoMemory) => false,
+        Err(Or::Why(refusal)) => {
+            let kept = &refusal.kept;
+            refusal.rule == Rule::N2
+                && kept.kind.view() == "operation"
+                && kept.name.view() == id
+                && kept.key.is_empty()
+                && kept.project.is_empty()
+        }
+    }
+}
+
+fn action_word(action: Action) -> &'static str {
+    match action {
+        Action::Start => "start",
+        Action::Stop => "stop",
+        Action::Restart => "restart",
+        Action::Freeze => "freeze",
+        Action::Unfreeze => "unfreeze",
+    }
+}
+
 fn word_of(what: &What) -> &'static str {
     match what {
         What::Root => "root",
@@ -45,9 +71,11 @@ fn word_of(what: &What) -> &'static str {
         What::Patch { of: _, body: _ } => "patch",
         What::Move { of: _, to: _ } => "move",
         What::Delete { of: _ } => "delete",
+        What::Act { of: _, action } => action_word(*action),
+        What::Restore { of: _, snapshot: _ } => "restore",
         What::GetOp { op: _ } => "operation",
+        What::Cancel { op: _ } => "cancel",
         What::Wait { op: _, timeout: _ } => "wait",
-        _ => "",
     }
 }
 
@@ -62,32 +90,101 @@ fn object_of(what: &What) -> Option<&Target> {
         What::Patch { of, body: _ } => Some(of),
         What::Move { of, to: _ } => Some(of),
         What::Delete { of } => Some(of),
+        What::Act { of, action: _ } => Some(of),
+        What::Restore { of, snapshot: _ } => Some(of),
         _ => None,
     }
 }
 
-/// Whether the command's object has this pool and this name, and none where it has no object.
-fn names(what: &What, pool: &str, name: &str) -> bool {
-    match object_of(what) {
-        Some(of) => { of.pool.view() == pool && of.name.view() == name && of.instance.is_empty() }
-        None => name.is_empty(),
+/// The number of the operation that a command is about, or 0.
+fn number_of(what: &What) -> u64 {
+    match what {
+        What::GetOp { op } => *op,
+        What::Cancel { op } => *op,
+        What::Wait { op, timeout: _ } => *op,
+        _ => 0,
     }
 }
 
-/// Whether this is a command with this word and project, whose object has this pool and this name.
-fn is_command(
-    answer: &Result<Command, Or<Refusal>>,
-    word: &str,
-    project: &str,
-    pool: &str,
-    name: &str,
-) -> bool {
+/// Where an object stands: its pool, its instance and its name, of which some are empty.
+#[derive(Clone, Copy)]
+struct Spot {
+    pool: &'static str,
+    instance: &'static str,
+    name: &'static str,
+}
+
+/// Whether the command's object stands there, and none where it has no object.
+fn stands(what: &What, at: Spot) -> bool {
+    match object_of(what) {
+        Some(of) => {
+            of.pool.view() == at.pool
+                && of.instance.view() == at.instance
+                && of.name.view() == at.name
+        }
+        None => at.name.is_empty(),
+    }
+}
+
+/// Whether this is a command with this word and project, whose object stands there.
+fn is_command(answer: &Result<Command, Or<Refusal>>, word: &str, project: &str, at: Spot) -> bool {
     match answer {
         Ok(command) => {
             word_of(&command.what) == word
                 && command.project.view() == project
-                && names(&command.what, pool, name)
+                && stands(&command.what, at)
         }
+        Err(_) => false,
+    }
+}
+
+/// The new name in a command, or the snapshot that it restores.
+fn second_name(what: &What) -> &str {
+    match what {
+        What::Move { of: _, to } => to.view(),
+        What::Restore { of: _, snapshot } => snapshot.view(),
+        _ => "",
+    }
+}
+
+/// Whether the command has this new name, or restores this snapshot.
+fn goes_to(answer: &Result<Command, Or<Refusal>>, name: &str) -> bool {
+    match answer {
+        Ok(command) => second_name(&command.what) == name,
+        Err(_) => false,
+    }
+}
+
+/// Whether an object is made as a copy of what has this name, this snapshot and this pool.
+fn is_copy(origin: &Origin, name: &str, state: &str, place: &str) -> bool {
+    match origin {
+        Origin::None => false,
+        Origin::Image(_) => false,
+        Origin::Copy {
+            from,
+            snapshot,
+            pool,
+        } => from.view() == name && snapshot.view() == state && pool.view() == place,
+    }
+}
+
+/// Whether the command makes a copy of what has this name, this snapshot and this pool.
+fn copies(answer: &Result<Command, Or<Refusal>>, name: &str, state: &str, place: &str) -> bool {
+    match answer {
+        Ok(command) => match &command.what {
+            What::Create { of: _, body } => {
+                body.kind.is_none() && is_copy(&body.origin, name, state, place)
+            }
+            _ => false,
+        },
+        Err(_) => false,
+    }
+}
+
+/// Whether the command is about the operation of this number.
+fn is_numbered(answer: &Result<Command, Or<Refusal>>, word: &str, number: u64) -> bool {
+    match answer {
+        Ok(command) => word_of(&command.what) == word && number_of(&command.what) == number,
         Err(_) => false,
     }
 }
@@ -165,28 +262,80 @@ fn has_body(alloc: Global, what: &What) -> bool {
 pub(crate) enum Want {
     /// By a refusal with this rule and key.
     Refused(Rule, &'static str),
+    /// By the refusal of an operation that is not there, which has this id.
+    Missing(&'static str),
     /// By a command with this word, project and name.
     Asked(&'static str, &'static str, &'static str),
     /// By a command in the project `default` with this word, kind of object and name.
     Of(&'static str, ObjectKind, &'static str),
     /// By a command in the project `default` with this word, pool and name, on volumes.
     In(&'static str, &'static str, &'static str),
+    /// By a command in the project `default` with this word, instance and name, on snapshots.
+    Within(&'static str, &'static str, &'static str),
+    /// By a command in the project `default` with this word, on the instance of this name, with this second name.
+    To(&'static str, &'static str, &'static str),
+    /// By the creation of an object of this kind from what has this name, this snapshot and this pool.
+    Copy(ObjectKind, &'static str, &'static str, &'static str),
+    /// By a command with this word on the operation of this number.
+    Numbered(&'static str, u64),
     /// By some command.
     Good,
     /// By a PUT or PATCH with the parts of `BODY`.
     Read,
 }
 
+/// An object that stands in no other.
+fn plain(name: &'static str) -> Spot {
+    Spot {
+        pool: "",
+        instance: "",
+        name,
+    }
+}
+
+/// A volume in its pool.
+fn in_pool(pool: &'static str, name: &'static str) -> Spot {
+    Spot {
+        pool,
+        instance: "",
+        name,
+    }
+}
+
+/// A snapshot in its instance.
+fn within(instance: &'static str, name: &'static str) -> Spot {
+    Spot {
+        pool: "",
+        instance,
+        name,
+    }
+}
+
 fn is_wanted(alloc: Global, answer: &Result<Command, Or<Refusal>>, want: Want) -> bool {
     match want {
         Want::Refused(rule, key) => is_refused(answer, rule, key),
-        Want::Asked(word, project, name) => is_command(answer, word, project, "", name),
+        Want::Missing(id) => is_missing(answer, id),
+        Want::Asked(word, project, name) => is_command(answer, word, project, plain(name)),
         Want::Of(word, kind, name) => {
-            is_of(answer, kind) && is_command(answer, word, "default", "", name)
+            is_of(answer, kind) && is_command(answer, word, "default", plain(name))
         }
         Want::In(word, pool, name) => {
-            is_of(answer, ObjectKind::Volume) && is_command(answer, word, "default", pool, name)
+            is_of(answer, ObjectKind::Volume)
+                && is_command(answer, word, "default", in_pool(pool, name))
         }
+        Want::Within(word, instance, name) => {
+            is_of(answer, ObjectKind::Snapshot)
+                && is_command(answer, word, "default", within(instance, name))
+        }
+        Want::To(word, name, second) => {
+            is_of(answer, ObjectKind::Instance)
+                && is_command(answer, word, "default", plain(name))
+                && goes_to(answer, second)
+        }
+        Want::Copy(kind, name, snapshot, pool) => {
+            is_of(answer, kind) && copies(answer, name, snapshot, pool)
+        }
+        Want::Numbered(word, number) => is_numbered(answer, word, number),
         Want::Good => answer.is_ok(),
         Want::Read => match answer {
             Ok(command) => has_body(alloc, &command.what),

@@ -1,19 +1,17 @@
-//! Which command a request asks for, or by which rule of its form it is refused.
+//! Which methods a path offers, and which queries are good.
 
-use crate::requests::{BODY, Want, answers};
+use crate::requests::{Want, answers};
 use records::Rule;
 use size_values::ObjectKind;
 use std::alloc::Global;
 
 /// Refused by a rule that tells nothing.
-const A0: Want = Want::Refused(Rule::A0, "");
-
 const A2: Want = Want::Refused(Rule::A2, "");
 
 const A6: Want = Want::Refused(Rule::A6, "");
 
 /// A path of each line of the table of routes, with the answers to GET, POST, PUT, PATCH and DELETE. A method that is not
-/// offered is A2, an offered one that is not built yet A0.
+/// offered is A2.
 const PLACES: &[(&str, &[Want; 5])] = &[
     ("/", &[Want::Asked("root", "default", ""), A2, A2, A2, A2]),
     (
@@ -102,7 +100,13 @@ const PLACES: &[(&str, &[Want; 5])] = &[
     ),
     (
         "/1.0/instances/c1",
-        &[Want::Of("get", ObjectKind::Instance, "c1"), A0, A0, A0, A0],
+        &[
+            Want::Of("get", ObjectKind::Instance, "c1"),
+            Want::To("move", "c1", "n"),
+            Want::Of("put", ObjectKind::Instance, "c1"),
+            Want::Of("patch", ObjectKind::Instance, "c1"),
+            Want::Of("delete", ObjectKind::Instance, "c1"),
+        ],
     ),
     (
         "/1.0/storage-pools/ssd",
@@ -159,20 +163,44 @@ const PLACES: &[(&str, &[Want; 5])] = &[
         &[
             Want::Of("state", ObjectKind::Instance, "c1"),
             A2,
-            A0,
+            Want::Refused(Rule::A5, "action"),
             A2,
             A2,
         ],
     ),
-    ("/1.0/instances/c1/snapshots", &[A0, A0, A2, A2, A2]),
-    ("/1.0/instances/c1/snapshots/s", &[A0, A2, A2, A2, A0]),
+    (
+        "/1.0/instances/c1/snapshots",
+        &[
+            Want::Within("list", "c1", ""),
+            Want::Within("create", "c1", "n"),
+            A2,
+            A2,
+            A2,
+        ],
+    ),
+    (
+        "/1.0/instances/c1/snapshots/s",
+        &[
+            Want::Within("get", "c1", "s"),
+            A2,
+            A2,
+            A2,
+            Want::Within("delete", "c1", "s"),
+        ],
+    ),
     (
         "/1.0/operations",
         &[Want::Of("list", ObjectKind::Operation, ""), A2, A2, A2, A2],
     ),
     (
         "/1.0/operations/00000000-0000-8000-8000-000000000001",
-        &[Want::Asked("operation", "default", ""), A2, A2, A2, A0],
+        &[
+            Want::Asked("operation", "default", ""),
+            A2,
+            A2,
+            A2,
+            Want::Asked("cancel", "default", ""),
+        ],
     ),
     (
         "/1.0/operations/00000000-0000-8000-8000-000000000001/wait",
@@ -199,13 +227,25 @@ const PATHS: &[(&str, &str, Rule)] = &[
     ("POST", "/1.0/storage-pools/p?recursion=9", Rule::A2),
     ("PUT", "/1.0/instances/i/snapshots/s", Rule::A2),
     ("POST", "/1.0/operations/o/wait", Rule::A2),
-    ("GET", "/1.0/instances/c1/snapshots?recursion=9", Rule::A0),
-    ("POST", "/1.0/instances/c1/snapshots", Rule::A0),
-    ("PUT", "/1.0/instances/c1", Rule::A0),
-    ("PUT", "/1.0/instances/c1/state", Rule::A0),
-    ("PATCH", "/1.0/instances/c1", Rule::A0),
-    ("GET", "/1.0/instances/c1/snapshots", Rule::A0),
-    ("DELETE", "/1.0/operations/o", Rule::A0),
+    ("GET", "/1.0/instances/c1/", Rule::A1),
+    ("GET", "/1.0/instances/c1/status", Rule::A1),
+    ("GET", "/1.0/instances/c1/snapshots/", Rule::A1),
+    ("DELETE", "/1.0/instances/c1/snapshots/s/t", Rule::A1),
+    ("GET", "/1.0/profiles/p/state", Rule::A1),
+    ("GET", "/1.0/storage-pools/p/volumes/block/v", Rule::A1),
+    ("GET", "/1.0/operations/o/cancel", Rule::A1),
+    ("PUT", "/1.0/instances", Rule::A2),
+    ("DELETE", "/1.0/instances?filter", Rule::A2),
+    ("POST", "/1.0/instances/c1/state", Rule::A2),
+    ("PATCH", "/1.0/instances/c1/state", Rule::A2),
+    ("PUT", "/1.0/projects/lab/state", Rule::A2),
+    ("PUT", "/1.0/instances/c1/snapshots", Rule::A2),
+    ("POST", "/1.0/instances/c1/snapshots/s", Rule::A2),
+    ("PATCH", "/1.0/instances/c1/snapshots/s", Rule::A2),
+    ("POST", "/1.0/operations", Rule::A2),
+    ("PUT", "/1.0/operations/o", Rule::A2),
+    ("DELETE", "/1.0/operations/o/wait", Rule::A2),
+    ("DELETE", "/1.0/events", Rule::A2),
     ("GET", "/1.0/events?type=operation,lifecycle", Rule::A6),
 ];
 
@@ -237,415 +277,10 @@ const QUERIES: &[(&str, &str)] = &[
     ("/1.0/profiles?project=a&filter=", "filter"),
     ("/1.0/profiles?Recursion=9&public", ""),
     ("/1.0/profiles?recursion=0?recursion=9", "recursion"),
-];
-
-/// Requests that are refused by their body, with the rule and the key.
-const BODIES: &[(&str, &str, &str, Rule, &str)] = &[
-    ("POST", "/1.0/projects", "", Rule::A4, ""),
-    (
-        "POST",
-        "/1.0/projects?recursion=x",
-        "",
-        Rule::A3,
-        "recursion",
-    ),
-    ("POST", "/1.0/projects", "{\"config\":{}}", Rule::A5, "name"),
-    (
-        "POST",
-        "/1.0/projects?filter",
-        "{\"config\":7}",
-        Rule::A3,
-        "filter",
-    ),
-    (
-        "POST",
-        "/1.0/projects",
-        "{\"name\":\"n\",\"config\":7}",
-        Rule::A5,
-        "config",
-    ),
-    (
-        "POST",
-        "/1.0/projects",
-        "{\"name\":\"n\",\"config\":{\"\":\"1\"}}",
-        Rule::A5,
-        "config",
-    ),
-    ("PUT", "/1.0/projects/lab", "[]", Rule::A4, ""),
-    (
-        "PUT",
-        "/1.0/projects/lab",
-        "{\"config\":{\"a\":1},\"description\":7}",
-        Rule::A5,
-        "description",
-    ),
-    (
-        "PATCH",
-        "/1.0/projects/lab",
-        "{\"config\":{\"a\":null}}",
-        Rule::A5,
-        "config",
-    ),
-    (
-        "POST",
-        "/1.0/projects/lab",
-        "{\"name\":null}",
-        Rule::A5,
-        "name",
-    ),
-    ("POST", "/1.0/projects", "{}", Rule::A5, "name"),
-    (
-        "POST",
-        "/1.0/projects",
-        "{\"name\":7,\"description\":7}",
-        Rule::A5,
-        "name",
-    ),
-    (
-        "POST",
-        "/1.0/projects",
-        "{\"name\":\"a\",\"description\":false}",
-        Rule::A5,
-        "description",
-    ),
-    (
-        "POST",
-        "/1.0/profiles",
-        "{\"config\":{\"a\":null},\"name\":\"a\"}",
-        Rule::A5,
-        "config",
-    ),
-    (
-        "POST",
-        "/1.0/profiles",
-        "{\"config\":{},\"name\":null}",
-        Rule::A5,
-        "name",
-    ),
-    ("PUT", "/1.0/profiles/p", "[]", Rule::A4, ""),
-    ("PUT", "/1.0/profiles/p", "{", Rule::A4, ""),
-    ("PUT", "/1.0/profiles/p", "{\"a\":1e400}", Rule::A4, ""),
-    (
-        "PUT",
-        "/1.0/profiles/p",
-        "{\"config\":[]}",
-        Rule::A5,
-        "config",
-    ),
-    (
-        "PUT",
-        "/1.0/profiles/p",
-        "{\"config\":{\"\":\"x\"}}",
-        Rule::A5,
-        "config",
-    ),
-    (
-        "PUT",
-        "/1.0/profiles/p",
-        "{\"config\":{\"a\":\"b\",\"c\":true}}",
-        Rule::A5,
-        "config",
-    ),
-    (
-        "PATCH",
-        "/1.0/profiles/p",
-        "{\"devices\":{\"eth0\":null}}",
-        Rule::A5,
-        "devices",
-    ),
-    (
-        "PATCH",
-        "/1.0/profiles/p",
-        "{\"devices\":{\"eth0\":{\"\":\"x\"}}}",
-        Rule::A5,
-        "devices",
-    ),
-    (
-        "PATCH",
-        "/1.0/profiles/p",
-        "{\"devices\":{\"a\":{},\"b\":{\"c\":1}}}",
-        Rule::A5,
-        "devices",
-    ),
-    (
-        "PATCH",
-        "/1.0/profiles/p",
-        "{\"devices\":\"\",\"config\":\"\"}",
-        Rule::A5,
-        "config",
-    ),
-    (
-        "PATCH",
-        "/1.0/profiles/p",
-        "{\"devices\":0,\"description\":0}",
-        Rule::A5,
-        "description",
-    ),
-    (
-        "PATCH",
-        "/1.0/profiles/p?type=x",
-        "{\"devices\":0}",
-        Rule::A3,
-        "type",
-    ),
-    (
-        "POST",
-        "/1.0/profiles/p",
-        "{\"description\":\"q\"}",
-        Rule::A5,
-        "name",
-    ),
-    ("POST", "/1.0/profiles/p", "\"q\"", Rule::A4, ""),
-    ("PUT", "/1.0/instances/i", "{", Rule::A0, ""),
-    (
-        "POST",
-        "/1.0/networks",
-        "{\"name\":\"n\",\"type\":\"macvlan\",\"description\":7}",
-        Rule::A5,
-        "type",
-    ),
-    (
-        "POST",
-        "/1.0/networks",
-        "{\"name\":\"n\",\"type\":\"bridge\",\"config\":7,\"description\":7}",
-        Rule::A5,
-        "description",
-    ),
-    (
-        "POST",
-        "/1.0/storage-pools",
-        "{\"driver\":\"dir\"}",
-        Rule::A5,
-        "name",
-    ),
-    (
-        "POST",
-        "/1.0/storage-pools",
-        "{\"name\":\"n\",\"driver\":\"ceph\"}",
-        Rule::A5,
-        "driver",
-    ),
-    (
-        "POST",
-        "/1.0/storage-pools",
-        "{\"name\":\"n\",\"driver\":null,\"description\":7}",
-        Rule::A5,
-        "driver",
-    ),
-    ("PUT", "/1.0/networks/n", "{", Rule::A4, ""),
-    (
-        "PATCH",
-        "/1.0/storage-pools/p",
-        "{\"driver\":7,\"config\":{\"\":\"x\"}}",
-        Rule::A5,
-        "config",
-    ),
-    (
-        "POST",
-        "/1.0/storage-pools/p/volumes",
-        "{\"name\":\"v\",\"type\":\"block\"}",
-        Rule::A5,
-        "type",
-    ),
-    (
-        "POST",
-        "/1.0/storage-pools/p/volumes?recursion=9",
-        "{\"name\":\"v\",\"source\":{\"type\":\"copy\",\"name\":\"w\"}}",
-        Rule::A0,
-        "",
-    ),
-    (
-        "POST",
-        "/1.0/storage-pools/p/volumes/custom",
-        "{\"source\":{\"type\":\"copy\"}}",
-        Rule::A0,
-        "",
-    ),
-    (
-        "POST",
-        "/1.0/storage-pools/p/volumes/custom",
-        "{\"name\":\"v\",\"source\":7}",
-        Rule::A5,
-        "source",
-    ),
-    (
-        "POST",
-        "/1.0/storage-pools/p/volumes/custom",
-        "{\"name\":\"v\",\"source\":{\"type\":\"move\",\"name\":\"w\"}}",
-        Rule::A5,
-        "source",
-    ),
-    (
-        "PATCH",
-        "/1.0/storage-pools/p/volumes/custom/v",
-        "{\"source\":7,\"config\":7}",
-        Rule::A5,
-        "config",
-    ),
-    ("GET", "/1.0/events", "{", Rule::A6, ""),
-    ("GET", "/1.0/events?type=all", "", Rule::A3, "type"),
-];
-
-/// Requests with the command that they ask for: its word, its project, and the name of its object.
-const COMMANDS: &[(&str, &str, &str, &str, &str, &str)] = &[
-    ("GET", "/", "", "root", "default", ""),
-    ("GET", "/1.0?project=", "", "server", "", ""),
-    ("GET", "/1.0/projects?project=x", "", "list", "x", ""),
-    (
-        "GET",
-        "/1.0/profiles?recursion=0&recursion=1",
-        "",
-        "list",
-        "default",
-        "",
-    ),
-    (
-        "GET",
-        "/1.0/profiles?recursion=2",
-        "",
-        "list objects",
-        "default",
-        "",
-    ),
-    (
-        "GET",
-        "/1.0/profiles?project=a+b%FF&project=c",
-        "",
-        "list",
-        "a b\u{FFFD}",
-        "",
-    ),
-    ("GET", "/1.0/projects/lab", "{", "get", "default", "lab"),
-    (
-        "GET",
-        "/1.0/profiles/a%2Fb#c?project=p",
-        "",
-        "get",
-        "p",
-        "a%2Fb#c",
-    ),
-    ("DELETE", "/1.0/profiles/p", "{", "delete", "default", "p"),
-    (
-        "POST",
-        "/1.0/projects",
-        "{\"name\":\"lab\"}",
-        "create",
-        "default",
-        "lab",
-    ),
-    (
-        "POST",
-        "/1.0/projects",
-        "{\"name\":\"a\",\"config\":null,\"name\":\"b\"}",
-        "create",
-        "default",
-        "b",
-    ),
-    (
-        "POST",
-        "/1.0/projects",
-        " {\"name\":\"\",\"devices\":7} ",
-        "create",
-        "default",
-        "",
-    ),
-    (
-        "POST",
-        "/1.0/profiles?project=lab",
-        "{\"name\":\"p\"}",
-        "create",
-        "lab",
-        "p",
-    ),
-    (
-        "PUT",
-        "/1.0/profiles/p",
-        "{\"name\":7}",
-        "put",
-        "default",
-        "p",
-    ),
-    ("PATCH", "/1.0/profiles/p", "{}", "patch", "default", "p"),
-    (
-        "POST",
-        "/1.0/networks?project=lab",
-        "{\"name\":\"n\",\"type\":\"bridge\"}",
-        "create",
-        "lab",
-        "n",
-    ),
-    (
-        "POST",
-        "/1.0/storage-pools",
-        "{\"name\":\"p\",\"driver\":\"btrfs\",\"devices\":7}",
-        "create",
-        "default",
-        "p",
-    ),
-    (
-        "PUT",
-        "/1.0/networks/n",
-        "{\"type\":7}",
-        "put",
-        "default",
-        "n",
-    ),
-    (
-        "GET",
-        "/1.0/projects/lab/state?project=x",
-        "",
-        "state",
-        "x",
-        "lab",
-    ),
-    (
-        "PATCH",
-        "/1.0/profiles/p",
-        "{\"description\":null,\"devices\":{}}",
-        "patch",
-        "default",
-        "p",
-    ),
-    (
-        "POST",
-        "/1.0/profiles/p",
-        "{\"name\":\"q\",\"config\":7}",
-        "move",
-        "default",
-        "p",
-    ),
-    (
-        "POST",
-        "/1.0/profiles/default",
-        "{\"name\":\"\"}",
-        "move",
-        "default",
-        "default",
-    ),
-    (
-        "GET",
-        "/1.0/instances?project=lab&recursion=1",
-        "",
-        "list objects",
-        "lab",
-        "",
-    ),
-    (
-        "POST",
-        "/1.0/instances",
-        "{\"name\":\"c1\",\"source\":{\"type\":\"none\"}}",
-        "create",
-        "default",
-        "c1",
-    ),
-    (
-        "GET",
-        "/1.0/operations/00000000-0000-8000-8000-00000000000f/wait?timeout=5",
-        "",
-        "wait",
-        "default",
-        "",
-    ),
+    ("/1.0/instances/c1/snapshots?recursion=9", "recursion"),
+    ("/1.0/instances/c1/snapshots/s?filter", "filter"),
+    ("/1.0/instances/c1/state?timeout=1&timeout=x", ""),
+    ("/1.0/operations/o?type=x", "type"),
 ];
 
 /// How a query with this first bad key is answered; an empty key is none.
@@ -696,42 +331,6 @@ fn queries_are_judged(rt: HostRuntime) {
         assert!(rt;
             answers(rt.alloc(), "GET", target, "", judged(key)),
             "{target}"
-        );
-    }
-}
-
-#[test]
-fn bodies_are_judged(rt: HostRuntime) {
-    for (method, target, body, rule, key) in BODIES {
-        assert!(rt;
-            answers(rt.alloc(), method, target, body, Want::Refused(*rule, key)),
-            "{method} {target} {body}"
-        );
-    }
-}
-
-#[test]
-fn requests_ask_for_commands(rt: HostRuntime) {
-    for (method, target, body, word, project, name) in COMMANDS {
-        assert!(rt;
-            answers(
-                rt.alloc(),
-                method,
-                target,
-                body,
-                Want::Asked(word, project, name)
-            ),
-            "{method} {target} {body}"
-        );
-    }
-}
-
-#[test]
-fn bodies_are_read(rt: HostRuntime) {
-    for method in ["PUT", "PATCH"] {
-        assert!(rt;
-            answers(rt.alloc(), method, "/1.0/profiles/p", BODY, Want::Read),
-            "{method}"
         );
     }
 }

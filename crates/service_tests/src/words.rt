@@ -10,7 +10,7 @@ use size_values::{Kind, ObjectKind, Power, Seq, Text};
 use std::alloc::Global;
 
 /// Each rule, with everything at hand that a rule may tell: its code and its body.
-const RULES: [(Rule, u16, &str); 53] = [
+const RULES: [(Rule, u16, &str); 52] = [
     (
         Rule::H1,
         400,
@@ -30,11 +30,6 @@ const RULES: [(Rule, u16, &str); 53] = [
         Rule::H4,
         400,
         "{\"error\":\"body is too long\",\"error_code\":400,\"metadata\":{\"rule\":\"H4\"},\"type\":\"error\"}",
-    ),
-    (
-        Rule::A0,
-        501,
-        "{\"error\":\"not built yet\",\"error_code\":501,\"metadata\":{\"rule\":\"A0\"},\"type\":\"error\"}",
     ),
     (
         Rule::A1,

@@ -1,5 +1,5 @@
-//! What happens in a random run: requests of every kind that is served, and workers that take calls
-//! and report of them.
+//! What happens in a random run: requests of every kind, and workers that take calls and report of
+//! them.
 
 use crate::chance::Chance;
 use crate::judging::{PROJECTS, changes_nothing, mark_of};
@@ -9,7 +9,7 @@ use size_values::{NoMemory, Rise};
 use std::alloc::Global;
 
 /// What is there before the first event.
-pub(crate) const SETUP: [&str; 12] = [
+pub(crate) const SETUP: &[&str] = &[
     r#"POST /1.0/storage-pools {"driver":"dir","name":"p0"}"#,
     r#"POST /1.0/networks {"name":"br0"}"#,
     r#"POST /1.0/projects {"config":{"limits.instances":"6"},"name":"lab"}"#,
@@ -24,22 +24,34 @@ pub(crate) const SETUP: [&str; 12] = [
     r#"PATCH /1.0/projects/default {"config":{"limits.disk":"20GiB"}}"#,
 ];
 
-/// Requests of every kind. A sign `$` and the letter behind it stand for one of the texts of that
-/// letter.
-const REQUESTS: [&str; 18] = [
+/// Requests of every kind, each as often as it stands here. A sign `$` and the letter behind it
+/// stand for one of the texts of that letter.
+const REQUESTS: &[&str] = &[
     CREATION,
     CREATION,
     CREATION,
     CREATION,
-    CREATION,
-    CREATION,
-    CREATION,
+    r#"POST /1.0/instances?project=$p {"name":"$n","config":{"limits.cpu":"$c"},"source":{"type":"copy","source":"$n"}}"#,
+    r#"POST /1.0/instances?project=$p {"name":"$n","source":{"type":"copy","source":"$n/$x"}}"#,
+    CHANGE,
+    CHANGE,
+    r#"PUT /1.0/instances/$n?project=$p {"restore":"$x"}"#,
+    r#"PATCH /1.0/instances/$n?project=$p {"config":{"limits.memory":"$s"},"devices":{$d}}"#,
+    r#"POST /1.0/instances/$n?project=$p {"name":"$n"}"#,
+    "DELETE /1.0/instances/$n?project=$p",
+    r#"PUT /1.0/instances/$n/state?project=$p {"action":"$a"}"#,
+    r#"PUT /1.0/instances/$n/state?project=$p {"action":"$a"}"#,
+    r#"POST /1.0/instances/$n/snapshots?project=$p {"name":"$x"}"#,
+    r#"POST /1.0/instances/$n/snapshots?project=$p {"name":"$x"}"#,
+    "DELETE /1.0/instances/$n/snapshots/$x?project=$p",
     r#"PATCH /1.0/projects/$p {"config":{"limits.memory":"$s"}}"#,
     r#"PATCH /1.0/projects/$p {"config":{"limits.disk":"$s"}}"#,
     r#"PATCH /1.0/projects/$p {"config":{"$l":"$c"}}"#,
     r#"PATCH /1.0/profiles/small?project=$p {"config":{"limits.memory":"$s","limits.processes":"$c"}}"#,
+    r#"PUT /1.0/profiles/small?project=$p {"config":{"limits.cpu":"$c"}}"#,
     r#"PATCH /1.0/profiles/default?project=$p {"config":{"limits.cpu":"$c"},"devices":{$d}}"#,
     r#"POST /1.0/storage-pools/p0/volumes?project=$p {"config":{"size":"$s"},"name":"$n"}"#,
+    r#"POST /1.0/storage-pools/p0/volumes?project=$p {"name":"$n","source":{"type":"copy","name":"$n"}}"#,
     r#"PATCH /1.0/storage-pools/p0/volumes/custom/$n?project=$p {"config":{"size":"$s"}}"#,
     "DELETE /1.0/storage-pools/p0/volumes/custom/$n?project=$p",
     r#"POST /1.0/networks?project=$p {"name":"br$n"}"#,
@@ -48,15 +60,18 @@ const REQUESTS: [&str; 18] = [
 ];
 
 const CREATION: &str =
-    r#"POST /1.0/instances?project=$p {"name":"$n","type":"$k","profiles":[$f],"config":{"limits.cpu":"$c","limits.memory":"$s"},"devices":{$d},"source":{"type":"none"}}"#;
+    r#"POST /1.0/instances?project=$p {"name":"$n","type":"$k","ephemeral":$e,"profiles":[$f],"config":{"limits.cpu":"$c","limits.memory":"$s"},"devices":{$d},"source":{"type":"none"}}"#;
+
+const CHANGE: &str =
+    r#"PUT /1.0/instances/$n?project=$p {"profiles":[$f],"config":{"limits.cpu":"$c","limits.memory":"$s"},"devices":{$d}}"#;
 
 /// The texts of the letters.
-const TEXTS: [(char, &[&str]); 9] = [
+const TEXTS: &[(char, &[&str])] = &[
     ('p', &PROJECTS),
-    (
-        'n',
-        &["a", "b", "c", "d", "e", "f", "g", "h", "i", "j", "k", "9"],
-    ),
+    ('n', &["a", "b", "c", "d", "e", "f", "9"]),
+    ('x', &["s0", "s1", "s2", ""]),
+    ('a', &["start", "start", "stop", "restart", "freeze", "unfreeze"]),
+    ('e', &["false", "false", "true"]),
     ('k', &["container", "container", "virtual-machine"]),
     (
         'f',
@@ -105,6 +120,8 @@ const TEXTS: [(char, &[&str]); 9] = [
             "/1.0/operations/00000000-0001-8000-8000-000000000005/wait?timeout=0",
             "/1.0/operations/00000000-0001-8000-8000-000000000009/wait",
             "/1.0/storage-pools/p0",
+            "/1.0/instances/a/snapshots?recursion=1",
+            "/1.0/instances/a/snapshots/s0",
             "/1.0/instances/a/state?project=off",
             "/1.0/projects?recursion=1",
         ],
@@ -113,18 +130,16 @@ const TEXTS: [(char, &[&str]); 9] = [
 
 /// One of the texts of a letter.
 fn text_of(chance: &mut Chance, letter: char) -> &'static str {
-    for (sign, texts) in TEXTS {
-        if sign == letter {
-            return chance.one_of(texts);
-        }
+    match TEXTS.iter().find(|(sign, _)| *sign == letter) {
+        Some((_, texts)) => chance.one_of(texts),
+        None => "",
     }
-    ""
 }
 
 /// A request of some kind.
 fn request(alloc: Global, chance: &mut Chance) -> Result<String, NoMemory> {
     let mut line = String::new(alloc);
-    for piece in chance.one_of(&REQUESTS).split('$') {
+    for piece in chance.one_of(REQUESTS).split('$') {
         let mut letters = piece.chars();
         let sign = if line.is_empty() {
             None
@@ -146,6 +161,15 @@ fn request(alloc: Global, chance: &mut Chance) -> Result<String, NoMemory> {
 fn asks(alloc: Global, server: &mut Server, line: &str) -> Result<bool, NoMemory> {
     let before = mark_of(&server.view());
     let answer = server.ask(alloc, line)?;
+    let is_idle = changes_nothing(&answer);
+    drop(answer);
+    Ok(!is_idle || mark_of(&server.view()) == before)
+}
+
+/// Cancels an operation, and says whether nothing changed where that was refused.
+fn cancels(alloc: Global, server: &mut Server, number: u64) -> Result<bool, NoMemory> {
+    let before = mark_of(&server.view());
+    let answer = server.cancel(alloc, number);
     let is_idle = changes_nothing(&answer);
     drop(answer);
     Ok(!is_idle || mark_of(&server.view()) == before)
@@ -177,15 +201,19 @@ pub(crate) fn happens(
     server: &mut Server,
     chance: &mut Chance,
 ) -> Result<bool, NoMemory> {
-    match chance.below(5) {
-        0 => {
+    match chance.below(12) {
+        0 | 1 | 2 => {
             server.take();
             Ok(true)
         }
-        1 | 2 => {
+        3 | 4 | 5 | 6 => {
             let number = number(server, chance);
             server.report(alloc, number, report(chance));
             Ok(true)
+        }
+        7 => {
+            let number = number(server, chance);
+            cancels(alloc, server, number)
         }
         _ => {
             let line = request(alloc, chance)?;

@@ -1,9 +1,9 @@
 //! What has to stand after each turn.
 
 use crate::server::Server;
-use crate::sums::{Sums, instance_sums, project_named, sums_of};
+use crate::sums::{Sums, claim_sums, project_named, sums_of};
 use operations::Operation;
-use records::{LimitKeyName, Project, Reply, Row, UsageLine};
+use records::{LimitKeyName, Project, Reply, UsageLine};
 use reservations::Hold;
 use row_machine::{Answer, Work};
 use row_readings::View;
@@ -17,7 +17,7 @@ pub(crate) const PROJECTS: [&str; 4] = ["default", "lab", "off", "shop"];
 /// and what each project uses.
 #[derive(Clone, Copy, PartialEq, Eq)]
 pub(crate) struct Mark {
-    rows: [usize; 6],
+    rows: [usize; 7],
     live: usize,
     ended: usize,
     next: u64,
@@ -34,6 +34,7 @@ pub(crate) fn mark_of(view: &View<'_>) -> Mark {
             view.pools.len(),
             view.volumes.len(),
             view.instances.len(),
+            view.snapshots.len(),
         ],
         live: view.live.len(),
         ended: view.ended.len(),
@@ -160,7 +161,7 @@ fn books_balance(view: &View<'_>) -> bool {
     balance
 }
 
-/// What an instance uses, as a share counts it.
+/// What a row uses, as a share counts it.
 fn share_of(sums: Sums) -> [u128; 7] {
     [
         sums.instances,
@@ -173,15 +174,12 @@ fn share_of(sums: Sums) -> [u128; 7] {
     ]
 }
 
-/// Whether an operation holds what the instance needs that it would put, by the profiles as they
-/// are now.
+/// Whether an operation holds what the row needs that it would put, above what that row replaces,
+/// by the profiles as they are now. Where it would put none, it holds nothing.
 fn holds_its_share(view: &View<'_>, operation: &Operation<Work>) -> bool {
-    let hold = view.held.iter().find(|hold| hold.op == operation.number);
-    match (&operation.work.claim, hold) {
-        (Some(Row::Instance(row)), Some(hold)) => {
-            parts_of(&hold.share) == share_of(instance_sums(view, row))
-        }
-        _ => false,
+    match view.held.iter().find(|hold| hold.op == operation.number) {
+        Some(hold) => parts_of(&hold.share) == share_of(claim_sums(view, &operation.work)),
+        None => false,
     }
 }
 

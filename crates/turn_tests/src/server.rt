@@ -4,6 +4,7 @@ use core_turns::Daemon;
 use host_model::Report;
 use http_heads::Request;
 use record_keeper::MapKeeper;
+use records::{Command, What};
 use rest_routes::Router;
 use row_machine::Answer;
 use row_readings::View;
@@ -77,6 +78,17 @@ impl Server {
                 Ok(None)
             }
         }
+    }
+
+    /// Asks for the cancel of an operation.
+    pub(crate) fn cancel(&mut self, alloc: Global, number: u64) -> Option<Answer> {
+        let command = Command {
+            project: Text::new(alloc),
+            what: What::Cancel { op: number },
+        };
+        let answer = self.daemon.ask(alloc, &mut self.keeper, &command, NOW);
+        drop(command);
+        Some(answer)
     }
 
     /// A worker asks for a call.

@@ -1,9 +1,10 @@
 //! What a project uses, summed anew from what the server shows: its instances, its volumes, its
-//! networks, and the instances that its live operations would put. Written plainly: each setting is
+//! networks, and the rows that its live operations would put. Written plainly: each setting is
 //! looked up layer by layer, each time again.
 
 use config_lists::Device;
 use records::{Instance, Profile, Project, Row, Volume};
+use row_machine::Work;
 use row_readings::View;
 use size_values::{Cpu, Kind, Memory, read_count, read_cpu, read_memory, read_size, read_truth};
 
@@ -43,6 +44,20 @@ impl Sums {
             processes: self.processes.saturating_add(other.processes),
             disk: self.disk.saturating_add(other.disk),
             networks: self.networks.saturating_add(other.networks),
+        }
+    }
+
+    /// What is above the other one, in each part.
+    fn beyond(self, other: Sums) -> Sums {
+        Sums {
+            instances: self.instances.saturating_sub(other.instances),
+            containers: self.containers.saturating_sub(other.containers),
+            machines: self.machines.saturating_sub(other.machines),
+            cpu: self.cpu.saturating_sub(other.cpu),
+            memory: self.memory.saturating_sub(other.memory),
+            processes: self.processes.saturating_sub(other.processes),
+            disk: self.disk.saturating_sub(other.disk),
+            networks: self.networks.saturating_sub(other.networks),
         }
     }
 }
@@ -233,14 +248,50 @@ fn sums_of_instances(view: &View<'_>, project: &str) -> Sums {
     sums
 }
 
-/// What the live operations hold that would put an instance into a project.
+/// The instance that an operation would replace, if it is of the same project as the row that the
+/// operation would put.
+fn replaced<'a>(view: &View<'a>, work: &Work, row: &Instance) -> Option<&'a Instance> {
+    match &work.replaces {
+        Some((project, name)) => {
+            let project = project.view();
+            let name = name.view();
+            view.instances.iter().find(|old| {
+                old.project.view() == project
+                    && old.name.view() == name
+                    && row.project.view() == project
+            })
+        }
+        None => None,
+    }
+}
+
+/// What the claim of an operation adds to what its project uses.
+pub(crate) fn claim_sums(view: &View<'_>, work: &Work) -> Sums {
+    match &work.claim {
+        Some(Row::Instance(row)) => match replaced(view, work, row) {
+            Some(old) => instance_sums(view, row).beyond(instance_sums(view, old)),
+            None => instance_sums(view, row),
+        },
+        Some(Row::Volume(row)) => volume_sums(row),
+        _ => NOTHING,
+    }
+}
+
+/// Whether an operation would put a row into a project.
+fn is_claim_in(work: &Work, project: &str) -> bool {
+    match &work.claim {
+        Some(Row::Instance(row)) => row.project.view() == project,
+        Some(Row::Volume(row)) => row.project.view() == project,
+        _ => false,
+    }
+}
+
+/// What the live operations hold that would put a row into a project.
 fn sums_of_claims(view: &View<'_>, project: &str) -> Sums {
     let mut sums = NOTHING;
     for operation in view.live {
-        if let Some(Row::Instance(row)) = &operation.work.claim {
-            if row.project.view() == project {
-                sums = sums.plus(instance_sums(view, row));
-            }
+        if is_claim_in(&operation.work, project) {
+            sums = sums.plus(claim_sums(view, &operation.work));
         }
     }
     sums

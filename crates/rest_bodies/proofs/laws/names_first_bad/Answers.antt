@@ -1,5 +1,5 @@
-use Rattle.rest_bodies.proofs.FirstBad.{first_bad}
+use Rattle.rest_bodies.proofs.FirstBad.{body_first_bad}
 use Rattle.rest_bodies.proofs.laws.names_first_bad.Goals as goal
 
 pub returns : goal.returns
-returns c = first_bad
+returns c = body_first_bad

@@ -1,0 +1,62 @@
+-- The command of each request is formed.
+use Rattle.std.proofs.Common.{◌≡◌, ℕ, true, List, Option, Result, Ok, Err, IfOk, IsTrue}
+use Rattle.serde_json.specs.Data.{Data}
+use Rattle.size_values.specs.declared.memory.Or.{Or}
+use Rattle.http_heads.specs.declared.request.Request.{Request}
+use Rattle.records.specs.Forms.{is_timeout, is_formed}
+use Rattle.records.specs.declared.commands.Command.{Command}
+use Rattle.records.specs.declared.commands.What.{What}
+use Rattle.records.specs.declared.refusals.Refusal.{Refusal}
+use Rattle.records.specs.declared.refusals.Rule.TheVariants as rule
+use Rattle.rest_paths.proofs.Timeouts.{timeout_formed}
+use Rattle.rest_paths.specs.Answers.{Gives, mapped, followed}
+use Rattle.rest_paths.specs.Paths.{path_of, query_of}
+use Rattle.rest_paths.specs.Places.{line_of, verb_offered}
+use Rattle.rest_paths.specs.Queries.{query_said, project_of, timeout_asked}
+use Rattle.rest_paths.specs.declared.places.Place.{Place}
+use Rattle.rest_paths.specs.declared.places.Verb.{Verb}
+use Rattle.rest_routes.specs.Commands.{sent_body, command_at, command_of}
+use Rattle.rest_routes.specs.Routed.{RoutedIsFormed}
+use Rattle.rest_routes.specs.WithBody.{needed}
+use Rattle.rest_routes.proofs.FormedRequests.{AnswerIsFormed, asked_formed}
+
+-- the command of an answer is formed, if it is one
+abbrev CommandIsFormed : Result Command Refusal → Type 0
+CommandIsFormed answer = IfOk answer (λ command. IsTrue (is_formed command))
+
+in_project : (project : List ℕ) (answer : Result What Refusal) → AnswerIsFormed answer
+    → CommandIsFormed (mapped (λ asked. record { project = project; what = asked }) answer)
+in_project project (Ok asked) h = h
+in_project project (Err refusal) h = tt
+
+-- what comes after an answer is formed, where that of each good value is
+after_good : {A : Type 0} (P : A → Type 0) (r : Result A Refusal) (f : A → Result Command Refusal) → IfOk r P
+    → ((x : A) → P x → CommandIsFormed (f x)) → CommandIsFormed (followed r f)
+after_good P (Ok x) f h fine = fine x h
+after_good P (Err refusal) f h fine = tt
+
+-- and where that of each value is
+after_any : {A : Type 0} (r : Result A Refusal) (f : A → Result Command Refusal) → ((x : A) → CommandIsFormed (f x)) → CommandIsFormed (followed r f)
+after_any (Ok x) f fine = fine x
+after_any (Err refusal) f fine = tt
+
+at_place : (place : Place) (verb : Verb) (target : List ℕ) (sent : Option Data) (boot : ℕ) → CommandIsFormed (command_at place verb target sent boot)
+unfolding command_at
+at_place place verb target sent boot =
+    after_good (λ query. is_timeout (timeout_asked query) ≡ true) (query_said (query_of target)) _ (timeout_formed (query_of target)) (λ query time.
+    in_project (project_of query) _ (asked_formed place verb (path_of target) query boot sent time))
+
+pub routed_formed : RoutedIsFormed
+unfolding command_of
+routed_formed request boot =
+    after_any (needed rule.A1 (line_of (path_of request.target))) _ (λ line.
+    after_any (needed rule.A2 (verb_offered line request.method)) _ (λ verb.
+    at_place line.place verb request.target (sent_body verb request.body) boot))
+
+-- a command that a function returns is formed
+pub formed_due : (result : Result Command (Or Refusal)) (request : Request) (boot : ℕ) → Gives result (command_of request boot) → IfOk result (λ c. IsTrue (is_formed c))
+formed_due (Ok command) request boot h = due (command_of request boot) h (routed_formed request boot)
+  where
+    due : (answer : Result Command Refusal) → answer ≡ Ok command → CommandIsFormed answer → IsTrue (is_formed command)
+    due answer is h = rw is at h
+formed_due (Err refusal) request boot h = tt

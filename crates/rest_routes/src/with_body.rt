@@ -1,0 +1,130 @@
+//! What POST, PUT and PATCH ask for.
+ghost use Rattle.std.specs.Prelude.{◌≡◌, IfOk, option_map};
+ghost use Rattle.serde_json.specs.View.{view};
+ghost use Rattle.rest_paths.specs.Answers.{Gives};
+ghost use Rattle.rest_routes.specs.WithBody.{creation_said, restored, put_said, change_said, action_said};
+ghost use Rattle.rest_routes.specs.WithBody.{what_said, what_sent};
+
+use crate::shapes::shape_of;
+use crate::targets::{named, object_of};
+use records::{Refusal, Rule, Target, What};
+use rest_bodies::{Shape, action_at, body_of, judge_fields, name_at, restore_at};
+use rest_paths::{Place, Verb, plainly, pool_of, refused};
+use serde_json::Value;
+use size_values::{NoMemory, ObjectKind, Or, Text};
+use std::alloc::Global;
+
+/// A new object of the name in the body, which stands where the path says.
+fn creation_said(
+    alloc: Global,
+    kind: ObjectKind,
+    path: &str,
+    shape: Shape,
+    body: &Value,
+) -> Result<What, NoMemory>
+    ensures { IfOk result (λ w. w ≡ creation_said kind path.now shape (view body.now)) }
+{
+    let of = named(alloc, kind, path, name_at(alloc, body)?)?;
+    let body = body_of(alloc, shape, body, pool_of(kind, path))?;
+    Ok(What::Create { of, body })
+}
+
+/// The snapshot that a PUT takes its instance back to, if it says so.
+fn restored(alloc: Global, shape: Shape, body: &Value) -> Result<Option<Text>, NoMemory>
+    ensures { IfOk result (λ snapshot. snapshot ≡ restored shape (view body.now)) }
+{
+    match shape {
+        Shape::InstancePut => restore_at(alloc, body),
+        _ => Ok(None),
+    }
+}
+
+/// What PUT asks of an object: to be replaced, or to be taken back to a snapshot.
+fn put_said(alloc: Global, of: Target, shape: Shape, body: &Value) -> Result<What, NoMemory>
+    ensures { IfOk result (λ w. w ≡ put_said (restored shape (view body.now)) of shape (view body.now)) }
+{
+    if let Some(snapshot) = restored(alloc, shape, body)? {
+        return Ok(What::Restore { of, snapshot });
+    }
+    let body = body_of(alloc, shape, body, of.pool.view())?;
+    Ok(What::Put { of, body })
+}
+
+/// What a method with a body asks of the object in the path.
+fn change_said(
+    alloc: Global,
+    verb: Verb,
+    of: Target,
+    shape: Shape,
+    body: &Value,
+) -> Result<What, NoMemory>
+    ensures { IfOk result (λ w. w ≡ change_said verb of shape (view body.now)) }
+{
+    match verb {
+        Verb::Put => put_said(alloc, of, shape, body),
+        Verb::Patch => {
+            let body = body_of(alloc, shape, body, of.pool.view())?;
+            Ok(What::Patch { of, body })
+        }
+        _ => {
+            let to = name_at(alloc, body)?;
+            Ok(What::Move { of, to })
+        }
+    }
+}
+
+/// An action on the instance in the path.
+fn action_said(alloc: Global, path: &str, body: &Value) -> Result<What, Or<Refusal>>
+    ensures { Gives result (action_said path.now (view body.now)) }
+{
+    let Some(action) = action_at(body) else {
+        return Err(refused(alloc, Rule::A5, "action"));
+    };
+    let of = object_of(alloc, ObjectKind::Instance, path)?;
+    Ok(What::Act { of, action })
+}
+
+/// What a body of a shape asks for.
+fn what_said(
+    alloc: Global,
+    place: Place,
+    verb: Verb,
+    path: &str,
+    shape: Shape,
+    body: &Value,
+) -> Result<What, Or<Refusal>>
+    ensures { Gives result (what_said place verb path.now shape (view body.now)) }
+{
+    match place {
+        Place::List(kind) => Ok(creation_said(alloc, kind, path, shape, body)?),
+        Place::One(kind) => {
+            let of = object_of(alloc, kind, path)?;
+            Ok(change_said(alloc, verb, of, shape, body)?)
+        }
+        Place::State => action_said(alloc, path, body),
+        _ => Err(plainly(alloc, Rule::A2)),
+    }
+}
+
+/// What POST, PUT and PATCH ask for at a place.
+#[tactic(auto, unfolding(crate::specs::WithBody::what_sent))]
+pub(crate) fn what_sent(
+    alloc: Global,
+    place: Place,
+    verb: Verb,
+    path: &str,
+    sent: &Option<Value>,
+) -> Result<What, Or<Refusal>>
+    ensures { Gives result (what_sent place verb path.now (option_map view sent.now)) }
+{
+    let Some(body) = sent else {
+        return Err(plainly(alloc, Rule::A4));
+    };
+    let Some(shape) = shape_of(place, verb, body) else {
+        return Err(plainly(alloc, Rule::A2));
+    };
+    match judge_fields(shape, body) {
+        Some(key) => Err(refused(alloc, Rule::A5, key)),
+        None => what_said(alloc, place, verb, path, shape, body),
+    }
+}

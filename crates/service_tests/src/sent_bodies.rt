@@ -1,0 +1,292 @@
+//! Which bodies are judged well-formed, and what is read off them.
+
+use crate::requests::{BODY, Want, answers};
+use records::Rule;
+
+/// Requests that are refused by their body, with the rule and the key.
+const BODIES: &[(&str, &str, &str, Rule, &str)] = &[
+    ("POST", "/1.0/projects", "", Rule::A4, ""),
+    (
+        "POST",
+        "/1.0/projects?recursion=x",
+        "",
+        Rule::A3,
+        "recursion",
+    ),
+    ("POST", "/1.0/projects", "{\"config\":{}}", Rule::A5, "name"),
+    (
+        "POST",
+        "/1.0/projects?filter",
+        "{\"config\":7}",
+        Rule::A3,
+        "filter",
+    ),
+    (
+        "POST",
+        "/1.0/projects",
+        "{\"name\":\"n\",\"config\":7}",
+        Rule::A5,
+        "config",
+    ),
+    (
+        "POST",
+        "/1.0/projects",
+        "{\"name\":\"n\",\"config\":{\"\":\"1\"}}",
+        Rule::A5,
+        "config",
+    ),
+    ("PUT", "/1.0/projects/lab", "[]", Rule::A4, ""),
+    (
+        "PUT",
+        "/1.0/projects/lab",
+        "{\"config\":{\"a\":1},\"description\":7}",
+        Rule::A5,
+        "description",
+    ),
+    (
+        "PATCH",
+        "/1.0/projects/lab",
+        "{\"config\":{\"a\":null}}",
+        Rule::A5,
+        "config",
+    ),
+    (
+        "POST",
+        "/1.0/projects/lab",
+        "{\"name\":null}",
+        Rule::A5,
+        "name",
+    ),
+    ("POST", "/1.0/projects", "{}", Rule::A5, "name"),
+    (
+        "POST",
+        "/1.0/projects",
+        "{\"name\":7,\"description\":7}",
+        Rule::A5,
+        "name",
+    ),
+    (
+        "POST",
+        "/1.0/projects",
+        "{\"name\":\"a\",\"description\":false}",
+        Rule::A5,
+        "description",
+    ),
+    (
+        "POST",
+        "/1.0/profiles",
+        "{\"config\":{\"a\":null},\"name\":\"a\"}",
+        Rule::A5,
+        "config",
+    ),
+    (
+        "POST",
+        "/1.0/profiles",
+        "{\"config\":{},\"name\":null}",
+        Rule::A5,
+        "name",
+    ),
+    ("PUT", "/1.0/profiles/p", "[]", Rule::A4, ""),
+    ("PUT", "/1.0/profiles/p", "{", Rule::A4, ""),
+    ("PUT", "/1.0/profiles/p", "{\"a\":1e400}", Rule::A4, ""),
+    (
+        "PUT",
+        "/1.0/profiles/p",
+        "{\"config\":[]}",
+        Rule::A5,
+        "config",
+    ),
+    (
+        "PUT",
+        "/1.0/profiles/p",
+        "{\"config\":{\"\":\"x\"}}",
+        Rule::A5,
+        "config",
+    ),
+    (
+        "PUT",
+        "/1.0/profiles/p",
+        "{\"config\":{\"a\":\"b\",\"c\":true}}",
+        Rule::A5,
+        "config",
+    ),
+    (
+        "PATCH",
+        "/1.0/profiles/p",
+        "{\"devices\":{\"eth0\":null}}",
+        Rule::A5,
+        "devices",
+    ),
+    (
+        "PATCH",
+        "/1.0/profiles/p",
+        "{\"devices\":{\"eth0\":{\"\":\"x\"}}}",
+        Rule::A5,
+        "devices",
+    ),
+    (
+        "PATCH",
+        "/1.0/profiles/p",
+        "{\"devices\":{\"a\":{},\"b\":{\"c\":1}}}",
+        Rule::A5,
+        "devices",
+    ),
+    (
+        "PATCH",
+        "/1.0/profiles/p",
+        "{\"devices\":\"\",\"config\":\"\"}",
+        Rule::A5,
+        "config",
+    ),
+    (
+        "PATCH",
+        "/1.0/profiles/p",
+        "{\"devices\":0,\"description\":0}",
+        Rule::A5,
+        "description",
+    ),
+    (
+        "PATCH",
+        "/1.0/profiles/p?type=x",
+        "{\"devices\":0}",
+        Rule::A3,
+        "type",
+    ),
+    (
+        "POST",
+        "/1.0/profiles/p",
+        "{\"description\":\"q\"}",
+        Rule::A5,
+        "name",
+    ),
+    ("POST", "/1.0/profiles/p", "\"q\"", Rule::A4, ""),
+    (
+        "POST",
+        "/1.0/networks",
+        "{\"name\":\"n\",\"type\":\"macvlan\",\"description\":7}",
+        Rule::A5,
+        "type",
+    ),
+    (
+        "POST",
+        "/1.0/networks",
+        "{\"name\":\"n\",\"type\":\"bridge\",\"config\":7,\"description\":7}",
+        Rule::A5,
+        "description",
+    ),
+    (
+        "POST",
+        "/1.0/storage-pools",
+        "{\"driver\":\"dir\"}",
+        Rule::A5,
+        "name",
+    ),
+    (
+        "POST",
+        "/1.0/storage-pools",
+        "{\"name\":\"n\",\"driver\":\"ceph\"}",
+        Rule::A5,
+        "driver",
+    ),
+    (
+        "POST",
+        "/1.0/storage-pools",
+        "{\"name\":\"n\",\"driver\":null,\"description\":7}",
+        Rule::A5,
+        "driver",
+    ),
+    ("PUT", "/1.0/networks/n", "{", Rule::A4, ""),
+    (
+        "PATCH",
+        "/1.0/storage-pools/p",
+        "{\"driver\":7,\"config\":{\"\":\"x\"}}",
+        Rule::A5,
+        "config",
+    ),
+    (
+        "POST",
+        "/1.0/storage-pools/p/volumes",
+        "{\"name\":\"v\",\"type\":\"block\"}",
+        Rule::A5,
+        "type",
+    ),
+    (
+        "POST",
+        "/1.0/storage-pools/p/volumes?recursion=9",
+        "{\"name\":\"v\",\"source\":{\"type\":\"copy\",\"name\":\"w\"}}",
+        Rule::A3,
+        "recursion",
+    ),
+    (
+        "POST",
+        "/1.0/storage-pools/p/volumes/custom",
+        "{\"source\":{\"type\":\"copy\",\"name\":\"w\"}}",
+        Rule::A5,
+        "name",
+    ),
+    (
+        "POST",
+        "/1.0/storage-pools/p/volumes/custom",
+        "{\"name\":\"v\",\"source\":{\"type\":\"copy\"}}",
+        Rule::A5,
+        "source",
+    ),
+    (
+        "POST",
+        "/1.0/storage-pools/p/volumes/custom",
+        "{\"name\":\"v\",\"source\":{\"type\":\"copy\",\"name\":7}}",
+        Rule::A5,
+        "source",
+    ),
+    (
+        "POST",
+        "/1.0/storage-pools/p/volumes/custom",
+        "{\"name\":\"v\",\"source\":{\"type\":\"copy\",\"name\":\"w\",\"pool\":7}}",
+        Rule::A5,
+        "source",
+    ),
+    (
+        "POST",
+        "/1.0/storage-pools/p/volumes/custom",
+        "{\"name\":\"v\",\"source\":7}",
+        Rule::A5,
+        "source",
+    ),
+    (
+        "POST",
+        "/1.0/storage-pools/p/volumes/custom",
+        "{\"name\":\"v\",\"source\":{\"type\":\"move\",\"name\":\"w\"}}",
+        Rule::A5,
+        "source",
+    ),
+    (
+        "PATCH",
+        "/1.0/storage-pools/p/volumes/custom/v",
+        "{\"source\":7,\"config\":7}",
+        Rule::A5,
+        "config",
+    ),
+    ("GET", "/1.0/events", "{", Rule::A6, ""),
+    ("GET", "/1.0/events?type=all", "", Rule::A3, "type"),
+];
+
+#[test]
+fn bodies_are_judged(rt: HostRuntime) {
+    for (method, target, body, rule, key) in BODIES {
+        assert!(rt;
+            answers(rt.alloc(), method, target, body, Want::Refused(*rule, key)),
+            "{method} {target} {body}"
+        );
+    }
+}
+
+#[test]
+fn bodies_are_read(rt: HostRuntime) {
+    for method in ["PUT", "PATCH"] {
+        assert!(rt;
+            answers(rt.alloc(), method, "/1.0/profiles/p", BODY, Want::Read)
+                && answers(rt.alloc(), method, "/1.0/instances/c1", BODY, Want::Read),
+            "{method}"
+        );
+    }
+}

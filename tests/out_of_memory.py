@@ -1,0 +1,154 @@
+#!/usr/bin/env python3
+"""Refuses memory in each part of a session of incus_run, and judges what is answered.
+
+    tests/out_of_memory.py SESSION [ALLOCATION]
+
+SESSION is a file of requests, as those of examples/. The program is run by `rt try` (unproved, checked at run time), and the
+allocation of one number is refused, 6000 without another one: once for each of many beginnings of more and more `GET /`, so that
+this allocation falls into each part of the session. What is answered must be one of these:
+
+- the replies of the run in which all goes well;
+- those of the run without one request, and in the place of its reply 500 with the rule M1: nothing was changed by it;
+- a beginning of the replies, and status 9: memory for the text of a reply was refused;
+- those of the run in which the keeper fails at the end of an operation, but that this operation tells `no memory`: its rows are as
+  they were, its share went back, and all goes on as there. Where an end commits nothing there is no such run, and the status
+  of the instance must be `Error` afterwards.
+
+It prints how many runs there were of each sort, and how often memory was refused at the end of each operation. It ends with status 1
+where a run is none of these, or where the end of an operation was never met.
+"""
+import collections
+import re
+import subprocess
+import sys
+import tempfile
+from pathlib import Path
+
+TOP = Path(__file__).resolve().parent.parent
+WORDS = ["run", "--now", "0", "--boot", "1"]
+PAD = b"GET / HTTP/1.1\r\nHost: localhost\r\n\r\n"
+
+
+def requests_of(text):
+    """The requests of a session, each with its body."""
+    found, at = [], 0
+    while end := re.compile(rb"\r?\n\r?\n").search(text, at):
+        length = re.search(rb"(?i)content-length: *(\d+)", text[at:end.end()])
+        stop = end.end() + (int(length[1]) if length else 0)
+        found.append(text[at:stop])
+        at = stop
+    return found
+
+
+def replies_of(text):
+    """The whole replies in an output, each its status and its body."""
+    found, at = [], 0
+    while (end := text.find(b"\r\n\r\n", at)) >= 0:
+        length = re.search(rb"Content-Length: (\d+)", text[at:end])
+        stop = end + 4 + int(length[1])
+        if len(text) < stop:
+            break
+        found.append((text[at + 9:at + 12].decode(), text[end + 4:stop].decode()))
+        at = stop
+    return found
+
+
+def run_all(cases, *flags):
+    """The replies to each session, which goes with further words, and the exit status: all by one build."""
+    with tempfile.TemporaryDirectory() as folder:
+        for name, (session, words) in cases.items():
+            Path(folder, name).write_bytes(session)
+            if words:
+                Path(folder, f"{name}.args").write_text("".join(f"{word}\n" for word in words))
+        ran = subprocess.run(
+            ["rt", "try", "--seconds", "600", *flags, "--cases", folder, "--", *WORDS],
+            cwd=TOP / "crates/incus_run", capture_output=True, check=False,
+        )
+    parts = re.split(rb"(?m)^== (\S+)\n", ran.stdout)
+    replies = {parts[at].decode(): replies_of(parts[at + 1]) for at in range(1, len(parts) - 1, 2)}
+    ends = dict(re.findall(r"(?m)^case=(\S+) run=ended status=(\d+)", ran.stderr.decode(errors="replace")))
+    if missing := [name for name in cases if name not in ends]:
+        sys.exit(f"{len(missing)} of {len(cases)} runs did not end:\n{ran.stderr[-2000:].decode(errors='replace')}")
+    return {name: (replies.get(name, []), int(ends[name])) for name in cases}
+
+
+def is_refused_memory(reply):
+    return reply[0] == "500" and '"rule":"M1"' in reply[1]
+
+
+def without_memory(reply):
+    """A reply that tells a failed keeper, as it is where memory was refused."""
+    failed = r'"err":"keeper failed",("id":"[^"]*","may_cancel":false,)"metadata":\{"after":\d+,"before":\d+\}'
+    return reply[0], re.sub(failed, r'"err":"no memory",\1"metadata":null', reply[1])
+
+
+def failed_for_memory(replies):
+    """The number of the operation that a reply tells to have failed so."""
+    for _, body in replies:
+        if found := re.search(r'"err":"no memory","id":"([^"]*)"', body):
+            return int(found[1][-12:], 16)
+    return None
+
+
+class Session:
+    def __init__(self, text):
+        self.requests = requests_of(text)
+        self.text = text
+        cases = {"well": (text, [])}
+        for at in range(len(self.requests)):
+            rest = self.requests[:at] + self.requests[at + 1:]
+            cases[f"without-{at}"] = (b"".join(rest), [])
+            cases[f"keeper-{at + 3}"] = (text, ["--fail-keeper", str(at + 3)])
+            cases[f"keeper-{at + 3 + len(self.requests)}"] = (text, ["--fail-keeper", str(at + 3 + len(self.requests))])
+        self.runs = run_all(cases)
+        self.well = self.runs["well"][0]
+        failed = [replies for name, (replies, _) in self.runs.items() if name.startswith("keeper-")]
+        self.failed = [[without_memory(reply) for reply in replies] for replies in failed]
+        self.operations = [int(found[1], 16) for status, body in self.well if status == "202"
+                           and (found := re.search(r'"operation":"/1\.0/operations/[^"]*-([0-9a-f]{12})"', body))]
+
+    def sort(self, replies, status):
+        """What a run is, and the operation at whose end memory was refused."""
+        if replies == self.well:
+            return "all went well", None
+        if status == 9 and replies == self.well[:len(replies)]:
+            return "a reply without memory", None
+        refused = [at for at, reply in enumerate(replies) if is_refused_memory(reply)]
+        if len(refused) == 1 and replies[:refused[0]] + replies[refused[0] + 1:] == self.runs[f"without-{refused[0]}"][0]:
+            return "a request without memory", None
+        operation = failed_for_memory(replies)
+        if operation is not None and (replies in self.failed or any('"status":"Error"' in body for _, body in replies)):
+            return "an end without memory", operation
+        return "WRONG", None
+
+
+def main(path, allocation=6000):
+    session = Session(Path(path).read_bytes())
+    many = allocation // 4
+    counted = run_all({"pads": (PAD * many, [])}, "--fail-alloc", str(allocation))["pads"][0]
+    most = next((at for at, reply in enumerate(counted) if is_refused_memory(reply)), len(counted))
+    cases = {f"after-{pads}": (PAD * pads + session.text, []) for pads in range(most)}
+    sorts, ends, wrong = collections.Counter(), collections.Counter(), []
+    for name, (replies, status) in run_all(cases, "--fail-alloc", str(allocation)).items():
+        pads = int(name.removeprefix("after-"))
+        if len(replies) < pads or any(reply[0] != "200" for reply in replies[:pads]):
+            continue
+        what, operation = session.sort(replies[pads:], status)
+        sorts[what] += 1
+        ends[operation] += operation is not None
+        if what == "WRONG":
+            wrong.append((pads, status, replies[pads:]))
+    for what, count in sorts.most_common():
+        print(f"{count:6} {what}")
+    for operation in session.operations:
+        print(f"operation {operation}: memory refused at its end in {ends[operation]} runs")
+    for pads, status, replies in wrong[:3]:
+        print(f"wrong behind {pads} requests, status {status}:", *replies, sep="\n")
+    missed = [operation for operation in session.operations if not ends[operation]]
+    return 1 if wrong or missed or not session.operations else 0
+
+
+if __name__ == "__main__":
+    if not 2 <= len(sys.argv) <= 3:
+        sys.exit(__doc__)
+    sys.exit(main(sys.argv[1], *map(int, sys.argv[2:])))
