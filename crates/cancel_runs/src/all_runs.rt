@@ -1,6 +1,6 @@
 //! The runs of all files, judged by one test, since each test is proved by itself.
 
-use crate::{late, refused, running, running_more, waiting};
+use crate::{crossing, late, refused, running, waiting};
 use host_runs::{Wrong, first_wrong};
 use std::alloc::Global;
 
@@ -8,7 +8,7 @@ fn wrong_run(alloc: Global) -> Wrong {
     first_wrong(&[
         waiting::wrong_run(alloc),
         running::wrong_run(alloc),
-        running_more::wrong_run(alloc),
+        crossing::wrong_run(alloc),
         refused::wrong_run(alloc),
         late::wrong_run(alloc),
     ])

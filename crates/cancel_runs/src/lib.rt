@@ -5,12 +5,12 @@
 #[cfg(test)]
 mod all_runs;
 #[cfg(test)]
+mod crossing;
+#[cfg(test)]
 mod late;
 #[cfg(test)]
 mod refused;
 #[cfg(test)]
 mod running;
-#[cfg(test)]
-mod running_more;
 #[cfg(test)]
 mod waiting;

@@ -1,6 +1,6 @@
 //! The runs of all files, judged by one test, since each test is proved by itself.
 
-use crate::{each, made, made_fourth, made_more, made_third};
+use crate::{each, made, made_fourth, made_second, made_third};
 use host_runs::{Wrong, first_wrong};
 use std::alloc::Global;
 
@@ -8,7 +8,7 @@ fn wrong_run(alloc: Global) -> Wrong {
     first_wrong(&[
         each::wrong_run(alloc),
         made::wrong_run(alloc),
-        made_more::wrong_run(alloc),
+        made_second::wrong_run(alloc),
         made_third::wrong_run(alloc),
         made_fourth::wrong_run(alloc),
     ])

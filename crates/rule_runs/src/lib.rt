@@ -13,7 +13,7 @@ mod made;
 #[cfg(test)]
 mod made_fourth;
 #[cfg(test)]
-mod made_more;
+mod made_second;
 #[cfg(test)]
 mod made_third;
 #[cfg(test)]
