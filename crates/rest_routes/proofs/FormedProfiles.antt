@@ -1,5 +1,5 @@
 -- The profiles of a body that was judged are texts, each once, and not too many.
-use Rattle.std.proofs.Common.{◌≡◌, ℕ, suc, Bool, true, false, ◌&&◌, ◌||◌, List, [], ◌∷◌, ◌++◌, length, ap, ◌∙◌, nat_le, Option, Some, None, refl, not, codes}
+use Rattle.std.proofs.Common.{◌≡◌, ℕ, suc, Bool, true, false, ◌||◌, List, [], ◌++◌, length, ap, ◌∙◌, nat_le, Option, Some, None, refl, not, codes}
 use Rattle.std.specs.Prelude.{is_some, option_map}
 use Rattle.std.specs.List.{list_any}
 use Rattle.std.specs.Str.{bytes_eq}

@@ -1,6 +1,6 @@
 -- What a request asks for at its place is formed, whether it sends a body or not.
 use Rattle.std.proofs.Common.{◌≡◌, ℕ, Bool, true, false, List, [], Option, Some, None, Result, Ok, Err, IfOk, refl, cond}
-use Rattle.std.specs.Prelude.{is_some, ok_or}
+use Rattle.std.specs.Prelude.{is_some}
 use Rattle.serde_json.specs.Data.{Data}
 use Rattle.size_values.specs.declared.kinds.Action.{Action}
 use Rattle.size_values.specs.declared.kinds.ObjectKind.{ObjectKind}
@@ -10,7 +10,6 @@ use Rattle.records.specs.declared.commands.What.{What}
 use Rattle.records.specs.declared.commands.What.TheVariants as what
 use Rattle.records.specs.declared.refusals.Refusal.{Refusal}
 use Rattle.records.specs.declared.refusals.Rule.TheVariants as rule
-use Rattle.rest_bodies.specs.Actions.{action_at}
 use Rattle.rest_bodies.specs.Fields.{fields_of, first_fault, body_fault}
 use Rattle.rest_bodies.specs.Instances.{restore_at}
 use Rattle.rest_bodies.specs.Origins.{asks_for_copy}
@@ -28,7 +27,7 @@ use Rattle.rest_paths.specs.declared.query.Query.{Query}
 use Rattle.rest_routes.specs.Commands.{what_of}
 use Rattle.rest_routes.specs.Shapes.{rename_shape, change_shape, object_shape, shape_of}
 use Rattle.rest_routes.specs.Targets.{object_of, objects_of, operation_at}
-use Rattle.rest_routes.specs.WithBody.{needed, unless_fault, creation_said, put_said, change_said, action_said, what_said, what_sent}
+use Rattle.rest_routes.specs.WithBody.{needed, unless_fault, put_said, what_said, what_sent}
 use Rattle.rest_routes.specs.WithoutBody.{one_read, operation_read, one_asked, what_read}
 use Rattle.rest_routes.proofs.FormedBodies.{project_formed, profile_formed, network_formed, pool_formed, volume_body_formed, instance_formed, copy_body_formed, snapshot_formed, change_formed, profile_change_formed, put_profiles, instance_put_formed, instance_patch_formed}
 
