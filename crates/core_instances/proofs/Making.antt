@@ -49,7 +49,7 @@ module _ (s : State) (project pool instance name : List ℕ) (body : Body) (mome
       (λ i. either (length snapshot == 0) snapshot _ _ (snapshot_named s.snapshots project from snapshot) there)
       (told_unless _ _ parts.0) e
 
--- ---- copies of volumes
+  -- ---- copies of volumes
 
   copies-volume : (from : Origin) → is_made_at_once from ≡ false → source_missing s project (target kind.Volume pool instance name) from ≡ None
       → task_in (volume_creation s (home_of s.projects project kind.Volume) (target kind.Volume pool instance name) body moment from) ≡ None → ⊥
