@@ -1,5 +1,5 @@
 -- What a creation is made from is there, so it is planned.
-use Rattle.std.proofs.Common.{◌≡◌, ℕ, Bool, true, false, cond, ◌&&◌, ◌==◌, length, Option, Some, None, List, refl, sym, ◌∙◌}
+use Rattle.std.proofs.Common.{◌≡◌, ℕ, Bool, true, false, cond, ◌&&◌, ◌==◌, length, Option, Some, None, List, refl}
 use Rattle.std.specs.Option.{is_some}
 use Rattle.plain_lists.proofs.FirstLemmas.{none_both, told_unless}
 use Rattle.size_values.specs.declared.kinds.ObjectKind.{ObjectKind}

@@ -1,5 +1,5 @@
 -- Each command that begins an operation has a plan that starts a task.
-use Rattle.std.proofs.Common.{◌≡◌, ℕ, true, false, ◌&&◌, List, Option, Some, None, refl, ap, sym, ◌∙◌}
+use Rattle.std.proofs.Common.{◌≡◌, ℕ, true, false, ◌&&◌, List, Option, Some, None}
 use Rattle.std.specs.Option.{is_some, option_map}
 use Rattle.plain_lists.proofs.FirstLemmas.{none_both, told_unless}
 use Rattle.size_values.specs.declared.kinds.ObjectKind.{ObjectKind}

@@ -1,6 +1,6 @@
-use Rattle.std.proofs.Common.{◌≡◌, sym, subst, ap, ◌∙◌, None}
+use Rattle.std.proofs.Common.{◌≡◌, sym, subst, ap, ◌∙◌}
 use Rattle.size_values.specs.declared.memory.Or.TheVariants as or
-use Rattle.row_machine.specs.machine.Plans.{plan_of, starts}
+use Rattle.row_machine.specs.machine.Plans.{plan_of}
 use Rattle.task_plans.specs.Begun.{task_in}
 use Rattle.core_rows.proofs.Following.{follows-why}
 use Rattle.core_objects.proofs.FirstRules.{both-free}
