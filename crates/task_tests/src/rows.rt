@@ -44,6 +44,10 @@ pub(crate) struct Rows {
     snapshots: Vec<Snapshot>,
 }
 
+fn add<T: Drop>(rows: &mut Vec<T>, row: T) {
+    let _ = rows.push(row);
+}
+
 fn project(alloc: Global, name: &str, settings: Settings) -> Project {
     Project {
         name: text(alloc, name),
@@ -120,24 +124,25 @@ impl Rows {
     }
 
     fn add_projects(&mut self, alloc: Global) {
-        let _ = self.projects.push(project(alloc, "default", &[]));
-        let _ = self.projects.push(project(alloc, "lab", &[]));
+        add(&mut self.projects, project(alloc, "default", &[]));
+        add(&mut self.projects, project(alloc, "lab", &[]));
         let features = &[("features.storage.volumes", "true")];
-        let _ = self.projects.push(project(alloc, "own", features));
+        add(&mut self.projects, project(alloc, "own", features));
     }
 
     fn add_volumes(&mut self, alloc: Global) {
-        let _ = self
-            .volumes
-            .push(volume(alloc, "default", &[("size", "1GiB")]));
-        let _ = self.volumes.push(volume(alloc, "own", &[("size", "3GiB")]));
+        add(
+            &mut self.volumes,
+            volume(alloc, "default", &[("size", "1GiB")]),
+        );
+        add(&mut self.volumes, volume(alloc, "own", &[("size", "3GiB")]));
     }
 
     fn add_instances(&mut self, alloc: Global) {
-        let _ = self.profiles.push(base_profile(alloc));
-        let _ = self.instances.push(instance(alloc, "c1", false, &["base"]));
-        let _ = self.instances.push(instance(alloc, "e1", true, &[]));
-        let _ = self.snapshots.push(snapshot(alloc));
+        add(&mut self.profiles, base_profile(alloc));
+        add(&mut self.instances, instance(alloc, "c1", false, &["base"]));
+        add(&mut self.instances, instance(alloc, "e1", true, &[]));
+        add(&mut self.snapshots, snapshot(alloc));
     }
 
     pub(crate) fn view(&self) -> View<'_> {
