@@ -15,15 +15,16 @@
 //!   `<=` without one too, and `\r` and `\n` stand for these bytes;
 //! - `>`, `>>` and `>=`: the same, for what is written;
 //! - `!` and a space: a request or a reply that comes again after each refusal of the run;
-//! - `+` and a space: a change, which is a request that makes one call of the keeper and is answered
-//!   with success. The first of them makes the third call. Where that call fails by the words, the
-//!   change is answered with 503, what was read before it is read again, and it is sent again;
+//! - `+` and a space: a change, which is a request that makes one call of the keeper and is
+//!   answered with success. The first of them makes the third call. Where that call fails by the
+//!   words, the change is answered with 503, what was read before it is read again, and it is sent
+//!   again;
 //! - `*` and a space: how many times the lines up to a line of `*` alone stand there;
 //! - anything else, as `#`: a line for readers.
 //!
-//! In requests and replies `<N>` stands for N letters `x`, and in repeated lines `<>` for the number
-//! of the time and `<x>` for its twelve hexadecimal digits. Lines of `rules` and names of rules,
-//! before the first run, say which rules the replies of the text have to tell.
+//! In requests and replies `<N>` stands for N letters `x`, and in repeated lines `<>` for the
+//! number of the time and `<x>` for its twelve hexadecimal digits. Lines of `rules` and names of
+//! rules, before the first run, say which rules the replies of the text have to tell.
 #![tactic(auto)]
 
 mod headers;
