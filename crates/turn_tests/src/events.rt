@@ -71,7 +71,10 @@ const TEXTS: &[(char, &[&str])] = &[
     ('p', &PROJECTS),
     ('n', &["a", "b", "c", "d", "e", "f", "9"]),
     ('x', &["s0", "s1", "s2", ""]),
-    ('a', &["start", "start", "stop", "restart", "freeze", "unfreeze"]),
+    (
+        'a',
+        &["start", "start", "stop", "restart", "freeze", "unfreeze"],
+    ),
     ('e', &["false", "false", "true"]),
     ('k', &["container", "container", "virtual-machine"]),
     (
@@ -159,12 +162,7 @@ fn request(alloc: Global, chance: &mut Chance) -> Result<String, NoMemory> {
 }
 
 /// Asks for something, and says whether nothing changed where it was refused.
-fn asks(
-    alloc: Global,
-    router: &Router,
-    server: &mut Server,
-    line: &str,
-) -> Result<bool, NoMemory> {
+fn asks(alloc: Global, router: &Router, server: &mut Server, line: &str) -> Result<bool, NoMemory> {
     let before = mark_of(&server.view());
     let answer = server.ask(alloc, router, line)?;
     let is_idle = changes_nothing(&answer);
