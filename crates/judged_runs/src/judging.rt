@@ -113,8 +113,14 @@ fn title_of(script: &str) -> &str {
 /// Appends what is wrong in a run to the report.
 fn push_report(report: &mut String, run: Run<'_>, parts: [&str; 4]) -> Result<(), NoMemory> {
     let [due, due_text, written, written_text] = parts;
-    push_texts(report, &["~ ", run.header.line, "\n  ", title_of(run.script)])?;
-    push_texts(report, &["\n  ", due, due_text, "\n  ", written, written_text, "\n"])
+    push_texts(
+        report,
+        &["~ ", run.header.line, "\n  ", title_of(run.script)],
+    )?;
+    push_texts(
+        report,
+        &["\n  ", due, due_text, "\n  ", written, written_text, "\n"],
+    )
 }
 
 /// Reports what is wrong in a run that wrote this and ended so, and says whether something is.
