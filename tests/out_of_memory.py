@@ -1,11 +1,12 @@
 #!/usr/bin/env python3
 """Refuses memory in each part of a session of incus_run, and judges what is answered.
 
-    tests/out_of_memory.py SESSION [ALLOCATION]
+    tests/out_of_memory.py SESSION [WORD..]
 
-SESSION is a file of requests, as those of examples/. The program is run by `rt try` (unproved, checked at run time), and the
-allocation of one number is refused, 6000 without another one: once for each of many beginnings of more and more `GET /`, so that
-this allocation falls into each part of the session. What is answered must be one of these:
+SESSION is a file of requests, as those of examples/, and the words are further ones of `run`: `--boot 1 --steps 0` without any, as
+examples/lifecycle.http wants. The program is run by `rt try` (unproved, checked at run time), and the 6,000th allocation is
+refused: once for each of many beginnings of more and more `GET /`, so that it falls into each part of the session. What is
+answered must be one of these:
 
 - the replies of the run in which all goes well;
 - those of the run without one request, and in the place of its reply 500 with the rule M1: nothing was changed by it;
@@ -25,7 +26,7 @@ import tempfile
 from pathlib import Path
 
 TOP = Path(__file__).resolve().parent.parent
-WORDS = ["run", "--now", "0", "--boot", "1"]
+ALLOCATION = 6000
 PAD = b"GET / HTTP/1.1\r\nHost: localhost\r\n\r\n"
 
 
@@ -53,15 +54,15 @@ def replies_of(text):
     return found
 
 
-def run_all(cases, *flags):
+def run_all(words, cases, *flags):
     """The replies to each session, which goes with further words, and the exit status: all by one build."""
     with tempfile.TemporaryDirectory() as folder:
-        for name, (session, words) in cases.items():
+        for name, (session, more) in cases.items():
             Path(folder, name).write_bytes(session)
-            if words:
-                Path(folder, f"{name}.args").write_text("".join(f"{word}\n" for word in words))
+            if more:
+                Path(folder, f"{name}.args").write_text("".join(f"{word}\n" for word in more))
         ran = subprocess.run(
-            ["rt", "try", "--seconds", "600", *flags, "--cases", folder, "--", *WORDS],
+            ["rt", "try", "--seconds", "600", *flags, "--cases", folder, "--", "run", "--now", "0", *words],
             cwd=TOP / "crates/incus_run", capture_output=True, check=False,
         )
     parts = re.split(rb"(?m)^== (\S+)\n", ran.stdout)
@@ -91,7 +92,7 @@ def failed_for_memory(replies):
 
 
 class Session:
-    def __init__(self, text):
+    def __init__(self, text, words):
         self.requests = requests_of(text)
         self.text = text
         cases = {"well": (text, [])}
@@ -100,7 +101,7 @@ class Session:
             cases[f"without-{at}"] = (b"".join(rest), [])
             cases[f"keeper-{at + 3}"] = (text, ["--fail-keeper", str(at + 3)])
             cases[f"keeper-{at + 3 + len(self.requests)}"] = (text, ["--fail-keeper", str(at + 3 + len(self.requests))])
-        self.runs = run_all(cases)
+        self.runs = run_all(words, cases)
         self.well = self.runs["well"][0]
         failed = [replies for name, (replies, _) in self.runs.items() if name.startswith("keeper-")]
         self.failed = [[without_memory(reply) for reply in replies] for replies in failed]
@@ -122,14 +123,14 @@ class Session:
         return "WRONG", None
 
 
-def main(path, allocation=6000):
-    session = Session(Path(path).read_bytes())
-    many = allocation // 4
-    counted = run_all({"pads": (PAD * many, [])}, "--fail-alloc", str(allocation))["pads"][0]
+def main(path, words):
+    session = Session(Path(path).read_bytes(), words)
+    failing = "--fail-alloc", str(ALLOCATION)
+    counted = run_all(words, {"pads": (PAD * (ALLOCATION // 4), [])}, *failing)["pads"][0]
     most = next((at for at, reply in enumerate(counted) if is_refused_memory(reply)), len(counted))
     cases = {f"after-{pads}": (PAD * pads + session.text, []) for pads in range(most)}
     sorts, ends, wrong = collections.Counter(), collections.Counter(), []
-    for name, (replies, status) in run_all(cases, "--fail-alloc", str(allocation)).items():
+    for name, (replies, status) in run_all(words, cases, *failing).items():
         pads = int(name.removeprefix("after-"))
         if len(replies) < pads or any(reply[0] != "200" for reply in replies[:pads]):
             continue
@@ -149,6 +150,6 @@ def main(path, allocation=6000):
 
 
 if __name__ == "__main__":
-    if not 2 <= len(sys.argv) <= 3:
+    if len(sys.argv) < 2:
         sys.exit(__doc__)
-    sys.exit(main(sys.argv[1], *map(int, sys.argv[2:])))
+    sys.exit(main(sys.argv[1], sys.argv[2:] or ["--boot", "1", "--steps", "0"]))
