@@ -4,19 +4,20 @@
     tests/out_of_memory.py SESSION [WORD..]
 
 SESSION is a file of requests, as those of examples/, and the words are further ones of `run`: `--boot 1 --steps 0` without any, as
-examples/lifecycle.http wants. The program is run by `rt try` (unproved, checked at run time), and the 6,000th allocation is
-refused: once for each of many beginnings of more and more `GET /`, so that it falls into each part of the session. What is
+examples/lifecycle.http wants. The program is run by `rt try` (unproved, checked at run time), and the 3,000th allocation is
+refused: once for each of many beginnings of requests that come before the session, so that it falls into each part of it. What is
 answered must be one of these:
 
 - the replies of the run in which all goes well;
 - those of the run without one request, and in the place of its reply 500 with the rule M1: nothing was changed by it;
 - a beginning of the replies, and status 9: memory for the text of a reply was refused;
-- those of the run in which the keeper fails at the end of an operation, but that this operation tells `no memory`: its rows are as
-  they were, its share went back, and all goes on as there. Where an end commits nothing there is no such run, and the status
-  of the instance must be `Error` afterwards.
+- those of the run in which a call of an operation fails on the host, but that this operation tells `no memory`;
+- those of the run in which the keeper fails at the end of an operation, but that it tells `no memory`: its rows are as they were, its
+  share went back, and all goes on as there. Where an end commits nothing there is no such run, and the status of the instance must
+  be `Error` afterwards.
 
 It prints how many runs there were of each sort, and how often memory was refused at the end of each operation. It ends with status 1
-where a run is none of these, or where the end of an operation was never met.
+where a run is none of these, or where the end of an operation was never met, but of those that are cancelled, whose end takes none.
 """
 import collections
 import re
@@ -26,8 +27,9 @@ import tempfile
 from pathlib import Path
 
 TOP = Path(__file__).resolve().parent.parent
-ALLOCATION = 6000
-PAD = b"GET / HTTP/1.1\r\nHost: localhost\r\n\r\n"
+ALLOCATION = 3000
+# Two requests that take a different number of allocations.
+LONG, SHORT = (b"GET %s HTTP/1.1\r\nHost: localhost\r\n\r\n" % path for path in (b"/", b"/x"))
 
 
 def requests_of(text):
@@ -78,8 +80,8 @@ def is_refused_memory(reply):
 
 
 def without_memory(reply):
-    """A reply that tells a failed keeper, as it is where memory was refused."""
-    failed = r'"err":"keeper failed",("id":"[^"]*","may_cancel":false,)"metadata":\{"after":\d+,"before":\d+\}'
+    """A reply that tells a failed keeper or host, as it is where memory was refused."""
+    failed = r'"err":"(?:keeper|host call) failed",("id":"[^"]*","may_cancel":false,)"metadata":\{[^}]*\}'
     return reply[0], re.sub(failed, r'"err":"no memory",\1"metadata":null', reply[1])
 
 
@@ -93,20 +95,23 @@ def failed_for_memory(replies):
 
 class Session:
     def __init__(self, text, words):
-        self.requests = requests_of(text)
         self.text = text
+        requests = requests_of(text)
         cases = {"well": (text, [])}
-        for at in range(len(self.requests)):
-            rest = self.requests[:at] + self.requests[at + 1:]
-            cases[f"without-{at}"] = (b"".join(rest), [])
-            cases[f"keeper-{at + 3}"] = (text, ["--fail-keeper", str(at + 3)])
-            cases[f"keeper-{at + 3 + len(self.requests)}"] = (text, ["--fail-keeper", str(at + 3 + len(self.requests))])
+        for at in range(len(requests)):
+            cases[f"without-{at}"] = (b"".join(requests[:at] + requests[at + 1:]), [])
+            cases[f"keeper-{at}"] = (text, ["--fail-keeper", str(at + 3)])
+            cases[f"host-{at}"] = (text, ["--fail-host", str(at + 1)])
         self.runs = run_all(words, cases)
         self.well = self.runs["well"][0]
-        failed = [replies for name, (replies, _) in self.runs.items() if name.startswith("keeper-")]
-        self.failed = [[without_memory(reply) for reply in replies] for replies in failed]
-        self.operations = [int(found[1], 16) for status, body in self.well if status == "202"
-                           and (found := re.search(r'"operation":"/1\.0/operations/[^"]*-([0-9a-f]{12})"', body))]
+        self.at_a_call, self.at_an_end = (
+            [[without_memory(reply) for reply in self.runs[f"{who}-{at}"][0]] for at in range(len(requests))]
+            for who in ("host", "keeper"))
+        started = (re.search(r'"operation":"/1\.0/operations/[^"]*-([0-9a-f]{12})"', body) for status, body in self.well
+                   if status == "202")
+        self.operations = [int(found[1], 16) for found in started if found]
+        self.cancelled = [number for number in self.operations if any(
+            f'-{number:012x}' in body and '"err":"operation was cancelled"' in body for _, body in self.well)]
 
     def sort(self, replies, status):
         """What a run is, and the operation at whose end memory was refused."""
@@ -118,34 +123,34 @@ class Session:
         if len(refused) == 1 and replies[:refused[0]] + replies[refused[0] + 1:] == self.runs[f"without-{refused[0]}"][0]:
             return "a request without memory", None
         operation = failed_for_memory(replies)
-        if operation is not None and (replies in self.failed or any('"status":"Error"' in body for _, body in replies)):
+        if replies in self.at_a_call:
+            return "a call without memory", None
+        if replies in self.at_an_end or operation and any('"status":"Error"' in body for _, body in replies):
             return "an end without memory", operation
         return "WRONG", None
 
 
 def main(path, words):
     session = Session(Path(path).read_bytes(), words)
-    failing = "--fail-alloc", str(ALLOCATION)
-    counted = run_all(words, {"pads": (PAD * (ALLOCATION // 4), [])}, *failing)["pads"][0]
-    most = next((at for at, reply in enumerate(counted) if is_refused_memory(reply)), len(counted))
-    cases = {f"after-{pads}": (PAD * pads + session.text, []) for pads in range(most)}
+    beginnings = [(long, short) for long in range(ALLOCATION // 20) for short in range(8)]
+    cases = {f"{long}-{short}": (LONG * long + SHORT * short + session.text, []) for long, short in beginnings}
     sorts, ends, wrong = collections.Counter(), collections.Counter(), []
-    for name, (replies, status) in run_all(words, cases, *failing).items():
-        pads = int(name.removeprefix("after-"))
-        if len(replies) < pads or any(reply[0] != "200" for reply in replies[:pads]):
-            continue
-        what, operation = session.sort(replies[pads:], status)
+    for name, (replies, status) in run_all(words, cases, "--fail-alloc", str(ALLOCATION)).items():
+        before = sum(map(int, name.split("-")))
+        if len(replies) < before or any(is_refused_memory(reply) for reply in replies[:before]):
+            continue  # the allocation fell into what comes before the session
+        what, operation = session.sort(replies[before:], status)
         sorts[what] += 1
         ends[operation] += operation is not None
         if what == "WRONG":
-            wrong.append((pads, status, replies[pads:]))
+            wrong.append((name, status, replies[before:]))
     for what, count in sorts.most_common():
         print(f"{count:6} {what}")
     for operation in session.operations:
         print(f"operation {operation}: memory refused at its end in {ends[operation]} runs")
-    for pads, status, replies in wrong[:3]:
-        print(f"wrong behind {pads} requests, status {status}:", *replies, sep="\n")
-    missed = [operation for operation in session.operations if not ends[operation]]
+    for name, status, replies in wrong[:3]:
+        print(f"wrong behind {name} requests, status {status}:", *replies, sep="\n")
+    missed = [number for number in session.operations if not ends[number] and number not in session.cancelled]
     return 1 if wrong or missed or not session.operations else 0
 
 
