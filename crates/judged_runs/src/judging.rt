@@ -234,11 +234,11 @@ fn judge_runs(
     tally: &mut Tally,
     report: &mut String,
 ) -> Result<(), NoMemory> {
-    let mut left = text;
-    for _ in text.split(MARK).skip(1) {
-        let (_, rest) = left.split_once(MARK).unwrap_or((left, ""));
-        judge_first(alloc, rest, tally, report)?;
-        left = rest;
+    let (head, _) = text.split_once(MARK).unwrap_or((text, ""));
+    let mut at = head.len().saturating_add(MARK.len());
+    for run in text.split(MARK).skip(1) {
+        judge_first(alloc, text.get(at..).unwrap_or(""), tally, report)?;
+        at = at.saturating_add(run.len()).saturating_add(MARK.len());
     }
     Ok(())
 }

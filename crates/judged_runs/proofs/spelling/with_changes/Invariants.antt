@@ -1,8 +1,8 @@
+use Rattle.std.proofs.Common.{◌≡◌, ℕ, ◌+◌, ◌-◌, ◌*◌, ◌<◌, ◌≤◌, length}
 use denote.Text.{Utf8}
 use denote.Shadow.{shadow}
 use Rattle.judged_runs.proofs.spelling.with_changes.Given as goal
 
--- what was read before a change is text
 abbrev pub invariant-loop-part : goal.invariant-loop-part
 invariant-loop-part l =
     (goal.iterator-loop-part).can_next l.part-iterator ×
