@@ -8,14 +8,13 @@ use Rattle.project_limits.specs.Admission.{parts, key_of, limit_on}
 use Rattle.project_limits.specs.Limits.{limits_of}
 use Rattle.project_limits.specs.declared.admission.LimitKey.{LimitKey}
 use Rattle.project_limits.specs.declared.admission.LimitKey.TheVariants.{Networks}
-use Rattle.records.specs.declared.refusals.Refusal.{Refusal}
 use Rattle.records.specs.declared.rows.Project.{Project}
 use Rattle.records.specs.declared.rows.Row.{Row}
 use Rattle.row_machine.specs.machine.LimitRules.{exceeds, over_refusal, part_exceeds, networks_exceed, limits_broken}
 use Rattle.row_machine.specs.machine.State.{State}
 use Rattle.row_machine.specs.machine.Usage.{used, networks_of}
-use Rattle.row_machine.specs.opening.Opening.{Opening, broken, limit_breaks}
-use Rattle.opening_rules.specs.Rules.{limit_told}
+use Rattle.row_machine.specs.opening.Opening.{broken, limit_breaks}
+use Rattle.opening_rules.specs.Rules.{breach_of}
 
 -- what is told of the first answer
 
@@ -32,36 +31,36 @@ map-first f rule told (x ∷ xs) same =
     ∙ ap (option_or (told x)) (map-first f rule told xs same)
 
 exceeds-at : (p : Project) (key : LimitKey) (limit : Option ℕ) (before after : ℕ)
-    → option_map limit_told (exceeds p key limit before after) ≡ option_map (λ r. broken r.rule 1 p.name) (exceeds p key limit before after)
+    → option_map breach_of (exceeds p key limit before after) ≡ option_map (λ r. broken r.rule 1 p.name) (exceeds p key limit before after)
 exceeds-at p key None before after = refl
 exceeds-at p key (Some limit) before after = at (nat_lt limit (before + amount_above after before)) where
   at : (b : Bool)
-      → option_map limit_told (option_map (over_refusal p) (cond b (Some (record { key = key; used = before; asked = amount_above after before; limit = limit })) None))
+      → option_map breach_of (option_map (over_refusal p) (cond b (Some (record { key = key; used = before; asked = amount_above after before; limit = limit })) None))
       ≡ option_map (λ r. broken r.rule 1 p.name) (option_map (over_refusal p) (cond b (Some (record { key = key; used = before; asked = amount_above after before; limit = limit })) None))
   at true = refl
   at false = refl
 
-part-at : (s : State) (k : Part) (p : Project) → option_map limit_told (part_exceeds s s k p) ≡ option_map (λ r. broken r.rule 1 p.name) (part_exceeds s s k p)
+part-at : (s : State) (k : Part) (p : Project) → option_map breach_of (part_exceeds s s k p) ≡ option_map (λ r. broken r.rule 1 p.name) (part_exceeds s s k p)
 unfolding part_exceeds
 part-at s k p = exceeds-at p (key_of k) (limit_on k (limits_of p.config)) (used s p.name k) (used s p.name k)
 
-networks-at : (s : State) (p : Project) → option_map limit_told (networks_exceed s s p) ≡ option_map (λ r. broken r.rule 1 p.name) (networks_exceed s s p)
+networks-at : (s : State) (p : Project) → option_map breach_of (networks_exceed s s p) ≡ option_map (λ r. broken r.rule 1 p.name) (networks_exceed s s p)
 unfolding networks_exceed
 networks-at s p = exceeds-at p Networks (limits_of p.config).networks (networks_of s p.name) (networks_of s p.name)
 
-pub limits-told : (s : State) (rows : List Row) → option_map limit_told (limits_broken s s) ≡ limit_breaks s rows
+pub limit-breach : (s : State) (rows : List Row) → option_map breach_of (limits_broken s s) ≡ limit_breaks s rows
 unfolding limits_broken
-limits-told s rows =
+limit-breach s rows =
     let of_parts = first_of (λ k. first_of (part_exceeds s s k) s.projects) parts in
     let of_networks = first_of (networks_exceed s s) s.projects in
     let told_parts = first_of (λ k. first_of (λ p. option_map (λ r. broken r.rule 1 p.name) (part_exceeds s s k p)) s.projects) parts in
-    let rest = option_map limit_told (option_or of_networks None) in
-    map-or limit_told of_parts (option_or of_networks None)
+    let rest = option_map breach_of (option_or of_networks None) in
+    map-or breach_of of_parts (option_or of_networks None)
     ∙ ap (λ o. option_or o rest)
-    (map-first limit_told (λ k. first_of (part_exceeds s s k) s.projects)
+    (map-first breach_of (λ k. first_of (part_exceeds s s k) s.projects)
     (λ k. first_of (λ p. option_map (λ r. broken r.rule 1 p.name) (part_exceeds s s k p)) s.projects) parts
-    (λ k. map-first limit_told (part_exceeds s s k) (λ p. option_map (λ r. broken r.rule 1 p.name) (part_exceeds s s k p)) s.projects (part-at s k)))
+    (λ k. map-first breach_of (part_exceeds s s k) (λ p. option_map (λ r. broken r.rule 1 p.name) (part_exceeds s s k p)) s.projects (part-at s k)))
     ∙ ap (option_or told_parts)
-    (map-or limit_told of_networks None
+    (map-or breach_of of_networks None
     ∙ ap (λ o. option_or o None)
-    (map-first limit_told (networks_exceed s s) (λ p. option_map (λ r. broken r.rule 1 p.name) (networks_exceed s s p)) s.projects (networks-at s)))
+    (map-first breach_of (networks_exceed s s) (λ p. option_map (λ r. broken r.rule 1 p.name) (networks_exceed s s p)) s.projects (networks-at s)))

@@ -1,5 +1,5 @@
 -- The rows of entries, one entry after another.
-use Rattle.std.proofs.Common.{◌≡◌, ℕ, ◌+◌, ◌<◌, ◌≤◌, List, [], ◌∷◌, ◌++◌, length, drop, get_or, slice_get, Result, Ok, Err, Option, Some, option_map, refl, ap, sym, subst, ◌∙◌}
+use Rattle.std.proofs.Common.{◌≡◌, ℕ, ◌+◌, ◌<◌, ◌≤◌, List, [], ◌∷◌, ◌++◌, length, drop, get_or, slice_get, Result, Ok, Err, Some, option_map, refl, ap, sym, ◌∙◌}
 use Rattle.std.proofs.lemmas.List.{append_assoc, append-nil, at_drop_more, at_drop_all}
 use Rattle.std.proofs.lemmas.Option.{slice_get_read}
 use Rattle.size_values.specs.declared.entry.Entry.{Entry}

@@ -1,5 +1,5 @@
 -- The rows that entries spell.
-use Rattle.std.specs.Prelude.{ℕ, ◌≡◌, List, [], ◌∷◌, ◌++◌, Option, Some, option_map, slice_get, Result, Ok, Err}
+use Rattle.std.specs.Prelude.{ℕ, ◌≡◌, List, [], ◌∷◌, ◌++◌, Some, option_map, slice_get, Result, Ok, Err}
 use Rattle.size_values.specs.declared.entry.Entry.{Entry}
 use Rattle.size_values.specs.declared.memory.Or.{Or}
 use Rattle.size_values.specs.declared.memory.Or.TheVariants as or

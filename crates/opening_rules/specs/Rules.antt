@@ -82,5 +82,5 @@ row_rule (row_rule_of.Forbidden number) s r = forbidden number s r
 row_rule row_rule_of.Uncountable s r = uncountable s r
 
 -- what an opening tells of a limit that is exceeded: its rule, at the project
-abbrev pub limit_told : Refusal → Opening
-limit_told refusal = broken refusal.rule 1 refusal.kept.project
+abbrev pub breach_of : Refusal → Opening
+breach_of refusal = broken refusal.rule 1 refusal.kept.project

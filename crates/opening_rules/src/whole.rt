@@ -9,7 +9,7 @@ ghost use Rattle.row_machine.specs.machine.Kinds.{kind_number, cap_of};
 ghost use Rattle.row_machine.specs.machine.LimitRules.{limits_broken};
 ghost use Rattle.row_machine.specs.machine.TableRules.{row_kinds, too_large};
 ghost use Rattle.row_machine.specs.opening.Opening.{broken_at, default_missing, limit_breaks, past_cap, size_breaks, rows_break};
-ghost use Rattle.opening_rules.specs.Rules.{limit_told};
+ghost use Rattle.opening_rules.specs.Rules.{breach_of};
 
 use crate::breach::{Breach, broken_at, broken_in};
 use crate::rules::rows_break_rules;
@@ -56,8 +56,8 @@ fn limits_exceeded(alloc: Global, view: &View<'_>) -> Result<(), Or<Refusal>>
 }
 
 /// The same, told at the project.
-fn limits_told(alloc: Global, view: &View<'_>) -> Result<(), Or<Breach>>
-    ensures { Says result (option_map limit_told (limits_broken view.now view.now)) }
+fn limit_breach(alloc: Global, view: &View<'_>) -> Result<(), Or<Breach>>
+    ensures { Says result (option_map breach_of (limits_broken view.now view.now)) }
 {
     match limits_exceeded(alloc, view) {
         Ok(()) => Ok(()),
@@ -74,7 +74,7 @@ fn limits_told(alloc: Global, view: &View<'_>) -> Result<(), Or<Breach>>
 fn limit_breaks(alloc: Global, view: &View<'_>) -> Result<(), Or<Breach>>
     ensures { Says result (limit_breaks view.now []) }
 {
-    limits_told(alloc, view)
+    limit_breach(alloc, view)
 }
 
 // ---- the number of rows
