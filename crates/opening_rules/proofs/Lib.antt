@@ -1,0 +1,4 @@
+pub mod Limits
+pub mod Refused
+pub mod Spelled
+pub mod Steps

@@ -1,0 +1,135 @@
+//! Where rows stand: their projects, pools and instances, the profiles that they name, and the project `default`.
+ghost use Rattle.std.specs.Prelude.{◌≡◌, ◌||◌, is_none, not};
+ghost use Rattle.std.specs.List.{list_any};
+ghost use Rattle.std.specs.Str.{bytes_eq};
+ghost use Rattle.records.specs.Forms.{are_distinct, are_profiles};
+ghost use Rattle.row_machine.specs.machine.Homes.{home_of};
+ghost use Rattle.row_machine.specs.machine.Rows.{project_named};
+ghost use Rattle.row_machine.specs.machine.State.{State};
+ghost use Rattle.row_machine.specs.opening.Opening.{if_so, homeless, orphaned, overnamed, undefaulted};
+ghost use Rattle.row_machine.specs.opening.Opening.{has_all_features};
+ghost use Rattle.opening_rules.specs.Rules.{is_undefaulted};
+
+use records::{Project, Row, Rule};
+use row_readings::{
+    View, home_of, instance_named, is_on, pool_named, profile_named, project_named,
+};
+use size_values::{ObjectKind, Text};
+
+/// The most profiles that an instance may name.
+const MOST_PROFILES: usize = 64;
+
+/// This rule, where it is broken.
+pub(crate) fn if_so(breaks: bool, rule: Rule) -> Option<Rule>
+    ensures { result ≡ if_so breaks rule }
+{
+    if breaks { Some(rule) } else { None }
+}
+
+/// Whether a project is missing, or is not its own home for rows of a kind.
+fn is_homeless(projects: &[Project], project: &str, kind: ObjectKind) -> bool
+    ensures { result
+        ≡ (is_none (project_named projects.now project.now)
+        || not (bytes_eq (home_of projects.now project.now kind) project.now)) }
+{
+    project_named(projects, project).is_none() || home_of(projects, project, kind) != project
+}
+
+/// A row's project is missing, or is not its own home for rows of this kind.
+pub(crate) fn homeless(view: &View<'_>, row: &Row) -> Option<Rule>
+    ensures { result ≡ homeless view.now row.now }
+{
+    let (project, kind) = match row {
+        Row::Project(_) | Row::Pool(_) => return None,
+        Row::Profile(row) => (row.project.view(), ObjectKind::Profile),
+        Row::Network(row) => (row.project.view(), ObjectKind::Network),
+        Row::Volume(row) => (row.project.view(), ObjectKind::Volume),
+        Row::Instance(row) => (row.project.view(), ObjectKind::Instance),
+        Row::Snapshot(row) => (row.project.view(), ObjectKind::Snapshot),
+    };
+    if_so(is_homeless(view.projects, project, kind), Rule::N1)
+}
+
+/// A volume's pool or a snapshot's instance is missing.
+pub(crate) fn orphaned(view: &View<'_>, row: &Row) -> Option<Rule>
+    ensures { result ≡ orphaned view.now row.now }
+{
+    match row {
+        Row::Volume(row) => {
+            let pool = pool_named(view.pools, row.pool.view());
+            if_so(pool.is_none(), Rule::N2)
+        }
+        Row::Snapshot(row) => {
+            let instance = instance_named(view.instances, row.project.view(), row.instance.view());
+            if_so(instance.is_none(), Rule::N2)
+        }
+        _ => None,
+    }
+}
+
+fn is_among(name: &Text, names: &[Text]) -> bool
+    ensures { result ≡ list_any (bytes_eq name.now) names.now }
+{
+    names.iter().any(|other| name.is(other))
+}
+
+/// Whether no name comes twice. The work grows with the square, so long lists are not asked about.
+fn are_distinct(names: &[Text]) -> bool
+    ensures { result ≡ are_distinct names.now }
+{
+    for index in 0..names.len() {
+        if is_among(&names[index], &names[index + 1..]) {
+            return false;
+        }
+    }
+    true
+}
+
+fn are_profiles(names: &[Text]) -> bool
+    ensures { result ≡ are_profiles names.now }
+{
+    names.len() <= MOST_PROFILES && are_distinct(names)
+}
+
+/// An instance or a snapshot names too many profiles, or one twice.
+pub(crate) fn overnamed(row: &Row) -> Option<Rule>
+    ensures { (s : State) → result ≡ overnamed s row.now }
+{
+    match row {
+        Row::Instance(row) => if_so(!are_profiles(row.profiles.view()), Rule::N3),
+        Row::Snapshot(row) => if_so(!are_profiles(row.profiles.view()), Rule::N3),
+        _ => None,
+    }
+}
+
+/// Whether a project has every feature.
+fn has_all_features(project: &Project) -> bool
+    ensures { result ≡ has_all_features project.now }
+{
+    is_on(&project.config, "features.profiles")
+        && is_on(&project.config, "features.networks")
+        && is_on(&project.config, "features.storage.volumes")
+        && is_on(&project.config, "features.images")
+        && is_on(&project.config, "features.storage.buckets")
+}
+
+fn is_undefaulted(view: &View<'_>, project: &Project) -> bool
+    ensures { result ≡ is_undefaulted view.now project.now }
+{
+    let name = project.name.view();
+    if name == "default" && !has_all_features(project) {
+        return true;
+    }
+    is_on(&project.config, "features.profiles")
+        && profile_named(view.profiles, name, "default").is_none()
+}
+
+/// The project `default` lacks a feature, or a project with profiles of its own has no profile `default`.
+pub(crate) fn undefaulted(view: &View<'_>, row: &Row) -> Option<Rule>
+    ensures { result ≡ undefaulted view.now row.now }
+{
+    match row {
+        Row::Project(project) => if_so(is_undefaulted(view, project), Rule::B3),
+        _ => None,
+    }
+}
