@@ -10,14 +10,14 @@ answered must be one of these:
 
 - the replies of the run in which all goes well;
 - those of the run without one request, and in the place of its reply 500 with the rule M1: nothing was changed by it;
+- those of the run in which all goes well, but for the reply to one wait, which is 500 with M1: its operation had ended by then;
 - a beginning of the replies, and status 9: memory for the text of a reply was refused;
-- those of the run in which a call of an operation fails on the host, but that this operation tells `no memory`;
-- those of the run in which the keeper fails at the end of an operation, but that it tells `no memory`: its rows are as they were, its
-  share went back, and all goes on as there. Where an end commits nothing there is no such run, and the status of the instance must
-  be `Error` afterwards.
+- those of the run in which an operation fails, but that it tells `no memory`: at a call on the host, or at its end as where the
+  keeper fails: its rows are as they were, its share went back, and all goes on as there. Where an end commits nothing there is no
+  such run, and the status of the instance must be `Error` afterwards.
 
-It prints how many runs there were of each sort, and how often memory was refused at the end of each operation. It ends with status 1
-where a run is none of these, or where the end of an operation was never met, but of those that are cancelled, whose end takes none.
+It prints how many runs there were of each sort, and how often each operation failed for memory. It ends with status 1 where a run is
+none of these, or where an operation never failed so, but of those that are cancelled, which takes no memory.
 """
 import collections
 import re
@@ -96,7 +96,7 @@ def failed_for_memory(replies):
 class Session:
     def __init__(self, text, words):
         self.text = text
-        requests = requests_of(text)
+        self.requests = requests = requests_of(text)
         cases = {"well": (text, [])}
         for at in range(len(requests)):
             cases[f"without-{at}"] = (b"".join(requests[:at] + requests[at + 1:]), [])
@@ -120,19 +120,24 @@ class Session:
         if status == 9 and replies == self.well[:len(replies)]:
             return "a reply without memory", None
         refused = [at for at, reply in enumerate(replies) if is_refused_memory(reply)]
-        if len(refused) == 1 and replies[:refused[0]] + replies[refused[0] + 1:] == self.runs[f"without-{refused[0]}"][0]:
-            return "a request without memory", None
+        if len(refused) == 1:
+            at = refused[0]
+            others = replies[:at] + replies[at + 1:]
+            if others == self.runs[f"without-{at}"][0]:
+                return "a request without memory", None
+            if b"/wait " in self.requests[at] and others == self.well[:at] + self.well[at + 1:]:
+                return "a wait without memory, after its operation", None
         operation = failed_for_memory(replies)
-        if replies in self.at_a_call:
-            return "a call without memory", None
-        if replies in self.at_an_end or operation and any('"status":"Error"' in body for _, body in replies):
-            return "an end without memory", operation
+        if operation and replies in self.at_a_call:
+            return "an operation without memory, at a call or at an end that leaves as much", operation
+        if operation and (replies in self.at_an_end or any('"status":"Error"' in body for _, body in replies)):
+            return "an operation without memory, at its end", operation
         return "WRONG", None
 
 
 def main(path, words):
     session = Session(Path(path).read_bytes(), words)
-    beginnings = [(long, short) for long in range(ALLOCATION // 20) for short in range(8)]
+    beginnings = [(long, short) for long in range(ALLOCATION // 20) for short in (0, 3)]
     cases = {f"{long}-{short}": (LONG * long + SHORT * short + session.text, []) for long, short in beginnings}
     sorts, ends, wrong = collections.Counter(), collections.Counter(), []
     for name, (replies, status) in run_all(words, cases, "--fail-alloc", str(ALLOCATION)).items():
@@ -147,7 +152,7 @@ def main(path, words):
     for what, count in sorts.most_common():
         print(f"{count:6} {what}")
     for operation in session.operations:
-        print(f"operation {operation}: memory refused at its end in {ends[operation]} runs")
+        print(f"operation {operation}: failed for memory in {ends[operation]} runs")
     for name, status, replies in wrong[:3]:
         print(f"wrong behind {name} requests, status {status}:", *replies, sep="\n")
     missed = [number for number in session.operations if not ends[number] and number not in session.cancelled]
