@@ -14,7 +14,7 @@ use std::alloc::Global;
 
 /// Makes of the roots what a call makes of them. Where memory is refused, they are as before: each call works
 /// on a root of its own and puts it back at its end.
-pub(crate) fn change(
+pub(crate) fn apply_call(
     alloc: Global,
     roots: &mut Vec<HostRoot>,
     call: &HostCall,
@@ -54,7 +54,7 @@ fn clear(roots: &mut Vec<HostRoot>, at: &Place)
 }
 
 /// Puts a stopped root with this content, nothing applied and no snapshots.
-fn make(alloc: Global, roots: &mut Vec<HostRoot>, at: &Place, content: Text) -> Result<(), NoMemory>
+fn put_new_root(alloc: Global, roots: &mut Vec<HostRoot>, at: &Place, content: Text) -> Result<(), NoMemory>
     ensures ok { OnOk result (roots.new.items ≡ with_root (made at.now content) roots.old.items) }
     ensures err { OnErr result (roots.new.items ≡ roots.old.items) }
 {
@@ -73,7 +73,7 @@ fn make_root(
     ensures err { OnErr result (roots.new.items ≡ roots.old.items) }
 {
     let content = origin.copy(alloc)?;
-    make(alloc, roots, at, content)
+    put_new_root(alloc, roots, at, content)
 }
 
 /// Puts a root with the content of another one, or of its named snapshot.
@@ -89,7 +89,7 @@ fn copy_content(
     ensures err { OnErr result (roots.new.items ≡ roots.old.items) }
 {
     let content = content_of(alloc, roots, from, snapshot)?;
-    make(alloc, roots, to, content)
+    put_new_root(alloc, roots, to, content)
 }
 
 fn start(alloc: Global, roots: &mut Vec<HostRoot>, at: &Place, spec: &Spec) -> Result<(), NoMemory>

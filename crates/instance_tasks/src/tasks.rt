@@ -12,7 +12,7 @@ ghost use Rattle.instance_tasks.specs.Planned.{planned};
 
 use crate::calls::{copy_calls, create_calls, place_of};
 use crate::making::{Source, copied_instance, image_of, made_instance};
-use crate::pairs::both;
+use crate::pairs::zip_or_drop;
 use host_model::{HostCall, Place};
 use records::{Body, Instance, Origin, Row, Snapshot, Target};
 use row_machine::Work;
@@ -39,7 +39,7 @@ fn begun_with(
 ) -> Result<Begun, NoMemory>
     ensures { IfOk result (λ b. b ≡ record { project = project.now; target = of.now; at = at; calls = calls }) }
 {
-    match both(project.copy(alloc), of.copy(alloc)) {
+    match zip_or_drop(project.copy(alloc), of.copy(alloc)) {
         Ok(about) => Ok(Begun {
             project: about.0,
             target: about.1,
@@ -55,7 +55,7 @@ fn begun_with(
 }
 
 /// What makes a new instance of an image, or an empty one.
-fn making(alloc: Global, project: &Text, of: &Target, image: &str) -> Result<Begun, NoMemory>
+fn begin_from_image(alloc: Global, project: &Text, of: &Target, image: &str) -> Result<Begun, NoMemory>
     ensures { IfOk result (λ b. b
         ≡ record {
           project = project.now;
@@ -66,12 +66,12 @@ fn making(alloc: Global, project: &Text, of: &Target, image: &str) -> Result<Beg
 {
     let at = place_of(alloc, project, &of.name)?;
     let calls = create_calls(alloc, &at, image);
-    let (at, calls) = both(Ok(at), calls)?;
+    let (at, calls) = zip_or_drop(Ok(at), calls)?;
     begun_with(alloc, project, of, at, calls)
 }
 
 /// What makes a copy of the root of an instance of the project, or of its snapshot.
-fn copying(
+fn begin_from_root(
     alloc: Global,
     project: &Text,
     of: &Target,
@@ -87,15 +87,15 @@ fn copying(
         }) }
 {
     let at = place_of(alloc, project, &of.name);
-    let (at, from) = both(at, place_of(alloc, project, instance))?;
+    let (at, from) = zip_or_drop(at, place_of(alloc, project, instance))?;
     let calls = copy_calls(alloc, &from, snapshot, &at);
     drop(from);
-    let (at, calls) = both(Ok(at), calls)?;
+    let (at, calls) = zip_or_drop(Ok(at), calls)?;
     begun_with(alloc, project, of, at, calls)
 }
 
 /// The task of a creation or of a copy, which claims this row.
-fn task(deed: Deed, begun: Begun, row: Instance, source: Option<Target>) -> Work
+fn claiming_task(deed: Deed, begun: Begun, row: Instance, source: Option<Target>) -> Work
     ensures { result
         ≡ record (plain_task deed begun.project begun.target begun.calls) {
           claim = Some (row_of.Instance row);
@@ -126,10 +126,10 @@ fn creation(
 ) -> Result<Work, NoMemory>
     ensures { IfOk result (λ w. w ≡ creation project.now of.now body.now moment) }
 {
-    let begun = making(alloc, project, of, image_of(&body.origin));
+    let begun = begin_from_image(alloc, project, of, image_of(&body.origin));
     let row = made_instance(alloc, project, &of.name, body, moment);
-    let (begun, row) = both(begun, row)?;
-    Ok(task(Deed::Create, begun, row, None))
+    let (begun, row) = zip_or_drop(begun, row)?;
+    Ok(claiming_task(Deed::Create, begun, row, None))
 }
 
 fn instance_target(alloc: Global, name: &Text) -> Result<Target, NoMemory>
@@ -176,10 +176,10 @@ fn instance_copy(
         config: &old.config,
         devices: &old.devices,
     };
-    let begun = copying(alloc, project, of, from, "");
+    let begun = begin_from_root(alloc, project, of, from, "");
     let row = copied_instance(alloc, project, &of.name, body, moment, &source);
-    let (made, target) = both(both(begun, row), instance_target(alloc, from))?;
-    Ok(task(Deed::Copy, made.0, made.1, Some(target)))
+    let (made, target) = zip_or_drop(zip_or_drop(begun, row), instance_target(alloc, from))?;
+    Ok(claiming_task(Deed::Copy, made.0, made.1, Some(target)))
 }
 
 /// A copy of a snapshot of an instance.
@@ -204,10 +204,10 @@ fn snapshot_copy(
         config: &snapshot.config,
         devices: &snapshot.devices,
     };
-    let begun = copying(alloc, project, of, from, name.view());
+    let begun = begin_from_root(alloc, project, of, from, name.view());
     let row = copied_instance(alloc, project, &of.name, body, moment, &source);
-    let (made, target) = both(both(begun, row), snapshot_target(alloc, from, name))?;
-    Ok(task(Deed::Copy, made.0, made.1, Some(target)))
+    let (made, target) = zip_or_drop(zip_or_drop(begun, row), snapshot_target(alloc, from, name))?;
+    Ok(claiming_task(Deed::Copy, made.0, made.1, Some(target)))
 }
 
 /// A copy from an instance, or from its snapshot where one is named.

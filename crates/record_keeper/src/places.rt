@@ -56,7 +56,7 @@ pub fn remove(entries: &mut Vec<Entry>, kind: u8, key: &Text)
 }
 
 /// Makes one change, in room that is there.
-pub fn change(entries: &mut Vec<Entry>, change: EntryChange)
+pub fn apply_change(entries: &mut Vec<Entry>, change: EntryChange)
     requires order { IsOrderedEntries entries.old.items }
     requires room { vec_len entries.old + 1 ≤ vec_capacity entries.old }
     ensures items { entries.new.items ≡ after_change change entries.old.items }

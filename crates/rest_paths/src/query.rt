@@ -5,7 +5,7 @@ ghost use Rattle.rest_paths.specs.Queries.{recursion_of, has_leading_zero, secon
 ghost use Rattle.rest_paths.specs.Queries.{no_query, flags_after, project_after, query_after, query_said, project_of};
 ghost use Rattle.rest_paths.specs.Queries.{recursion_asked, timeout_asked};
 
-use crate::refusals::refused;
+use crate::refusals::refusal_on_key;
 use form_urlencoded::parse;
 use records::{Refusal, Rule};
 use size_values::{NoMemory, Or, Text, read_count};
@@ -161,7 +161,7 @@ fn query_after(alloc: Global, query: Query, key: &str, value: &str) -> Result<Qu
 {
     let Query { project, flags } = query;
     let Some(flags) = flags_after(flags, key, value) else {
-        return Err(refused(alloc, Rule::A3, key));
+        return Err(refusal_on_key(alloc, Rule::A3, key));
     };
     let project = project_after(alloc, project, key, value)?;
     Ok(Query { project, flags })

@@ -10,7 +10,7 @@ use http_heads::Request;
 use records::{Command, Refusal, Rule, What};
 use rest_bodies::object_in;
 use rest_paths::{
-    PathTable, Place, Query, Verb, has_body, path_of, plainly, project_of, query_of, query_said,
+    PathTable, Place, Query, Verb, has_body, path_of, plain_refusal, project_of, query_of, query_said,
     verb_offered,
 };
 use serde_json::Value;
@@ -80,10 +80,10 @@ pub(crate) fn command_of(
 {
     let target = request.target.view();
     let Some(line) = table.line_of(path_of(target)) else {
-        return Err(plainly(alloc, Rule::A1));
+        return Err(plain_refusal(alloc, Rule::A1));
     };
     let Some(verb) = verb_offered(line, request.method.view()) else {
-        return Err(plainly(alloc, Rule::A2));
+        return Err(plain_refusal(alloc, Rule::A2));
     };
     let sent = sent_body(alloc, verb, request.body.view())?;
     command_at(alloc, line.place, verb, target, &sent, boot)

@@ -9,7 +9,7 @@ use crate::shapes::shape_of;
 use crate::targets::{named, object_of};
 use records::{Refusal, Rule, Target, What};
 use rest_bodies::{Shape, action_at, body_of, judge_fields, name_at, restore_at};
-use rest_paths::{Place, Verb, plainly, pool_of, refused};
+use rest_paths::{Place, Verb, plain_refusal, pool_of, refusal_on_key};
 use serde_json::Value;
 use size_values::{NoMemory, ObjectKind, Or, Text};
 use std::alloc::Global;
@@ -78,7 +78,7 @@ fn action_said(alloc: Global, path: &str, body: &Value) -> Result<What, Or<Refus
     ensures { Gives result (action_said path.now (view body.now)) }
 {
     let Some(action) = action_at(body) else {
-        return Err(refused(alloc, Rule::A5, "action"));
+        return Err(refusal_on_key(alloc, Rule::A5, "action"));
     };
     let of = object_of(alloc, ObjectKind::Instance, path)?;
     Ok(What::Act { of, action })
@@ -102,7 +102,7 @@ fn what_said(
             Ok(change_said(alloc, verb, of, shape, body)?)
         }
         Place::State => action_said(alloc, path, body),
-        _ => Err(plainly(alloc, Rule::A2)),
+        _ => Err(plain_refusal(alloc, Rule::A2)),
     }
 }
 
@@ -118,13 +118,13 @@ pub(crate) fn what_sent(
     ensures { Gives result (what_sent place verb path.now (option_map view sent.now)) }
 {
     let Some(body) = sent else {
-        return Err(plainly(alloc, Rule::A4));
+        return Err(plain_refusal(alloc, Rule::A4));
     };
     let Some(shape) = shape_of(place, verb, body) else {
-        return Err(plainly(alloc, Rule::A2));
+        return Err(plain_refusal(alloc, Rule::A2));
     };
     match judge_fields(shape, body) {
-        Some(key) => Err(refused(alloc, Rule::A5, key)),
+        Some(key) => Err(refusal_on_key(alloc, Rule::A5, key)),
         None => what_said(alloc, place, verb, path, shape, body),
     }
 }

@@ -5,7 +5,7 @@ ghost use Rattle.rest_routes.specs.WithoutBody.{one_read, operation_read, one_as
 
 use crate::targets::{object_of, objects_of, operation_at};
 use records::{Refusal, Rule, Target, What};
-use rest_paths::{Place, Query, Verb, plainly, recursion_asked, timeout_asked};
+use rest_paths::{Place, Query, Verb, plain_refusal, recursion_asked, timeout_asked};
 use size_values::{ObjectKind, Or};
 use std::alloc::Global;
 
@@ -72,6 +72,6 @@ pub(crate) fn what_read(
             op: operation_at(alloc, path, boot)?,
             timeout: timeout_asked(query),
         }),
-        Place::Events => Err(plainly(alloc, Rule::A6)),
+        Place::Events => Err(plain_refusal(alloc, Rule::A6)),
     }
 }

@@ -72,7 +72,7 @@ fn lowest_setting(policy: &Policy, subject: Subject, config: &Config) -> Option<
             config.key_at(place),
             config.value_at(place),
         );
-        lowest = earlier(lowest, at(place, rule));
+        lowest = earlier(lowest, forbidden_at(place, rule));
     }
     lowest
 }
@@ -81,7 +81,7 @@ fn lowest_setting(policy: &Policy, subject: Subject, config: &Config) -> Option<
 fn missing_setting(policy: &Policy, subject: Subject, config: &Config) -> Option<Forbidden>
     ensures { result ≡ missing_setting (seen policy.now) subject config.now }
 {
-    at(
+    forbidden_at(
         config.len(),
         missing_rule_in(SETTINGS, policy, subject, config),
     )
@@ -93,12 +93,12 @@ fn lowest_device(policy: &Policy, devices: &Devices) -> Option<Forbidden>
     let mut lowest = None;
     for place in 0..devices.len() {
         let rule = device_rule(policy, devices.device_at(place));
-        lowest = earlier(lowest, at(place, rule));
+        lowest = earlier(lowest, forbidden_at(place, rule));
     }
     lowest
 }
 
-fn at(place: usize, rule: Option<u8>) -> Option<Forbidden>
+fn forbidden_at(place: usize, rule: Option<u8>) -> Option<Forbidden>
     ensures { result ≡ at place rule }
 {
     match rule {

@@ -93,7 +93,7 @@ fn word_of(project: &Config, key: &str, default: Word) -> Word
     ensures { result ≡ word_of project.now key.now default }
 {
     match project.get(key) {
-        Some(text) => Word::named(text).unwrap_or(default),
+        Some(text) => Word::from_text(text).unwrap_or(default),
         None => default,
     }
 }

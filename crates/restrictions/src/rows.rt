@@ -245,7 +245,7 @@ impl Word {
 
     /// The word of this text.
     #[tactic(auto, unfolding(crate::specs::Words::word_named))]
-    pub fn named(text: &str) -> Option<Word>
+    pub fn from_text(text: &str) -> Option<Word>
         ensures { result ≡ word_named text.now }
     {
         match text {

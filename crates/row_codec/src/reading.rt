@@ -29,7 +29,7 @@ fn damage_of(body: &[u8], why: Or<Unreadable>) -> Or<Damaged>
 }
 
 /// What was read, or the damage of the body in which a part cannot be read.
-fn placed<T>(body: &[u8], read: Result<T, Or<Unreadable>>) -> Result<T, Or<Damaged>>
+fn or_damage_in<T>(body: &[u8], read: Result<T, Or<Unreadable>>) -> Result<T, Or<Damaged>>
     ensures ok { IfOk read (λ x. result ≡ Ok x) }
     ensures err { IfErr read (λ why. result ≡ Err (damage_of (length body.now) why)) }
 {
@@ -46,7 +46,7 @@ fn project_of(alloc: Global, key: &str, body: &[u8]) -> Result<Project, Or<Damag
     if !good_name(ObjectKind::Project, key) {
         return Err(Or::Why(Damaged::Key));
     }
-    placed(body, project_in(alloc, key, body))
+    or_damage_in(body, project_in(alloc, key, body))
 }
 
 #[tactic(auto, unfolding(crate::specs::Reading::profile_of))]
@@ -54,7 +54,7 @@ fn profile_of(alloc: Global, key: &str, body: &[u8]) -> Result<Profile, Or<Damag
     ensures { Gives (λ x. x) result (profile_of key.now body.now) }
 {
     let (project, name) = two_names_in(ObjectKind::Project, ObjectKind::Profile, key)?;
-    placed(body, profile_in(alloc, project, name, body))
+    or_damage_in(body, profile_in(alloc, project, name, body))
 }
 
 #[tactic(auto, unfolding(crate::specs::Reading::network_of))]
@@ -62,7 +62,7 @@ fn network_of(alloc: Global, key: &str, body: &[u8]) -> Result<Network, Or<Damag
     ensures { Gives (λ x. x) result (network_of key.now body.now) }
 {
     let (project, name) = two_names_in(ObjectKind::Project, ObjectKind::Network, key)?;
-    placed(body, network_in(alloc, project, name, body))
+    or_damage_in(body, network_in(alloc, project, name, body))
 }
 
 #[tactic(auto, unfolding(crate::specs::Reading::pool_of))]
@@ -72,7 +72,7 @@ fn pool_of(alloc: Global, key: &str, body: &[u8]) -> Result<Pool, Or<Damaged>>
     if !good_name(ObjectKind::Pool, key) {
         return Err(Or::Why(Damaged::Key));
     }
-    placed(body, pool_in(alloc, key, body))
+    or_damage_in(body, pool_in(alloc, key, body))
 }
 
 #[tactic(auto, unfolding(crate::specs::Reading::volume_of))]
@@ -85,7 +85,7 @@ fn volume_of(alloc: Global, key: &str, body: &[u8]) -> Result<Volume, Or<Damaged
         ObjectKind::Volume,
         key,
     )?;
-    placed(body, volume_in(alloc, project, pool, name, body))
+    or_damage_in(body, volume_in(alloc, project, pool, name, body))
 }
 
 #[tactic(auto, unfolding(crate::specs::Reading::instance_of))]
@@ -93,7 +93,7 @@ fn instance_of(alloc: Global, key: &str, body: &[u8]) -> Result<Instance, Or<Dam
     ensures { Gives (λ x. x) result (instance_of key.now body.now) }
 {
     let (project, name) = two_names_in(ObjectKind::Project, ObjectKind::Instance, key)?;
-    placed(body, instance_in(alloc, project, name, body))
+    or_damage_in(body, instance_in(alloc, project, name, body))
 }
 
 #[tactic(auto, unfolding(crate::specs::Reading::snapshot_of))]
@@ -106,7 +106,7 @@ fn snapshot_of(alloc: Global, key: &str, body: &[u8]) -> Result<Snapshot, Or<Dam
         ObjectKind::Snapshot,
         key,
     )?;
-    placed(body, snapshot_in(alloc, project, instance, name, body))
+    or_damage_in(body, snapshot_in(alloc, project, instance, name, body))
 }
 
 #[tactic(auto, unfolding(crate::specs::Reading::row_at))]

@@ -76,12 +76,12 @@ fn read_quad(text: &[u8]) -> Result<Quad, Stray>
     let fourth = number_behind(text, third.end, b'.', 0, 255)?;
     Ok(Quad {
         end: fourth.end,
-        address: address(first.value, second.value, third.value, fourth.value),
+        address: quad_value(first.value, second.value, third.value, fourth.value),
     })
 }
 
 /// The address of four numbers, if all are fit.
-fn address(
+fn quad_value(
     first: Option<u8>,
     second: Option<u8>,
     third: Option<u8>,

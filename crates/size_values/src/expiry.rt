@@ -157,7 +157,7 @@ impl Expiry {
         if !part.number.is_within(1, MOST) || self.amount(part.unit) != 0 {
             return None;
         }
-        Some(self.with(part.unit, part.number.value as u32))
+        Some(self.with_amount(part.unit, part.number.value as u32))
     }
 
     fn amount(&self, unit: Unit) -> u32
@@ -173,7 +173,7 @@ impl Expiry {
         }
     }
 
-    fn with(self, unit: Unit, amount: u32) -> Expiry
+    fn with_amount(self, unit: Unit, amount: u32) -> Expiry
         ensures { result ≡ with_amount unit amount self }
     {
         let mut expiry = self;

@@ -25,11 +25,11 @@ pub fn read_truth(text: &str) -> Result<bool, ValueFault>
     if text.is_empty() {
         return Err(ValueFault::Empty);
     }
-    truth(text).ok_or(ValueFault::OutOfRange)
+    truth_named(text).ok_or(ValueFault::OutOfRange)
 }
 
 /// The truth that the text names, if it names one.
-fn truth(text: &str) -> Option<bool>
+fn truth_named(text: &str) -> Option<bool>
     ensures { result ≡ truth_named text.now }
 {
     truth_in(&TRUTHS, text)

@@ -60,7 +60,7 @@ fn busy_with<'x>(
 
 /// An instance is busy.
 #[tactic(auto, unfolding(row_machine::specs::machine::Holders::busy_with))]
-fn busy(alloc: Global, view: &View<'_>, project: &str, name: &str) -> Result<(), Or<Refusal>>
+fn named_instance_busy(alloc: Global, view: &View<'_>, project: &str, name: &str) -> Result<(), Or<Refusal>>
     ensures { Says result (busy view.now project.now name.now) }
 {
     let Some(operation) = busy_with(view.live, project, name) else {
@@ -81,7 +81,7 @@ pub(crate) fn instance_busy(
     ensures { Says result (instance_busy view.now command.now) }
 {
     match instance_changed(&command.what) {
-        Some(name) => busy(alloc, view, command.project.view(), name.view()),
+        Some(name) => named_instance_busy(alloc, view, command.project.view(), name.view()),
         None => Ok(()),
     }
 }

@@ -6,9 +6,9 @@ ghost use Rattle.row_machine.specs.machine.HostCalls.{spec_of, act_calls};
 ghost use Rattle.row_machine.specs.machine.Tasks.{acting};
 
 use crate::calls::{one_call, spec_of};
-use crate::works::{about, plain_task};
+use crate::works::{project_and_target, plain_task};
 use host_model::{HostCall, Place};
-use instance_tasks::{both, place_of, push_clear};
+use instance_tasks::{zip_or_drop, place_of, push_clear};
 use records::{Instance, Target};
 use row_machine::Work;
 use row_readings::View;
@@ -27,7 +27,7 @@ fn push_start(
         ≡ calls.old
         ++ call.Start at.now (spec_of (expanded_of view.now.projects view.now.profiles row.now)) ∷ []) }
 {
-    let (at, spec) = both(at.copy(alloc), spec_of(alloc, view, row))?;
+    let (at, spec) = zip_or_drop(at.copy(alloc), spec_of(alloc, view, row))?;
     calls.push(HostCall::Start { at, spec })
 }
 
@@ -127,7 +127,7 @@ pub(crate) fn acting(
     let at = place_of(alloc, project, &of.name)?;
     let calls = calls_at(alloc, view, action, &at, row);
     drop(at);
-    let (about, calls) = both(about(alloc, project, of), calls)?;
+    let (about, calls) = zip_or_drop(project_and_target(alloc, project, of), calls)?;
     let deed = Deed::Act {
         action,
         ephemeral: row.ephemeral,

@@ -8,8 +8,8 @@ ghost use Rattle.task_plans.specs.Begun.{task_in};
 use crate::calls::{apply_calls, rename_calls, restore_calls};
 use crate::finds::instance_at;
 use crate::rows::{put_instance, renamed_instance, restored_instance};
-use crate::works::{replaced, replacement};
-use instance_tasks::both;
+use crate::works::{replaced_instance, replacing_task};
+use instance_tasks::zip_or_drop;
 use records::{Body, Instance, Snapshot, Target};
 use row_machine::Work;
 use row_readings::{View, snapshot_named};
@@ -29,9 +29,9 @@ fn update(
 {
     let row = put_instance(alloc, old, body)?;
     let calls = apply_calls(alloc, view, project, &of.name, &row);
-    let made = both(Ok(row), calls);
-    let (about, made) = both(replaced(alloc, project, of), made)?;
-    Ok(replacement(Deed::Update, about, made.0, made.1))
+    let made = zip_or_drop(Ok(row), calls);
+    let (about, made) = zip_or_drop(replaced_instance(alloc, project, of), made)?;
+    Ok(replacing_task(Deed::Update, about, made.0, made.1))
 }
 
 /// An instance gets another name.
@@ -45,9 +45,9 @@ fn renaming(
     ensures { IfOk result (λ w. w ≡ renaming project.now of.now to.now old.now) }
 {
     let calls = rename_calls(alloc, project, &of.name, to);
-    let made = both(renamed_instance(alloc, old, to), calls);
-    let (about, made) = both(replaced(alloc, project, of), made)?;
-    Ok(replacement(Deed::Rename, about, made.0, made.1))
+    let made = zip_or_drop(renamed_instance(alloc, old, to), calls);
+    let (about, made) = zip_or_drop(replaced_instance(alloc, project, of), made)?;
+    Ok(replacing_task(Deed::Rename, about, made.0, made.1))
 }
 
 /// An instance is taken back to its snapshot.
@@ -61,9 +61,9 @@ fn restoring(
     ensures { IfOk result (λ w. w ≡ restoring project.now of.now old.now snapshot.now) }
 {
     let calls = restore_calls(alloc, project, &of.name, &snapshot.name);
-    let made = both(restored_instance(alloc, old, snapshot), calls);
-    let (about, made) = both(replaced(alloc, project, of), made)?;
-    Ok(replacement(Deed::Restore, about, made.0, made.1))
+    let made = zip_or_drop(restored_instance(alloc, old, snapshot), calls);
+    let (about, made) = zip_or_drop(replaced_instance(alloc, project, of), made)?;
+    Ok(replacing_task(Deed::Restore, about, made.0, made.1))
 }
 
 /// What a PUT begins: of an instance an update, of other objects nothing.

@@ -6,8 +6,8 @@ ghost use Rattle.task_plans.specs.Begun.{task_in};
 
 use crate::calls::{clear_calls, unsnap_calls};
 use crate::finds::{instance_at, snapshot_at};
-use crate::works::{about, plain_task};
-use instance_tasks::both;
+use crate::works::{project_and_target, plain_task};
+use instance_tasks::zip_or_drop;
 use records::Target;
 use row_machine::Work;
 use row_readings::View;
@@ -19,7 +19,7 @@ fn deletion(alloc: Global, project: &Text, of: &Target) -> Result<Work, NoMemory
     ensures { IfOk result (λ w. w ≡ deletion project.now of.now) }
 {
     let calls = clear_calls(alloc, project, &of.name);
-    let (about, calls) = both(about(alloc, project, of), calls)?;
+    let (about, calls) = zip_or_drop(project_and_target(alloc, project, of), calls)?;
     Ok(plain_task(Deed::Delete, about, calls))
 }
 
@@ -28,7 +28,7 @@ fn snapshot_deletion(alloc: Global, project: &Text, of: &Target) -> Result<Work,
     ensures { IfOk result (λ w. w ≡ snapshot_deletion project.now of.now) }
 {
     let calls = unsnap_calls(alloc, project, of);
-    let (about, calls) = both(about(alloc, project, of), calls)?;
+    let (about, calls) = zip_or_drop(project_and_target(alloc, project, of), calls)?;
     Ok(plain_task(Deed::Unsnap, about, calls))
 }
 

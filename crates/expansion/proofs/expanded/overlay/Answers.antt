@@ -2,7 +2,7 @@ use Rattle.std.proofs.Common.{◌+◌, drop, ap, sym, ◌∙◌, arith}
 use Rattle.config_lists.specs.Entries.{put, replaced}
 use Rattle.config_lists.specs.Settings.{IsFull}
 use Rattle.config_lists.proofs.Walks.{All-read, replaced-next, replaced-all}
-use Rattle.expansion.proofs.expanded.overlaid.Goals as goal
+use Rattle.expansion.proofs.expanded.overlay.Goals as goal
 
 pub set-requires-clause-key : goal.set-requires-clause-key
 set-requires-clause-key c = (All-read IsFull c.args.by.now c.loop-place.place _ _ c.len-place-end.ensures.config.full c.key_at.ensures c.value_at.ensures).0

@@ -2,7 +2,7 @@ use Rattle.std.proofs.Common.{rules}
 use Rattle.std.proofs.lemmas.Fn.{always_returns_same}
 use Rattle.row_machine.specs.machine.Rows.{text_before}
 use Rattle.object_users.proofs.Sorting.{sorted-is, texts-ranked}
-use Rattle.object_users.proofs.row_links.sort.Goals as goal
+use Rattle.object_users.proofs.row_links.sort_texts.Goals as goal
 
 pub returns : goal.returns
 returns c =

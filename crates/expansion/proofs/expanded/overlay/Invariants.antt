@@ -1,6 +1,6 @@
 use Rattle.std.proofs.Common.{◌≡◌, drop}
 use Rattle.config_lists.specs.Entries.{replaced}
-use Rattle.expansion.proofs.expanded.overlaid.Given as goal
+use Rattle.expansion.proofs.expanded.overlay.Given as goal
 
 -- what is left leads to the whole
 abbrev pub invariant-loop-place : goal.invariant-loop-place

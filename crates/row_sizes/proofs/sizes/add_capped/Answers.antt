@@ -1,7 +1,7 @@
 use Rattle.std.proofs.Common.{◌≤◌, ◌<◌, ◌+◌, ◌-◌, ap, subst, ◌∙◌}
 use Rattle.row_sizes.specs.Sizes.{capped}
 use Rattle.row_sizes.proofs.Sums.{capped-over, capped-sum}
-use Rattle.row_sizes.proofs.sizes.plus.Goals as goal
+use Rattle.row_sizes.proofs.sizes.add_capped.Goals as goal
 
 pub returns-then-a-b : goal.returns-then-a-b
 returns-then-a-b c m n a b =
