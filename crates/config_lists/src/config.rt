@@ -133,12 +133,12 @@ impl Config {
     {
         let mut config = self.copy()?;
         for place in 0..changes.len() {
-            config.change(changes.key_at(place), changes.value_at(place))?;
+            config.apply_change(changes.key_at(place), changes.value_at(place))?;
         }
         Ok(config)
     }
 
-    fn change(&mut self, key: &str, value: &str) -> Result<(), NoMemory>
+    fn apply_change(&mut self, key: &str, value: &str) -> Result<(), NoMemory>
         requires { key.now ≢ [] }
         ensures { OnOk result (self.new ≡ changed self.old (key.now, value.now)) }
     {

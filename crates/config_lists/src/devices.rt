@@ -130,7 +130,7 @@ impl Devices {
         let mut root = Root::None;
         for place in 0..self.len() {
             if is_root_disk(self.device_at(place)) {
-                root = root.and(place);
+                root = root.and_one(place);
             }
         }
         root

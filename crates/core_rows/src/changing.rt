@@ -21,7 +21,7 @@ use records::{Refusal, Reply, Rule};
 use row_drafts::Draft;
 use row_machine::RowChange;
 use row_readings::View;
-use rule_refusals::untold;
+use rule_refusals::nothing_told;
 use setting_rules::settings_broken;
 use size_values::{NoMemory, Or, Seq};
 use std::alloc::Global;
@@ -83,7 +83,7 @@ fn unavailable(alloc: Global) -> Refusal
 {
     Refusal {
         rule: Rule::K1,
-        kept: untold(alloc),
+        kept: nothing_told(alloc),
     }
 }
 

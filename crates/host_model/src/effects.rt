@@ -58,7 +58,7 @@ fn put_new_root(alloc: Global, roots: &mut Vec<HostRoot>, at: &Place, content: T
     ensures ok { OnOk result (roots.new.items ≡ with_root (made at.now content) roots.old.items) }
     ensures err { OnErr result (roots.new.items ≡ roots.old.items) }
 {
-    let root = HostRoot::made(alloc, at, content)?;
+    let root = HostRoot::new_root(alloc, at, content)?;
     put(roots, root)
 }
 
@@ -203,7 +203,7 @@ fn root_at(alloc: Global, roots: &[HostRoot], at: &Place) -> Result<HostRoot, No
 {
     match find_root(roots, at) {
         Some(root) => root.copy(alloc),
-        None => HostRoot::made(alloc, at, Text::new(alloc)),
+        None => HostRoot::new_root(alloc, at, Text::new(alloc)),
     }
 }
 

@@ -49,7 +49,7 @@ impl Spec {
 
 impl HostRoot {
     /// A stopped root with this content, nothing applied and no snapshots.
-    pub(crate) fn made(alloc: Global, at: &Place, content: Text) -> Result<HostRoot, NoMemory>
+    pub(crate) fn new_root(alloc: Global, at: &Place, content: Text) -> Result<HostRoot, NoMemory>
         ensures { IfOk result (λ r. r ≡ made at.now content) }
     {
         Ok(HostRoot {

@@ -87,7 +87,7 @@ pub(crate) fn some_lists(bytes: &[u8], headers: &[HeaderSpan], name: &[u8], word
     ensures { result ≡ some_lists name.now word.now (map (header_bytes bytes.now) headers.now) }
 {
     for header in headers {
-        if is_named(bytes, header.name, name) && lists(word, header.value.of(bytes)) {
+        if is_named(bytes, header.name, name) && lists_word(word, header.value.of(bytes)) {
             return true;
         }
     }
@@ -95,7 +95,7 @@ pub(crate) fn some_lists(bytes: &[u8], headers: &[HeaderSpan], name: &[u8], word
 }
 
 /// Whether one of the parts between commas is the word.
-fn lists(word: &[u8], value: &[u8]) -> bool
+fn lists_word(word: &[u8], value: &[u8]) -> bool
     ensures { result ≡ lists word.now value.now }
 {
     value

@@ -57,7 +57,7 @@ impl<'a> SnapshotNumbers<'a> {
             self.behind.as_bytes(),
             name.as_bytes(),
         );
-        self.greatest = greater(self.greatest, number);
+        self.greatest = greater_number(self.greatest, number);
     }
 
     /// The name with the next number: one more than the greatest that was seen, or 0.
@@ -77,7 +77,7 @@ impl<'a> SnapshotNumbers<'a> {
 }
 
 /// The greater of two numbers, if there are any.
-fn greater(a: Option<u32>, b: Option<u32>) -> Option<u32>
+fn greater_number(a: Option<u32>, b: Option<u32>) -> Option<u32>
     ensures { result ≡ greater a b }
 {
     match (a, b) {
@@ -92,14 +92,14 @@ fn number_in(before: &[u8], behind: &[u8], name: &[u8]) -> Option<u32>
     ensures number { result ≡ option_and_then number_of (between before.now behind.now name.now) }
     ensures small { IfSome result (λ n. n < 10 ^ 9) }
 {
-    match between(before, behind, name) {
+    match text_between(before, behind, name) {
         Some(digits) => number_of(digits),
         None => None,
     }
 }
 
 /// The part of a name between the text before and the text after.
-fn between<'x>(before: &[u8], behind: &[u8], name: &'x [u8]) -> Option<&'x [u8]>
+fn text_between<'x>(before: &[u8], behind: &[u8], name: &'x [u8]) -> Option<&'x [u8]>
     requires { length before.now + length behind.now < 2 ^ 64 }
     ensures { option_copied result ≡ between before.now behind.now name.now }
 {

@@ -117,7 +117,7 @@ fn claiming_task(deed: Deed, begun: Begun, row: Instance, source: Option<Target>
 }
 
 /// The creation of an instance from nothing or from an image.
-fn creation(
+fn creation_task(
     alloc: Global,
     project: &Text,
     of: &Target,
@@ -252,11 +252,11 @@ pub fn instance_creation(
 {
     match &body.origin {
         Origin::None => {
-            let work = creation(alloc, project, of, body, moment)?;
+            let work = creation_task(alloc, project, of, body, moment)?;
             Ok(Some(work))
         }
         Origin::Image(_) => {
-            let work = creation(alloc, project, of, body, moment)?;
+            let work = creation_task(alloc, project, of, body, moment)?;
             Ok(Some(work))
         }
         Origin::Copy { from, snapshot, .. } => copy_from(

@@ -29,7 +29,7 @@ fn sum_text(key: SumKey) -> &'static str
 }
 
 /// An object of this name gives no number for this sum.
-fn uncounted(
+fn object_uncounted(
     alloc: Global,
     project: &Project,
     name: &Text,
@@ -61,7 +61,7 @@ fn instance_uncounted(
     let limits = limits_of(&project.config);
     let key = countable(&limits, row.kind, &expanded.config, &expanded.devices).err();
     drop(expanded);
-    uncounted(alloc, project, &row.name, key)
+    object_uncounted(alloc, project, &row.name, key)
 }
 
 fn instances_uncounted(
@@ -89,7 +89,7 @@ fn volume_uncounted(alloc: Global, project: &Project, row: &Volume) -> Result<()
         return Ok(());
     }
     let key = volume_countable(&limits_of(&project.config), &row.config).err();
-    uncounted(alloc, project, &row.name, key)
+    object_uncounted(alloc, project, &row.name, key)
 }
 
 fn volumes_uncounted(alloc: Global, project: &Project, rows: &[Volume]) -> Result<(), Or<Refusal>>

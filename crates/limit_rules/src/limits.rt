@@ -40,7 +40,7 @@ fn over_refusal(alloc: Global, project: &Project, over: Over) -> Result<Refusal,
 }
 
 /// What is used before a change, and what the change asks for above it, are together above a limit.
-fn exceeds(
+fn limit_exceeded(
     alloc: Global,
     project: &Project,
     key: LimitKey,
@@ -85,7 +85,7 @@ fn project_exceeds(
     };
     let before = part_of(part, &usage_in(before, project.name.view()));
     let after = part_of(part, &usage_in(after, project.name.view()));
-    exceeds(alloc, project, key_of(part), limit, before, after)
+    limit_exceeded(alloc, project, key_of(part), limit, before, after)
 }
 
 fn part_exceeds(
@@ -168,7 +168,7 @@ fn count_exceeds(
     };
     let before = networks_before(before, &project.name);
     let after = networks_after(after, &project.name);
-    exceeds(alloc, project, LimitKey::Networks, limit, before, after)
+    limit_exceeded(alloc, project, LimitKey::Networks, limit, before, after)
 }
 
 /// The first project of which the number of networks is above its limit.

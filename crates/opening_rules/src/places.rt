@@ -27,7 +27,7 @@ pub(crate) fn if_so(breaks: bool, rule: Rule) -> Option<Rule>
 }
 
 /// Whether a project is missing, or is not its own home for rows of a kind.
-fn is_homeless(projects: &[Project], project: &str, kind: ObjectKind) -> bool
+fn lacks_home(projects: &[Project], project: &str, kind: ObjectKind) -> bool
     ensures { result
         ≡ (is_none (project_named projects.now project.now)
         || not (bytes_eq (home_of projects.now project.now kind) project.now)) }
@@ -36,7 +36,7 @@ fn is_homeless(projects: &[Project], project: &str, kind: ObjectKind) -> bool
 }
 
 /// A row's project is missing, or is not its own home for rows of this kind.
-pub(crate) fn homeless(view: &View<'_>, row: &Row) -> Option<Rule>
+pub(crate) fn home_missing(view: &View<'_>, row: &Row) -> Option<Rule>
     ensures { result ≡ homeless view.now row.now }
 {
     let (project, kind) = match row {
@@ -47,11 +47,11 @@ pub(crate) fn homeless(view: &View<'_>, row: &Row) -> Option<Rule>
         Row::Instance(row) => (row.project.view(), ObjectKind::Instance),
         Row::Snapshot(row) => (row.project.view(), ObjectKind::Snapshot),
     };
-    if_so(is_homeless(view.projects, project, kind), Rule::N1)
+    if_so(lacks_home(view.projects, project, kind), Rule::N1)
 }
 
 /// A volume's pool or a snapshot's instance is missing.
-pub(crate) fn orphaned(view: &View<'_>, row: &Row) -> Option<Rule>
+pub(crate) fn parent_row_missing(view: &View<'_>, row: &Row) -> Option<Rule>
     ensures { result ≡ orphaned view.now row.now }
 {
     match row {
@@ -92,7 +92,7 @@ fn are_profiles(names: &[Text]) -> bool
 }
 
 /// An instance or a snapshot names too many profiles, or one twice.
-pub(crate) fn overnamed(row: &Row) -> Option<Rule>
+pub(crate) fn profiles_malformed(row: &Row) -> Option<Rule>
     ensures { (s : State) → result ≡ overnamed s row.now }
 {
     match row {
@@ -113,7 +113,7 @@ fn has_all_features(project: &Project) -> bool
         && is_on(&project.config, "features.storage.buckets")
 }
 
-fn is_undefaulted(view: &View<'_>, project: &Project) -> bool
+fn lacks_defaults(view: &View<'_>, project: &Project) -> bool
     ensures { result ≡ is_undefaulted view.now project.now }
 {
     let name = project.name.view();
@@ -125,11 +125,11 @@ fn is_undefaulted(view: &View<'_>, project: &Project) -> bool
 }
 
 /// The project `default` lacks a feature, or a project with profiles of its own has no profile `default`.
-pub(crate) fn undefaulted(view: &View<'_>, row: &Row) -> Option<Rule>
+pub(crate) fn defaults_missing(view: &View<'_>, row: &Row) -> Option<Rule>
     ensures { result ≡ undefaulted view.now row.now }
 {
     match row {
-        Row::Project(project) => if_so(is_undefaulted(view, project), Rule::B3),
+        Row::Project(project) => if_so(lacks_defaults(view, project), Rule::B3),
         _ => None,
     }
 }

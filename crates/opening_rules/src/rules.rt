@@ -7,10 +7,10 @@ ghost use Rattle.opening_rules.specs.Rules.{row_rule};
 
 use crate::breach::{Breach, broken_at};
 use crate::counting::uncountable;
-use crate::links::{rootless, unlinked};
-use crate::places::{homeless, orphaned, overnamed, undefaulted};
+use crate::links::{root_disk_missing, named_row_missing};
+use crate::places::{home_missing, parent_row_missing, profiles_malformed, defaults_missing};
 use crate::policies::forbidden;
-use crate::settings::{misdeviced, missettled};
+use crate::settings::{devices_invalid, settings_invalid};
 use records::{Row, Rule};
 use row_readings::View;
 use size_values::{NoMemory, Or};
@@ -62,14 +62,14 @@ fn broken_rule(
     ensures { IfOk result (λ found. found ≡ row_rule rule view.now row.now) }
 {
     match rule {
-        RowRule::Homeless => Ok(homeless(view, row)),
-        RowRule::Orphaned => Ok(orphaned(view, row)),
-        RowRule::Overnamed => Ok(overnamed(row)),
-        RowRule::Undefaulted => Ok(undefaulted(view, row)),
-        RowRule::Missettled => Ok(missettled(row)),
-        RowRule::Misdeviced => Ok(misdeviced(row)),
-        RowRule::Rootless => rootless(alloc, view, row),
-        RowRule::Unlinked => unlinked(alloc, view, row),
+        RowRule::Homeless => Ok(home_missing(view, row)),
+        RowRule::Orphaned => Ok(parent_row_missing(view, row)),
+        RowRule::Overnamed => Ok(profiles_malformed(row)),
+        RowRule::Undefaulted => Ok(defaults_missing(view, row)),
+        RowRule::Missettled => Ok(settings_invalid(row)),
+        RowRule::Misdeviced => Ok(devices_invalid(row)),
+        RowRule::Rootless => root_disk_missing(alloc, view, row),
+        RowRule::Unlinked => named_row_missing(alloc, view, row),
         RowRule::Forbidden(number) => forbidden(alloc, view, number, row),
         RowRule::Uncountable => uncountable(alloc, view, row),
     }

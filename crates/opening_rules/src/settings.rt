@@ -45,7 +45,7 @@ fn scope_of(kind: Kind) -> Scope
 
 /// A setting is refused by the tables.
 #[tactic(auto, using(crate::proofs::Refused::settings_told))]
-pub(crate) fn missettled(row: &Row) -> Option<Rule>
+pub(crate) fn settings_invalid(row: &Row) -> Option<Rule>
     ensures { (s : State) → result ≡ missettled s row.now }
 {
     match row {
@@ -61,7 +61,7 @@ pub(crate) fn missettled(row: &Row) -> Option<Rule>
 
 /// A device is refused by the tables.
 #[tactic(auto, using(crate::proofs::Refused::devices_told))]
-pub(crate) fn misdeviced(row: &Row) -> Option<Rule>
+pub(crate) fn devices_invalid(row: &Row) -> Option<Rule>
     ensures { (s : State) → result ≡ misdeviced s row.now }
 {
     match row {

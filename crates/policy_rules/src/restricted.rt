@@ -60,7 +60,7 @@ impl<'a> Restricted<'a> {
     }
 
     /// The number of the first rule that settings and devices break, or one above them all.
-    pub(crate) fn lowest(&self, subject: Subject, config: &Config, devices: &Devices) -> u8
+    pub(crate) fn lowest_rule(&self, subject: Subject, config: &Config, devices: &Devices) -> u8
         ensures { (name : List ℕ) → HoldBelow result (λ n. forbids self.now n subject name config.now devices.now) }
     {
         match self.first_forbidden(subject, config, devices) {

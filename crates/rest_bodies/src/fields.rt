@@ -6,7 +6,7 @@ ghost use Rattle.rest_bodies.specs.Fields.{judged_fields, body_fault};
 use crate::actions::action_in;
 use crate::drivers::driver_in;
 use crate::instances::{is_false, is_restoration, kind_in, source_fault};
-use crate::members::{given, is_word};
+use crate::members::{non_null_member, is_word};
 use crate::origins::fits_source;
 use crate::profiles::fits_profiles;
 use crate::settings::{fits_devices, fits_settings};
@@ -174,7 +174,7 @@ fn key_of(field: Field) -> &'static str
     }
 }
 
-fn fits(field: Field, value: &Value) -> bool
+fn value_fits(field: Field, value: &Value) -> bool
     ensures { result ≡ fits field (view value.now) }
 {
     match field {
@@ -207,7 +207,7 @@ fn value_fault(field: Field, value: &Value) -> Option<&'static str>
     if let Field::InstanceSource = field {
         return source_fault(value);
     }
-    if fits(field, value) {
+    if value_fits(field, value) {
         None
     } else {
         Some(key_of(field))
@@ -231,7 +231,7 @@ fn absent_fault(field: Field) -> Option<&'static str>
 fn fault_of(field: Field, body: &Value) -> Option<&'static str>
     ensures { option_map (λ k. k.now) result ≡ fault_of field (view body.now) }
 {
-    match given(key_of(field), body) {
+    match non_null_member(key_of(field), body) {
         Some(value) => value_fault(field, value),
         None => absent_fault(field),
     }

@@ -53,7 +53,7 @@ fn if_given(value: &Value) -> Option<&Value>
 
 /// The value of a field that is there and not null.
 #[tactic(auto, unfolding(crate::specs::Members::given))]
-pub fn given<'a>(key: &str, body: &'a Value) -> Option<&'a Value>
+pub fn non_null_member<'a>(key: &str, body: &'a Value) -> Option<&'a Value>
     ensures { option_map (λ m. view m.now) result ≡ given key.now (view body.now) }
 {
     match body.get(key) {
@@ -76,7 +76,7 @@ fn copy_of(alloc: Global, text: Option<&str>) -> Result<Option<Text>, NoMemory>
 pub(crate) fn str_at<'a>(key: &str, body: &'a Value) -> Option<&'a str>
     ensures { option_map (λ s. s.now) result ≡ text_at key.now (view body.now) }
 {
-    match given(key, body) {
+    match non_null_member(key, body) {
         Some(value) => value.as_str(),
         None => None,
     }

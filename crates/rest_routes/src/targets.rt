@@ -10,7 +10,7 @@ use size_values::{NoMemory, ObjectKind, Or, Text};
 use std::alloc::Global;
 
 /// The object of a kind and name that stands where the path says: a volume in its pool, a snapshot in its instance.
-pub(crate) fn named(
+pub(crate) fn target_at_path(
     alloc: Global,
     kind: ObjectKind,
     path: &str,
@@ -33,14 +33,14 @@ pub(crate) fn object_of(alloc: Global, kind: ObjectKind, path: &str) -> Result<T
     ensures { IfOk result (λ of. of ≡ object_of kind path.now) }
 {
     let name = Text::from_text(alloc, name_of(kind, path))?;
-    named(alloc, kind, path, name)
+    target_at_path(alloc, kind, path, name)
 }
 
 /// All objects of a kind at a path: volumes of its pool, snapshots of its instance.
 pub(crate) fn objects_of(alloc: Global, kind: ObjectKind, path: &str) -> Result<Target, NoMemory>
     ensures { IfOk result (λ of. of ≡ objects_of kind path.now) }
 {
-    named(alloc, kind, path, Text::new(alloc))
+    target_at_path(alloc, kind, path, Text::new(alloc))
 }
 
 /// The number of the operation that a path names by an id of this boot.

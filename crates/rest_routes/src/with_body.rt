@@ -6,7 +6,7 @@ ghost use Rattle.rest_routes.specs.WithBody.{creation_said, restored, put_said, 
 ghost use Rattle.rest_routes.specs.WithBody.{what_said, what_sent};
 
 use crate::shapes::shape_of;
-use crate::targets::{named, object_of};
+use crate::targets::{target_at_path, object_of};
 use records::{Refusal, Rule, Target, What};
 use rest_bodies::{Shape, action_at, body_of, judge_fields, name_at, restore_at};
 use rest_paths::{Place, Verb, plain_refusal, pool_of, refusal_on_key};
@@ -24,13 +24,13 @@ fn creation_said(
 ) -> Result<What, NoMemory>
     ensures { IfOk result (λ w. w ≡ creation_said kind path.now shape (view body.now)) }
 {
-    let of = named(alloc, kind, path, name_at(alloc, body)?)?;
+    let of = target_at_path(alloc, kind, path, name_at(alloc, body)?)?;
     let body = body_of(alloc, shape, body, pool_of(kind, path))?;
     Ok(What::Create { of, body })
 }
 
 /// The snapshot that a PUT takes its instance back to, if it says so.
-fn restored(alloc: Global, shape: Shape, body: &Value) -> Result<Option<Text>, NoMemory>
+fn snapshot_to_restore(alloc: Global, shape: Shape, body: &Value) -> Result<Option<Text>, NoMemory>
     ensures { IfOk result (λ snapshot. snapshot ≡ restored shape (view body.now)) }
 {
     match shape {
@@ -43,7 +43,7 @@ fn restored(alloc: Global, shape: Shape, body: &Value) -> Result<Option<Text>, N
 fn put_said(alloc: Global, of: Target, shape: Shape, body: &Value) -> Result<What, NoMemory>
     ensures { IfOk result (λ w. w ≡ put_said (restored shape (view body.now)) of shape (view body.now)) }
 {
-    if let Some(snapshot) = restored(alloc, shape, body)? {
+    if let Some(snapshot) = snapshot_to_restore(alloc, shape, body)? {
         return Ok(What::Restore { of, snapshot });
     }
     let body = body_of(alloc, shape, body, of.pool.view())?;

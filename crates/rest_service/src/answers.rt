@@ -9,7 +9,7 @@ ghost use Rattle.rest_service.specs.Exchanges.{printed, rule_of, malformed_text}
 use http_front::{HeadFault, reply_bytes};
 use records::{Refusal, Reply, Rule};
 use rest_replies::{no_memory_is_known, print};
-use rule_refusals::untold;
+use rule_refusals::nothing_told;
 use size_values::{NoMemory, Seq};
 use std::alloc::Global;
 
@@ -69,7 +69,7 @@ fn refusal_of(alloc: Global, fault: HeadFault) -> Refusal
 {
     Refusal {
         rule: rule_of(fault),
-        kept: untold(alloc),
+        kept: nothing_told(alloc),
     }
 }
 

@@ -35,7 +35,7 @@ impl Model for Load {
 
 impl Load {
     /// What it adds to what this project uses.
-    fn counted(&self, project: &str) -> Amounts
+    fn amounts_for(&self, project: &str) -> Amounts
         ensures { (k : Part) → part k result ≡ counted project.now k self.now }
     {
         if self.project.view() == project {
@@ -202,7 +202,7 @@ pub fn usage_in(loads: &[Load], project: &str) -> Amounts
 {
     let mut used = Amounts::zero();
     for load in loads {
-        used = used.plus(&load.counted(project));
+        used = used.plus(&load.amounts_for(project));
     }
     used
 }

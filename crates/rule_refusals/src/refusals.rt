@@ -9,7 +9,7 @@ use size_values::{NoMemory, ObjectKind, Text};
 use std::alloc::Global;
 
 /// Nothing is told.
-pub fn untold(alloc: Global) -> Kept
+pub fn nothing_told(alloc: Global) -> Kept
     ensures { result ≡ untold }
 {
     Kept {
@@ -62,7 +62,7 @@ pub fn on_name(alloc: Global, rule: Rule, name: &str) -> Result<Refusal, NoMemor
 pub fn on_number(alloc: Global, rule: Rule, number: u64) -> Refusal
     ensures { result ≡ on_number rule number }
 {
-    let mut kept = untold(alloc);
+    let mut kept = nothing_told(alloc);
     kept.number = number;
     Refusal { rule, kept }
 }

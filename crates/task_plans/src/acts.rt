@@ -114,7 +114,7 @@ fn calls_at(
 }
 
 /// The state of an instance is changed.
-pub(crate) fn acting(
+pub(crate) fn act_task(
     alloc: Global,
     view: &View<'_>,
     project: &Text,

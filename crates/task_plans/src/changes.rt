@@ -17,7 +17,7 @@ use size_values::{Deed, NoMemory, Text};
 use std::alloc::Global;
 
 /// The host is told what the changed instance has.
-fn update(
+fn update_task(
     alloc: Global,
     view: &View<'_>,
     project: &Text,
@@ -35,7 +35,7 @@ fn update(
 }
 
 /// An instance gets another name.
-fn renaming(
+fn rename_task(
     alloc: Global,
     project: &Text,
     of: &Target,
@@ -51,7 +51,7 @@ fn renaming(
 }
 
 /// An instance is taken back to its snapshot.
-fn restoring(
+fn restore_task(
     alloc: Global,
     project: &Text,
     of: &Target,
@@ -80,7 +80,7 @@ pub(crate) fn plan_put(
     let Some(old) = instance_at(view, project, of) else {
         return Ok(None);
     };
-    let work = update(alloc, view, project, of, body, old)?;
+    let work = update_task(alloc, view, project, of, body, old)?;
     Ok(Some(work))
 }
 
@@ -98,7 +98,7 @@ pub(crate) fn plan_move(
     let Some(old) = instance_at(view, project, of) else {
         return Ok(None);
     };
-    let work = renaming(alloc, project, of, to, old)?;
+    let work = rename_task(alloc, project, of, to, old)?;
     Ok(Some(work))
 }
 
@@ -117,6 +117,6 @@ pub(crate) fn plan_restore(
     let Some(snapshot) = found else {
         return Ok(None);
     };
-    let work = restoring(alloc, project, of, old, snapshot)?;
+    let work = restore_task(alloc, project, of, old, snapshot)?;
     Ok(Some(work))
 }

@@ -15,7 +15,7 @@ use size_values::{Deed, NoMemory, Text};
 use std::alloc::Global;
 
 /// An instance is deleted.
-fn deletion(alloc: Global, project: &Text, of: &Target) -> Result<Work, NoMemory>
+fn deletion_task(alloc: Global, project: &Text, of: &Target) -> Result<Work, NoMemory>
     ensures { IfOk result (λ w. w ≡ deletion project.now of.now) }
 {
     let calls = clear_calls(alloc, project, &of.name);
@@ -43,7 +43,7 @@ pub(crate) fn plan_delete(
         (if_there (plan_delete view.now project.now of.now) (row_of view.now project.now of.now))) }
 {
     if instance_at(view, project, of).is_some() {
-        let work = deletion(alloc, project, of)?;
+        let work = deletion_task(alloc, project, of)?;
         return Ok(Some(work));
     }
     if snapshot_at(view, project, of).is_some() {

@@ -5,7 +5,7 @@ ghost use Rattle.row_machine.specs.machine.Rows.{instance_named};
 ghost use Rattle.row_machine.specs.machine.Tasks.{acting};
 ghost use Rattle.task_plans.specs.Begun.{task_in};
 
-use crate::acts::acting;
+use crate::acts::act_task;
 use crate::changes::{plan_move, plan_put, plan_restore};
 use crate::creations::plan_create;
 use crate::deletions::plan_delete;
@@ -30,7 +30,7 @@ fn plan_act(
     let Some(row) = instance_named(view.instances, project.view(), of.name.view()) else {
         return Ok(None);
     };
-    let work = acting(alloc, view, project, of, action, row)?;
+    let work = act_task(alloc, view, project, of, action, row)?;
     Ok(Some(work))
 }
 

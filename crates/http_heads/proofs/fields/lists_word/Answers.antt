@@ -4,7 +4,7 @@ use Rattle.std.proofs.lemmas.Iterator.Search.{any_from_yields_List}
 use Rattle.std.proofs.lemmas.Iterator.Splits.{YieldsList-from_slice_split}
 use Rattle.httparse.specs.Grammar.{trim_ows}
 use Rattle.http_heads.specs.Fields.{lists}
-use Rattle.http_heads.proofs.fields.lists.Goals as goal
+use Rattle.http_heads.proofs.fields.lists_word.Goals as goal
 
 pub returns : goal.returns
 unfolding lists

@@ -1,5 +1,5 @@
 use Rattle.policy_rules.proofs.Below.{below-found, below-none}
-use Rattle.policy_rules.proofs.restricted.Restricted.lowest.Goals as goal
+use Rattle.policy_rules.proofs.restricted.Restricted.lowest_rule.Goals as goal
 
 pub returns-in-Some : goal.returns-in-Some
 returns-in-Some c = below-found c.args.self.now c.args.subject c.args.config.now c.args.devices.now c.in-Some.found c.in-Some.ensures

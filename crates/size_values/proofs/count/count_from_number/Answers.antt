@@ -1,6 +1,6 @@
 use Rattle.std.proofs.Common.{◌∙◌, sym}
 use Rattle.size_values.proofs.Counts.{count-empty, count-strays, count-large, count-outside, count-value}
-use Rattle.size_values.proofs.count.counted.Goals as goal
+use Rattle.size_values.proofs.count.count_from_number.Goals as goal
 
 pub returns-then-is_empty-clause-count : goal.returns-then-is_empty-clause-count
 returns-then-is_empty-clause-count c = count-empty c.args.text.now c.args.least c.args.most (sym c.is_empty.ensures ∙ c.if-is_empty.true)

@@ -6,7 +6,7 @@ use Rattle.row_machine.specs.machine.SettingRules.{scope_of}
 use Rattle.row_machine.specs.opening.Opening.{missettled}
 use Rattle.opening_rules.specs.Rules.{fault_rule}
 use Rattle.opening_rules.proofs.Refused.{settings_told}
-use Rattle.opening_rules.proofs.settings.missettled.Goals as goal
+use Rattle.opening_rules.proofs.settings.settings_invalid.Goals as goal
 
 pub returns-in-Project : goal.returns-in-Project
 returns-in-Project c = λ s.
