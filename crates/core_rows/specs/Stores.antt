@@ -6,7 +6,7 @@ use Rattle.size_values.specs.declared.memory.Or.{Or}
 use Rattle.size_values.specs.declared.memory.Or.TheVariants as or
 use Rattle.records.specs.declared.refusals.Rule.TheVariants as rule
 use Rattle.records.specs.declared.refusals.Refusal.{Refusal}
-use Rattle.row_machine.specs.machine.Refusals.{plainly}
+use Rattle.row_machine.specs.machine.Refusals.{plain_refusal}
 use Rattle.record_keeper.specs.Store.{Store, FailsAtCall, IsAfterUpTo, after_commit}
 use Rattle.row_machine.specs.declared.changes.RowChange.{RowChange}
 use Rattle.row_machine.specs.opening.Records.{records_of}
@@ -39,5 +39,5 @@ KeepsRecords told s told' s' = (start : Option (List Entry)) → told ≡ option
 -- Entries were changed in one call to the store; or that call failed, which is told; or memory was refused, before it or in it.
 abbrev pub Commits : {T : Type 0} → Result T (Or Refusal) → List EntryChange → Store → Store → Type 0
 Commits (Ok u) changes before now = now ≡ after_commit changes before
-Commits (Err (or.Why r)) changes before now = (r ≡ plainly rule.K1) × FailsAtCall 1 before now
+Commits (Err (or.Why r)) changes before now = (r ≡ plain_refusal rule.K1) × FailsAtCall 1 before now
 Commits (Err or.NoMemory) changes before now = IsAfterUpTo 1 before now

@@ -4,7 +4,7 @@ ghost use Rattle.std.specs.List.{AllByRecursion};
 ghost use Rattle.size_values.specs.Causes.{Says};
 ghost use Rattle.records.specs.declared.refusals.Rule.TheVariants as rule_of;
 ghost use Rattle.row_machine.specs.machine.Changes.{rows_put};
-ghost use Rattle.row_machine.specs.machine.Refusals.{plainly};
+ghost use Rattle.row_machine.specs.machine.Refusals.{plain_refusal};
 ghost use Rattle.row_machine.specs.machine.State.{State};
 ghost use Rattle.limit_rules.specs.Exceeding.{Serves};
 ghost use Rattle.row_drafts.specs.Drafted.{former};
@@ -79,7 +79,7 @@ pub(crate) fn judge(
 
 /// The store failed.
 fn unavailable(alloc: Global) -> Refusal
-    ensures { result ≡ plainly rule_of.K1 }
+    ensures { result ≡ plain_refusal rule_of.K1 }
 {
     Refusal {
         rule: Rule::K1,

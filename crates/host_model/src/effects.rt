@@ -2,7 +2,7 @@ ghost use Rattle.std.specs.Prelude.{◌≡◌, ◌<◌, ◌≤◌, ◌-◌, IfOk
 ghost use Rattle.std.specs.List.{find, position};
 ghost use Rattle.std.specs.Option.{option_copied};
 ghost use Rattle.size_values.specs.declared.kinds.Power.TheVariants as power_of;
-ghost use Rattle.host_model.specs.Roots.{is_at, root_at, with_root, without_root, made, content_of};
+ghost use Rattle.host_model.specs.Roots.{is_at, root_at, with_root, without_root, new_root, content_of};
 ghost use Rattle.host_model.specs.Effects.{effect_of, with_power, with_spec, renamed, snapped, unsnapped, restored};
 
 use crate::call::HostCall;
@@ -55,7 +55,7 @@ fn clear(roots: &mut Vec<HostRoot>, at: &Place)
 
 /// Puts a stopped root with this content, nothing applied and no snapshots.
 fn put_new_root(alloc: Global, roots: &mut Vec<HostRoot>, at: &Place, content: Text) -> Result<(), NoMemory>
-    ensures ok { OnOk result (roots.new.items ≡ with_root (made at.now content) roots.old.items) }
+    ensures ok { OnOk result (roots.new.items ≡ with_root (new_root at.now content) roots.old.items) }
     ensures err { OnErr result (roots.new.items ≡ roots.old.items) }
 {
     let root = HostRoot::new_root(alloc, at, content)?;
@@ -69,7 +69,7 @@ fn make_root(
     at: &Place,
     origin: &Text,
 ) -> Result<(), NoMemory>
-    ensures ok { OnOk result (roots.new.items ≡ with_root (made at.now origin.now) roots.old.items) }
+    ensures ok { OnOk result (roots.new.items ≡ with_root (new_root at.now origin.now) roots.old.items) }
     ensures err { OnErr result (roots.new.items ≡ roots.old.items) }
 {
     let content = origin.copy(alloc)?;
@@ -85,7 +85,7 @@ fn copy_content(
     to: &Place,
 ) -> Result<(), NoMemory>
     ensures ok { OnOk result (roots.new.items
-        ≡ with_root (made to.now (content_of from.now snapshot.now roots.old.items)) roots.old.items) }
+        ≡ with_root (new_root to.now (content_of from.now snapshot.now roots.old.items)) roots.old.items) }
     ensures err { OnErr result (roots.new.items ≡ roots.old.items) }
 {
     let content = content_of(alloc, roots, from, snapshot)?;

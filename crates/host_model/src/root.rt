@@ -1,6 +1,6 @@
 ghost use Rattle.std.specs.Prelude.{◌≡◌, ◌∷◌, ◌++◌, [], IfOk, unwrap_or};
 ghost use Rattle.std.specs.Option.{option_copied};
-ghost use Rattle.host_model.specs.Roots.{no_spec, made, others, snapshot_of, content_in};
+ghost use Rattle.host_model.specs.Roots.{no_spec, new_root, others, snapshot_of, content_in};
 
 use crate::place::Place;
 use config_lists::{Config, Devices};
@@ -50,7 +50,7 @@ impl Spec {
 impl HostRoot {
     /// A stopped root with this content, nothing applied and no snapshots.
     pub(crate) fn new_root(alloc: Global, at: &Place, content: Text) -> Result<HostRoot, NoMemory>
-        ensures { IfOk result (λ r. r ≡ made at.now content) }
+        ensures { IfOk result (λ r. r ≡ new_root at.now content) }
     {
         Ok(HostRoot {
             place: at.copy(alloc)?,

@@ -43,8 +43,8 @@ abbrev pub number_of : List ℕ → Option ℕ
 number_of digits = if is_number digits then Some (digits_value 10 digits) else None
 
 -- the part of a name between the text before and the text after
-abbrev pub between : List ℕ → List ℕ → List ℕ → Option (List ℕ)
-between before behind name =
+abbrev pub text_between : List ℕ → List ℕ → List ℕ → Option (List ℕ)
+text_between before behind name =
     if nat_le (length before + length behind) (length name) && starts_with nat_eq name before
     && ends_with nat_eq name behind
     then Some (slice_range name (length before) (length name - length behind))
@@ -52,17 +52,17 @@ between before behind name =
 
 -- the number of a name, where the name is of the pattern
 abbrev pub number_in : Numbering → List ℕ → Option ℕ
-number_in numbers name = option_and_then number_of (between numbers.before numbers.behind name)
+number_in numbers name = option_and_then number_of (text_between numbers.before numbers.behind name)
 
 -- the greater of two numbers, if there are any
-abbrev pub greater : Option ℕ → Option ℕ → Option ℕ
-greater None n = n
-greater (Some m) None = Some m
-greater (Some m) (Some n) = Some (max m n)
+abbrev pub greater_number : Option ℕ → Option ℕ → Option ℕ
+greater_number None n = n
+greater_number (Some m) None = Some m
+greater_number (Some m) (Some n) = Some (max m n)
 
 -- after one more name
 abbrev pub seen : List ℕ → Numbering → Numbering
-seen name numbers = record numbers { greatest = greater numbers.greatest (number_in numbers name) }
+seen name numbers = record numbers { greatest = greater_number numbers.greatest (number_in numbers name) }
 
 -- the next number is one more than the greatest, or 0
 abbrev pub next_number : Numbering → ℕ

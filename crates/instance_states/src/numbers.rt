@@ -3,7 +3,7 @@ ghost use Rattle.std.specs.List.{list_all};
 ghost use Rattle.std.specs.Option.{option_copied, option_and_then};
 ghost use Rattle.std.specs.Char.{is_ascii_digit};
 ghost use Rattle.std.specs.Str.Parse.{digits_value};
-ghost use Rattle.instance_states.specs.Numbers.{unseen, is_number, number_of, between, greater, seen, next_name};
+ghost use Rattle.instance_states.specs.Numbers.{unseen, is_number, number_of, text_between, greater_number, seen, next_name};
 
 use size_values::{NoMemory, Text};
 use std::alloc::Global;
@@ -78,7 +78,7 @@ impl<'a> SnapshotNumbers<'a> {
 
 /// The greater of two numbers, if there are any.
 fn greater_number(a: Option<u32>, b: Option<u32>) -> Option<u32>
-    ensures { result ≡ greater a b }
+    ensures { result ≡ greater_number a b }
 {
     match (a, b) {
         (Some(m), Some(n)) => Some(m.max(n)),
@@ -89,7 +89,7 @@ fn greater_number(a: Option<u32>, b: Option<u32>) -> Option<u32>
 
 /// The number of a name, where the name is of the pattern.
 fn number_in(before: &[u8], behind: &[u8], name: &[u8]) -> Option<u32>
-    ensures number { result ≡ option_and_then number_of (between before.now behind.now name.now) }
+    ensures number { result ≡ option_and_then number_of (text_between before.now behind.now name.now) }
     ensures small { IfSome result (λ n. n < 10 ^ 9) }
 {
     match text_between(before, behind, name) {
@@ -101,7 +101,7 @@ fn number_in(before: &[u8], behind: &[u8], name: &[u8]) -> Option<u32>
 /// The part of a name between the text before and the text after.
 fn text_between<'x>(before: &[u8], behind: &[u8], name: &'x [u8]) -> Option<&'x [u8]>
     requires { length before.now + length behind.now < 2 ^ 64 }
-    ensures { option_copied result ≡ between before.now behind.now name.now }
+    ensures { option_copied result ≡ text_between before.now behind.now name.now }
 {
     if before.len() + behind.len() > name.len() {
         return None;

@@ -7,7 +7,7 @@ ghost use Rattle.records.specs.declared.rows.Row.TheVariants as row_of;
 ghost use Rattle.row_machine.specs.machine.NewRows.{source_instance, source_snapshot};
 ghost use Rattle.row_machine.specs.machine.HostCalls.{place_of, create_calls, copy_calls};
 ghost use Rattle.row_machine.specs.machine.Plans.{instance_target, snapshot_target, copy_from, instance_creation};
-ghost use Rattle.row_machine.specs.machine.Tasks.{plain_task, creation, copy};
+ghost use Rattle.row_machine.specs.machine.Tasks.{plain_task, creation_task, copy};
 ghost use Rattle.instance_tasks.specs.Planned.{planned};
 
 use crate::calls::{copy_calls, create_calls, place_of};
@@ -124,7 +124,7 @@ fn creation_task(
     body: &Body,
     moment: u64,
 ) -> Result<Work, NoMemory>
-    ensures { IfOk result (λ w. w ≡ creation project.now of.now body.now moment) }
+    ensures { IfOk result (λ w. w ≡ creation_task project.now of.now body.now moment) }
 {
     let begun = begin_from_image(alloc, project, of, image_of(&body.origin));
     let row = made_instance(alloc, project, &of.name, body, moment);

@@ -3,7 +3,7 @@ ghost use Rattle.std.specs.Prelude.{◌≡◌, option_and_then};
 ghost use Rattle.plain_lists.specs.Firsts.{first_of};
 ghost use Rattle.size_values.specs.Causes.{Says};
 ghost use Rattle.row_machine.specs.machine.Claims.{claimed_instance, claimed_volume};
-ghost use Rattle.row_machine.specs.machine.LimitRules.{sum_text, uncounted, claim_uncounted, project_uncounted};
+ghost use Rattle.row_machine.specs.machine.LimitRules.{sum_text, object_uncounted, claim_uncounted, project_uncounted};
 ghost use Rattle.row_machine.specs.machine.LimitRules.{counts_broken};
 ghost use Rattle.limit_rules.specs.Within.{own_instance, own_volume, own_objects};
 
@@ -35,7 +35,7 @@ fn object_uncounted(
     name: &Text,
     key: Option<SumKey>,
 ) -> Result<(), Or<Refusal>>
-    ensures { Says result (uncounted project.now name.now key) }
+    ensures { Says result (object_uncounted project.now name.now key) }
 {
     let Some(key) = key else {
         return Ok(());

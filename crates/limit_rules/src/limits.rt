@@ -6,7 +6,7 @@ ghost use Rattle.size_values.specs.Causes.{Says};
 ghost use Rattle.project_limits.specs.Admission.{parts};
 ghost use Rattle.row_machine.specs.machine.State.{State};
 ghost use Rattle.row_machine.specs.machine.Usage.{loads};
-ghost use Rattle.row_machine.specs.machine.LimitRules.{over_refusal, exceeds, limits_broken};
+ghost use Rattle.row_machine.specs.machine.LimitRules.{over_refusal, limit_exceeded, limits_broken};
 ghost use Rattle.row_readings.specs.Loads.{AreSmall};
 ghost use Rattle.limit_rules.specs.Counting.{counts_in};
 ghost use Rattle.limit_rules.specs.Exceeding.{part_over, parts_over, networks_over, all_over, Serves};
@@ -50,7 +50,7 @@ fn limit_exceeded(
 ) -> Result<(), Or<Refusal>>
     requires before { before < 2 ^ 126 }
     requires after { after < 2 ^ 126 }
-    ensures { Says result (exceeds project.now key (Some limit) before after) }
+    ensures { Says result (limit_exceeded project.now key (Some limit) before after) }
 {
     let limit = u128::from(limit);
     let asked = after.saturating_sub(before);

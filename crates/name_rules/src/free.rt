@@ -3,7 +3,7 @@ ghost use Rattle.std.specs.Prelude.{◌≡◌, find};
 ghost use Rattle.std.specs.Option.{option_copied};
 ghost use Rattle.size_values.specs.Causes.{Says};
 ghost use Rattle.row_machine.specs.shown.Links.{target_of};
-ghost use Rattle.row_machine.specs.machine.NameRules.{malformed, taken, same_target, claims_object, held, name_broken};
+ghost use Rattle.row_machine.specs.machine.NameRules.{name_malformed, name_taken, same_target, claims_object, name_held, name_broken};
 ghost use Rattle.name_rules.specs.Pointed.{target_at, has_names};
 
 use crate::places::{Place, is_there};
@@ -18,7 +18,7 @@ use std::alloc::Global;
 
 /// N3: the name is malformed.
 fn name_malformed(alloc: Global, of: Place<'_>) -> Result<(), Or<Refusal>>
-    ensures { Says result (malformed (target_at of.entry)) }
+    ensures { Says result (name_malformed (target_at of.entry)) }
 {
     if good_name(of.kind, of.name) {
         return Ok(());
@@ -28,7 +28,7 @@ fn name_malformed(alloc: Global, of: Place<'_>) -> Result<(), Or<Refusal>>
 
 /// N4: there is an object of the name.
 fn name_taken(alloc: Global, view: &View<'_>, project: &str, of: Place<'_>) -> Result<(), Or<Refusal>>
-    ensures { Says result (taken view.now project.now (target_at of.entry)) }
+    ensures { Says result (name_taken view.now project.now (target_at of.entry)) }
 {
     if !is_there(view, project, of) {
         return Ok(());
@@ -82,7 +82,7 @@ fn claiming_operation<'x>(live: &'x [Operation<Work>], home: &str, of: Place<'_>
 
 /// N5: a live operation would put an object of the name.
 fn name_held(alloc: Global, view: &View<'_>, project: &str, of: Place<'_>) -> Result<(), Or<Refusal>>
-    ensures { Says result (held view.now project.now (target_at of.entry)) }
+    ensures { Says result (name_held view.now project.now (target_at of.entry)) }
 {
     let home = home_of(view.projects, project, of.kind);
     let Some(operation) = claiming_operation(view.live, home, of) else {

@@ -6,9 +6,9 @@ ghost use Rattle.records.specs.Forms.{are_distinct, are_profiles};
 ghost use Rattle.row_machine.specs.machine.Homes.{home_of};
 ghost use Rattle.row_machine.specs.machine.Rows.{project_named};
 ghost use Rattle.row_machine.specs.machine.State.{State};
-ghost use Rattle.row_machine.specs.opening.Opening.{if_so, homeless, orphaned, overnamed, undefaulted};
+ghost use Rattle.row_machine.specs.opening.Opening.{if_so, home_missing, parent_row_missing, profiles_malformed, defaults_missing};
 ghost use Rattle.row_machine.specs.opening.Opening.{has_all_features};
-ghost use Rattle.opening_rules.specs.Rules.{is_undefaulted};
+ghost use Rattle.opening_rules.specs.Rules.{lacks_defaults};
 
 use records::{Project, Row, Rule};
 use row_readings::{
@@ -37,7 +37,7 @@ fn lacks_home(projects: &[Project], project: &str, kind: ObjectKind) -> bool
 
 /// A row's project is missing, or is not its own home for rows of this kind.
 pub(crate) fn home_missing(view: &View<'_>, row: &Row) -> Option<Rule>
-    ensures { result ≡ homeless view.now row.now }
+    ensures { result ≡ home_missing view.now row.now }
 {
     let (project, kind) = match row {
         Row::Project(_) | Row::Pool(_) => return None,
@@ -52,7 +52,7 @@ pub(crate) fn home_missing(view: &View<'_>, row: &Row) -> Option<Rule>
 
 /// A volume's pool or a snapshot's instance is missing.
 pub(crate) fn parent_row_missing(view: &View<'_>, row: &Row) -> Option<Rule>
-    ensures { result ≡ orphaned view.now row.now }
+    ensures { result ≡ parent_row_missing view.now row.now }
 {
     match row {
         Row::Volume(row) => {
@@ -93,7 +93,7 @@ fn are_profiles(names: &[Text]) -> bool
 
 /// An instance or a snapshot names too many profiles, or one twice.
 pub(crate) fn profiles_malformed(row: &Row) -> Option<Rule>
-    ensures { (s : State) → result ≡ overnamed s row.now }
+    ensures { (s : State) → result ≡ profiles_malformed s row.now }
 {
     match row {
         Row::Instance(row) => if_so(!are_profiles(row.profiles.view()), Rule::N3),
@@ -114,7 +114,7 @@ fn has_all_features(project: &Project) -> bool
 }
 
 fn lacks_defaults(view: &View<'_>, project: &Project) -> bool
-    ensures { result ≡ is_undefaulted view.now project.now }
+    ensures { result ≡ lacks_defaults view.now project.now }
 {
     let name = project.name.view();
     if name == "default" && !has_all_features(project) {
@@ -126,7 +126,7 @@ fn lacks_defaults(view: &View<'_>, project: &Project) -> bool
 
 /// The project `default` lacks a feature, or a project with profiles of its own has no profile `default`.
 pub(crate) fn defaults_missing(view: &View<'_>, row: &Row) -> Option<Rule>
-    ensures { result ≡ undefaulted view.now row.now }
+    ensures { result ≡ defaults_missing view.now row.now }
 {
     match row {
         Row::Project(project) => if_so(lacks_defaults(view, project), Rule::B3),

@@ -1,6 +1,6 @@
 ghost use Rattle.std.specs.Prelude.{◌≡◌, IfOk, codes};
 ghost use Rattle.serde_json.specs.View.{view};
-ghost use Rattle.rest_bodies.specs.Bodies.{config_at, devices_at, part_of, is_of_instances, has_kind, describes};
+ghost use Rattle.rest_bodies.specs.Bodies.{config_at, devices_at, part_of, is_of_instances, has_kind, has_description};
 ghost use Rattle.rest_bodies.specs.Bodies.{has_devices, has_driver, origin_of, body_of};
 ghost use Rattle.rest_bodies.specs.Drivers.{driver_at};
 ghost use Rattle.rest_bodies.specs.Instances.{kind_at, ephemeral_at};
@@ -66,7 +66,7 @@ fn has_kind(shape: Shape) -> bool
 
 /// Whether a body of this shape has a description and settings.
 fn has_description(shape: Shape) -> bool
-    ensures { result ≡ describes shape }
+    ensures { result ≡ has_description shape }
 {
     match shape {
         Shape::NewSnapshot => false,
@@ -99,7 +99,7 @@ fn has_driver(shape: Shape) -> bool
 }
 
 fn description_part(alloc: Global, shape: Shape, body: &Value) -> Result<Option<Text>, NoMemory>
-    ensures { IfOk result (λ o. o ≡ part_of (describes shape) (text_at (codes "description") (view body.now))) }
+    ensures { IfOk result (λ o. o ≡ part_of (has_description shape) (text_at (codes "description") (view body.now))) }
 {
     if has_description(shape) {
         return text_at(alloc, "description", body);
@@ -108,7 +108,7 @@ fn description_part(alloc: Global, shape: Shape, body: &Value) -> Result<Option<
 }
 
 fn config_part(alloc: Global, shape: Shape, body: &Value) -> Result<Option<Changes>, NoMemory>
-    ensures { IfOk result (λ o. o ≡ part_of (describes shape) (config_at (view body.now))) }
+    ensures { IfOk result (λ o. o ≡ part_of (has_description shape) (config_at (view body.now))) }
 {
     if has_description(shape) {
         return config_at(alloc, body);

@@ -1,6 +1,6 @@
 ghost use Rattle.std.specs.Prelude.{◌≡◌, option_map};
 ghost use Rattle.serde_json.specs.View.{view};
-ghost use Rattle.rest_bodies.specs.Fields.{fields_of, key_of, fits, value_fault, absent_fault, fault_of, first_fault};
+ghost use Rattle.rest_bodies.specs.Fields.{fields_of, key_of, value_fits, value_fault, absent_fault, fault_of, first_fault};
 ghost use Rattle.rest_bodies.specs.Fields.{judged_fields, body_fault};
 
 use crate::actions::action_in;
@@ -175,7 +175,7 @@ fn key_of(field: Field) -> &'static str
 }
 
 fn value_fits(field: Field, value: &Value) -> bool
-    ensures { result ≡ fits field (view value.now) }
+    ensures { result ≡ value_fits field (view value.now) }
 {
     match field {
         Field::Name => value.as_str().is_some(),

@@ -1,6 +1,6 @@
 ghost use Rattle.std.specs.Prelude.{◌≡◌, IfOk, option_map, unwrap_or};
 ghost use Rattle.serde_json.specs.View.{view};
-ghost use Rattle.rest_bodies.specs.Members.{json_in, if_object, object_in, if_given, given, text_at, is_word, name_at};
+ghost use Rattle.rest_bodies.specs.Members.{json_in, if_object, object_in, if_given, non_null_member, text_at, is_word, name_at};
 
 use serde_json::Value;
 use size_values::{NoMemory, Text};
@@ -52,9 +52,9 @@ fn if_given(value: &Value) -> Option<&Value>
 }
 
 /// The value of a field that is there and not null.
-#[tactic(auto, unfolding(crate::specs::Members::given))]
+#[tactic(auto, unfolding(crate::specs::Members::non_null_member))]
 pub fn non_null_member<'a>(key: &str, body: &'a Value) -> Option<&'a Value>
-    ensures { option_map (λ m. view m.now) result ≡ given key.now (view body.now) }
+    ensures { option_map (λ m. view m.now) result ≡ non_null_member key.now (view body.now) }
 {
     match body.get(key) {
         Some(value) => if_given(value),

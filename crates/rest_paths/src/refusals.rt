@@ -1,6 +1,6 @@
 ghost use Rattle.std.specs.Prelude.{◌≡◌, IfOk};
 ghost use Rattle.rest_paths.specs.Answers.{IsRefused};
-ghost use Rattle.rest_paths.specs.Refusals.{untold, on_key, plainly, no_operation};
+ghost use Rattle.rest_paths.specs.Refusals.{nothing_told, on_key, plain_refusal, no_operation};
 
 use records::{Kept, Refusal, Rule};
 use size_values::{NoMemory, Or, Text};
@@ -8,7 +8,7 @@ use std::alloc::Global;
 
 /// What is kept of a rule that tells a key, or nothing where the key is empty.
 fn kept_key(alloc: Global, key: &str) -> Result<Kept, NoMemory>
-    ensures { IfOk result (λ k. k ≡ record untold { key = key.now }) }
+    ensures { IfOk result (λ k. k ≡ record nothing_told { key = key.now }) }
 {
     Ok(Kept {
         kind: Text::new(alloc),
@@ -34,7 +34,7 @@ pub fn refusal_on_key(alloc: Global, rule: Rule, key: &str) -> Or<Refusal>
 
 /// The refusal by a rule that tells nothing.
 pub fn plain_refusal(alloc: Global, rule: Rule) -> Or<Refusal>
-    ensures { IsRefused result (plainly rule) }
+    ensures { IsRefused result (plain_refusal rule) }
 {
     refusal_on_key(alloc, rule, "")
 }

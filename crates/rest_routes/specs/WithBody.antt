@@ -18,17 +18,17 @@ use Rattle.rest_bodies.specs.declared.fields.Shape.{Shape}
 use Rattle.rest_bodies.specs.declared.fields.Shape.TheVariants as shape
 use Rattle.rest_paths.specs.Answers.{mapped, followed}
 use Rattle.rest_paths.specs.Paths.{pool_of}
-use Rattle.rest_paths.specs.Refusals.{on_key, plainly}
+use Rattle.rest_paths.specs.Refusals.{on_key, plain_refusal}
 use Rattle.rest_paths.specs.declared.places.Place.{Place}
 use Rattle.rest_paths.specs.declared.places.Place.TheVariants as place
 use Rattle.rest_paths.specs.declared.places.Verb.{Verb}
 use Rattle.rest_paths.specs.declared.places.Verb.TheVariants as verb
 use Rattle.rest_routes.specs.Shapes.{shape_of}
-use Rattle.rest_routes.specs.Targets.{named, object_of}
+use Rattle.rest_routes.specs.Targets.{target_at_path, object_of}
 
 -- a value that has to be there, or else the request is refused by a rule that tells nothing
 abbrev pub needed : {T : Type 0} → Rule → Option T → Result T Refusal
-needed rule o = ok_or o (plainly rule)
+needed rule o = ok_or o (plain_refusal rule)
 
 -- the first field of a body that is at fault is refused by its key
 abbrev pub unless_fault : Option (List ℕ) → Result (Unit {0}) Refusal
@@ -38,12 +38,12 @@ unless_fault (Some key) = Err (on_key rule.A5 key)
 -- a new object of the name in the body, which stands where the path says
 abbrev pub creation_said : ObjectKind → List ℕ → Shape → Data → What
 creation_said kind path shape body =
-    what.Create (named kind path (name_at body)) (body_of shape body (pool_of kind path))
+    what.Create (target_at_path kind path (name_at body)) (body_of shape body (pool_of kind path))
 
 -- the snapshot that a PUT takes its instance back to, if it says so
-abbrev pub restored : Shape → Data → Option (List ℕ)
-restored shape.InstancePut body = restore_at body
-restored other body = None
+abbrev pub snapshot_to_restore : Shape → Data → Option (List ℕ)
+snapshot_to_restore shape.InstancePut body = restore_at body
+snapshot_to_restore other body = None
 
 -- what PUT asks of an object: an instance may be taken back to a snapshot, and else the object is replaced
 abbrev pub put_said : Option (List ℕ) → Target → Shape → Data → What
@@ -52,7 +52,7 @@ put_said None of shape body = what.Put of (body_of shape body of.pool)
 
 -- what a method with a body asks of the object in the path
 abbrev pub change_said : Verb → Target → Shape → Data → What
-change_said verb.Put of shape body = put_said (restored shape body) of shape body
+change_said verb.Put of shape body = put_said (snapshot_to_restore shape body) of shape body
 change_said verb.Patch of shape body = what.Patch of (body_of shape body of.pool)
 change_said other of shape body = what.Move of (name_at body)
 
@@ -67,7 +67,7 @@ abbrev pub what_said : Place → Verb → List ℕ → Shape → Data → Result
 what_said (place.List kind) verb path shape body = Ok (creation_said kind path shape body)
 what_said (place.One kind) verb path shape body = Ok (change_said verb (object_of kind path) shape body)
 what_said place.State verb path shape body = action_said path body
-what_said other verb path shape body = Err (plainly rule.A2)
+what_said other verb path shape body = Err (plain_refusal rule.A2)
 
 -- What POST, PUT and PATCH ask for: the body is an object (A4), one is sent there (A2), and each of its fields has its
 -- form (A5).

@@ -9,7 +9,7 @@ use Rattle.records.specs.declared.refusals.Rule.TheVariants as rule
 use Rattle.records.specs.declared.refusals.Refusal.{Refusal}
 use Rattle.rest_paths.specs.Answers.{mapped}
 use Rattle.rest_paths.specs.Queries.{recursion_asked, timeout_asked}
-use Rattle.rest_paths.specs.Refusals.{plainly}
+use Rattle.rest_paths.specs.Refusals.{plain_refusal}
 use Rattle.rest_paths.specs.declared.places.Place.{Place}
 use Rattle.rest_paths.specs.declared.places.Place.TheVariants as place
 use Rattle.rest_paths.specs.declared.places.Verb.{Verb}
@@ -41,4 +41,4 @@ what_read (place.One kind) verb path query boot = one_asked kind verb path boot
 what_read place.Usage verb path query boot = Ok (what.State (object_of kind.Project path))
 what_read place.State verb path query boot = Ok (what.State (object_of kind.Instance path))
 what_read place.Wait verb path query boot = mapped (λ op. what.Wait op (timeout_asked query)) (operation_at path boot)
-what_read place.Events verb path query boot = Err (plainly rule.A6)
+what_read place.Events verb path query boot = Err (plain_refusal rule.A6)

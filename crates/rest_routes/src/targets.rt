@@ -1,7 +1,7 @@
 //! The objects that the path of a request names.
 ghost use Rattle.std.specs.Prelude.{◌≡◌, IfOk};
 ghost use Rattle.rest_paths.specs.Answers.{Gives};
-ghost use Rattle.rest_routes.specs.Targets.{named, object_of, objects_of, operation_at};
+ghost use Rattle.rest_routes.specs.Targets.{target_at_path, object_of, objects_of, operation_at};
 
 use records::{Refusal, Target};
 use rest_paths::{instance_of, name_of, no_operation, pool_of};
@@ -16,7 +16,7 @@ pub(crate) fn target_at_path(
     path: &str,
     name: Text,
 ) -> Result<Target, NoMemory>
-    ensures { IfOk result (λ of. of ≡ named kind path.now name) }
+    ensures { IfOk result (λ of. of ≡ target_at_path kind path.now name) }
 {
     let pool = Text::from_text(alloc, pool_of(kind, path))?;
     let instance = Text::from_text(alloc, instance_of(kind, path))?;

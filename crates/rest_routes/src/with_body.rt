@@ -2,7 +2,7 @@
 ghost use Rattle.std.specs.Prelude.{◌≡◌, IfOk, option_map};
 ghost use Rattle.serde_json.specs.View.{view};
 ghost use Rattle.rest_paths.specs.Answers.{Gives};
-ghost use Rattle.rest_routes.specs.WithBody.{creation_said, restored, put_said, change_said, action_said};
+ghost use Rattle.rest_routes.specs.WithBody.{creation_said, snapshot_to_restore, put_said, change_said, action_said};
 ghost use Rattle.rest_routes.specs.WithBody.{what_said, what_sent};
 
 use crate::shapes::shape_of;
@@ -31,7 +31,7 @@ fn creation_said(
 
 /// The snapshot that a PUT takes its instance back to, if it says so.
 fn snapshot_to_restore(alloc: Global, shape: Shape, body: &Value) -> Result<Option<Text>, NoMemory>
-    ensures { IfOk result (λ snapshot. snapshot ≡ restored shape (view body.now)) }
+    ensures { IfOk result (λ snapshot. snapshot ≡ snapshot_to_restore shape (view body.now)) }
 {
     match shape {
         Shape::InstancePut => restore_at(alloc, body),
@@ -41,7 +41,7 @@ fn snapshot_to_restore(alloc: Global, shape: Shape, body: &Value) -> Result<Opti
 
 /// What PUT asks of an object: to be replaced, or to be taken back to a snapshot.
 fn put_said(alloc: Global, of: Target, shape: Shape, body: &Value) -> Result<What, NoMemory>
-    ensures { IfOk result (λ w. w ≡ put_said (restored shape (view body.now)) of shape (view body.now)) }
+    ensures { IfOk result (λ w. w ≡ put_said (snapshot_to_restore shape (view body.now)) of shape (view body.now)) }
 {
     if let Some(snapshot) = snapshot_to_restore(alloc, shape, body)? {
         return Ok(What::Restore { of, snapshot });

@@ -23,7 +23,7 @@ use Rattle.row_machine.specs.declared.events.Answer.{Answer}
 use Rattle.row_machine.specs.declared.events.Answer.TheVariants as answer
 use Rattle.row_machine.specs.declared.events.Event.TheVariants as event
 use Rattle.row_machine.specs.machine.State.{State}
-use Rattle.row_machine.specs.machine.Refusals.{plainly}
+use Rattle.row_machine.specs.machine.Refusals.{plain_refusal}
 use Rattle.row_machine.specs.machine.Accept.{After, and_then}
 use Rattle.row_machine.specs.machine.Step.{Outcome, well, keeper_failed, no_memory}
 use Rattle.core_rows.specs.Stores.{IsCaused, KeepsRecords, Stores}
@@ -207,4 +207,4 @@ rule_of fault.H4 = rule.H4
 -- The bytes that answer a malformed place, after which the connection ends. A refusal tells no id, so the boot word
 -- does not matter.
 abbrev pub malformed_text : HeadFault → List ℕ
-malformed_text fault = printed (reply.Refused (plainly (rule_of fault))) 0 true
+malformed_text fault = printed (reply.Refused (plain_refusal (rule_of fault))) 0 true

@@ -1,7 +1,7 @@
 //! What is written for a reply.
 ghost use Rattle.std.specs.Prelude.{◌≡◌, true, IfOk, IsTrue};
 ghost use Rattle.http_front.specs.Replies.{is_reply_code, reply_text};
-ghost use Rattle.row_machine.specs.machine.Refusals.{plainly};
+ghost use Rattle.row_machine.specs.machine.Refusals.{plain_refusal};
 ghost use Rattle.rest_replies.specs.Replies.{printed_of};
 ghost use Rattle.rest_service.specs.Answers.{HasText};
 ghost use Rattle.rest_service.specs.Exchanges.{printed, rule_of, malformed_text};
@@ -65,7 +65,7 @@ fn rule_of(fault: HeadFault) -> Rule
 
 /// The refusal of a malformed place.
 fn refusal_of(alloc: Global, fault: HeadFault) -> Refusal
-    ensures { result ≡ plainly (rule_of fault) }
+    ensures { result ≡ plain_refusal (rule_of fault) }
 {
     Refusal {
         rule: rule_of(fault),

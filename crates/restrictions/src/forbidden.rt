@@ -3,7 +3,7 @@ ghost use Rattle.std.specs.Option.{option_copied};
 ghost use Rattle.restrictions.specs.Policies.{seen};
 ghost use Rattle.restrictions.specs.Forbids.{first_forbidden as forbidden_first, snapshots_forbidden};
 ghost use Rattle.restrictions.specs.Forbids.{broken_settings, missing_setting, broken_devices, lowest, earlier};
-ghost use Rattle.restrictions.specs.Forbids.{setting_rule, setting_rule_in, missing_rule_in, is_in_force, at};
+ghost use Rattle.restrictions.specs.Forbids.{setting_rule, setting_rule_in, missing_rule_in, is_in_force, forbidden_at};
 ghost use Rattle.restrictions.specs.Forbids.{device_rule, device_rule_in, network_rule, is_outside, is_listed};
 
 use crate::policy::Policy;
@@ -99,7 +99,7 @@ fn lowest_device(policy: &Policy, devices: &Devices) -> Option<Forbidden>
 }
 
 fn forbidden_at(place: usize, rule: Option<u8>) -> Option<Forbidden>
-    ensures { result ≡ at place rule }
+    ensures { result ≡ forbidden_at place rule }
 {
     match rule {
         Some(rule) => Some(Forbidden { rule, place }),

@@ -18,7 +18,7 @@ use Rattle.row_machine.specs.machine.Task.{Task}
 use Rattle.row_machine.specs.machine.State.{State}
 use Rattle.row_machine.specs.machine.Rows.{default_name, texts_before}
 use Rattle.row_machine.specs.machine.NameRules.{is_there}
-use Rattle.row_machine.specs.opening.Opening.{default_project, homeless}
+use Rattle.row_machine.specs.opening.Opening.{default_project, home_missing}
 use Rattle.row_machine.specs.machine.Usage.{used}
 use Rattle.row_machine.specs.machine.Claims.{project_of_row}
 use Rattle.row_machine.specs.shown.Links.{target_of}
@@ -241,7 +241,7 @@ links = record {
         target = λ there. cc;
         source = λ of is. cc;
         claim_project = λ r is. subst (λ (x : Row). project_of_row x ≡ default_name) (some-is is) refl;
-        claim_home = λ r is. subst (λ (x : Row). homeless busy x ≡ None) (some-is is) refl;
+        claim_home = λ r is. subst (λ (x : Row). home_missing busy x ≡ None) (some-is is) refl;
         pool = λ r is. subst (λ (x : Row). (target_of x).kind ≡ kind.Volume → is_some (pool_named busy.pools (target_of x).pool) ≡ true) (some-is is) (λ volume. cc);
         instance = λ r is. subst (λ (x : Row). (target_of x).kind ≡ kind.Snapshot → instance_there busy default_name (target_of x)) (some-is is) (λ snapshot. cc);
         renamed = tt;
@@ -252,7 +252,7 @@ links = record {
         target = λ there. cc;
         source = λ of is. subst (λ (t : Target). is_there busy default_name t ≡ true) (some-is is) refl;
         claim_project = λ r is. subst (λ (x : Row). project_of_row x ≡ default_name) (some-is is) refl;
-        claim_home = λ r is. subst (λ (x : Row). homeless busy x ≡ None) (some-is is) refl;
+        claim_home = λ r is. subst (λ (x : Row). home_missing busy x ≡ None) (some-is is) refl;
         pool = λ r is. subst (λ (x : Row). (target_of x).kind ≡ kind.Volume → is_some (pool_named busy.pools (target_of x).pool) ≡ true) (some-is is) (λ volume. cc);
         instance = λ r is. subst (λ (x : Row). (target_of x).kind ≡ kind.Snapshot → instance_there busy default_name (target_of x)) (some-is is) (λ snapshot. cc);
         renamed = tt;

@@ -54,12 +54,12 @@ use Rattle.row_machine.specs.examples.Worked.{AreWorked, a, s, snapshot_of_s}
 use Rattle.row_machine.specs.examples.Scenes.{default, state_after}
 use Rattle.row_machine.specs.machine.State.{State}
 use Rattle.row_machine.specs.machine.Plans.{snapshot_target}
-use Rattle.row_machine.specs.machine.Tasks.{deletion}
+use Rattle.row_machine.specs.machine.Tasks.{deletion_task}
 use Rattle.row_machine.specs.facts.Whole.{IsWhole}
 use Rattle.row_machine.proofs.Deeds.{deletes-instances}
 
 -- wherever such a deletion was entered, the facts do not hold
-not-whole : (before : Option State) (now : State) → option_map (λ x. entered x (deletion default (snapshot_target a s)) 0) before ≡ Some now → IsWhole now → ⊥
+not-whole : (before : Option State) (now : State) → option_map (λ x. entered x (deletion_task default (snapshot_target a s)) 0) before ≡ Some now → IsWhole now → ⊥
 not-whole None now is whole = cc
 not-whole (Some x) now is whole = deletes-instances x default (snapshot_target a s) 0 (λ same. cc) (subst IsWhole (some-is (sym is)) whole) where
   some-is : {x y : State} → Some x ≡ Some y → x ≡ y

@@ -1,7 +1,7 @@
 //! Refusals: a rule with what it tells.
 ghost use Rattle.std.specs.Prelude.{◌≡◌, IfOk};
 ghost use Rattle.row_machine.specs.machine.Kinds.{kind_text};
-ghost use Rattle.row_machine.specs.machine.Refusals.{untold, on_name, on_number, on_object, on_held, on_project};
+ghost use Rattle.row_machine.specs.machine.Refusals.{nothing_told, on_name, on_number, on_object, on_held, on_project};
 ghost use Rattle.row_machine.specs.machine.Refusals.{on_key_of};
 
 use records::{Kept, Refusal, Rule};
@@ -10,7 +10,7 @@ use std::alloc::Global;
 
 /// Nothing is told.
 pub fn nothing_told(alloc: Global) -> Kept
-    ensures { result ≡ untold }
+    ensures { result ≡ nothing_told }
 {
     Kept {
         kind: Text::new(alloc),
@@ -158,7 +158,7 @@ pub fn on_kind(
     number: u64,
 ) -> Result<Refusal, NoMemory>
     ensures { IfOk result (λ r. r
-        ≡ record { rule = rule; kept = record untold { kind = kind_text kind; number = number } }) }
+        ≡ record { rule = rule; kept = record nothing_told { kind = kind_text kind; number = number } }) }
 {
     let kind = Text::from_text(alloc, kind_text(kind))?;
     let kept = Kept {

@@ -3,7 +3,7 @@ ghost use Rattle.std.specs.Prelude.{◌≡◌, false, find};
 ghost use Rattle.std.specs.Option.{option_copied, option_map_or};
 ghost use Rattle.size_values.specs.Causes.{Says};
 ghost use Rattle.row_machine.specs.machine.Holders.{busy_with, is_about, keeps_busy};
-ghost use Rattle.row_machine.specs.machine.StandingRules.{busy, instance_busy};
+ghost use Rattle.row_machine.specs.machine.StandingRules.{named_instance_busy, instance_busy};
 
 use crate::asked::instance_changed;
 use operations::Operation;
@@ -61,7 +61,7 @@ fn busy_with<'x>(
 /// An instance is busy.
 #[tactic(auto, unfolding(row_machine::specs::machine::Holders::busy_with))]
 fn named_instance_busy(alloc: Global, view: &View<'_>, project: &str, name: &str) -> Result<(), Or<Refusal>>
-    ensures { Says result (busy view.now project.now name.now) }
+    ensures { Says result (named_instance_busy view.now project.now name.now) }
 {
     let Some(operation) = busy_with(view.live, project, name) else {
         return Ok(());

@@ -3,7 +3,7 @@ ghost use Rattle.std.specs.Prelude.{◌≡◌, IfOk, OnOk, ◌++◌, ◌∷◌, 
 ghost use Rattle.host_model.specs.declared.call.HostCall.TheVariants as call;
 ghost use Rattle.row_machine.specs.machine.Expansions.{expanded_of};
 ghost use Rattle.row_machine.specs.machine.HostCalls.{spec_of, act_calls};
-ghost use Rattle.row_machine.specs.machine.Tasks.{acting};
+ghost use Rattle.row_machine.specs.machine.Tasks.{act_task};
 
 use crate::calls::{one_call, spec_of};
 use crate::works::{project_and_target, plain_task};
@@ -122,7 +122,7 @@ pub(crate) fn act_task(
     action: Action,
     row: &Instance,
 ) -> Result<Work, NoMemory>
-    ensures { IfOk result (λ w. w ≡ acting view.now project.now of.now action row.now) }
+    ensures { IfOk result (λ w. w ≡ act_task view.now project.now of.now action row.now) }
 {
     let at = place_of(alloc, project, &of.name)?;
     let calls = calls_at(alloc, view, action, &at, row);

@@ -2,7 +2,7 @@
 ghost use Rattle.std.specs.Prelude.{◌≡◌, IfOk};
 ghost use Rattle.row_machine.specs.machine.NewRows.{put_instance};
 ghost use Rattle.row_machine.specs.machine.Plans.{if_there, row_of, plan_put, plan_move, plan_restore};
-ghost use Rattle.row_machine.specs.machine.Tasks.{update, renaming, restoring};
+ghost use Rattle.row_machine.specs.machine.Tasks.{update_task, rename_task, restore_task};
 ghost use Rattle.task_plans.specs.Begun.{task_in};
 
 use crate::calls::{apply_calls, rename_calls, restore_calls};
@@ -25,7 +25,7 @@ fn update_task(
     body: &Body,
     old: &Instance,
 ) -> Result<Work, NoMemory>
-    ensures { IfOk result (λ w. w ≡ update view.now project.now of.now (put_instance old.now body.now)) }
+    ensures { IfOk result (λ w. w ≡ update_task view.now project.now of.now (put_instance old.now body.now)) }
 {
     let row = put_instance(alloc, old, body)?;
     let calls = apply_calls(alloc, view, project, &of.name, &row);
@@ -42,7 +42,7 @@ fn rename_task(
     to: &Text,
     old: &Instance,
 ) -> Result<Work, NoMemory>
-    ensures { IfOk result (λ w. w ≡ renaming project.now of.now to.now old.now) }
+    ensures { IfOk result (λ w. w ≡ rename_task project.now of.now to.now old.now) }
 {
     let calls = rename_calls(alloc, project, &of.name, to);
     let made = zip_or_drop(renamed_instance(alloc, old, to), calls);
@@ -58,7 +58,7 @@ fn restore_task(
     old: &Instance,
     snapshot: &Snapshot,
 ) -> Result<Work, NoMemory>
-    ensures { IfOk result (λ w. w ≡ restoring project.now of.now old.now snapshot.now) }
+    ensures { IfOk result (λ w. w ≡ restore_task project.now of.now old.now snapshot.now) }
 {
     let calls = restore_calls(alloc, project, &of.name, &snapshot.name);
     let made = zip_or_drop(restored_instance(alloc, old, snapshot), calls);

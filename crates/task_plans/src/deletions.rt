@@ -1,7 +1,7 @@
 //! What deletions begin: those of instances and of snapshots.
 ghost use Rattle.std.specs.Prelude.{◌≡◌, IfOk};
 ghost use Rattle.row_machine.specs.machine.Plans.{if_there, row_of, plan_delete};
-ghost use Rattle.row_machine.specs.machine.Tasks.{deletion, snapshot_deletion};
+ghost use Rattle.row_machine.specs.machine.Tasks.{deletion_task, snapshot_deletion};
 ghost use Rattle.task_plans.specs.Begun.{task_in};
 
 use crate::calls::{clear_calls, unsnap_calls};
@@ -16,7 +16,7 @@ use std::alloc::Global;
 
 /// An instance is deleted.
 fn deletion_task(alloc: Global, project: &Text, of: &Target) -> Result<Work, NoMemory>
-    ensures { IfOk result (λ w. w ≡ deletion project.now of.now) }
+    ensures { IfOk result (λ w. w ≡ deletion_task project.now of.now) }
 {
     let calls = clear_calls(alloc, project, &of.name);
     let (about, calls) = zip_or_drop(project_and_target(alloc, project, of), calls)?;

@@ -2,7 +2,7 @@
 ghost use Rattle.std.specs.Prelude.{◌≡◌, IfOk};
 ghost use Rattle.row_machine.specs.machine.Plans.{plan_of, if_there, starts, plan_restore};
 ghost use Rattle.row_machine.specs.machine.Rows.{instance_named};
-ghost use Rattle.row_machine.specs.machine.Tasks.{acting};
+ghost use Rattle.row_machine.specs.machine.Tasks.{act_task};
 ghost use Rattle.task_plans.specs.Begun.{task_in};
 
 use crate::acts::act_task;
@@ -24,7 +24,7 @@ fn plan_act(
     action: Action,
 ) -> Result<Option<Work>, NoMemory>
     ensures { IfOk result (λ w. w ≡ task_in
-        (if_there (λ i. starts (acting view.now project.now of.now action i))
+        (if_there (λ i. starts (act_task view.now project.now of.now action i))
         (instance_named view.now.instances project.now of.now.name))) }
 {
     let Some(row) = instance_named(view.instances, project.view(), of.name.view()) else {

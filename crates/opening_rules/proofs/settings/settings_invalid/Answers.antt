@@ -3,7 +3,7 @@ use Rattle.option_tables.specs.Checks.{project_fault, instance_fault, network_fa
 use Rattle.option_tables.specs.declared.tables.Scope.{Scope}
 use Rattle.option_tables.specs.declared.tables.Scope.TheVariants as scope
 use Rattle.row_machine.specs.machine.SettingRules.{scope_of}
-use Rattle.row_machine.specs.opening.Opening.{missettled}
+use Rattle.row_machine.specs.opening.Opening.{settings_invalid}
 use Rattle.opening_rules.specs.Rules.{fault_rule}
 use Rattle.opening_rules.proofs.Refused.{settings_told}
 use Rattle.opening_rules.proofs.settings.settings_invalid.Goals as goal
@@ -13,35 +13,35 @@ returns-in-Project c = λ s.
     c.refused_by.ensures
     ∙ ap (option_map fault_rule) c.check_project.ensures
     ∙ settings_told c.in-Project.row.config (project_fault c.in-Project.row.config)
-    ∙ ap (missettled s) (sym c.in-Project.is)
+    ∙ ap (settings_invalid s) (sym c.in-Project.is)
 
 pub returns-in-Profile : goal.returns-in-Profile
 returns-in-Profile c = λ s.
     c.refused_by-in-Profile.ensures
     ∙ ap (option_map fault_rule) c.check_instance.ensures
     ∙ settings_told c.in-Profile.row.config (instance_fault c.in-Profile.row.config scope.Any)
-    ∙ ap (missettled s) (sym c.in-Profile.is)
+    ∙ ap (settings_invalid s) (sym c.in-Profile.is)
 
 pub returns-in-Network : goal.returns-in-Network
 returns-in-Network c = λ s.
     c.refused_by-in-Network.ensures
     ∙ ap (option_map fault_rule) c.check_network.ensures
     ∙ settings_told c.in-Network.row.config (network_fault c.in-Network.row.config)
-    ∙ ap (missettled s) (sym c.in-Network.is)
+    ∙ ap (settings_invalid s) (sym c.in-Network.is)
 
 pub returns-in-Pool : goal.returns-in-Pool
 returns-in-Pool c = λ s.
     c.refused_by-in-Pool.ensures
     ∙ ap (option_map fault_rule) c.check_pool.ensures
     ∙ settings_told c.in-Pool.row.config (pool_fault c.in-Pool.row.config)
-    ∙ ap (missettled s) (sym c.in-Pool.is)
+    ∙ ap (settings_invalid s) (sym c.in-Pool.is)
 
 pub returns-in-Volume : goal.returns-in-Volume
 returns-in-Volume c = λ s.
     c.refused_by-in-Volume.ensures
     ∙ ap (option_map fault_rule) c.check_volume.ensures
     ∙ settings_told c.in-Volume.row.config (volume_fault c.in-Volume.row.config)
-    ∙ ap (missettled s) (sym c.in-Volume.is)
+    ∙ ap (settings_invalid s) (sym c.in-Volume.is)
 
 pub returns-in-Instance : goal.returns-in-Instance
 returns-in-Instance c = λ s.
@@ -49,4 +49,4 @@ returns-in-Instance c = λ s.
     ∙ ap (option_map fault_rule) c.check_instance-in-Instance.ensures
     ∙ ap (λ (at : Scope). option_map fault_rule (instance_fault c.in-Instance.row.config at)) c.scope_of.ensures
     ∙ settings_told c.in-Instance.row.config (instance_fault c.in-Instance.row.config (scope_of c.in-Instance.row.kind))
-    ∙ ap (missettled s) (sym c.in-Instance.is)
+    ∙ ap (settings_invalid s) (sym c.in-Instance.is)
