@@ -70,14 +70,14 @@ uncounted_by key = option_map (λ k. rule.L0) key
 
 -- a rule on one row, by its name
 abbrev pub row_rule : RowRule → State → Row → Option Rule
-row_rule row_rule_of.Homeless s r = home_missing s r
-row_rule row_rule_of.Orphaned s r = parent_row_missing s r
-row_rule row_rule_of.Overnamed s r = profiles_malformed s r
-row_rule row_rule_of.Undefaulted s r = defaults_missing s r
-row_rule row_rule_of.Missettled s r = settings_invalid s r
-row_rule row_rule_of.Misdeviced s r = devices_invalid s r
-row_rule row_rule_of.Rootless s r = root_disk_missing s r
-row_rule row_rule_of.Unlinked s r = named_row_missing s r
+row_rule row_rule_of.HomeMissing s r = home_missing s r
+row_rule row_rule_of.ParentRowMissing s r = parent_row_missing s r
+row_rule row_rule_of.ProfilesMalformed s r = profiles_malformed s r
+row_rule row_rule_of.DefaultsMissing s r = defaults_missing s r
+row_rule row_rule_of.SettingsInvalid s r = settings_invalid s r
+row_rule row_rule_of.DevicesInvalid s r = devices_invalid s r
+row_rule row_rule_of.RootDiskMissing s r = root_disk_missing s r
+row_rule row_rule_of.NamedRowMissing s r = named_row_missing s r
 row_rule (row_rule_of.Forbidden number) s r = forbidden number s r
 row_rule row_rule_of.Uncountable s r = uncountable s r
 

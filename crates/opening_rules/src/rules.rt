@@ -19,14 +19,14 @@ use std::alloc::Global;
 /// A rule on one row.
 #[derive(Clone, Copy)]
 pub(crate) enum RowRule {
-    Homeless,
-    Orphaned,
-    Overnamed,
-    Undefaulted,
-    Missettled,
-    Misdeviced,
-    Rootless,
-    Unlinked,
+    HomeMissing,
+    ParentRowMissing,
+    ProfilesMalformed,
+    DefaultsMissing,
+    SettingsInvalid,
+    DevicesInvalid,
+    RootDiskMissing,
+    NamedRowMissing,
     /// The rule on policy of this number.
     Forbidden(u8),
     Uncountable,
@@ -34,14 +34,14 @@ pub(crate) enum RowRule {
 
 /// The rules in their order.
 const ROW_RULES: [RowRule; 16] = [
-    RowRule::Homeless,
-    RowRule::Orphaned,
-    RowRule::Overnamed,
-    RowRule::Undefaulted,
-    RowRule::Missettled,
-    RowRule::Misdeviced,
-    RowRule::Rootless,
-    RowRule::Unlinked,
+    RowRule::HomeMissing,
+    RowRule::ParentRowMissing,
+    RowRule::ProfilesMalformed,
+    RowRule::DefaultsMissing,
+    RowRule::SettingsInvalid,
+    RowRule::DevicesInvalid,
+    RowRule::RootDiskMissing,
+    RowRule::NamedRowMissing,
     RowRule::Forbidden(1),
     RowRule::Forbidden(2),
     RowRule::Forbidden(3),
@@ -62,14 +62,14 @@ fn broken_rule(
     ensures { IfOk result (λ found. found ≡ row_rule rule view.now row.now) }
 {
     match rule {
-        RowRule::Homeless => Ok(home_missing(view, row)),
-        RowRule::Orphaned => Ok(parent_row_missing(view, row)),
-        RowRule::Overnamed => Ok(profiles_malformed(row)),
-        RowRule::Undefaulted => Ok(defaults_missing(view, row)),
-        RowRule::Missettled => Ok(settings_invalid(row)),
-        RowRule::Misdeviced => Ok(devices_invalid(row)),
-        RowRule::Rootless => root_disk_missing(alloc, view, row),
-        RowRule::Unlinked => named_row_missing(alloc, view, row),
+        RowRule::HomeMissing => Ok(home_missing(view, row)),
+        RowRule::ParentRowMissing => Ok(parent_row_missing(view, row)),
+        RowRule::ProfilesMalformed => Ok(profiles_malformed(row)),
+        RowRule::DefaultsMissing => Ok(defaults_missing(view, row)),
+        RowRule::SettingsInvalid => Ok(settings_invalid(row)),
+        RowRule::DevicesInvalid => Ok(devices_invalid(row)),
+        RowRule::RootDiskMissing => root_disk_missing(alloc, view, row),
+        RowRule::NamedRowMissing => named_row_missing(alloc, view, row),
         RowRule::Forbidden(number) => forbidden(alloc, view, number, row),
         RowRule::Uncountable => uncountable(alloc, view, row),
     }

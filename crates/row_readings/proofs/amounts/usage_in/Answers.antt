@@ -9,8 +9,8 @@ use Rattle.row_readings.proofs.amounts.usage_in.Goals as goal
 pub plus-used-requires : goal.plus-used-requires
 plus-used-requires c = λ k.
     let all = c.args.loads.now in
-    let one : part k c.counted.result ≡ amount_for c.args.project.now k (get_or all c.loop-load.load-index c.load-item.result) =
-    c.counted.ensures k ∙ ap (amount_for c.args.project.now k) c.load-item.is
+    let one : part k c.amounts_for.result ≡ amount_for c.args.project.now k (get_or all c.loop-load.load-index c.load-item.result) =
+    c.amounts_for.ensures k ∙ ap (amount_for c.args.project.now k) c.load-item.is
     in
     omega (
       arith,
@@ -24,8 +24,8 @@ plus-used-requires c = λ k.
 pub loop-load-preserved : goal.loop-load-preserved
 loop-load-preserved c = λ k.
     let counts = amount_for c.args.project.now k in
-    ap (part k) c.plus-used.ensures ∙ part-plus k c.loop-load.used c.counted.result
-    ∙ ap₂ (λ m n. m + n) (c.loop-load.invariant k) (c.counted.ensures k ∙ ap counts c.load-item.is)
+    ap (part k) c.plus-used.ensures ∙ part-plus k c.loop-load.used c.amounts_for.result
+    ∙ ap₂ (λ m n. m + n) (c.loop-load.invariant k) (c.amounts_for.ensures k ∙ ap counts c.load-item.is)
     ∙ sym (sum_by_more counts c.args.loads.now c.loop-load.load-index c.load-item.result c.loop-load-test.true)
 
 pub returns-clause-few : goal.returns-clause-few
