@@ -56,7 +56,7 @@ fn set_in(text: &[u8], number: Number) -> Result<Cpu, ValueFault>
     requires { number ≡ number_at text.now }
     ensures { result ≡ set_of text.now }
 {
-    let mut front = SetFront::begin(number)?;
+    let mut front = SetFront::from_first(number)?;
     while front.end < text.len() {
         front = front.next(text)?;
     }
@@ -71,7 +71,7 @@ fn set_in(text: &[u8], number: Number) -> Result<Cpu, ValueFault>
 
 impl SetFront {
     /// The first number of a set.
-    fn begin(number: Number) -> Result<SetFront, Stray>
+    fn from_first(number: Number) -> Result<SetFront, Stray>
         ensures ok { IfOk result (BeginsSet number) }
         ensures err { IfErr result (λ stray. (number.len ≡ 0) × (stray.place ≡ 0)) }
     {

@@ -8,7 +8,7 @@ ghost use Rattle.task_plans.specs.Begun.{task_in};
 use crate::calls::{apply_calls, rename_calls, restore_calls};
 use crate::finds::instance_at;
 use crate::rows::{put_instance, renamed_instance, restored_instance};
-use crate::works::{replaced_instance, replacing_task};
+use crate::works::{target_and_replaced, replacing_task};
 use instance_tasks::zip_or_drop;
 use records::{Body, Instance, Snapshot, Target};
 use row_machine::Work;
@@ -30,7 +30,7 @@ fn update_task(
     let row = put_instance(alloc, old, body)?;
     let calls = apply_calls(alloc, view, project, &of.name, &row);
     let made = zip_or_drop(Ok(row), calls);
-    let (about, made) = zip_or_drop(replaced_instance(alloc, project, of), made)?;
+    let (about, made) = zip_or_drop(target_and_replaced(alloc, project, of), made)?;
     Ok(replacing_task(Deed::Update, about, made.0, made.1))
 }
 
@@ -46,7 +46,7 @@ fn rename_task(
 {
     let calls = rename_calls(alloc, project, &of.name, to);
     let made = zip_or_drop(renamed_instance(alloc, old, to), calls);
-    let (about, made) = zip_or_drop(replaced_instance(alloc, project, of), made)?;
+    let (about, made) = zip_or_drop(target_and_replaced(alloc, project, of), made)?;
     Ok(replacing_task(Deed::Rename, about, made.0, made.1))
 }
 
@@ -62,7 +62,7 @@ fn restore_task(
 {
     let calls = restore_calls(alloc, project, &of.name, &snapshot.name);
     let made = zip_or_drop(restored_instance(alloc, old, snapshot), calls);
-    let (about, made) = zip_or_drop(replaced_instance(alloc, project, of), made)?;
+    let (about, made) = zip_or_drop(target_and_replaced(alloc, project, of), made)?;
     Ok(replacing_task(Deed::Restore, about, made.0, made.1))
 }
 

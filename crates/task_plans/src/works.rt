@@ -35,7 +35,7 @@ pub(crate) fn plain_task(deed: Deed, about: (Text, Target), calls: Seq<HostCall>
 }
 
 /// What an operation is about that replaces an instance, and the project and name of that instance.
-pub(crate) fn replaced_instance(
+pub(crate) fn target_and_replaced(
     alloc: Global,
     project: &Text,
     of: &Target,
