@@ -59,7 +59,7 @@ fn put_new_root(alloc: Global, roots: &mut Vec<HostRoot>, at: &Place, content: T
     ensures err { OnErr result (roots.new.items ≡ roots.old.items) }
 {
     let root = HostRoot::new_root(alloc, at, content)?;
-    put(roots, root)
+    put_root(roots, root)
 }
 
 /// Puts a stopped root with the content of this origin.
@@ -101,7 +101,7 @@ fn start(alloc: Global, roots: &mut Vec<HostRoot>, at: &Place, spec: &Spec) -> R
     let applied = spec.copy()?;
     let mut root = root_at(alloc, roots, at)?.with_applied(applied);
     root.power = Power::Running;
-    put(roots, root)
+    put_root(roots, root)
 }
 
 fn set_power(
@@ -116,7 +116,7 @@ fn set_power(
 {
     let mut root = root_at(alloc, roots, at)?;
     root.power = power;
-    put(roots, root)
+    put_root(roots, root)
 }
 
 fn apply(alloc: Global, roots: &mut Vec<HostRoot>, at: &Place, spec: &Spec) -> Result<(), NoMemory>
@@ -126,7 +126,7 @@ fn apply(alloc: Global, roots: &mut Vec<HostRoot>, at: &Place, spec: &Spec) -> R
 {
     let applied = spec.copy()?;
     let root = root_at(alloc, roots, at)?.with_applied(applied);
-    put(roots, root)
+    put_root(roots, root)
 }
 
 fn rename(
@@ -154,7 +154,7 @@ fn snap(alloc: Global, roots: &mut Vec<HostRoot>, at: &Place, name: &Text) -> Re
 {
     let root = root_at(alloc, roots, at)?;
     let snapshots = root.more_snapshots(alloc, name)?;
-    put(roots, root.with_snapshots(snapshots))
+    put_root(roots, root.with_snapshots(snapshots))
 }
 
 fn unsnap(alloc: Global, roots: &mut Vec<HostRoot>, at: &Place, name: &Text) -> Result<(), NoMemory>
@@ -164,7 +164,7 @@ fn unsnap(alloc: Global, roots: &mut Vec<HostRoot>, at: &Place, name: &Text) -> 
 {
     let root = root_at(alloc, roots, at)?;
     let snapshots = root.fewer_snapshots(alloc, name)?;
-    put(roots, root.with_snapshots(snapshots))
+    put_root(roots, root.with_snapshots(snapshots))
 }
 
 fn restore(
@@ -179,7 +179,7 @@ fn restore(
 {
     let root = root_at(alloc, roots, at)?;
     let content = root.restored_content(alloc, name)?;
-    put(roots, root.with_content(content))
+    put_root(roots, root.with_content(content))
 }
 
 /// The content of a root, or of its named snapshot.
@@ -220,7 +220,7 @@ fn place_of(roots: &[HostRoot], at: &Place) -> Option<usize>
 }
 
 /// Puts a root in place of the one at its place, or at the end.
-fn put(roots: &mut Vec<HostRoot>, root: HostRoot) -> Result<(), NoMemory>
+fn put_root(roots: &mut Vec<HostRoot>, root: HostRoot) -> Result<(), NoMemory>
     ensures ok { OnOk result (roots.new.items ≡ with_root root roots.old.items) }
     ensures err { OnErr result (roots.new.items ≡ roots.old.items) }
 {

@@ -32,7 +32,7 @@ pub(crate) fn place_of(of: &Target) -> Place<'_>
 }
 
 /// The place under another name.
-pub(crate) fn with_name<'x>(of: Place<'x>, name: &'x str) -> Place<'x>
+pub(crate) fn place_with_name<'x>(of: Place<'x>, name: &'x str) -> Place<'x>
     ensures { target_at result ≡ record (target_at of.entry) { name = name.now } }
 {
     Place {
@@ -44,7 +44,7 @@ pub(crate) fn with_name<'x>(of: Place<'x>, name: &'x str) -> Place<'x>
 }
 
 /// The place under another name, in another pool.
-pub(crate) fn with_pool_and_name<'x>(of: Place<'x>, pool: &'x str, name: &'x str) -> Place<'x>
+pub(crate) fn place_in_pool<'x>(of: Place<'x>, pool: &'x str, name: &'x str) -> Place<'x>
     ensures { target_at result ≡ record (target_at of.entry) { name = name.now; pool = pool.now } }
 {
     Place {

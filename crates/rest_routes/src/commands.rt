@@ -4,13 +4,13 @@ ghost use Rattle.serde_json.specs.View.{view};
 ghost use Rattle.rest_paths.specs.Answers.{Gives};
 ghost use Rattle.rest_routes.specs.Commands.{sent_body, what_of, command_at, command_of};
 
-use crate::with_body::what_sent;
-use crate::without_body::what_read;
+use crate::with_body::what_with_body;
+use crate::without_body::what_without_body;
 use http_heads::Request;
 use records::{Command, Refusal, Rule, What};
 use rest_bodies::object_in;
 use rest_paths::{
-    PathTable, Place, Query, Verb, has_body, path_of, plain_refusal, project_of, query_of, query_said,
+    PathTable, Place, Query, Verb, has_body, path_of, plain_refusal, project_of, query_of, query_from_text,
     verb_offered,
 };
 use serde_json::Value;
@@ -39,9 +39,9 @@ fn what_of(
     ensures { Gives result (what_of place verb path.now query.now boot (option_map view sent.now)) }
 {
     if has_body(verb) {
-        return what_sent(alloc, place, verb, path, sent);
+        return what_with_body(alloc, place, verb, path, sent);
     }
-    what_read(alloc, place, verb, path, query, boot)
+    what_without_body(alloc, place, verb, path, query, boot)
 }
 
 /// The command that a method, a target and a body ask for at a place.
@@ -56,7 +56,7 @@ fn command_at(
 ) -> Result<Command, Or<Refusal>>
     ensures { Gives result (command_at place verb target.now (option_map view sent.now) boot) }
 {
-    let query = query_said(alloc, query_of(target))?;
+    let query = query_from_text(alloc, query_of(target))?;
     let path = path_of(target);
     let what = what_of(alloc, place, verb, path, &query, boot, sent)?;
     match project_of(alloc, query) {

@@ -2,7 +2,7 @@ use Rattle.std.proofs.Common.{rules, of_calls}
 use Rattle.std.proofs.lemmas.Fn.{always_returns_same}
 use Rattle.record_keeper.specs.Entries.{seen_from}
 use Rattle.record_keeper.proofs.Ordered.{found}
-use Rattle.record_keeper.proofs.places.find.Goals as goal
+use Rattle.record_keeper.proofs.places.entry_index.Goals as goal
 
 pub returns : goal.returns
 returns c =
