@@ -7,8 +7,8 @@ ghost use Rattle.opening_rules.specs.Rules.{row_rule};
 
 use crate::breach::{Breach, broken_at};
 use crate::counting::uncountable;
-use crate::links::{root_disk_missing, named_row_missing};
-use crate::places::{home_missing, parent_row_missing, profiles_malformed, defaults_missing};
+use crate::links::{named_row_missing, root_disk_missing};
+use crate::places::{defaults_missing, home_missing, parent_row_missing, profiles_malformed};
 use crate::policies::forbidden;
 use crate::settings::{devices_invalid, settings_invalid};
 use records::{Row, Rule};

@@ -6,7 +6,7 @@ ghost use Rattle.rest_bodies.specs.Fields.{judged_fields, body_fault};
 use crate::actions::action_in;
 use crate::drivers::driver_in;
 use crate::instances::{is_false, is_restoration, kind_in, source_fault};
-use crate::members::{non_null_member, is_word};
+use crate::members::{is_word, non_null_member};
 use crate::origins::fits_source;
 use crate::profiles::fits_profiles;
 use crate::settings::{fits_devices, fits_settings};

@@ -5,7 +5,7 @@ ghost use Rattle.rest_bodies.specs.Instances.{needed_fault, named_fault, image_f
 ghost use Rattle.rest_bodies.specs.Instances.{image_name, instance_made, instance_origin, restore_at};
 
 use crate::copies::copied_fault;
-use crate::members::{non_null_member, is_word, str_at, text_at};
+use crate::members::{is_word, non_null_member, str_at, text_at};
 use crate::origins::has_word;
 use records::Origin;
 use serde_json::Value;

@@ -3,7 +3,7 @@ ghost use Rattle.serde_json.specs.View.{view};
 ghost use Rattle.rest_bodies.specs.Origins.{may_be_text, has_word, is_copy_source, asks_for_copy, fits_source};
 ghost use Rattle.rest_bodies.specs.Origins.{source_pool, volume_copied, volume_origin};
 
-use crate::members::{non_null_member, is_word, name_at, str_at};
+use crate::members::{is_word, name_at, non_null_member, str_at};
 use records::Origin;
 use serde_json::Value;
 use size_values::{NoMemory, Text};

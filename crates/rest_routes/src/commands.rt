@@ -10,8 +10,8 @@ use http_heads::Request;
 use records::{Command, Refusal, Rule, What};
 use rest_bodies::object_in;
 use rest_paths::{
-    PathTable, Place, Query, Verb, has_body, path_of, plain_refusal, project_of, query_of, query_from_text,
-    verb_offered,
+    PathTable, Place, Query, Verb, has_body, path_of, plain_refusal, project_of, query_from_text,
+    query_of, verb_offered,
 };
 use serde_json::Value;
 use size_values::{NoMemory, Or};

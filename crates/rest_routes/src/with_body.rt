@@ -6,7 +6,7 @@ ghost use Rattle.rest_routes.specs.WithBody.{creation_from_body, snapshot_to_res
 ghost use Rattle.rest_routes.specs.WithBody.{what_from_body, what_with_body};
 
 use crate::shapes::shape_of;
-use crate::targets::{target_at_path, object_of};
+use crate::targets::{object_of, target_at_path};
 use records::{Refusal, Rule, Target, What};
 use rest_bodies::{Shape, action_at, body_of, judge_fields, name_at, restore_at};
 use rest_paths::{Place, Verb, plain_refusal, pool_of, refusal_on_key};

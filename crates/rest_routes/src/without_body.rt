@@ -5,7 +5,7 @@ ghost use Rattle.rest_routes.specs.WithoutBody.{get_or_delete, get_or_cancel, ge
 
 use crate::targets::{object_of, objects_of, operation_at};
 use records::{Refusal, Rule, Target, What};
-use rest_paths::{Place, Query, Verb, plain_refusal, wants_objects, wait_timeout};
+use rest_paths::{Place, Query, Verb, plain_refusal, wait_timeout, wants_objects};
 use size_values::{ObjectKind, Or};
 use std::alloc::Global;
 

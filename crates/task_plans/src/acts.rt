@@ -6,9 +6,9 @@ ghost use Rattle.row_machine.specs.machine.HostCalls.{spec_of, act_calls};
 ghost use Rattle.row_machine.specs.machine.Tasks.{act_task};
 
 use crate::calls::{one_call, spec_of};
-use crate::works::{project_and_target, plain_task};
+use crate::works::{plain_task, project_and_target};
 use host_model::{HostCall, Place};
-use instance_tasks::{zip_or_drop, place_of, push_clear};
+use instance_tasks::{place_of, push_clear, zip_or_drop};
 use records::{Instance, Target};
 use row_machine::Work;
 use row_readings::View;

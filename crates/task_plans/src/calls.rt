@@ -5,7 +5,7 @@ ghost use Rattle.row_machine.specs.machine.Expansions.{expanded_of};
 ghost use Rattle.row_machine.specs.machine.HostCalls.{place_of, spec_of};
 
 use host_model::{HostCall, Place, Spec};
-use instance_tasks::{zip_or_drop, place_of};
+use instance_tasks::{place_of, zip_or_drop};
 use records::{Instance, Target};
 use row_readings::View;
 use size_values::{NoMemory, Seq, Text};

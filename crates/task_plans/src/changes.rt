@@ -8,7 +8,7 @@ ghost use Rattle.task_plans.specs.Begun.{task_in};
 use crate::calls::{apply_calls, rename_calls, restore_calls};
 use crate::finds::instance_at;
 use crate::rows::{put_instance, renamed_instance, restored_instance};
-use crate::works::{target_and_replaced, replacing_task};
+use crate::works::{replacing_task, target_and_replaced};
 use instance_tasks::zip_or_drop;
 use records::{Body, Instance, Snapshot, Target};
 use row_machine::Work;

@@ -6,7 +6,7 @@ ghost use Rattle.task_plans.specs.Begun.{task_in};
 
 use crate::calls::{clear_calls, unsnap_calls};
 use crate::finds::{instance_at, snapshot_at};
-use crate::works::{project_and_target, plain_task};
+use crate::works::{plain_task, project_and_target};
 use instance_tasks::zip_or_drop;
 use records::Target;
 use row_machine::Work;

@@ -3,7 +3,7 @@ ghost use Rattle.std.specs.Prelude.{◌≡◌, IfOk, [], unwrap_or};
 ghost use Rattle.row_machine.specs.machine.NewRows.{new_config, new_devices, put_instance, restored_instance};
 
 use config_lists::{Config, Devices};
-use instance_tasks::{zip_or_drop, copy_texts};
+use instance_tasks::{copy_texts, zip_or_drop};
 use new_rows::{new_config, new_description, new_devices};
 use records::{Body, Instance, Snapshot};
 use size_values::{NoMemory, Seq, Text};

@@ -11,7 +11,7 @@ ghost use Rattle.row_machine.specs.machine.Tasks.{plain_task, volume_copy};
 ghost use Rattle.task_plans.specs.Begun.{task_in};
 
 use host_model::{HostCall, Place};
-use instance_tasks::{zip_or_drop, copy_calls};
+use instance_tasks::{copy_calls, zip_or_drop};
 use new_rows::{new_description, patched_config};
 use records::{Body, Origin, Row, Target, Volume};
 use row_machine::Work;

@@ -77,11 +77,11 @@ if_so breaks rule = if breaks then Some rule else None
 
 -- a row's project is missing, or is not its own home for rows of this kind
 abbrev pub home_missing : State → Row → Option Rule
-home_missing s r = if_so (is_homeless (target_of r).kind) rule.N1 where
-  is_homeless : ObjectKind → Bool
-  is_homeless kind.Project = false
-  is_homeless kind.Pool = false
-  is_homeless kind =
+home_missing s r = if_so (lacks_home (target_of r).kind) rule.N1 where
+  lacks_home : ObjectKind → Bool
+  lacks_home kind.Project = false
+  lacks_home kind.Pool = false
+  lacks_home kind =
       is_none (project_named s.projects (project_of_row r))
       || not (bytes_eq (home_of s.projects (project_of_row r) kind) (project_of_row r))
 
