@@ -54,7 +54,12 @@ fn clear(roots: &mut Vec<HostRoot>, at: &Place)
 }
 
 /// Puts a stopped root with this content, nothing applied and no snapshots.
-fn put_new_root(alloc: Global, roots: &mut Vec<HostRoot>, at: &Place, content: Text) -> Result<(), NoMemory>
+fn put_new_root(
+    alloc: Global,
+    roots: &mut Vec<HostRoot>,
+    at: &Place,
+    content: Text,
+) -> Result<(), NoMemory>
     ensures ok { OnOk result (roots.new.items ≡ with_root (new_root at.now content) roots.old.items) }
     ensures err { OnErr result (roots.new.items ≡ roots.old.items) }
 {

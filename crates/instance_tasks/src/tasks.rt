@@ -55,7 +55,12 @@ fn begun_with(
 }
 
 /// What makes a new instance of an image, or an empty one.
-fn begin_from_image(alloc: Global, project: &Text, of: &Target, image: &str) -> Result<Begun, NoMemory>
+fn begin_from_image(
+    alloc: Global,
+    project: &Text,
+    of: &Target,
+    image: &str,
+) -> Result<Begun, NoMemory>
     ensures { IfOk result (λ b. b
         ≡ record {
           project = project.now;

@@ -27,7 +27,12 @@ fn name_malformed(alloc: Global, of: Place<'_>) -> Result<(), Or<Refusal>>
 }
 
 /// N4: there is an object of the name.
-fn name_taken(alloc: Global, view: &View<'_>, project: &str, of: Place<'_>) -> Result<(), Or<Refusal>>
+fn name_taken(
+    alloc: Global,
+    view: &View<'_>,
+    project: &str,
+    of: Place<'_>,
+) -> Result<(), Or<Refusal>>
     ensures { Says result (name_taken view.now project.now (target_at of.entry)) }
 {
     if !is_there(view, project, of) {
@@ -74,14 +79,23 @@ fn claims_object(home: &str, of: Place<'_>, work: &Work) -> bool
     }
 }
 
-fn claiming_operation<'x>(live: &'x [Operation<Work>], home: &str, of: Place<'_>) -> Option<&'x Operation<Work>>
+fn claiming_operation<'x>(
+    live: &'x [Operation<Work>],
+    home: &str,
+    of: Place<'_>,
+) -> Option<&'x Operation<Work>>
     ensures { option_copied result ≡ find (λ o. claims_object home.now (target_at of.entry) o.work) live.now }
 {
     live.iter().find(|o| claims_object(home, of, &o.work))
 }
 
 /// N5: a live operation would put an object of the name.
-fn name_held(alloc: Global, view: &View<'_>, project: &str, of: Place<'_>) -> Result<(), Or<Refusal>>
+fn name_held(
+    alloc: Global,
+    view: &View<'_>,
+    project: &str,
+    of: Place<'_>,
+) -> Result<(), Or<Refusal>>
     ensures { Says result (name_held view.now project.now (target_at of.entry)) }
 {
     let home = home_of(view.projects, project, of.kind);

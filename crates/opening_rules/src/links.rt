@@ -57,7 +57,11 @@ fn instance_rootless(
 }
 
 /// A row is an instance that has not exactly one root disk.
-pub(crate) fn root_disk_missing(alloc: Global, view: &View<'_>, row: &Row) -> Result<Option<Rule>, NoMemory>
+pub(crate) fn root_disk_missing(
+    alloc: Global,
+    view: &View<'_>,
+    row: &Row,
+) -> Result<Option<Rule>, NoMemory>
     ensures { IfOk result (λ found. found ≡ root_disk_missing view.now row.now) }
 {
     match row {
@@ -194,7 +198,11 @@ fn instance_unlinked(
 }
 
 /// What a profile or an instance names is missing.
-pub(crate) fn named_row_missing(alloc: Global, view: &View<'_>, row: &Row) -> Result<Option<Rule>, NoMemory>
+pub(crate) fn named_row_missing(
+    alloc: Global,
+    view: &View<'_>,
+    row: &Row,
+) -> Result<Option<Rule>, NoMemory>
     ensures { IfOk result (λ found. found ≡ named_row_missing view.now row.now) }
 {
     match row {

@@ -53,7 +53,12 @@ impl<'a> Restricted<'a> {
     }
 
     /// The first thing that the policy forbids of settings and devices.
-    fn first_forbidden(&self, subject: Subject, config: &Config, devices: &Devices) -> Option<Forbidden>
+    fn first_forbidden(
+        &self,
+        subject: Subject,
+        config: &Config,
+        devices: &Devices,
+    ) -> Option<Forbidden>
         ensures { result ≡ forbidden_first (policy_of self.now.config) subject config.now devices.now }
     {
         first_forbidden(&self.policy, subject, config, devices)

@@ -50,7 +50,9 @@ pub fn asks_for_copy(body: &Value) -> bool
 pub(crate) fn fits_source(source: &Value) -> bool
     ensures { result ≡ fits_source (view source.now) }
 {
-    is_copy_source(source) && str_at("name", source).is_some() && may_be_text(non_null_member("pool", source))
+    is_copy_source(source)
+        && str_at("name", source).is_some()
+        && may_be_text(non_null_member("pool", source))
 }
 
 /// The pool that a source names. Only where it names none, not where its text is empty, the path's pool is meant.

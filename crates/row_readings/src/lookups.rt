@@ -100,7 +100,10 @@ pub fn power_of(view: &View<'_>, project: &str, name: &str) -> Option<Power>
     }
 }
 
-fn operation_numbered<'x>(operations: &'x [Operation<Work>], number: u64) -> Option<&'x Operation<Work>>
+fn operation_numbered<'x>(
+    operations: &'x [Operation<Work>],
+    number: u64,
+) -> Option<&'x Operation<Work>>
     ensures { option_copied result ≡ find (has_number number) operations.now }
 {
     operations.iter().find(|o| o.number == number)

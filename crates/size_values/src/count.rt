@@ -21,7 +21,12 @@ pub fn count_in(text: &[u8], least: u64, most: u64) -> Result<u64, ValueFault>
 }
 
 /// The same of the bytes of a text and of the number at their front.
-pub fn count_from_number(text: &[u8], number: Number, least: u64, most: u64) -> Result<u64, ValueFault>
+pub fn count_from_number(
+    text: &[u8],
+    number: Number,
+    least: u64,
+    most: u64,
+) -> Result<u64, ValueFault>
     requires { number ≡ number_at text.now }
     ensures count { result ≡ count_of text.now least most }
     ensures within { IfOk result (λ n. (least ≤ n) × (n ≤ most)) }

@@ -60,7 +60,12 @@ fn busy_with<'x>(
 
 /// An instance is busy.
 #[tactic(auto, unfolding(row_machine::specs::machine::Holders::busy_with))]
-fn named_instance_busy(alloc: Global, view: &View<'_>, project: &str, name: &str) -> Result<(), Or<Refusal>>
+fn named_instance_busy(
+    alloc: Global,
+    view: &View<'_>,
+    project: &str,
+    name: &str,
+) -> Result<(), Or<Refusal>>
     ensures { Says result (named_instance_busy view.now project.now name.now) }
 {
     let Some(operation) = busy_with(view.live, project, name) else {

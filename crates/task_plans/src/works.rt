@@ -11,7 +11,11 @@ use size_values::{Deed, NoMemory, Seq, Text};
 use std::alloc::Global;
 
 /// What an operation is about: its project and its object.
-pub(crate) fn project_and_target(alloc: Global, project: &Text, of: &Target) -> Result<(Text, Target), NoMemory>
+pub(crate) fn project_and_target(
+    alloc: Global,
+    project: &Text,
+    of: &Target,
+) -> Result<(Text, Target), NoMemory>
     ensures { IfOk result (λ a. a ≡ (project.now, of.now)) }
 {
     zip_or_drop(project.copy(alloc), of.copy(alloc))
