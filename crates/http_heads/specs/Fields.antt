@@ -44,7 +44,8 @@ framing fields =
 
 -- one of the parts between commas is the word, in any ASCII case and without the blanks and tabs at its ends
 unfoldable pub lists_word : List ℕ → List ℕ → Bool
-lists_word word value = list_any (λ part. str_eq_ignore_ascii_case (trim_ows part) word) (slice_split (λ b. b == 44) value)
+lists_word word value =
+    list_any (λ part. str_eq_ignore_ascii_case (trim_ows part) word) (slice_split (λ b. b == 44) value)
 
 -- some header of this name lists the word
 abbrev pub some_lists : List ℕ → List ℕ → List (List ℕ × List ℕ) → Bool

@@ -3,7 +3,8 @@ ghost use Rattle.std.specs.List.{list_all};
 ghost use Rattle.std.specs.Option.{option_copied, option_and_then};
 ghost use Rattle.std.specs.Char.{is_ascii_digit};
 ghost use Rattle.std.specs.Str.Parse.{digits_value};
-ghost use Rattle.instance_states.specs.Numbers.{unseen, is_number, number_of, text_between, greater_number, seen, next_name};
+ghost use Rattle.instance_states.specs.Numbers.{unseen, is_number, number_of, text_between, greater_number, seen};
+ghost use Rattle.instance_states.specs.Numbers.{next_name};
 
 use size_values::{NoMemory, Text};
 use std::alloc::Global;

@@ -34,7 +34,9 @@ pub fn plan_of(deed: Deed) -> Plan
     ensures undo { result.undo ≡ undo_of deed }
 {
     match deed {
-        Deed::Create => cancellable_plan(CallName::Clear, Some(CallName::MakeRoot), CallName::Clear),
+        Deed::Create => {
+            cancellable_plan(CallName::Clear, Some(CallName::MakeRoot), CallName::Clear)
+        }
         Deed::Copy | Deed::CopyVolume => cancellable_plan(
             CallName::Clear,
             Some(CallName::CopyRoot),

@@ -3,7 +3,8 @@ ghost use Rattle.std.specs.Prelude.{◌≡◌, find};
 ghost use Rattle.std.specs.Option.{option_copied};
 ghost use Rattle.size_values.specs.Causes.{Says};
 ghost use Rattle.row_machine.specs.shown.Links.{target_of};
-ghost use Rattle.row_machine.specs.machine.NameRules.{name_malformed, name_taken, same_target, claims_object, name_held, name_broken};
+ghost use Rattle.row_machine.specs.machine.NameRules.{name_malformed, name_taken, same_target, claims_object};
+ghost use Rattle.row_machine.specs.machine.NameRules.{name_held, name_broken};
 ghost use Rattle.name_rules.specs.Pointed.{target_at, has_names};
 
 use crate::places::{Place, is_there};

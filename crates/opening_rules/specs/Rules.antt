@@ -23,8 +23,10 @@ use Rattle.row_machine.specs.machine.PolicyRules.{policy_rule}
 use Rattle.row_machine.specs.machine.Rows.{default_name, profile_named}
 use Rattle.row_machine.specs.machine.SettingRules.{is_one, profile_missing, devices_miss, volume_missing}
 use Rattle.row_machine.specs.machine.State.{State}
-use Rattle.row_machine.specs.opening.Opening.{Opening, broken, has_all_features, home_missing, parent_row_missing, profiles_malformed}
-use Rattle.row_machine.specs.opening.Opening.{defaults_missing, settings_invalid, devices_invalid, root_disk_missing, named_row_missing, forbidden}
+use Rattle.row_machine.specs.opening.Opening.{Opening, broken, has_all_features, home_missing, parent_row_missing}
+use Rattle.row_machine.specs.opening.Opening.{profiles_malformed}
+use Rattle.row_machine.specs.opening.Opening.{defaults_missing, settings_invalid, devices_invalid, root_disk_missing}
+use Rattle.row_machine.specs.opening.Opening.{named_row_missing, forbidden}
 use Rattle.row_machine.specs.opening.Opening.{uncountable}
 use Rattle.opening_rules.specs.declared.rules.RowRule.{RowRule}
 use Rattle.opening_rules.specs.declared.rules.RowRule.TheVariants as row_rule_of

@@ -6,7 +6,8 @@ ghost use Rattle.records.specs.Forms.{are_distinct, are_profiles};
 ghost use Rattle.row_machine.specs.machine.Homes.{home_of};
 ghost use Rattle.row_machine.specs.machine.Rows.{project_named};
 ghost use Rattle.row_machine.specs.machine.State.{State};
-ghost use Rattle.row_machine.specs.opening.Opening.{if_so, home_missing, parent_row_missing, profiles_malformed, defaults_missing};
+ghost use Rattle.row_machine.specs.opening.Opening.{if_so, home_missing, parent_row_missing, profiles_malformed};
+ghost use Rattle.row_machine.specs.opening.Opening.{defaults_missing};
 ghost use Rattle.row_machine.specs.opening.Opening.{has_all_features};
 ghost use Rattle.opening_rules.specs.Rules.{lacks_defaults};
 

@@ -79,7 +79,9 @@ image_name source = unwrap_or (text_at (codes "fingerprint") source) (unwrap_or 
 -- what a source that is no copy makes an instance from: an image, or nothing
 unfoldable pub instance_made : Data → Origin
 instance_made source =
-    if has_word (codes "image") (non_null_member (codes "type") source) then origin.Image (image_name source) else origin.None
+    if has_word (codes "image") (non_null_member (codes "type") source)
+    then origin.Image (image_name source)
+    else origin.None
 
 -- what a body that asks for no copy makes a new instance from
 unfoldable pub instance_origin : Data → Origin

@@ -1,6 +1,7 @@
 ghost use Rattle.std.specs.Prelude.{◌≡◌, option_map};
 ghost use Rattle.serde_json.specs.View.{view};
-ghost use Rattle.rest_bodies.specs.Fields.{fields_of, key_of, value_fits, value_fault, absent_fault, fault_of, first_fault};
+ghost use Rattle.rest_bodies.specs.Fields.{fields_of, key_of, value_fits, value_fault, absent_fault, fault_of};
+ghost use Rattle.rest_bodies.specs.Fields.{first_fault};
 ghost use Rattle.rest_bodies.specs.Fields.{judged_fields, body_fault};
 
 use crate::actions::action_in;

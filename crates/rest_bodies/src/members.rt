@@ -1,6 +1,7 @@
 ghost use Rattle.std.specs.Prelude.{◌≡◌, IfOk, option_map, unwrap_or};
 ghost use Rattle.serde_json.specs.View.{view};
-ghost use Rattle.rest_bodies.specs.Members.{json_in, if_object, object_in, if_given, non_null_member, text_at, is_word, name_at};
+ghost use Rattle.rest_bodies.specs.Members.{json_in, if_object, object_in, if_given, non_null_member, text_at, is_word};
+ghost use Rattle.rest_bodies.specs.Members.{name_at};
 
 use serde_json::Value;
 use size_values::{NoMemory, Text};

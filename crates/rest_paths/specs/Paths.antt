@@ -32,8 +32,8 @@ query_of target = after_first is_question_mark target
 unfoldable pub after_three_slashes : List ℕ → List ℕ
 after_three_slashes path = after_slash (after_slash (after_slash path))
 
--- the name of the object in a path `/1.0/profiles/NAME`, for volumes `/1.0/storage-pools/POOL/volumes/custom/NAME`, and for
--- snapshots `/1.0/instances/INSTANCE/snapshots/NAME`
+-- the name of the object in a path `/1.0/profiles/NAME`, for volumes `/1.0/storage-pools/POOL/volumes/custom/NAME`,
+-- and for snapshots `/1.0/instances/INSTANCE/snapshots/NAME`
 abbrev pub name_of : ObjectKind → List ℕ → List ℕ
 name_of kind.Volume path = before_slash (after_three_slashes (after_three_slashes path))
 name_of kind.Snapshot path = before_slash (after_slash (after_slash (after_three_slashes path)))

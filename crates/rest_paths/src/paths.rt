@@ -1,5 +1,6 @@
 ghost use Rattle.std.specs.Prelude.{◌≡◌};
-ghost use Rattle.rest_paths.specs.Paths.{before_slash, after_slash, after_three_slashes, path_of, query_of, name_of, pool_of, instance_of};
+ghost use Rattle.rest_paths.specs.Paths.{before_slash, after_slash, after_three_slashes, path_of, query_of, name_of};
+ghost use Rattle.rest_paths.specs.Paths.{pool_of, instance_of};
 
 use size_values::ObjectKind;
 

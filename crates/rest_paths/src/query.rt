@@ -1,8 +1,10 @@
 ghost use Rattle.std.specs.Prelude.{◌≡◌, ◌≤◌, IfOk, IfSome};
 ghost use Rattle.records.specs.Forms.{longest_wait};
 ghost use Rattle.rest_paths.specs.Answers.{Gives};
-ghost use Rattle.rest_paths.specs.Queries.{recursion_of, has_leading_zero, timeout_seconds, timeout_of, is_type, are_types};
-ghost use Rattle.rest_paths.specs.Queries.{no_query, flags_after, project_after, query_after, query_from_text, project_of};
+ghost use Rattle.rest_paths.specs.Queries.{recursion_of, has_leading_zero, timeout_seconds, timeout_of, is_type};
+ghost use Rattle.rest_paths.specs.Queries.{are_types};
+ghost use Rattle.rest_paths.specs.Queries.{no_query, flags_after, project_after, query_after, query_from_text};
+ghost use Rattle.rest_paths.specs.Queries.{project_of};
 ghost use Rattle.rest_paths.specs.Queries.{wants_objects, wait_timeout};
 
 use crate::refusals::refusal_on_key;

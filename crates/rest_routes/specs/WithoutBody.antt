@@ -40,5 +40,6 @@ what_without_body (place.List kind) verb path query boot = Ok (what.List (object
 what_without_body (place.One kind) verb path query boot = get_or_delete_at kind verb path boot
 what_without_body place.Usage verb path query boot = Ok (what.State (object_of kind.Project path))
 what_without_body place.State verb path query boot = Ok (what.State (object_of kind.Instance path))
-what_without_body place.Wait verb path query boot = mapped (λ op. what.Wait op (wait_timeout query)) (operation_at path boot)
+what_without_body place.Wait verb path query boot =
+    mapped (λ op. what.Wait op (wait_timeout query)) (operation_at path boot)
 what_without_body place.Events verb path query boot = Err (plain_refusal rule.A6)

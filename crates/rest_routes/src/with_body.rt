@@ -2,7 +2,8 @@
 ghost use Rattle.std.specs.Prelude.{◌≡◌, IfOk, option_map};
 ghost use Rattle.serde_json.specs.View.{view};
 ghost use Rattle.rest_paths.specs.Answers.{Gives};
-ghost use Rattle.rest_routes.specs.WithBody.{creation_from_body, snapshot_to_restore, put_from_body, change_from_body, action_from_body};
+ghost use Rattle.rest_routes.specs.WithBody.{creation_from_body, snapshot_to_restore, put_from_body, change_from_body};
+ghost use Rattle.rest_routes.specs.WithBody.{action_from_body};
 ghost use Rattle.rest_routes.specs.WithBody.{what_from_body, what_with_body};
 
 use crate::shapes::shape_of;
@@ -41,7 +42,8 @@ fn snapshot_to_restore(alloc: Global, shape: Shape, body: &Value) -> Result<Opti
 
 /// What PUT asks of an object: to be replaced, or to be taken back to a snapshot.
 fn put_from_body(alloc: Global, of: Target, shape: Shape, body: &Value) -> Result<What, NoMemory>
-    ensures { IfOk result (λ w. w ≡ put_from_body (snapshot_to_restore shape (view body.now)) of shape (view body.now)) }
+    ensures { IfOk result
+        (λ w. w ≡ put_from_body (snapshot_to_restore shape (view body.now)) of shape (view body.now)) }
 {
     if let Some(snapshot) = snapshot_to_restore(alloc, shape, body)? {
         return Ok(What::Restore { of, snapshot });

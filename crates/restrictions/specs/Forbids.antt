@@ -119,11 +119,13 @@ lowest (f ∷ fs) = earlier f (lowest fs)
 -- what settings break, each at its place
 unfoldable pub broken_settings : Restrictions → Subject → Settings → List (Option Forbidden)
 broken_settings policy subject config =
-    map (λ (s : ℕ × (List ℕ × List ℕ)). forbidden_at s.0 (setting_rule policy subject s.1.0 s.1.1)) (enumerate_from 0 config)
+    map (λ (s : ℕ × (List ℕ × List ℕ)). forbidden_at s.0 (setting_rule policy subject s.1.0 s.1.1))
+    (enumerate_from 0 config)
 
 -- a demanded key that is not set, after all settings
 unfoldable pub missing_setting : Restrictions → Subject → Settings → Option Forbidden
-missing_setting policy subject config = forbidden_at (length config) (missing_rule_in setting_lines policy subject config)
+missing_setting policy subject config =
+    forbidden_at (length config) (missing_rule_in setting_lines policy subject config)
 
 -- what devices break, each at its place
 unfoldable pub broken_devices : Restrictions → NamedDevices → List (Option Forbidden)

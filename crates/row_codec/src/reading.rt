@@ -2,7 +2,8 @@
 ghost use Rattle.std.specs.Prelude.{◌≡◌, length, IfOk, IfErr};
 ghost use Rattle.records.specs.declared.rows.Row.{Row};
 ghost use Rattle.row_codec.specs.Rows.{Spells};
-ghost use Rattle.row_codec.specs.Reading.{Gives, read_project, read_profile, read_network, read_pool, read_volume, read_instance};
+ghost use Rattle.row_codec.specs.Reading.{Gives, read_project, read_profile, read_network, read_pool, read_volume};
+ghost use Rattle.row_codec.specs.Reading.{read_instance};
 ghost use Rattle.row_codec.specs.Reading.{read_snapshot, row_at, row_of, damage_of};
 
 use crate::body_rows::{

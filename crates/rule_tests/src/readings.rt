@@ -53,8 +53,8 @@ fn add_profile(
     Ok(())
 }
 
-/// Adds profiles of the project `default`: one with a root disk of 1 GiB, one with a root disk without size, and one with a
-/// network device.
+/// Adds profiles of the project `default`: one with a root disk of 1 GiB, one with a root disk without size, and one
+/// with a network device.
 fn add_profiles(alloc: Global, profiles: &mut Vec<Profile>) -> Result<(), NoMemory> {
     let sized = [
         ("type", "disk"),

@@ -10,8 +10,8 @@ const A2: Want = Want::Refused(Rule::A2, "");
 
 const A6: Want = Want::Refused(Rule::A6, "");
 
-/// A path of each line of the table of routes, with the answers to GET, POST, PUT, PATCH and DELETE. A method that is not
-/// offered is A2.
+/// A path of each line of the table of routes, with the answers to GET, POST, PUT, PATCH and DELETE. A method that is
+/// not offered is A2.
 const PLACES: &[(&str, &[Want; 5])] = &[
     ("/", &[Want::Asked("root", "default", ""), A2, A2, A2, A2]),
     (

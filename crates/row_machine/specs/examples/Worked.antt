@@ -134,7 +134,10 @@ setting_of key value = (key, value) ∷ []
 -- a refusal by a limit of `lab`
 abbrev pub over_limit : Rule → List ℕ → ℕ → ℕ → ℕ → Refusal
 over_limit why key used asked limit =
-    record { rule = why; kept = record nothing_told { asked = asked; key = key; limit = limit; project = lab; used = used } }
+    record {
+      rule = why;
+      kept = record nothing_told { asked = asked; key = key; limit = limit; project = lab; used = used };
+    }
 
 -- two instances may be there: one is made, one is claimed by an operation that waits
 abbrev pub two_of_two : Events
@@ -442,7 +445,8 @@ snapshot_of_s =
 
 -- and a deletion is entered whose target is the snapshot `s` of `a`; no command makes such a one
 abbrev pub astray : Option State
-astray = option_map (λ before. entered before (deletion_task default (snapshot_target a s)) 0) (state_after snapshot_of_s)
+astray =
+    option_map (λ before. entered before (deletion_task default (snapshot_target a s)) 0) (state_after snapshot_of_s)
 
 -- the state after that deletion
 abbrev pub gone_astray : Option State

@@ -69,12 +69,19 @@ counts_broken s = first_of (project_uncounted s) s.projects
 abbrev pub over_refusal : Project → Over → Refusal
 over_refusal p o = record {
   rule = limit_rule o.key;
-  kept = record nothing_told { asked = o.asked; key = limit_text o.key; limit = o.limit; project = p.name; used = o.used };
+  kept = record nothing_told {
+    asked = o.asked;
+    key = limit_text o.key;
+    limit = o.limit;
+    project = p.name;
+    used = o.used;
+  };
 }
 
 -- Of one number: what is used before, and what the change asks for above it, together exceed the limit.
 abbrev pub limit_exceeded : Project → LimitKey → Option ℕ → ℕ → ℕ → Option Refusal
-limit_exceeded p key limit before after = option_map (over_refusal p) (over key limit before (amount_above after before))
+limit_exceeded p key limit before after =
+    option_map (over_refusal p) (over key limit before (amount_above after before))
 
 unfoldable pub part_exceeds : State → State → Part → Project → Option Refusal
 part_exceeds s after k p =

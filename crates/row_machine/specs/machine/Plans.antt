@@ -8,7 +8,8 @@ use Rattle.row_machine.specs.Estate.{Task, State, default_name, project_named, p
 use Rattle.row_machine.specs.Estate.{volume_named, instance_named, snapshot_named, home_of, is_on}
 use Rattle.row_machine.specs.Readings.{removal, rows_put, with_name}
 use Rattle.row_machine.specs.machine.NameRules.{volume_source}
-use Rattle.row_machine.specs.machine.Tasks.{creation_task, copy, volume_copy, snapshot_creation, update_task, restore_task, rename_task}
+use Rattle.row_machine.specs.machine.Tasks.{creation_task, copy, volume_copy, snapshot_creation, update_task}
+use Rattle.row_machine.specs.machine.Tasks.{restore_task, rename_task}
 use Rattle.row_machine.specs.machine.Tasks.{deletion_task, snapshot_deletion, act_task}
 use Rattle.row_machine.specs.machine.NewRows as new
 
