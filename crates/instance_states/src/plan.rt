@@ -28,15 +28,17 @@ pub struct Plan {
     pub undo: Option<CallName>,
 }
 
-/// The plan of a deed.
+/// What a deed calls on the host, and the call that takes it back where the deed may be cancelled.
 pub fn plan_of(deed: Deed) -> Plan
     ensures calls { calls_in result ≡ calls_of deed }
     ensures undo { result.undo ≡ undo_of deed }
 {
     match deed {
-        Deed::Create => {
-            cancellable_plan(CallName::Clear, Some(CallName::MakeRoot), CallName::Clear)
-        }
+        Deed::Create => cancellable_plan(
+            CallName::Clear,
+            Some(CallName::MakeRoot),
+            CallName::Clear,
+        ),
         Deed::Copy | Deed::CopyVolume => cancellable_plan(
             CallName::Clear,
             Some(CallName::CopyRoot),

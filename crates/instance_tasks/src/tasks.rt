@@ -162,7 +162,6 @@ fn snapshot_target(alloc: Global, instance: &Text, name: &Text) -> Result<Target
     })
 }
 
-/// A copy of an instance.
 fn instance_copy(
     alloc: Global,
     project: &Text,

@@ -19,7 +19,6 @@ pub(crate) struct Place<'a> {
     pub(crate) name: &'a str,
 }
 
-/// The place of a target.
 pub(crate) fn place_of(of: &Target) -> Place<'_>
     ensures { target_at result ≡ of.now }
 {

@@ -44,7 +44,7 @@ impl Object {
         Ok(())
     }
 
-    /// Puts a text.
+    /// Puts a member whose value is a JSON string.
     pub fn put_text(&mut self, key: &str, text: &str) -> Result<(), NoMemory>
         ensures { OnOk result (members_in self.new ≡ put key.now (string text.now) (members_in self.old)) }
     {

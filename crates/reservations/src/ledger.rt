@@ -133,7 +133,7 @@ impl Ledger {
         share_in(&self.holds, op)
     }
 
-    /// The books.
+    /// The sums of all shares that were ever granted, converted and returned.
     pub fn books(&self) -> Books
         ensures books { result ≡ self.now.books }
         ensures facts { AreHoldings self.now }

@@ -110,7 +110,7 @@ fn part_at(text: &[u8], at: usize) -> Result<Part, Stray>
 }
 
 impl Unit {
-    /// The unit of a letter.
+    /// `M` and `m` differ: minutes and months.
     fn of(letter: u8) -> Option<Unit>
         ensures some { IfSome result (λ unit. letter_of unit ≡ letter) }
         ensures none { IfNone result (is_unit letter ≡ false) }

@@ -28,7 +28,6 @@ pub fn read_truth(text: &str) -> Result<bool, ValueFault>
     truth_named(text).ok_or(ValueFault::OutOfRange)
 }
 
-/// The truth that the text names, if it names one.
 fn truth_named(text: &str) -> Option<bool>
     ensures { result ≡ truth_named text.now }
 {

@@ -58,7 +58,7 @@ fn busy_with<'x>(
     live.iter().find(|o| keeps_busy(project, instance, &o.work))
 }
 
-/// An instance is busy.
+/// B1: a live operation keeps the instance of this name busy.
 #[tactic(auto, unfolding(row_machine::specs::machine::Holders::busy_with))]
 fn named_instance_busy(
     alloc: Global,

@@ -133,11 +133,10 @@ setting_of key value = (key, value) ∷ []
 
 -- a refusal by a limit of `lab`
 abbrev pub over_limit : Rule → List ℕ → ℕ → ℕ → ℕ → Refusal
-over_limit why key used asked limit =
-    record {
-      rule = why;
-      kept = record nothing_told { asked = asked; key = key; limit = limit; project = lab; used = used };
-    }
+over_limit why key used asked limit = record {
+  rule = why;
+  kept = record nothing_told { asked = asked; key = key; limit = limit; project = lab; used = used };
+}
 
 -- two instances may be there: one is made, one is claimed by an operation that waits
 abbrev pub two_of_two : Events

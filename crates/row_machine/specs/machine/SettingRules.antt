@@ -37,11 +37,10 @@ faulty_key settings other = []
 abbrev pub setting_refusal : Settings → NamedDevices → SettingFault → Refusal
 setting_refusal config devices (fault.Unknown place) =
     record { rule = rule.V1; kept = record nothing_told { key = text_at (keys_of config) place } }
-setting_refusal config devices (fault.Bad place why) =
-    record {
-      rule = rule.V2;
-      kept = record nothing_told { key = text_at (keys_of config) place; number = fault_number why };
-    }
+setting_refusal config devices (fault.Bad place why) = record {
+  rule = rule.V2;
+  kept = record nothing_told { key = text_at (keys_of config) place; number = fault_number why };
+}
 setting_refusal config devices (fault.Device place why) = record {
   rule = rule.V3;
   kept = record nothing_told {
