@@ -45,7 +45,7 @@ fn clear(roots: &mut Vec<HostRoot>, at: &Place)
     ensures items { roots.new.items ≡ without_root at.now roots.old.items }
     ensures room { vec_capacity roots.old - vec_len roots.old ≤ vec_capacity roots.new - vec_len roots.new }
 {
-    match place_of(roots, at) {
+    match index_of(roots, at) {
         Some(place) => {
             roots.remove(place);
         }
@@ -218,7 +218,7 @@ fn find_root<'x>(roots: &'x [HostRoot], at: &Place) -> Option<&'x HostRoot>
     roots.iter().find(|root| root.place.is(at))
 }
 
-fn place_of(roots: &[HostRoot], at: &Place) -> Option<usize>
+fn index_of(roots: &[HostRoot], at: &Place) -> Option<usize>
     ensures { result ≡ position (is_at at.now) roots.now }
 {
     roots.iter().position(|root| root.place.is(at))
@@ -239,7 +239,7 @@ fn put_reserved(roots: &mut Vec<HostRoot>, root: HostRoot)
     requires { vec_len roots.old < vec_capacity roots.old }
     ensures { roots.new.items ≡ with_root root roots.old.items }
 {
-    match place_of(roots, &root.place) {
+    match index_of(roots, &root.place) {
         Some(place) => roots[place] = root,
         None => push_reserved(roots, root),
     }

@@ -75,7 +75,7 @@ impl Object {
         self.with(key, Value::from(number))
     }
 
-    /// The object with a truth more.
+    /// The object with one more member, which is `true` or `false`.
     pub fn with_truth(self, key: &str, truth: bool) -> Result<Object, NoMemory>
         ensures { IfOk result (λ o. members_in o ≡ put key.now (boolean truth) (members_in self)) }
     {

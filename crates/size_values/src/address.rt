@@ -58,7 +58,7 @@ fn cidr_in(text: &[u8]) -> Result<(u32, u8), ValueFault>
         return Err(ValueFault::Empty);
     }
     let quad = read_quad(text)?;
-    let bits = number_behind(text, quad.end, b'/', 8, 30)?;
+    let bits = number_after(text, quad.end, b'/', 8, 30)?;
     if bits.end < text.len() {
         return Err(ValueFault::BadByte(bits.end as u64));
     }
@@ -71,9 +71,9 @@ fn read_quad(text: &[u8]) -> Result<Quad, Stray>
     ensures err { IfErr result (λ stray. IsAstray text.now stray.place) }
 {
     let first = number_from(text, 0, 0, 255).ok_or(Stray { place: 0 })?;
-    let second = number_behind(text, first.end, b'.', 0, 255)?;
-    let third = number_behind(text, second.end, b'.', 0, 255)?;
-    let fourth = number_behind(text, third.end, b'.', 0, 255)?;
+    let second = number_after(text, first.end, b'.', 0, 255)?;
+    let third = number_after(text, second.end, b'.', 0, 255)?;
+    let fourth = number_after(text, third.end, b'.', 0, 255)?;
     Ok(Quad {
         end: fourth.end,
         address: quad_value(first.value, second.value, third.value, fourth.value),
@@ -93,7 +93,7 @@ fn quad_value(
 }
 
 /// The number that follows the separator at the place, or the place at which the text leaves that form.
-fn number_behind(
+fn number_after(
     text: &[u8],
     at: usize,
     separator: u8,

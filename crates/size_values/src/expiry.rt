@@ -67,14 +67,14 @@ fn expiry_in(text: &[u8]) -> Result<Expiry, ValueFault>
         expiry: Expiry::NONE.with_part(first),
     };
     while front.end < text.len() {
-        let part = part_behind_space(text, front.end)?;
+        let part = part_after_space(text, front.end)?;
         front = front.with_part(part);
     }
     front.expiry.ok_or(ValueFault::OutOfRange)
 }
 
 /// The part that follows a space at the place, or the place at which the text leaves that form.
-fn part_behind_space(text: &[u8], at: usize) -> Result<Part, Stray>
+fn part_after_space(text: &[u8], at: usize) -> Result<Part, Stray>
     requires { at < length text.now }
     ensures ok { IfOk result (FollowsSpace text.now at) }
     ensures err { IfErr result (λ stray. MissesSpace text.now at stray.place) }

@@ -17,7 +17,7 @@ const TRUTHS: [(&str, bool); 8] = [
     ("off", false),
 ];
 
-/// Reads a truth: `true`, `1`, `yes` or `on`, and `false`, `0`, `no` or `off`, in any ASCII case, as the Incus
+/// Parses a boolean: `true`, `1`, `yes` or `on`, and `false`, `0`, `no` or `off`, in any ASCII case, as the Incus
 /// documentation lists them for options of type bool.
 pub fn read_truth(text: &str) -> Result<bool, ValueFault>
     ensures { result ≡ truth_of text.now }

@@ -1,6 +1,6 @@
 use Rattle.std.proofs.Common.{◌<◌, ◌∙◌, length, arith}
 use Rattle.http_heads.proofs.SearchLemmas.{same_here, same_further, blank_at_end, begins_here, GoesOn-further}
-use Rattle.http_heads.proofs.search.end_behind_blank.Goals as goal
+use Rattle.http_heads.proofs.search.end_after_blank.Goals as goal
 
 pub returns-then-begins-bytes : goal.returns-then-begins-bytes
 returns-then-begins-bytes c = (
