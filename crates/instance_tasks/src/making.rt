@@ -163,8 +163,10 @@ fn copied_parts(alloc: Global, body: &Body, source: &Source) -> Result<Parts, No
         patched_config(source.config, body),
         patched_devices(source.devices, body),
     );
-    let (profiles, settings) =
-        zip_or_drop(copied_profiles(alloc, body, source.profiles), settings)?;
+    let (profiles, settings) = zip_or_drop(
+        copied_profiles(alloc, body, source.profiles),
+        settings,
+    )?;
     Ok(Parts {
         profiles,
         config: settings.0,

@@ -31,7 +31,7 @@ pub(crate) fn place_of(of: &Target) -> Place<'_>
 }
 
 /// The place under another name.
-pub(crate) fn place_with_name<'x>(of: Place<'x>, name: &'x str) -> Place<'x>
+pub(crate) fn named_place<'x>(of: Place<'x>, name: &'x str) -> Place<'x>
     ensures { target_at result ≡ record (target_at of.entry) { name = name.now } }
 {
     Place {
