@@ -12,7 +12,9 @@ ghost use Rattle.row_machine.specs.opening.Opening.{has_all_features};
 ghost use Rattle.opening_rules.specs.Rules.{lacks_defaults};
 
 use records::{Project, Row, Rule};
-use row_readings::{View, home_of, instance_named, is_on, pool_named, profile_named, project_named};
+use row_readings::{
+    View, home_of, instance_named, is_on, pool_named, profile_named, project_named,
+};
 use size_values::{ObjectKind, Text};
 
 /// The most profiles that an instance may name.
