@@ -7,8 +7,8 @@ use Rattle.reservations.specs.declared.books.Hold.{Hold}
 use Rattle.reservations.specs.Holdings.{has_op}
 use Rattle.reservations.proofs.ledger.take_out.Goals as goal
 
-pub place_of-place-requires : goal.place_of-place-requires
-place_of-place-requires c =
+pub index_of-place-requires : goal.index_of-place-requires
+index_of-place-requires c =
     subst (λ holds. IsSome (find (has_op c.args.op) holds)) (sym c.deref.ensures.value)
     (IsSome-held (find (has_op c.args.op) c.args.holds.now.items) c.requires)
 

@@ -1,5 +1,5 @@
 use Rattle.size_values.specs.declared.amounts.Part.TheVariants.{Instances, Containers, Machines, Cpu, Memory, Processes, Disk}
-use Rattle.limit_tests.proofs.limits.each.Goals as goal
+use Rattle.limit_tests.proofs.limits.equal_amounts.Goals as goal
 
 pub returns : goal.returns
 returns c = elim [
