@@ -16,7 +16,7 @@ use Rattle.row_machine.specs.facts.Whole.{IsWhole}
 use Rattle.machine_laws.specs.Entries.{entry_changes}
 use Rattle.machine_laws.proofs.Cases.{IsAccepted}
 use Rattle.core_rows.specs.Planned.{Follows, IsToDo, changes_judged, reply_for}
-use Rattle.core_rows.specs.Stores.{Commits}
+use Rattle.core_rows.specs.Commits.{Commits}
 use Rattle.core_rows.proofs.Following.{follows-why, follows-judged, follows-uncommitted}
 use Rattle.core_rows.proofs.Judging.{accepted-so}
 

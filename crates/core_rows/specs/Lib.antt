@@ -1,11 +1,7 @@
 pub mod Asked
 pub mod Cancels
-pub mod Jobs
+pub mod Commits
 pub mod Kept
 pub mod Opening
 pub mod Planned
-pub mod Reported
-pub mod Stores
 pub mod View
-pub mod Waiting
-pub mod Turns

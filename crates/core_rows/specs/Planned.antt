@@ -26,7 +26,7 @@ use Rattle.row_machine.specs.machine.PolicyRules.{policy_broken, snapshot_blocke
 use Rattle.row_machine.specs.machine.LimitRules.{counts_broken, limits_broken}
 use Rattle.row_machine.specs.machine.TableRules.{enter_refusal, tables_broken}
 use Rattle.core_rows.specs.Asked.{IsAsked}
-use Rattle.core_rows.specs.Stores.{KeepsRecords}
+use Rattle.work_reports.specs.Stores.{KeepsRecords}
 
 -- A command that a client can give, before the year 10000, which breaks no rule on names and on what stands in the way, with the
 -- changes that it is to make at once and the notice of them.

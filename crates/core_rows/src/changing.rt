@@ -9,11 +9,10 @@ ghost use Rattle.row_machine.specs.machine.State.{State};
 ghost use Rattle.limit_rules.specs.Exceeding.{Serves};
 ghost use Rattle.row_drafts.specs.Drafted.{former};
 ghost use Rattle.machine_laws.specs.Entries.{entry_changes};
-ghost use Rattle.core_rows.specs.Kept.{HasEntry};
+ghost use Rattle.work_reports.specs.Entries.{HasEntry};
 ghost use Rattle.core_rows.specs.Planned.{changes_judged, reply_for};
-ghost use Rattle.core_rows.specs.Stores.{Commits};
+ghost use Rattle.core_rows.specs.Commits.{Commits};
 
-use crate::entries::entry_changes;
 use limit_rules::{Usage, counts_broken, limits_broken};
 use policy_rules::policy_broken;
 use record_keeper::Keeper;
@@ -26,6 +25,7 @@ use setting_rules::settings_broken;
 use size_values::{NoMemory, Or, Seq};
 use std::alloc::Global;
 use table_rules::tables_broken;
+use work_reports::entry_changes;
 
 /// The reply that tells a refusal, or that memory was refused.
 pub fn refused_reply(why: Or<Refusal>) -> Reply

@@ -6,18 +6,15 @@ ghost use Rattle.row_machine.specs.facts.Whole.{IsWhole};
 ghost use Rattle.row_machine.specs.machine.Rules.{names_broken, standing_broken};
 ghost use Rattle.records.specs.declared.commands.What.TheVariants as what;
 ghost use Rattle.size_values.specs.Moments.{moment_limit};
-ghost use Rattle.core_rows.specs.Jobs.{IsReported, IsTaken};
-ghost use Rattle.core_rows.specs.Kept.{IsSilent};
+ghost use Rattle.work_reports.specs.Jobs.{IsReported, IsTaken};
+ghost use Rattle.work_reports.specs.Waiting.{IsSilent};
 ghost use Rattle.core_rows.specs.Planned.{Follows, IsToDo, IsToStart};
 ghost use Rattle.core_rows.specs.Asked.{IsAsked};
 ghost use Rattle.record_keeper.specs.Store.{Store};
 
 use crate::cancels::stop;
 use crate::changing::{commit, copy_changes, give_up, judge, refused_reply};
-use crate::jobs::{Turned, begin, first_pending, tell};
-use crate::reported::take_report;
 use crate::starting::{judge_claim, make_beginning, settle_beginning};
-use crate::waiting::{Waiting, told_by};
 use host_model::{HostCall, Report};
 use limit_rules::{Usage, usage_before_changes};
 use plain_lists::push_reserved;
@@ -30,6 +27,7 @@ use size_values::{NoMemory, Seq};
 use std::alloc::Global;
 use std::marker::Model;
 use table_rules::cancel_broken;
+use work_reports::{Turned, Waiting, begin, first_pending, take_report, tell, told_by};
 
 /// The rows of the server, of which the facts hold at all times, and what is to be told. Contracts see the state of the
 /// row machine with these rows, and the notices that were not yet taken.

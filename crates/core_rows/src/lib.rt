@@ -4,19 +4,10 @@
 
 mod cancels;
 mod changing;
-mod ends;
-mod entries;
 mod estate;
-mod jobs;
 mod opening;
-mod reported;
 mod starting;
-mod success;
-mod turns;
-mod waiting;
 
 pub use changing::refused_reply;
-pub use entries::{default_profile, entry_changes};
 pub use estate::Estate;
-pub use jobs::Turned;
 pub use opening::{OpenFault, load_rows};

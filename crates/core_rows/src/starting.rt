@@ -18,9 +18,8 @@ ghost use Rattle.row_machine.specs.machine.Task.{Task};
 ghost use Rattle.row_machine.specs.machine.Work.{project_of_task};
 ghost use Rattle.row_machine.specs.shown.Notices.{view_of};
 ghost use Rattle.core_rows.specs.Planned.{claim_judged_by};
-ghost use Rattle.core_rows.specs.declared.waiting.Waiting.TheVariants as waiting_of;
+ghost use Rattle.work_reports.specs.declared.waiting.Waiting.TheVariants as waiting_of;
 
-use crate::waiting::Waiting;
 use instance_states::may_cancel;
 use limit_rules::{Usage, counts_broken, limits_broken, usage_before};
 use operations::{EnterFault, LIVE_LIMIT, NUMBER_LIMIT, OpFault, Status};
@@ -35,6 +34,7 @@ use setting_rules::claim_settings_broken;
 use size_values::{Amounts, NoMemory, Or, Text};
 use std::alloc::Global;
 use table_rules::claim_tables_broken;
+use work_reports::Waiting;
 
 /// What the entry of an operation needs besides its work: what counts for limits before it, why it cannot be entered, its share
 /// with the project that it counts for, how it is shown, and the notice of it.
