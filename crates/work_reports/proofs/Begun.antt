@@ -1,10 +1,7 @@
 -- The first operation that waits has calls, and one that is handed out makes it run.
-use Rattle.std.proofs.Common.{◌≡◌, ℕ, ◌≤◌, ◌<◌, true, false, List, [], ◌∷◌, ◌++◌, length, map, Option, Some, None, IsSome, refl, ap, sym, subst, ◌∙◌, arith}
+use Rattle.std.proofs.Common.{◌≡◌, ℕ, ◌<◌, List, [], ◌∷◌, ◌++◌, length, map, Option, Some, None, IsSome, refl, ap, sym, subst, ◌∙◌, arith}
 use Rattle.std.specs.Option.{option_map, option_and_then, option_to_list}
 use Rattle.size_values.specs.Moments.{moment_limit}
-use Rattle.size_values.specs.declared.kinds.Action.TheVariants as action
-use Rattle.size_values.specs.declared.kinds.Deed.{Deed}
-use Rattle.size_values.specs.declared.kinds.Deed.TheVariants as deed
 use Rattle.row_machine.specs.Words.{calls_of}
 use Rattle.host_model.specs.declared.call.HostCall.{HostCall}
 use Rattle.operations.specs.declared.operation.Operation.{Operation}
@@ -19,6 +16,7 @@ use Rattle.row_machine.specs.facts.Whole.{IsWhole, IsUnderWay, calls_out}
 use Rattle.machine_laws.proofs.Base.{live-mem, first-live}
 use Rattle.machine_laws.proofs.CancelsBegin.{live-kept}
 use Rattle.machine_laws.proofs.ChangeKinds.{first_calls-keep}
+use Rattle.machine_laws.proofs.WaitsEnding.{few-calls}
 use Rattle.row_drafts.specs.Background.{handed, handed_at}
 use Rattle.row_drafts.specs.declared.calls.Handing.TheVariants as handing
 use Rattle.work_reports.specs.Jobs.{IsTaken}
@@ -51,24 +49,6 @@ none-first s h = at (first_pending s) refl h where
 
 -- ---- its calls
 
--- each deed has a call
-has-call : (d : Deed) → 1 ≤ length (calls_of d)
-has-call deed.Create = omega arith
-has-call deed.Copy = omega arith
-has-call deed.Update = omega arith
-has-call deed.Restore = omega arith
-has-call deed.Rename = omega arith
-has-call deed.Delete = omega arith
-has-call (deed.Act action.Start ephemeral) = omega arith
-has-call (deed.Act action.Stop true) = omega arith
-has-call (deed.Act action.Stop false) = omega arith
-has-call (deed.Act action.Restart ephemeral) = omega arith
-has-call (deed.Act action.Freeze ephemeral) = omega arith
-has-call (deed.Act action.Unfreeze ephemeral) = omega arith
-has-call deed.Snap = omega arith
-has-call deed.Unsnap = omega arith
-has-call deed.CopyVolume = omega arith
-
 -- a call is left, and others behind it
 pub record HasCalls (task : Task) : Type 0 where
   pub call : HostCall
@@ -82,7 +62,7 @@ waiting-calls o u waits = at o.work.calls refl where
   all = omega (arith, u.calls, u.waiting waits, ap calls_out waits)
 
   at : (calls : List HostCall) → o.work.calls ≡ calls → HasCalls o.work
-  at [] is = absurd (omega (arith, has-call o.work.deed, all, ap (λ (cs : List HostCall). length cs) is))
+  at [] is = let some = few-calls o.work.deed in absurd (omega (arith, some.0, all, ap (λ (cs : List HostCall). length cs) is))
   at (call ∷ rest) is = record { call = call; rest = rest; calls = is }
 
 pub first-calls : (s : State) (o : Operation Task) → IsWhole s → first_pending s ≡ Some o → HasCalls o.work

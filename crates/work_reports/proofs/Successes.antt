@@ -4,9 +4,7 @@ use Rattle.std.proofs.Common.{inr, true, false, arith}
 use Rattle.std.specs.List.{AllByRecursion}
 use Rattle.std.specs.Option.{option_map}
 use Rattle.std.proofs.lemmas.List.{length-map}
-use Rattle.plain_lists.specs.Members.{Mem}
-use Rattle.plain_lists.proofs.Elements.{Each-map, Each-left, Each-right}
-use Rattle.plain_lists.proofs.Readings.{Mem-read}
+use Rattle.plain_lists.proofs.Elements.{Each-map}
 use Rattle.size_values.specs.declared.entry.Entry.{Entry}
 use Rattle.size_values.specs.declared.entry.EntryChange.{EntryChange}
 use Rattle.size_values.specs.declared.kinds.Action.TheVariants as action
@@ -23,33 +21,18 @@ use Rattle.row_machine.specs.machine.Task.{Task}
 use Rattle.row_machine.specs.machine.State.{State}
 use Rattle.row_machine.specs.machine.Step.{well, no_memory}
 use Rattle.row_machine.specs.machine.Work.{success_changes}
-use Rattle.row_machine.specs.opening.Records.{rows_of}
 use Rattle.row_machine.specs.shown.Notices.{deed_lives, life_notice, object_told, success_notices}
-use Rattle.row_machine.specs.facts.Whole.{IsWhole, claims_of}
+use Rattle.row_machine.specs.facts.Whole.{IsWhole}
 use Rattle.machine_laws.specs.Entries.{entry_changes}
-use Rattle.machine_laws.proofs.Base.{live-mem}
 use Rattle.machine_laws.proofs.NamesDeeds.{success-ready}
-use Rattle.machine_laws.proofs.NamesKeys.{distinct-keys}
-use Rattle.machine_laws.proofs.NamesRows.{each-row}
-use Rattle.machine_laws.proofs.SizesDeeds.{IsSized, deed-small}
+use Rattle.machine_laws.proofs.SizesDeeds.{deed-small}
+use Rattle.machine_laws.proofs.SizesSteps.{sized}
 use Rattle.work_reports.specs.Entries.{HasEntry}
 use Rattle.work_reports.specs.Reported.{CommitsSome}
 use Rattle.work_reports.specs.Stores.{Stores}
 use Rattle.work_reports.proofs.Entries.{entries-of}
 
 -- ---- entries
-
--- what a live operation's claim and the rows of the state are, for sizes
-sized : (s : State) (o : Operation Task) → IsWhole s → live_at s.operations o.number ≡ Some o → IsSized s o.work
-sized s o h live = record {
-  small = λ r is. (Each-right (rows_of s) h.sizes.rows).at r
-      (Mem-read (λ (x : Operation Task). x.work.claim) o r s.operations.live there is);
-  kind = (h.operations.deeds.at o there).kind;
-  rows = each-row s (Each-left (claims_of s) h.sizes.rows);
-  keys = (distinct-keys s h.names).snapshots;
-} where
-  there : Mem o s.operations.live
-  there = live-mem s o.number o live
 
 -- the rows that a success puts have entries
 pub success-entries : (s : State) (o : Operation Task) → IsWhole s → live_at s.operations o.number ≡ Some o

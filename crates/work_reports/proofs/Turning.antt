@@ -1,11 +1,7 @@
 -- What is known of an operation from what comes of its report.
-use Rattle.std.proofs.Common.{◌≡◌, ℕ, ◌+◌, ◌≤◌, ◌<◌, true, false, List, [], ◌∷◌, length, Option, Some, None, IsSome}
+use Rattle.std.proofs.Common.{◌≡◌, ℕ, ◌+◌, ◌<◌, List, [], ◌∷◌, Option, Some, None, IsSome}
 use Rattle.std.proofs.Common.{IfSome, refl, sym, subst, arith}
 use Rattle.std.specs.Option.{option_map_or}
-use Rattle.size_values.specs.declared.kinds.Action.TheVariants as action
-use Rattle.size_values.specs.declared.kinds.Deed.{Deed}
-use Rattle.size_values.specs.declared.kinds.Deed.TheVariants as deed
-use Rattle.row_machine.specs.Words.{calls_of}
 use Rattle.host_model.specs.declared.call.HostCall.{HostCall}
 use Rattle.host_model.specs.declared.report.Report.{Report}
 use Rattle.host_model.specs.declared.report.Report.TheVariants as report
@@ -18,6 +14,7 @@ use Rattle.row_machine.specs.machine.Task.{Task}
 use Rattle.row_machine.specs.machine.State.{State}
 use Rattle.row_machine.specs.facts.Whole.{IsWhole, IsUnderWay}
 use Rattle.machine_laws.proofs.Base.{live-mem, live-number}
+use Rattle.machine_laws.proofs.WaitsEnding.{few-calls}
 use Rattle.row_drafts.specs.Background.{HasCount, HasCountAt}
 use Rattle.row_drafts.specs.declared.calls.Handing.TheVariants as handing
 use Rattle.work_reports.specs.Turns.{turn_of, turn_while, turn_done, turn_cancelling}
@@ -25,26 +22,8 @@ use Rattle.work_reports.specs.declared.turns.Turn.TheVariants as turn
 
 -- ---- how many calls are done
 
--- no deed has more than two calls
-few-calls : (d : Deed) → length (calls_of d) ≤ 2
-few-calls deed.Create = omega arith
-few-calls deed.Copy = omega arith
-few-calls deed.Update = omega arith
-few-calls deed.Restore = omega arith
-few-calls deed.Rename = omega arith
-few-calls deed.Delete = omega arith
-few-calls (deed.Act action.Start ephemeral) = omega arith
-few-calls (deed.Act action.Stop true) = omega arith
-few-calls (deed.Act action.Stop false) = omega arith
-few-calls (deed.Act action.Restart ephemeral) = omega arith
-few-calls (deed.Act action.Freeze ephemeral) = omega arith
-few-calls (deed.Act action.Unfreeze ephemeral) = omega arith
-few-calls deed.Snap = omega arith
-few-calls deed.Unsnap = omega arith
-few-calls deed.CopyVolume = omega arith
-
 few : (o : Operation Task) → IsUnderWay o → o.work.done + 1 < 256
-few o u = omega (arith, u.calls, few-calls o.work.deed)
+few o u = let most = few-calls o.work.deed in omega (arith, u.calls, most.1)
 
 pub few-done : (s : State) (number : ℕ) → IsWhole s
     → IfSome (live_at s.operations number) (λ (o : Operation Task). o.work.done + 1 < 256)
