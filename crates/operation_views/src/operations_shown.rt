@@ -2,11 +2,11 @@
 ghost use Rattle.std.specs.Prelude.{◌≡◌, ◌++◌, IfOk, OnOk, map, filter, length, unwrap_or, nat_lt};
 ghost use Rattle.std.specs.List.{filter_map, position};
 ghost use Rattle.std.specs.Option.{option_to_list};
-ghost use Rattle.object_views.specs.Statuses.{has_status};
+ghost use Rattle.operation_views.specs.Statuses.{has_status};
 ghost use Rattle.operations.specs.Kept.{by_number};
 ghost use Rattle.plain_lists.specs.Edits.{inserted};
 ghost use Rattle.row_machine.specs.shown.Notices.{view_of};
-ghost use Rattle.row_machine.specs.shown.Views.{if_any, one, operation_view, operations_reply, status_number};
+ghost use Rattle.row_machine.specs.shown.Views.{by_status, if_any, one, operation_view, operations_reply, status_number};
 
 use crate::operation_ref::OperationRef;
 use object_links::view_of;
@@ -20,7 +20,7 @@ use std::alloc::Global;
 // ---- single operations
 
 /// The operation of a number, if it is kept.
-pub(crate) fn operation_reply(
+pub fn operation_reply(
     alloc: Global,
     view: &View<'_>,
     number: u64,
@@ -114,6 +114,16 @@ fn numbered<'x>(alloc: Global, view: &View<'x>) -> Result<Vec<OperationRef<'x>>,
 }
 
 // ---- the operations of a project by their status
+
+/// The statuses, in the order in which they are shown.
+const STATUSES: [Status; 6] = [
+    Status::Pending,
+    Status::Running,
+    Status::Cancelling,
+    Status::Success,
+    Status::Failure,
+    Status::Cancelled,
+];
 
 fn status_number(status: Status) -> u8
     ensures { result ≡ status_number status }
@@ -247,8 +257,32 @@ fn views_by_status(
     Ok(groups)
 }
 
-/// Operations by their status, with numbers or whole.
-pub(crate) fn operations_reply(
+/// The kept operations of a project by each status, with their numbers.
+fn all_numbers(
+    alloc: Global,
+    view: &View<'_>,
+    project: &str,
+) -> Result<Seq<(Status, Seq<u64>)>, NoMemory>
+    ensures { IfOk result (λ groups. groups ≡ by_status (λ o. o.number) view.now project.now) }
+{
+    let operations = numbered(alloc, view)?;
+    numbers_by_status(alloc, &operations, project, &STATUSES)
+}
+
+/// The kept operations of a project by each status, whole.
+fn all_views(
+    alloc: Global,
+    view: &View<'_>,
+    project: &str,
+) -> Result<Seq<(Status, Seq<OpView>)>, NoMemory>
+    ensures { IfOk result (λ groups. groups ≡ by_status view_of view.now project.now) }
+{
+    let operations = numbered(alloc, view)?;
+    views_by_status(alloc, &operations, project, &STATUSES)
+}
+
+/// The kept operations of a project by their status, with numbers or whole.
+pub fn operations_reply(
     alloc: Global,
     view: &View<'_>,
     project: &str,
@@ -256,20 +290,9 @@ pub(crate) fn operations_reply(
 ) -> Result<Reply, NoMemory>
     ensures { IfOk result (λ r. r ≡ operations_reply view.now project.now recursion) }
 {
-    let statuses = [
-        Status::Pending,
-        Status::Running,
-        Status::Cancelling,
-        Status::Success,
-        Status::Failure,
-        Status::Cancelled,
-    ];
-    let operations = numbered(alloc, view)?;
     if recursion {
-        let groups = views_by_status(alloc, &operations, project, &statuses)?;
-        Ok(Reply::OpMany(groups))
+        Ok(Reply::OpMany(all_views(alloc, view, project)?))
     } else {
-        let groups = numbers_by_status(alloc, &operations, project, &statuses)?;
-        Ok(Reply::OpLinks(groups))
+        Ok(Reply::OpLinks(all_numbers(alloc, view, project)?))
     }
 }

@@ -1,6 +1,6 @@
 use Rattle.std.proofs.Common.{◌≡◌, ◌+◌, ◌-◌, ◌<◌, length, arith}
-use Rattle.object_views.proofs.Numbered.{numbered-more}
-use Rattle.object_views.proofs.operations_shown.by_number.Goals as goal
+use Rattle.operation_views.proofs.Numbered.{numbered-more}
+use Rattle.operation_views.proofs.operations_shown.by_number.Goals as goal
 
 pub loop-place-preserved : goal.loop-place-preserved
 loop-place-preserved c =
