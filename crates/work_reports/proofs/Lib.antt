@@ -1,7 +1,6 @@
 pub mod Begun
 pub mod Comings
 mod Completions
-pub mod Entries
 pub mod Failing
 pub mod Handing
 mod Powers
@@ -11,3 +10,4 @@ pub mod Silent
 pub mod Stores
 mod Successes
 pub mod Turning
+pub mod Writable

@@ -30,7 +30,7 @@ use Rattle.machine_laws.proofs.SizesSteps.{sized}
 use Rattle.work_reports.specs.Entries.{HasEntry}
 use Rattle.work_reports.specs.Reported.{CommitsSome}
 use Rattle.work_reports.specs.Stores.{Stores}
-use Rattle.work_reports.proofs.Entries.{entries-of}
+use Rattle.work_reports.proofs.Writable.{entries-of}
 
 -- ---- entries
 

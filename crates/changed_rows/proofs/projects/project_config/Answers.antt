@@ -1,7 +1,7 @@
 use Rattle.std.proofs.Common.{ap, ◌∙◌}
 use Rattle.std.specs.Prelude.{codes}
 use Rattle.row_machine.specs.machine.NewRows.{feature_on}
-use Rattle.object_plans.proofs.projects.project_config.Goals as goal
+use Rattle.changed_rows.proofs.projects.project_config.Goals as goal
 
 pub returns : goal.returns
 returns c =

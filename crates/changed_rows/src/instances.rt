@@ -74,7 +74,7 @@ fn names_of(alloc: Global, old: &Instance) -> Result<Names, NoMemory>
 }
 
 /// An instance after a PATCH.
-pub(crate) fn patched_instance(
+pub fn patched_instance(
     alloc: Global,
     old: &Instance,
     body: &Body,

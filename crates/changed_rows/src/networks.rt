@@ -32,7 +32,7 @@ fn network_of(
 }
 
 /// A network as it is created in the project that it belongs to.
-pub(crate) fn made_network(
+pub fn made_network(
     alloc: Global,
     project: &str,
     name: &Text,
@@ -45,14 +45,14 @@ pub(crate) fn made_network(
 }
 
 /// A network after a PUT.
-pub(crate) fn put_network(alloc: Global, old: &Network, body: &Body) -> Result<Network, NoMemory>
+pub fn put_network(alloc: Global, old: &Network, body: &Body) -> Result<Network, NoMemory>
     ensures { IfOk result (λ r. r ≡ put_network old.now body.now) }
 {
     made_network(alloc, old.project.view(), &old.name, body)
 }
 
 /// A network after a PATCH.
-pub(crate) fn patched_network(
+pub fn patched_network(
     alloc: Global,
     old: &Network,
     body: &Body,
@@ -64,7 +64,7 @@ pub(crate) fn patched_network(
 }
 
 /// A network under another name.
-pub(crate) fn renamed_network(alloc: Global, old: &Network, to: &Text) -> Result<Network, NoMemory>
+pub fn renamed_network(alloc: Global, old: &Network, to: &Text) -> Result<Network, NoMemory>
     ensures { IfOk result (λ r. r ≡ record old.now { name = to.now }) }
 {
     let content = copied_content(alloc, &old.description, &old.config)?;

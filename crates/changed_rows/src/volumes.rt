@@ -39,7 +39,7 @@ fn volume_of(
 }
 
 /// A volume as it is created in the project that it belongs to.
-pub(crate) fn made_volume(
+pub fn made_volume(
     alloc: Global,
     project: &str,
     of: &Target,
@@ -53,7 +53,7 @@ pub(crate) fn made_volume(
 }
 
 /// A volume after a PUT.
-pub(crate) fn put_volume(alloc: Global, old: &Volume, body: &Body) -> Result<Volume, NoMemory>
+pub fn put_volume(alloc: Global, old: &Volume, body: &Body) -> Result<Volume, NoMemory>
     ensures { IfOk result (λ r. r ≡ put_volume old.now body.now) }
 {
     let content = new_content(alloc, body)?;
@@ -68,7 +68,7 @@ pub(crate) fn put_volume(alloc: Global, old: &Volume, body: &Body) -> Result<Vol
 }
 
 /// A volume after a PATCH.
-pub(crate) fn patched_volume(alloc: Global, old: &Volume, body: &Body) -> Result<Volume, NoMemory>
+pub fn patched_volume(alloc: Global, old: &Volume, body: &Body) -> Result<Volume, NoMemory>
     ensures { IfOk result (λ r. r ≡ patched_volume old.now body.now) }
 {
     let content = patched_content(alloc, &old.description, &old.config, body)?;
@@ -83,7 +83,7 @@ pub(crate) fn patched_volume(alloc: Global, old: &Volume, body: &Body) -> Result
 }
 
 /// A volume under another name.
-pub(crate) fn renamed_volume(alloc: Global, old: &Volume, to: &Text) -> Result<Volume, NoMemory>
+pub fn renamed_volume(alloc: Global, old: &Volume, to: &Text) -> Result<Volume, NoMemory>
     ensures { IfOk result (λ r. r ≡ record old.now { name = to.now }) }
 {
     let content = copied_content(alloc, &old.description, &old.config)?;

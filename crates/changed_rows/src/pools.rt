@@ -26,7 +26,7 @@ fn pool_of(alloc: Global, name: &Text, driver: Driver, content: Content) -> Resu
 }
 
 /// A pool as it is created: of the driver `dir` where the request names none.
-pub(crate) fn made_pool(alloc: Global, name: &Text, body: &Body) -> Result<Pool, NoMemory>
+pub fn made_pool(alloc: Global, name: &Text, body: &Body) -> Result<Pool, NoMemory>
     ensures { IfOk result (λ r. r ≡ made_pool name.now body.now) }
 {
     let driver = body.driver.unwrap_or(Driver::Dir);
@@ -35,7 +35,7 @@ pub(crate) fn made_pool(alloc: Global, name: &Text, body: &Body) -> Result<Pool,
 }
 
 /// A pool after a PUT.
-pub(crate) fn put_pool(alloc: Global, old: &Pool, body: &Body) -> Result<Pool, NoMemory>
+pub fn put_pool(alloc: Global, old: &Pool, body: &Body) -> Result<Pool, NoMemory>
     ensures { IfOk result (λ r. r ≡ put_pool old.now body.now) }
 {
     let content = new_content(alloc, body)?;
@@ -43,7 +43,7 @@ pub(crate) fn put_pool(alloc: Global, old: &Pool, body: &Body) -> Result<Pool, N
 }
 
 /// A pool after a PATCH.
-pub(crate) fn patched_pool(alloc: Global, old: &Pool, body: &Body) -> Result<Pool, NoMemory>
+pub fn patched_pool(alloc: Global, old: &Pool, body: &Body) -> Result<Pool, NoMemory>
     ensures { IfOk result (λ r. r ≡ patched_pool old.now body.now) }
 {
     let content = patched_content(alloc, &old.description, &old.config, body)?;

@@ -1,7 +1,6 @@
 //! The rows of profiles that commands make.
 ghost use Rattle.std.specs.Prelude.{◌≡◌, IfOk};
-ghost use Rattle.row_machine.specs.machine.NewRows.{new_description, new_config, new_devices, patched_description};
-ghost use Rattle.row_machine.specs.machine.NewRows.{patched_config, patched_devices};
+ghost use Rattle.row_machine.specs.machine.NewRows.{new_devices, patched_devices};
 ghost use Rattle.row_machine.specs.machine.NewRows.{default_profile, made_profile, put_profile, patched_profile};
 
 use crate::contents::{Content, copied_content, new_content, patched_content};
@@ -54,7 +53,7 @@ fn profile_of(
 }
 
 /// A profile as it is created in the project that it belongs to.
-pub(crate) fn made_profile(
+pub fn made_profile(
     alloc: Global,
     project: &str,
     name: &Text,
@@ -68,14 +67,14 @@ pub(crate) fn made_profile(
 }
 
 /// A profile after a PUT.
-pub(crate) fn put_profile(alloc: Global, old: &Profile, body: &Body) -> Result<Profile, NoMemory>
+pub fn put_profile(alloc: Global, old: &Profile, body: &Body) -> Result<Profile, NoMemory>
     ensures { IfOk result (λ r. r ≡ put_profile old.now body.now) }
 {
     made_profile(alloc, old.project.view(), &old.name, body)
 }
 
 /// A profile after a PATCH.
-pub(crate) fn patched_profile(
+pub fn patched_profile(
     alloc: Global,
     old: &Profile,
     body: &Body,
@@ -102,14 +101,14 @@ fn placed_profile(
 }
 
 /// A profile under another name.
-pub(crate) fn renamed_profile(alloc: Global, old: &Profile, to: &Text) -> Result<Profile, NoMemory>
+pub fn renamed_profile(alloc: Global, old: &Profile, to: &Text) -> Result<Profile, NoMemory>
     ensures { IfOk result (λ r. r ≡ record old.now { name = to.now }) }
 {
     placed_profile(alloc, old, &old.project, to)
 }
 
 /// A profile in another project.
-pub(crate) fn rehomed_profile(
+pub fn rehomed_profile(
     alloc: Global,
     old: &Profile,
     project: &Text,
