@@ -31,9 +31,10 @@ use Rattle.machine_laws.proofs.Cases.{IsAccepted, AtOnce}
 use Rattle.machine_laws.proofs.AtOnceCases.{at_once}
 use Rattle.machine_laws.proofs.RecordsKept.{records-follow}
 use Rattle.core_rows.specs.Asked.{IsAsked, changes_at_once, changes_of, unless_refused}
-use Rattle.core_rows.specs.Planned.{Follows, IsToDo, changes_judged, reply_for}
+use Rattle.judged_changes.specs.Judged.{changes_judged, reply_for}
+use Rattle.core_rows.specs.Planned.{Follows, IsToDo}
 use Rattle.work_reports.specs.Stores.{Stores}
-use Rattle.core_rows.specs.Commits.{Commits}
+use Rattle.judged_changes.specs.Commits.{Commits}
 use Rattle.core_rows.proofs.Judging.{left-broken}
 use Rattle.core_rows.proofs.Stepping.{changes-step, refused-step, failed-step, no_memory-step}
 

@@ -30,7 +30,8 @@ use Rattle.machine_laws.proofs.Judged.{judged}
 use Rattle.machine_laws.proofs.NamesKept.{puts-named}
 use Rattle.machine_laws.proofs.SizesTables.{tables-judged}
 use Rattle.work_reports.specs.Entries.{HasEntry}
-use Rattle.core_rows.specs.Planned.{IsToDo, changes_judged}
+use Rattle.judged_changes.specs.Judged.{changes_judged}
+use Rattle.core_rows.specs.Planned.{IsToDo}
 
 -- ---- a policy blocks snapshots alone, which begin an operation
 

@@ -45,7 +45,8 @@ use Rattle.machine_laws.proofs.Told.{names-right}
 use Rattle.core_rows.specs.Asked.{changes_at_once, changes_of, unless_refused}
 use Rattle.core_rows.specs.Cancels.{stopped, waits}
 use Rattle.work_reports.specs.Waiting.{IsSilent}
-use Rattle.core_rows.specs.Planned.{Follows, reply_for}
+use Rattle.judged_changes.specs.Judged.{reply_for}
+use Rattle.core_rows.specs.Planned.{Follows}
 use Rattle.work_reports.specs.Stores.{Stores}
 use Rattle.work_reports.specs.Turns.{shown_at}
 use Rattle.work_reports.specs.Waiting.{told_by}

@@ -1,6 +1,5 @@
 pub mod Asked
 pub mod Cancels
-pub mod Commits
 pub mod Kept
 pub mod Opening
 pub mod Planned

@@ -3,11 +3,9 @@
 #![tactic(auto)]
 
 mod cancels;
-mod changing;
 mod estate;
 mod opening;
-mod starting;
 
-pub use changing::refused_reply;
 pub use estate::Estate;
+pub use judged_changes::refused_reply;
 pub use opening::{OpenFault, load_rows};

@@ -17,7 +17,7 @@ ghost use Rattle.row_machine.specs.machine.TableRules.{enter_refusal};
 ghost use Rattle.row_machine.specs.machine.Task.{Task};
 ghost use Rattle.row_machine.specs.machine.Work.{project_of_task};
 ghost use Rattle.row_machine.specs.shown.Notices.{view_of};
-ghost use Rattle.core_rows.specs.Planned.{claim_judged_by};
+ghost use Rattle.judged_changes.specs.Judged.{claim_judged_by};
 ghost use Rattle.work_reports.specs.declared.waiting.Waiting.TheVariants as waiting_of;
 
 use instance_states::may_cancel;
@@ -39,13 +39,13 @@ use work_reports::Waiting;
 /// What the entry of an operation needs besides its work: what counts for limits before it, why it cannot be entered, its share
 /// with the project that it counts for, how it is shown, and the notice of it.
 #[derive(Drop)]
-pub(crate) struct Beginning {
-    pub(crate) before: Usage,
-    pub(crate) fault: Option<EnterFault>,
-    pub(crate) share: Amounts,
-    pub(crate) project: Text,
-    pub(crate) shown: OpView,
-    pub(crate) notice: Untold,
+pub struct Beginning {
+    pub before: Usage,
+    pub fault: Option<EnterFault>,
+    pub share: Amounts,
+    pub project: Text,
+    pub shown: OpView,
+    pub notice: Untold,
 }
 
 /// Why no operation can be entered.
@@ -158,7 +158,7 @@ fn beginning_of(
 }
 
 /// Takes all memory that the entry of an operation needs, and makes what it needs.
-pub(crate) fn make_beginning(
+pub fn make_beginning(
     alloc: Global,
     draft: &mut Draft,
     work: &Work,
@@ -198,8 +198,8 @@ fn claim_of<'x>(view: &View<'x>, number: u64) -> Option<&'x Row>
 }
 
 /// The first rule that an operation breaks which was entered last, judged over the state with its claim.
-#[tactic(auto, unfolding(crate::specs::Planned::claim_judged_by))]
-pub(crate) fn judge_claim(
+#[tactic(auto, unfolding(crate::specs::Judged::claim_judged_by))]
+pub fn judge_claim(
     alloc: Global,
     beginning: &Beginning,
     after: &View<'_>,
@@ -221,7 +221,7 @@ pub(crate) fn judge_claim(
 }
 
 /// The operation that was entered last holds its share from now on, and its notice is left to be told. It takes no memory.
-pub(crate) fn settle_beginning(
+pub fn settle_beginning(
     draft: &mut Draft,
     untold: &mut Vec<Waiting>,
     beginning: Beginning,

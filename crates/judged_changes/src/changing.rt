@@ -1,19 +1,19 @@
 //! The parts of a change: what it needs is made ready, it is judged by the state after it, and it is committed or given up.
-ghost use Rattle.std.specs.Prelude.{◌≡◌, [], IfOk};
+ghost use Rattle.std.specs.Prelude.{◌≡◌, [], IfOk, OnOk};
 ghost use Rattle.std.specs.List.{AllByRecursion};
 ghost use Rattle.size_values.specs.Causes.{Says};
 ghost use Rattle.records.specs.declared.refusals.Rule.TheVariants as rule_of;
-ghost use Rattle.row_machine.specs.machine.Changes.{rows_put};
+ghost use Rattle.row_machine.specs.machine.Changes.{applied, rows_put};
 ghost use Rattle.row_machine.specs.machine.Refusals.{plainly};
 ghost use Rattle.row_machine.specs.machine.State.{State};
 ghost use Rattle.limit_rules.specs.Exceeding.{Serves};
-ghost use Rattle.row_drafts.specs.Drafted.{former};
+ghost use Rattle.row_drafts.specs.Drafted.{former, IsReady};
 ghost use Rattle.machine_laws.specs.Entries.{entry_changes};
 ghost use Rattle.work_reports.specs.Entries.{HasEntry};
-ghost use Rattle.core_rows.specs.Planned.{changes_judged, reply_for};
-ghost use Rattle.core_rows.specs.Commits.{Commits};
+ghost use Rattle.judged_changes.specs.Judged.{changes_judged, reply_for};
+ghost use Rattle.judged_changes.specs.Commits.{Commits};
 
-use limit_rules::{Usage, counts_broken, limits_broken};
+use limit_rules::{Usage, counts_broken, limits_broken, usage_before_changes};
 use policy_rules::policy_broken;
 use record_keeper::Keeper;
 use records::{Refusal, Reply, Rule};
@@ -47,7 +47,7 @@ fn copy_change(alloc: Global, change: &RowChange) -> Result<RowChange, NoMemory>
 }
 
 /// The same changes once more, for what is asked of them after they were made.
-pub(crate) fn copy_changes(
+fn copy_changes(
     alloc: Global,
     changes: &Seq<RowChange>,
 ) -> Result<Seq<RowChange>, NoMemory>
@@ -60,9 +60,32 @@ pub(crate) fn copy_changes(
     Ok(copies)
 }
 
+/// What a change needs besides the rows: what counts for limits before it, and the changes once more.
+#[derive(Drop)]
+pub struct Ready {
+    pub before: Usage,
+    pub changes: Seq<RowChange>,
+}
+
+/// Takes all memory that a change needs, but for its entries.
+pub fn make_ready(alloc: Global, draft: &mut Draft, changes: &Seq<RowChange>) -> Result<Ready, NoMemory>
+    requires settled { draft.old.log ≡ [] }
+    ensures before { IfOk result (λ r. Serves r.before draft.old.state (applied draft.old.state changes.now)) }
+    ensures changes { IfOk result (λ r. r.changes ≡ changes.now) }
+    ensures ready { OnOk result (IsReady draft.new changes.now) }
+    ensures state { draft.new.state ≡ draft.old.state }
+    ensures log { draft.new.log ≡ [] }
+    ensures greatest { draft.new.backing.greatest ≡ draft.old.backing.greatest }
+{
+    draft.reserve_for(alloc, changes)?;
+    let before = usage_before_changes(alloc, &draft.view(), changes.view())?;
+    let changes = copy_changes(alloc, changes)?;
+    Ok(Ready { before, changes })
+}
+
 /// The first rule that changes break, judged over the state after them: settings, policy, limits and tables.
-#[tactic(auto, unfolding(crate::specs::Planned::changes_judged))]
-pub(crate) fn judge(
+#[tactic(auto, unfolding(crate::specs::Judged::changes_judged))]
+pub fn judge(
     alloc: Global,
     before: &Usage,
     after: &View<'_>,
@@ -88,7 +111,7 @@ fn unavailable(alloc: Global) -> Refusal
 }
 
 /// Commits changes in one call to the keeper.
-pub(crate) fn commit<R: Keeper>(
+pub fn commit<R: Keeper>(
     alloc: Global,
     keeper: &mut R,
     changes: &Seq<RowChange>,
@@ -105,7 +128,7 @@ pub(crate) fn commit<R: Keeper>(
 }
 
 /// Takes the changes back, and tells why.
-pub(crate) fn give_up(draft: &mut Draft, why: Or<Refusal>) -> Reply
+pub fn give_up(draft: &mut Draft, why: Or<Refusal>) -> Reply
     ensures reply { result ≡ reply_for why }
     ensures state { draft.new.state ≡ former draft.old }
     ensures log { draft.new.log ≡ [] }
