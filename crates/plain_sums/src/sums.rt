@@ -10,15 +10,15 @@ use size_values::{Cpu, Kind, Memory, read_count, read_cpu, read_memory, read_siz
 
 /// What a project uses, each part as its limit counts it.
 #[derive(Clone, Copy, PartialEq, Eq)]
-pub(crate) struct Sums {
-    pub(crate) instances: u128,
-    pub(crate) containers: u128,
-    pub(crate) machines: u128,
-    pub(crate) cpu: u128,
-    pub(crate) memory: u128,
-    pub(crate) processes: u128,
-    pub(crate) disk: u128,
-    pub(crate) networks: u128,
+pub struct Sums {
+    pub instances: u128,
+    pub containers: u128,
+    pub machines: u128,
+    pub cpu: u128,
+    pub memory: u128,
+    pub processes: u128,
+    pub disk: u128,
+    pub networks: u128,
 }
 
 /// Nothing at all.
@@ -63,7 +63,7 @@ impl Sums {
 }
 
 /// The project of a name.
-pub(crate) fn project_named<'a>(view: &View<'a>, name: &str) -> Option<&'a Project> {
+pub fn project_named<'a>(view: &View<'a>, name: &str) -> Option<&'a Project> {
     view.projects.iter().find(|row| row.name.view() == name)
 }
 
@@ -209,7 +209,7 @@ fn disk_of(view: &View<'_>, row: &Instance) -> u128 {
 }
 
 /// What an instance uses.
-pub(crate) fn instance_sums(view: &View<'_>, row: &Instance) -> Sums {
+pub fn instance_sums(view: &View<'_>, row: &Instance) -> Sums {
     let is_machine = row.kind == Kind::Machine;
     Sums {
         instances: 1,
@@ -266,7 +266,7 @@ fn replaced<'a>(view: &View<'a>, work: &Work, row: &Instance) -> Option<&'a Inst
 }
 
 /// What the claim of an operation adds to what its project uses.
-pub(crate) fn claim_sums(view: &View<'_>, work: &Work) -> Sums {
+pub fn claim_sums(view: &View<'_>, work: &Work) -> Sums {
     match &work.claim {
         Some(Row::Instance(row)) => match replaced(view, work, row) {
             Some(old) => instance_sums(view, row).beyond(instance_sums(view, old)),
@@ -321,7 +321,7 @@ fn sums_of_networks(view: &View<'_>, project: &str) -> Sums {
 }
 
 /// All that a project uses.
-pub(crate) fn sums_of(view: &View<'_>, project: &str) -> Sums {
+pub fn sums_of(view: &View<'_>, project: &str) -> Sums {
     sums_of_instances(view, project)
         .plus(sums_of_claims(view, project))
         .plus(sums_of_volumes(view, project))

@@ -1,6 +1,6 @@
-use crate::places::{Rows, both, config, device, texts};
 use config_lists::Devices;
 use expansion::Expanded;
+use lent_rows::{Rows, both, config, device, texts};
 use operations::{OpFault, Operation, Status};
 use records::{Instance, Profile, Row, Target, Volume};
 use row_machine::Work;

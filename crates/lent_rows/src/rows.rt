@@ -11,7 +11,7 @@ use size_values::{Amounts, NoMemory, Text};
 use std::alloc::Global;
 
 /// Both values, where there was memory for both. Neither is then alive where the other one is missing.
-pub(crate) fn both<A: Drop, B: Drop>(
+pub fn both<A: Drop, B: Drop>(
     first: Result<A, NoMemory>,
     second: Result<B, NoMemory>,
 ) -> Result<(A, B), NoMemory>
@@ -32,25 +32,25 @@ fn no_books() -> Books {
 
 /// The rows and operations of a server, which lend a view.
 #[derive(Drop)]
-pub(crate) struct Rows {
-    pub(crate) projects: Vec<Project>,
-    pub(crate) profiles: Vec<Profile>,
-    pub(crate) networks: Vec<Network>,
-    pub(crate) pools: Vec<Pool>,
-    pub(crate) volumes: Vec<Volume>,
-    pub(crate) instances: Vec<Instance>,
-    pub(crate) snapshots: Vec<Snapshot>,
-    pub(crate) powers: Vec<InstancePower>,
-    pub(crate) live: Vec<Operation<Work>>,
-    pub(crate) ended: Vec<Operation<Work>>,
-    pub(crate) next: u64,
-    pub(crate) held: Vec<Hold>,
-    pub(crate) books: Books,
+pub struct Rows {
+    pub projects: Vec<Project>,
+    pub profiles: Vec<Profile>,
+    pub networks: Vec<Network>,
+    pub pools: Vec<Pool>,
+    pub volumes: Vec<Volume>,
+    pub instances: Vec<Instance>,
+    pub snapshots: Vec<Snapshot>,
+    pub powers: Vec<InstancePower>,
+    pub live: Vec<Operation<Work>>,
+    pub ended: Vec<Operation<Work>>,
+    pub next: u64,
+    pub held: Vec<Hold>,
+    pub books: Books,
 }
 
 impl Rows {
     /// Rows of none of the kinds, and no operations.
-    pub(crate) fn empty(alloc: Global) -> Rows {
+    pub fn empty(alloc: Global) -> Rows {
         Rows {
             projects: Vec::new(alloc),
             profiles: Vec::new(alloc),
@@ -68,7 +68,8 @@ impl Rows {
         }
     }
 
-    pub(crate) fn view(&self) -> View<'_> {
+    /// The rows, lent.
+    pub fn view(&self) -> View<'_> {
         View {
             projects: &self.projects,
             profiles: &self.profiles,
@@ -88,7 +89,7 @@ impl Rows {
     }
 
     /// The same, before the last operation was entered.
-    pub(crate) fn before_last(&self) -> View<'_> {
+    pub fn before_last(&self) -> View<'_> {
         let mut view = self.view();
         if let Some((_, front)) = self.live.split_last() {
             view.live = front;
@@ -98,7 +99,7 @@ impl Rows {
 }
 
 /// Settings: those of the list, without the ones that have no value.
-pub(crate) fn config(alloc: Global, settings: &[(&str, &str)]) -> Result<Config, NoMemory> {
+pub fn config(alloc: Global, settings: &[(&str, &str)]) -> Result<Config, NoMemory> {
     let mut config = Config::new(alloc);
     for (key, value) in settings {
         if !key.is_empty() && !value.is_empty() {
@@ -109,7 +110,7 @@ pub(crate) fn config(alloc: Global, settings: &[(&str, &str)]) -> Result<Config,
 }
 
 /// One device with these settings.
-pub(crate) fn device(
+pub fn device(
     alloc: Global,
     name: &str,
     settings: &[(&str, &str)],
@@ -121,7 +122,7 @@ pub(crate) fn device(
 }
 
 /// Two texts.
-pub(crate) fn texts(alloc: Global, first: &str, second: &str) -> Result<(Text, Text), NoMemory> {
+pub fn texts(alloc: Global, first: &str, second: &str) -> Result<(Text, Text), NoMemory> {
     both(
         Text::from_text(alloc, first),
         Text::from_text(alloc, second),
