@@ -74,11 +74,7 @@ fn names_of(alloc: Global, old: &Instance) -> Result<Names, NoMemory>
 }
 
 /// An instance after a PATCH.
-pub fn patched_instance(
-    alloc: Global,
-    old: &Instance,
-    body: &Body,
-) -> Result<Instance, NoMemory>
+pub fn patched_instance(alloc: Global, old: &Instance, body: &Body) -> Result<Instance, NoMemory>
     ensures { IfOk result (λ r. r ≡ patched_instance old.now body.now) }
 {
     let names = names_of(alloc, old)?;

@@ -52,11 +52,7 @@ pub fn put_network(alloc: Global, old: &Network, body: &Body) -> Result<Network,
 }
 
 /// A network after a PATCH.
-pub fn patched_network(
-    alloc: Global,
-    old: &Network,
-    body: &Body,
-) -> Result<Network, NoMemory>
+pub fn patched_network(alloc: Global, old: &Network, body: &Body) -> Result<Network, NoMemory>
     ensures { IfOk result (λ r. r ≡ patched_network old.now body.now) }
 {
     let content = patched_content(alloc, &old.description, &old.config, body)?;

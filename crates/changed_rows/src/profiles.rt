@@ -74,11 +74,7 @@ pub fn put_profile(alloc: Global, old: &Profile, body: &Body) -> Result<Profile,
 }
 
 /// A profile after a PATCH.
-pub fn patched_profile(
-    alloc: Global,
-    old: &Profile,
-    body: &Body,
-) -> Result<Profile, NoMemory>
+pub fn patched_profile(alloc: Global, old: &Profile, body: &Body) -> Result<Profile, NoMemory>
     ensures { IfOk result (λ r. r ≡ patched_profile old.now body.now) }
 {
     let devices = patched_devices(&old.devices, body)?;
@@ -108,11 +104,7 @@ pub fn renamed_profile(alloc: Global, old: &Profile, to: &Text) -> Result<Profil
 }
 
 /// A profile in another project.
-pub fn rehomed_profile(
-    alloc: Global,
-    old: &Profile,
-    project: &Text,
-) -> Result<Profile, NoMemory>
+pub fn rehomed_profile(alloc: Global, old: &Profile, project: &Text) -> Result<Profile, NoMemory>
     ensures { IfOk result (λ r. r ≡ record old.now { project = project.now }) }
 {
     placed_profile(alloc, old, project, &old.name)

@@ -47,10 +47,7 @@ fn copy_change(alloc: Global, change: &RowChange) -> Result<RowChange, NoMemory>
 }
 
 /// The same changes once more, for what is asked of them after they were made.
-fn copy_changes(
-    alloc: Global,
-    changes: &Seq<RowChange>,
-) -> Result<Seq<RowChange>, NoMemory>
+fn copy_changes(alloc: Global, changes: &Seq<RowChange>) -> Result<Seq<RowChange>, NoMemory>
     ensures { IfOk result (λ cs. cs ≡ changes.now) }
 {
     let mut copies = Seq::new(alloc);
@@ -68,7 +65,11 @@ pub struct Ready {
 }
 
 /// Takes all memory that a change needs, but for its entries.
-pub fn make_ready(alloc: Global, draft: &mut Draft, changes: &Seq<RowChange>) -> Result<Ready, NoMemory>
+pub fn make_ready(
+    alloc: Global,
+    draft: &mut Draft,
+    changes: &Seq<RowChange>,
+) -> Result<Ready, NoMemory>
     requires settled { draft.old.log ≡ [] }
     ensures before { IfOk result (λ r. Serves r.before draft.old.state (applied draft.old.state changes.now)) }
     ensures changes { IfOk result (λ r. r.changes ≡ changes.now) }

@@ -221,11 +221,7 @@ pub fn judge_claim(
 }
 
 /// The operation that was entered last holds its share from now on, and its notice is left to be told. It takes no memory.
-pub fn settle_beginning(
-    draft: &mut Draft,
-    untold: &mut Vec<Waiting>,
-    beginning: Beginning,
-) -> Reply
+pub fn settle_beginning(draft: &mut Draft, untold: &mut Vec<Waiting>, beginning: Beginning) -> Reply
     requires hold_room { 1 ≤ draft.old.backing.hold_room }
     requires limit { draft.old.state.operations.next - 1 < 2 ^ 40 }
     requires above { draft.old.backing.greatest < draft.old.state.operations.next - 1 }

@@ -110,11 +110,7 @@ pub fn config(alloc: Global, settings: &[(&str, &str)]) -> Result<Config, NoMemo
 }
 
 /// One device with these settings.
-pub fn device(
-    alloc: Global,
-    name: &str,
-    settings: &[(&str, &str)],
-) -> Result<Devices, NoMemory> {
+pub fn device(alloc: Global, name: &str, settings: &[(&str, &str)]) -> Result<Devices, NoMemory> {
     let device = config(alloc, settings)?;
     let mut devices = Devices::new(alloc);
     devices.put(name, device)?;

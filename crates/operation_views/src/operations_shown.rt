@@ -20,11 +20,7 @@ use std::alloc::Global;
 // ---- single operations
 
 /// The operation of a number, if it is kept.
-pub fn operation_reply(
-    alloc: Global,
-    view: &View<'_>,
-    number: u64,
-) -> Result<Reply, NoMemory>
+pub fn operation_reply(alloc: Global, view: &View<'_>, number: u64) -> Result<Reply, NoMemory>
     ensures { IfOk result (λ r. r ≡ one (operation_view view.now number)) }
 {
     match kept_at(view, number) {

@@ -128,23 +128,12 @@ fn rule_text(rule: Rule) -> &'static str
         Rule::V3 => "device is malformed",
         Rule::V4 => "instance needs exactly one root disk",
         Rule::V5 => "named object is missing",
-        Rule::F1
-        | Rule::F2
-        | Rule::F3
-        | Rule::F4
-        | Rule::F5
-        | Rule::F6
-        | Rule::F7 => "setting is forbidden",
+        Rule::F1 | Rule::F2 | Rule::F3 | Rule::F4 | Rule::F5 | Rule::F6 | Rule::F7 =>
+            "setting is forbidden",
         Rule::F8 => "snapshots are forbidden",
         Rule::L0 => "setting is not countable",
-        Rule::L1
-        | Rule::L2
-        | Rule::L3
-        | Rule::L4
-        | Rule::L5
-        | Rule::L6
-        | Rule::L7
-        | Rule::L8 => "limit is exceeded",
+        Rule::L1 | Rule::L2 | Rule::L3 | Rule::L4 | Rule::L5 | Rule::L6 | Rule::L7 | Rule::L8 =>
+            "limit is exceeded",
         Rule::O1 => "operation has ended",
         Rule::O2 => "operation may not be cancelled",
         Rule::O3 => "operation is being cancelled",
@@ -182,22 +171,10 @@ fn kept_parts(rule: Rule) -> &'static [Part]
         Rule::B5 | Rule::V4 => &[Part::Name],
         Rule::V2 | Rule::O1 => &[Part::Key, Part::Number],
         Rule::V3 => &[Part::Key, Part::Name, Part::Number],
-        Rule::F1
-        | Rule::F2
-        | Rule::F3
-        | Rule::F4
-        | Rule::F5
-        | Rule::F6
-        | Rule::F7
-        | Rule::L0 => SETTING,
-        Rule::L1
-        | Rule::L2
-        | Rule::L3
-        | Rule::L4
-        | Rule::L5
-        | Rule::L6
-        | Rule::L7
-        | Rule::L8 => LIMIT,
+        Rule::F1 | Rule::F2 | Rule::F3 | Rule::F4 | Rule::F5 | Rule::F6 | Rule::F7 | Rule::L0 =>
+            SETTING,
+        Rule::L1 | Rule::L2 | Rule::L3 | Rule::L4 | Rule::L5 | Rule::L6 | Rule::L7 | Rule::L8 =>
+            LIMIT,
         Rule::O2 | Rule::O3 | Rule::O4 | Rule::O5 => &[Part::Number],
         Rule::C1 | Rule::C2 => &[Part::Kind, Part::Number],
     }
@@ -231,14 +208,8 @@ pub(crate) fn rule_code(rule: Rule) -> u16
         | Rule::O3 => 400,
         Rule::A1 | Rule::N1 | Rule::N2 => 404,
         Rule::A2 => 405,
-        Rule::N4
-        | Rule::N5
-        | Rule::B1
-        | Rule::B6
-        | Rule::O4
-        | Rule::O5
-        | Rule::C1
-        | Rule::C2 => 409,
+        Rule::N4 | Rule::N5 | Rule::B1 | Rule::B6 | Rule::O4 | Rule::O5 | Rule::C1 | Rule::C2 =>
+            409,
         Rule::B3
         | Rule::F1
         | Rule::F2
