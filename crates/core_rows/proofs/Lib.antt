@@ -1,19 +1,9 @@
-mod Begun
 mod Changed
-mod Comings
-mod Completions
-mod Failing
 mod FirstEntries
 pub mod Following
-mod Handing
 pub mod Judging
 mod Opens
-mod Powers
-mod Reporting
-mod Reports
 mod Silent
 pub mod Started
 pub mod Stepping
 mod Stops
-mod Successes
-mod Turning

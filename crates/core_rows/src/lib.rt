@@ -3,20 +3,9 @@
 #![tactic(auto)]
 
 mod cancels;
-mod changing;
-mod ends;
-mod entries;
 mod estate;
-mod jobs;
 mod opening;
-mod reported;
-mod starting;
-mod success;
-mod turns;
-mod waiting;
 
-pub use changing::refused_reply;
-pub use entries::{default_profile, entry_changes};
 pub use estate::Estate;
-pub use jobs::Turned;
+pub use judged_changes::refused_reply;
 pub use opening::{OpenFault, load_rows};

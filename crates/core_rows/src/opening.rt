@@ -4,7 +4,6 @@ ghost use Rattle.row_machine.specs.machine.Plans.{put_all};
 ghost use Rattle.machine_laws.specs.Entries.{entry_changes};
 ghost use Rattle.core_rows.specs.Opening.{Opens, Begins, Commits, FindsNothing, first_state};
 
-use crate::entries::{default_profile, entry_changes};
 use crate::estate::Estate;
 use config_lists::Config;
 use record_keeper::Keeper;
@@ -13,6 +12,7 @@ use row_drafts::Draft;
 use row_machine::RowChange;
 use size_values::{EntryChange, NoMemory, Or, Seq, Text};
 use std::alloc::Global;
+use work_reports::{default_profile, entry_changes};
 
 /// Why the rows could not be opened.
 #[derive(Clone, Copy, Debug, PartialEq, Eq)]

@@ -4,7 +4,7 @@ ghost use Rattle.core_objects.specs.Commands.{is_object_command};
 ghost use Rattle.records.specs.Forms.{is_formed};
 
 use core_objects::do_object;
-use core_rows::{Estate, OpenFault, default_profile, entry_changes, load_rows};
+use core_rows::{Estate, OpenFault, load_rows};
 use record_keeper::MapKeeper;
 use records::{Body, Command, Origin, Reply, Row, Target, What};
 use row_drafts::Draft;
@@ -12,6 +12,7 @@ use row_machine::RowChange;
 use row_readings::{profile_home, profile_named, project_named};
 use size_values::{NoMemory, ObjectKind, Seq, Text};
 use std::alloc::Global;
+use work_reports::{default_profile, entry_changes};
 
 /// How many projects and profiles an opening gives, or why it was refused.
 type Opened = Result<(usize, usize), OpenFault>;
