@@ -34,6 +34,7 @@ use Rattle.core_rows.specs.Asked.{IsAsked, changes_at_once, changes_of, unless_r
 use Rattle.judged_changes.specs.Judged.{changes_judged, reply_for}
 use Rattle.core_rows.specs.Planned.{Follows, IsToDo}
 use Rattle.work_reports.specs.Stores.{Stores}
+use Rattle.work_reports.proofs.Stores.{failures-same, told-same}
 use Rattle.judged_changes.specs.Commits.{Commits}
 use Rattle.core_rows.proofs.Judging.{left-broken}
 use Rattle.core_rows.proofs.Stepping.{changes-step, refused-step, failed-step, no_memory-step}

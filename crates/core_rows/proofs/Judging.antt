@@ -30,6 +30,7 @@ use Rattle.machine_laws.proofs.Judged.{judged}
 use Rattle.machine_laws.proofs.NamesKept.{puts-named}
 use Rattle.machine_laws.proofs.SizesTables.{tables-judged}
 use Rattle.work_reports.specs.Entries.{HasEntry}
+use Rattle.work_reports.proofs.Writable.{entries-of}
 use Rattle.judged_changes.specs.Judged.{changes_judged}
 use Rattle.core_rows.specs.Planned.{IsToDo}
 

@@ -1,5 +1,5 @@
 -- Where no notices wait, and none was told.
-use Rattle.std.proofs.Common.{◌≡◌, List, [], ◌∷◌, ◌++◌, map, refl, ap}
+use Rattle.std.proofs.Common.{◌≡◌, true, List, [], ◌∷◌, ◌++◌, map, refl, ap}
 use Rattle.row_machine.specs.machine.State.{State}
 use Rattle.work_reports.specs.Waiting.{IsSilent}
 
