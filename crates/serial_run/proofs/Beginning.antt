@@ -11,8 +11,8 @@ use Rattle.run_words.specs.declared.words.RunWords.{RunWords}
 use Rattle.run_words.specs.Words.{are_read, boot_of, now_of, pace_of, words_of}
 use Rattle.serial_run.specs.Runs.{HasCauseToRefuse, IsUnread, Opened, Refused, Runs, RunsOver, Unopened, boot_with}
 use Rattle.serial_run.specs.Runs.{clock_of, start_fault}
-use Rattle.serial_run.specs.Worlds.{Inlet, Outlet, Outside, outside}
-use Rattle.serial_run.proofs.Served.{session_still}
+use Rattle.serial_sessions.specs.Worlds.{Inlet, Outlet, Outside, outside}
+use Rattle.serial_sessions.proofs.Served.{session_still}
 
 -- what was read is what the words say
 pub record AreSaid (words : List (List ℕ)) (said : RunWords) : Type 0 where

@@ -18,16 +18,18 @@ use Rattle.rest_service.specs.Exchanges.{LeadTo, moments_of, printed_replies, ke
 use Rattle.rest_service.proofs.Along.{IsAlong}
 use Rattle.serial_run.specs.declared.running.StartFault.{StartFault}
 use Rattle.serial_run.specs.declared.running.StartFault.TheVariants as start
-use Rattle.serial_run.specs.declared.session.SessionEnd.{SessionEnd}
-use Rattle.serial_run.specs.declared.session.SessionEnd.TheVariants as end
-use Rattle.serial_run.specs.Most.{most_requests}
-use Rattle.serial_run.specs.Runs.{status_of, start_status, begun, boot_with, seen_with, IsUnread, Ran, Runs}
+use Rattle.serial_sessions.specs.declared.session.SessionEnd.{SessionEnd}
+use Rattle.serial_sessions.specs.declared.session.SessionEnd.TheVariants as end
+use Rattle.serial_sessions.specs.Most.{most_requests}
+use Rattle.serial_sessions.specs.Inputs.{status_of}
+use Rattle.serial_run.specs.Runs.{start_status, begun, boot_with, seen_with, IsUnread, Ran, Runs}
 use Rattle.serial_run.specs.Runs.{HasCauseToRefuse}
-use Rattle.serial_run.specs.Sessions.{Session, Stops, StopsBehindFinal, AllGoOn, OnlyFinalEnds}
-use Rattle.serial_run.specs.Texts.{through_last, has_last, answered, end_due, RunsText, is_fault}
-use Rattle.serial_run.specs.Worlds.{Outside, World, within, world}
-use Rattle.serial_run.proofs.Served.{Together, together, appends_nothing, appends_twice}
-use Rattle.serial_run.proofs.Whole.{IsSettled, IsDue, session_due, text_at, not_full}
+use Rattle.serial_sessions.specs.Sessions.{Session, Stops, StopsBehindFinal, AllGoOn, OnlyFinalEnds}
+use Rattle.serial_sessions.specs.Inputs.{through_last, has_last, answered, end_due}
+use Rattle.serial_run.specs.Texts.{RunsText, is_fault}
+use Rattle.serial_sessions.specs.Worlds.{Outside, World, within, world}
+use Rattle.serial_sessions.proofs.Served.{Together, together, appends_nothing, appends_twice}
+use Rattle.serial_sessions.proofs.Whole.{IsSettled, IsDue, session_due, text_at, not_full}
 
 -- ---- what a settled session did
 

@@ -1,5 +1,2 @@
-pub mod Most
 pub mod Runs
-pub mod Sessions
 pub mod Texts
-pub mod Worlds

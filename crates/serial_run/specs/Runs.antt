@@ -12,10 +12,10 @@ use Rattle.run_words.specs.declared.words.Pace.{Pace}
 use Rattle.rest_service.specs.Answers.{first_serial}
 use Rattle.serial_run.specs.declared.running.StartFault.{StartFault}
 use Rattle.serial_run.specs.declared.running.StartFault.TheVariants as start
-use Rattle.serial_run.specs.declared.session.SessionEnd.{SessionEnd}
-use Rattle.serial_run.specs.declared.session.SessionEnd.TheVariants as end
-use Rattle.serial_run.specs.Sessions.{Session}
-use Rattle.serial_run.specs.Worlds.{Outside, World, world}
+use Rattle.serial_sessions.specs.declared.session.SessionEnd.{SessionEnd}
+use Rattle.serial_sessions.specs.declared.session.SessionEnd.TheVariants as end
+use Rattle.serial_sessions.specs.Sessions.{Session}
+use Rattle.serial_sessions.specs.Worlds.{Outside, World, world}
 
 -- the readings of the clock of a run: one that stands still at the moment that the words say, or the one that is
 -- handed in
@@ -31,16 +31,6 @@ seen_with words out = record out { clock = clock_of (now_of words) out.clock }
 abbrev pub IsUnread : Option ℕ → Readings → Readings → Type 0
 IsUnread (Some moment) told told' = told' ≡ told
 IsUnread None told told' = Unit {0}
-
--- the exit status of a session's end
-abbrev pub status_of : SessionEnd → ℕ
-status_of end.Ended = 0
-status_of end.Cut = 2
-status_of (end.Malformed fault) = 3
-status_of end.ReadFault = 4
-status_of end.WriteFault = 5
-status_of end.NoMemory = 9
-status_of end.Spent = 10
 
 -- the exit status of a run that has no session
 abbrev pub start_status : StartFault → ℕ

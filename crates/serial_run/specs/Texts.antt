@@ -16,48 +16,8 @@ use Rattle.run_words.specs.declared.words.Pace.{Pace}
 use Rattle.rest_service.specs.Answers.{first_serial}
 use Rattle.rest_service.specs.Exchanges.{Exchange, LeadTo, malformed_text, moments_of, printed_replies}
 use Rattle.rest_service.specs.Exchanges.{host_failures_of, keeper_failures_of}
-use Rattle.serial_run.specs.Most.{most_requests}
-use Rattle.serial_run.specs.Worlds.{Outside, within}
-
--- the requests of these
-abbrev pub requests_of : List Exchange → List Request
-requests_of exchanges = map (λ e. e.request) exchanges
-
--- the requests up to and with the first that is the last on its connection
-abbrev pub through_last : List Request → List Request
-through_last [] = []
-through_last (m ∷ more) = m ∷ (if m.last then [] else through_last more)
-
--- the requests of a text that are answered: these, and at most as many as a session may answer
-abbrev pub answered : List Request → List Request
-answered messages = take most_requests (through_last messages)
-
--- one of the requests is the last on its connection
-abbrev pub has_last : List Request → Bool
-has_last messages = list_any (λ m. m.last) messages
-
--- how a run ends: its exit status, and the text that is written after the replies
-pub record End : Type 0 where
-  pub status : ℕ
-  pub text : List ℕ
-
--- the end of a run that has answered all messages of its input
-abbrev pub end_at : Ending → End
-end_at ended = record { status = 0; text = [] }
-end_at (cut held) = record { status = 2; text = [] }
-end_at (malformed fault) = record { status = 3; text = malformed_text fault }
-
--- The end of a run that has answered these requests of an input that ends so: the most requests that a session may
--- answer go before a last request, and that goes before the end of the input.
-abbrev pub end_behind_all : List Request → Ending → End
-end_behind_all requests ending =
-    if length requests == most_requests then record { status = 10; text = [] }
-    else if has_last requests then record { status = 0; text = [] }
-    else end_at ending
-
--- the end of a run over an input with these messages and this ending, where nothing fails
-abbrev pub end_due : List Request → Ending → End
-end_due messages ending = end_behind_all (answered messages) ending
+use Rattle.serial_sessions.specs.Most.{most_requests}
+use Rattle.serial_sessions.specs.Worlds.{Outside, within}
 
 -- The run did what its input asks, and nothing else. The requests that are answered, each with its moment, its outcome,
 -- its reply and the steps of the worker, lead from the first rows, with no call in hand, to some rows and some call,

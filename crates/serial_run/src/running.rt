@@ -6,19 +6,19 @@ ghost use Rattle.http_heads.specs.Messages.{Ending, ended, Splits};
 ghost use Rattle.http_heads.specs.declared.request.Request.{Request};
 ghost use Rattle.run_words.specs.Words.{are_read, now_of, pace_of};
 ghost use Rattle.serial_steps.specs.Steps.{hosted};
-ghost use Rattle.serial_run.specs.Most.{most_requests};
+ghost use Rattle.serial_sessions.specs.Most.{most_requests};
 ghost use Rattle.serial_run.specs.Runs.{Runs, RunsOver, SessionFrom, boot_with, seen_with};
-ghost use Rattle.serial_run.specs.Runs.{start_fault, start_status, status_of};
+ghost use Rattle.serial_sessions.specs.Inputs.{status_of};
+ghost use Rattle.serial_run.specs.Runs.{start_fault, start_status};
 ghost use Rattle.serial_run.specs.Texts.{RunsText, is_fault};
-ghost use Rattle.serial_run.specs.Worlds.{inlet, outlet, outside, world};
+ghost use Rattle.serial_sessions.specs.Worlds.{inlet, outlet, outside, world};
 
-use crate::serving::serve;
-use crate::session::SessionEnd;
 use host_model::Host;
 use http_front::{Buffer, Clock, Sink, Source, StillClock};
 use record_keeper::Keeper;
 use rest_service::{OpenFault, Service};
 use run_words::{Pace, read_words};
+use serial_sessions::{SessionEnd, serve};
 use std::alloc::Global;
 
 /// Why a run has no session.
@@ -42,23 +42,6 @@ impl StartFault {
             StartFault::Words => 8,
             StartFault::NoMemory => 9,
             StartFault::HasEntries => 13,
-        }
-    }
-}
-
-impl SessionEnd {
-    /// The exit status.
-    pub fn status(self) -> u8
-        ensures { result ≡ status_of self }
-    {
-        match self {
-            SessionEnd::Ended => 0,
-            SessionEnd::Cut => 2,
-            SessionEnd::Malformed(_) => 3,
-            SessionEnd::ReadFault => 4,
-            SessionEnd::WriteFault => 5,
-            SessionEnd::NoMemory => 9,
-            SessionEnd::Spent => 10,
         }
     }
 }

@@ -1,5 +1,5 @@
-use Rattle.serial_run.proofs.Served.{none_so_far, one_more, session_final}
-use Rattle.serial_run.proofs.serving.serve.Goals as goal
+use Rattle.serial_sessions.proofs.Served.{none_so_far, one_more, session_final}
+use Rattle.serial_sessions.proofs.serving.serve.Goals as goal
 
 pub loop-done-init : goal.loop-done-init
 loop-done-init g c = none_so_far _ _ _

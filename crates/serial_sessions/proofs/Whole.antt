@@ -11,14 +11,14 @@ use Rattle.http_front.specs.Reading.{ReadsNext}
 use Rattle.http_front.specs.declared.read.Got.TheVariants as got
 use Rattle.run_words.specs.declared.words.Pace.{Pace}
 use Rattle.rest_service.specs.Exchanges.{Exchange, malformed_text}
-use Rattle.serial_run.specs.Most.{most_requests}
-use Rattle.serial_run.specs.declared.session.SessionEnd.{SessionEnd}
-use Rattle.serial_run.specs.declared.session.SessionEnd.TheVariants as end
-use Rattle.serial_run.specs.Runs.{status_of}
-use Rattle.serial_run.specs.Sessions.{Session, Stops, CountsAt, StopsBehindFinal, AllGoOn, OnlyFinalEnds}
-use Rattle.serial_run.proofs.Served.{together}
-use Rattle.serial_run.specs.Texts.{requests_of, through_last, answered, has_last, end_at, end_behind_all, end_due}
-use Rattle.serial_run.specs.Worlds.{World, input}
+use Rattle.serial_sessions.specs.Most.{most_requests}
+use Rattle.serial_sessions.specs.declared.session.SessionEnd.{SessionEnd}
+use Rattle.serial_sessions.specs.declared.session.SessionEnd.TheVariants as end
+use Rattle.serial_sessions.specs.Inputs.{status_of}
+use Rattle.serial_sessions.specs.Sessions.{Session, Stops, CountsAt, StopsBehindFinal, AllGoOn, OnlyFinalEnds}
+use Rattle.serial_sessions.proofs.Served.{together}
+use Rattle.serial_sessions.specs.Inputs.{requests_of, through_last, answered, has_last, end_at, end_behind_all, end_due}
+use Rattle.serial_sessions.specs.Worlds.{World, input}
 
 -- where a text begins with messages, its reading begins with them too, and goes on with that of the rest
 pub record GoesOn (rest : List ℕ) (begun messages : List Request) (ending : Ending) : Type 0 where

@@ -14,13 +14,13 @@ use Rattle.run_words.specs.declared.words.Pace.{Pace}
 use Rattle.rest_service.specs.Exchanges.{Exchange, LeadTo, moments_of, printed, printed_replies, keeper_failures_of}
 use Rattle.rest_service.specs.Exchanges.{host_failures_of}
 use Rattle.rest_service.proofs.Along.{IsAlong, along_leads, along_more, along_none, along_reply, reads_twice}
-use Rattle.serial_run.specs.declared.session.SessionEnd.{SessionEnd}
-use Rattle.serial_run.specs.declared.session.SessionEnd.TheVariants as end
-use Rattle.serial_run.specs.Most.{most_requests}
-use Rattle.serial_run.specs.Sessions.{Session, Serves, ServesAll, Stops, CountsAt, StopsBehindFinal, AllGoOn}
-use Rattle.serial_run.specs.Sessions.{OnlyFinalEnds, end_behind}
-use Rattle.serial_run.specs.Texts.{requests_of}
-use Rattle.serial_run.specs.Worlds.{World, input}
+use Rattle.serial_sessions.specs.declared.session.SessionEnd.{SessionEnd}
+use Rattle.serial_sessions.specs.declared.session.SessionEnd.TheVariants as end
+use Rattle.serial_sessions.specs.Most.{most_requests}
+use Rattle.serial_sessions.specs.Sessions.{Session, Serves, ServesAll, Stops, CountsAt, StopsBehindFinal, AllGoOn}
+use Rattle.serial_sessions.specs.Sessions.{OnlyFinalEnds, end_behind}
+use Rattle.serial_sessions.specs.Inputs.{requests_of}
+use Rattle.serial_sessions.specs.Worlds.{World, input}
 
 -- ---- what a sink takes
 

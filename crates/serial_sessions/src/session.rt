@@ -1,5 +1,6 @@
 ghost use Rattle.std.specs.Prelude.{◌≡◌};
-ghost use Rattle.serial_run.specs.Most.{most_requests};
+ghost use Rattle.serial_sessions.specs.Inputs.{status_of};
+ghost use Rattle.serial_sessions.specs.Most.{most_requests};
 
 use http_front::HeadFault;
 
@@ -29,6 +30,23 @@ pub enum SessionEnd {
     Spent,
     /// Memory was refused outside a request.
     NoMemory,
+}
+
+impl SessionEnd {
+    /// The exit status.
+    pub fn status(self) -> u8
+        ensures { result ≡ status_of self }
+    {
+        match self {
+            SessionEnd::Ended => 0,
+            SessionEnd::Cut => 2,
+            SessionEnd::Malformed(_) => 3,
+            SessionEnd::ReadFault => 4,
+            SessionEnd::WriteFault => 5,
+            SessionEnd::NoMemory => 9,
+            SessionEnd::Spent => 10,
+        }
+    }
 }
 
 /// What one turn of a session comes to.

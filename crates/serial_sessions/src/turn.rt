@@ -1,7 +1,7 @@
 ghost use Rattle.std.specs.Prelude.{◌≡◌};
 ghost use Rattle.serial_steps.specs.Steps.{hosted, site};
-ghost use Rattle.serial_run.specs.Sessions.{GoesOn, RefusesPlace, Turns, WritesAnswer, turn_after};
-ghost use Rattle.serial_run.specs.Worlds.{inlet, outlet, outside, world};
+ghost use Rattle.serial_sessions.specs.Sessions.{GoesOn, RefusesPlace, Turns, WritesAnswer, turn_after};
+ghost use Rattle.serial_sessions.specs.Worlds.{inlet, outlet, outside, world};
 
 use crate::session::{SessionEnd, Turn};
 use host_model::Host;

@@ -11,13 +11,13 @@ use Rattle.run_words.specs.declared.words.Pace.{Pace}
 use Rattle.rest_service.specs.Exchanges.{Comes, Exchange, IsPaced, printed}
 use Rattle.rest_service.specs.declared.answers.Answered.{Answered}
 use Rattle.rest_service.specs.declared.answers.Answered.TheVariants as written
-use Rattle.serial_run.specs.declared.session.SessionEnd.{SessionEnd}
-use Rattle.serial_run.specs.declared.session.SessionEnd.TheVariants as end
-use Rattle.serial_run.specs.declared.session.Turn.{Turn}
-use Rattle.serial_run.specs.declared.session.Turn.TheVariants as turn
-use Rattle.serial_run.specs.Worlds.{Inlet, World}
-use Rattle.serial_run.specs.Sessions.{Asks, BreaksOff, CarriesOut, GoesOn, IsUnprinted, KeepsRows, RefusesPlace, Serves}
-use Rattle.serial_run.specs.Sessions.{Stops, Takes, Turns, WritesAnswer, text_for}
+use Rattle.serial_sessions.specs.declared.session.SessionEnd.{SessionEnd}
+use Rattle.serial_sessions.specs.declared.session.SessionEnd.TheVariants as end
+use Rattle.serial_sessions.specs.declared.session.Turn.{Turn}
+use Rattle.serial_sessions.specs.declared.session.Turn.TheVariants as turn
+use Rattle.serial_sessions.specs.Worlds.{Inlet, World}
+use Rattle.serial_sessions.specs.Sessions.{Asks, BreaksOff, CarriesOut, GoesOn, IsUnprinted, KeepsRows, RefusesPlace, Serves}
+use Rattle.serial_sessions.specs.Sessions.{Stops, Takes, Turns, WritesAnswer, text_for}
 
 -- what is seen of a source that was not touched is the same
 pub unread : {S : Type 0} (see : S → Inlet) (a b : S) (P : Type 0) → (b ≡ a) ⊎ P → (see b ≡ see a) ⊎ P

@@ -16,12 +16,12 @@ use Rattle.rest_service.specs.Exchanges.{Comes, Exchange, IsPaced, Leads, printe
 use Rattle.rest_service.specs.Answers.{no_memory_text}
 use Rattle.rest_service.specs.declared.answers.Answered.{Answered}
 use Rattle.rest_service.specs.declared.answers.Answered.TheVariants as written
-use Rattle.serial_run.specs.declared.session.SessionEnd.{SessionEnd}
-use Rattle.serial_run.specs.declared.session.SessionEnd.TheVariants as end
-use Rattle.serial_run.specs.declared.session.Turn.{Turn}
-use Rattle.serial_run.specs.declared.session.Turn.TheVariants as turn
-use Rattle.serial_run.specs.Most.{most_requests}
-use Rattle.serial_run.specs.Worlds.{Outlet, World, input}
+use Rattle.serial_sessions.specs.declared.session.SessionEnd.{SessionEnd}
+use Rattle.serial_sessions.specs.declared.session.SessionEnd.TheVariants as end
+use Rattle.serial_sessions.specs.declared.session.Turn.{Turn}
+use Rattle.serial_sessions.specs.declared.session.Turn.TheVariants as turn
+use Rattle.serial_sessions.specs.Most.{most_requests}
+use Rattle.serial_sessions.specs.Worlds.{Outlet, World, input}
 
 -- ---- what one turn does to its parts
 

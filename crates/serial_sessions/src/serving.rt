@@ -1,8 +1,8 @@
 ghost use Rattle.std.specs.Prelude.{◌≡◌, ◌<◌};
 ghost use Rattle.serial_steps.specs.Steps.{hosted};
-ghost use Rattle.serial_run.specs.Most.{most_requests};
-ghost use Rattle.serial_run.specs.Sessions.{Session, end_behind};
-ghost use Rattle.serial_run.specs.Worlds.{inlet, outlet, outside, world};
+ghost use Rattle.serial_sessions.specs.Most.{most_requests};
+ghost use Rattle.serial_sessions.specs.Sessions.{Session, end_behind};
+ghost use Rattle.serial_sessions.specs.Worlds.{inlet, outlet, outside, world};
 
 use crate::session::{MOST_REQUESTS, SessionEnd, Turn};
 use crate::turn::turn;
@@ -26,7 +26,7 @@ fn end_behind(done: u32) -> SessionEnd
 }
 
 /// Answers requests one after the other until the session stops.
-pub(crate) fn serve<S: Source, K: Sink, R: Keeper, H: Host, C: Clock>(
+pub fn serve<S: Source, K: Sink, R: Keeper, H: Host, C: Clock>(
     alloc: Global,
     buffer: &mut Buffer,
     source: &mut S,

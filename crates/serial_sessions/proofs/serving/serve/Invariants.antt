@@ -1,7 +1,7 @@
 use Rattle.serial_steps.specs.Steps.{hosted}
-use Rattle.serial_run.specs.Worlds.{inlet, outlet, outside, world}
-use Rattle.serial_run.proofs.Served.{ServesSoFar}
-use Rattle.serial_run.proofs.serving.serve.Given as goal
+use Rattle.serial_sessions.specs.Worlds.{inlet, outlet, outside, world}
+use Rattle.serial_sessions.proofs.Served.{ServesSoFar}
+use Rattle.serial_sessions.proofs.serving.serve.Given as goal
 
 -- as many requests were served as there were turns, and none of them was the last on its connection
 abbrev pub invariant-loop-done : goal.invariant-loop-done
