@@ -7,6 +7,7 @@ mod FirstEntries
 pub mod Following
 mod Handing
 pub mod Judging
+pub mod Opened
 mod Opens
 mod Powers
 mod Reporting

@@ -8,6 +8,7 @@ mod ends;
 mod entries;
 mod estate;
 mod jobs;
+mod kept_rows;
 mod opening;
 mod reported;
 mod starting;
