@@ -4,4 +4,6 @@
 #[cfg(test)]
 mod keepers;
 #[cfg(test)]
+mod kept_rows;
+#[cfg(test)]
 mod openings;
