@@ -2,6 +2,7 @@ mod Changed
 mod FirstEntries
 pub mod Following
 pub mod Judging
+pub mod Opened
 mod Opens
 mod Silent
 pub mod Started

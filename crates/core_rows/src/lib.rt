@@ -4,6 +4,7 @@
 
 mod cancels;
 mod estate;
+mod kept_rows;
 mod opening;
 
 pub use estate::Estate;

@@ -57,7 +57,7 @@ pub(crate) fn listed<'x>(
 
 /// A row that was found, lent.
 fn lent(row: AnyRow<'_>) -> Option<RowRef<'_>>
-    ensures { result ≡ Some (row_in row) }
+    ensures { result ≡ Some (row_in row.entry) }
 {
     Some(RowRef { row })
 }

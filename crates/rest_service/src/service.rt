@@ -35,8 +35,8 @@ impl Model for Service {
 }
 
 impl Service {
-    /// A service over the rows of a keeper, which must have no entries yet: it gets the project
-    /// `default` and its profile `default`, in one commit.
+    /// A service over the rows that the entries of a keeper open to; one without entries gets the
+    /// project `default` and its profile `default`, in one commit. No operation is live.
     pub fn new<R: Keeper>(alloc: Global, keeper: &mut R) -> Result<Service, OpenFault>
         ensures { OpensService result (R.store keeper.old) (R.store keeper.new) }
     {

@@ -1,17 +1,21 @@
 -- A run, from what it does once its words are read.
-use Rattle.std.proofs.Common.{◌≡◌, ℕ, List, Bool, true, false, Some, None, refl, ap, sym, ◌∙◌, subst, inl, inr}
+use Rattle.std.proofs.Common.{◌≡◌, ℕ, List, [], Bool, true, false, Some, None, refl, ap, sym, ◌∙◌, subst, inl, inr}
 use Rattle.std.specs.Option.{unwrap_or}
 use Rattle.http_front.specs.Clocks.{Readings, standing_still}
 use Rattle.record_keeper.specs.Store.{Store}
-use Rattle.core_rows.specs.Opening.{Refuses}
+use Rattle.row_machine.specs.opening.Opening.{damaged, broken}
+use Rattle.core_rows.specs.Opening.{OpensTo, Refuses}
 use Rattle.core_rows.specs.declared.opening.OpenFault.{OpenFault}
 use Rattle.core_rows.specs.declared.opening.OpenFault.TheVariants as fault
-use Rattle.serial_steps.specs.Steps.{Hosted}
+use Rattle.serial_steps.specs.Steps.{Hosted, Serial}
 use Rattle.run_words.specs.declared.words.RunWords.{RunWords}
 use Rattle.run_words.specs.Words.{are_read, boot_of, now_of, pace_of, words_of}
+use Rattle.run_words.specs.declared.words.Pace.{Pace}
 use Rattle.serial_run.specs.Runs.{HasCauseToRefuse, IsUnread, Opened, Refused, Runs, RunsOver, Unopened, boot_with}
-use Rattle.serial_run.specs.Runs.{clock_of, start_fault}
-use Rattle.serial_sessions.specs.Worlds.{Inlet, Outlet, Outside, outside}
+use Rattle.serial_sessions.specs.Inputs.{status_of}
+use Rattle.serial_run.specs.Runs.{SessionFrom, begun, clock_of, start_fault}
+use Rattle.serial_sessions.specs.declared.session.SessionEnd.{SessionEnd}
+use Rattle.serial_sessions.specs.Worlds.{Inlet, Outlet, Outside, outside, world}
 use Rattle.serial_sessions.proofs.Served.{session_still}
 
 -- what was read is what the words say
@@ -40,7 +44,8 @@ as_said words handed said boot before after status are is runs =
 has_cause : (why : OpenFault) (words : List (List ℕ)) (keeper keeper' : Store) → are_read words ≡ true
     → Refuses why keeper keeper' → HasCauseToRefuse (start_fault why) words keeper keeper'
 has_cause fault.KeeperFailed words keeper keeper' read refuses = (read, refuses)
-has_cause fault.HasEntries words keeper keeper' read refuses = (read, refuses)
+has_cause (fault.Damaged kind key) words keeper keeper' read refuses = (read, (damaged kind key, refl, refuses))
+has_cause (fault.Broken rule kind key) words keeper keeper' read refuses = (read, (broken rule kind key, refl, refuses))
 has_cause fault.NoMemory words keeper keeper' read refuses = (read, refuses)
 
 -- rows that were not opened are a run without a session
@@ -112,3 +117,20 @@ runs_by words handed source source' sink sink' keeper keeper' host host' told to
       host = un.host;
       clock = un.clock;
     })
+
+-- the rows that a keeper's entries open to, and a session from these on
+pub opened_run : (boot : ℕ) (pace : Pace) (before after : Outside) (keeper : Store) (s : Serial) (ends : SessionEnd) (status : ℕ)
+    → OpensTo s.state before.keeper keeper → s.hand ≡ None
+    → SessionFrom boot pace (world [] (record before { keeper = keeper }) s) after ends → status ≡ status_of ends
+    → Opened boot pace before after status
+opened_run boot pace before after keeper s ends status opens none follows is = record {
+  entries = opens.entries;
+  told = opens.told;
+  state = s.state;
+  opens = opens.opens;
+  ends = ends;
+  follows = subst (λ w. SessionFrom boot pace w after ends) same follows;
+  status_is = is;
+} where
+  same : world [] (record before { keeper = keeper }) s ≡ begun opens.entries s.state before
+  same = λ i. world [] (record before { keeper = opens.after i }) (record s { hand = none i })

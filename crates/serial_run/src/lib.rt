@@ -3,4 +3,5 @@
 
 mod running;
 
-pub use running::{StartFault, run_main};
+pub use rest_service::OpenFault;
+pub use running::{StartFault, opening_fault, run_main};

@@ -1,18 +1,24 @@
-ghost use Rattle.std.specs.Prelude.{◌≡◌, ◌≢◌, ◌<◌, ◌⊎◌, ◌↔◌, List, [], true, false, length, Some};
+ghost use Rattle.std.specs.Prelude.{◌≡◌, ◌<◌, ◌⊎◌, ◌↔◌, List, [], true, false, length, Some};
 ghost use Rattle.std.specs.Prelude.{IfSome, map};
 ghost use Rattle.std.specs.Prelude.{string_bytes};
 ghost use Rattle.size_values.specs.Causes.{Rose};
+ghost use Rattle.size_values.specs.declared.entry.Entry.{Entry as EntryValue};
 ghost use Rattle.http_heads.specs.Messages.{Ending, ended, Splits};
 ghost use Rattle.http_heads.specs.declared.request.Request.{Request};
+ghost use Rattle.record_keeper.specs.Store.{after_calls};
+ghost use Rattle.row_machine.specs.machine.State.{State};
+ghost use Rattle.row_machine.specs.opening.Opening.{opened, opening_of};
+ghost use Rattle.core_rows.specs.Opening.{is_refused};
 ghost use Rattle.run_words.specs.Words.{are_read, now_of, pace_of};
 ghost use Rattle.serial_steps.specs.Steps.{hosted};
 ghost use Rattle.serial_sessions.specs.Most.{most_requests};
-ghost use Rattle.serial_run.specs.Runs.{Runs, RunsOver, SessionFrom, boot_with, seen_with};
+ghost use Rattle.serial_run.specs.Runs.{Explains, Runs, RunsOver, SessionFrom, boot_with, seen_with};
 ghost use Rattle.serial_sessions.specs.Inputs.{status_of};
 ghost use Rattle.serial_run.specs.Runs.{start_fault, start_status};
 ghost use Rattle.serial_run.specs.Texts.{RunsText, is_fault};
 ghost use Rattle.serial_sessions.specs.Worlds.{inlet, outlet, outside, world};
 
+use core_rows::load_rows;
 use host_model::Host;
 use http_front::{Buffer, Clock, Sink, Source, StillClock};
 use record_keeper::Keeper;
@@ -27,8 +33,8 @@ pub enum StartFault {
     /// The words of the command line are not read.
     Words,
     KeeperFailed,
-    /// The keeper has entries already; rows of an earlier run are not read yet.
-    HasEntries,
+    /// The keeper's entries open to no rows: one is damaged, or the rows break a rule.
+    Unopened,
     NoMemory,
 }
 
@@ -39,9 +45,9 @@ impl StartFault {
     {
         match self {
             StartFault::KeeperFailed => 6,
+            StartFault::Unopened => 7,
             StartFault::Words => 8,
             StartFault::NoMemory => 9,
-            StartFault::HasEntries => 13,
         }
     }
 }
@@ -52,7 +58,8 @@ impl StartFault {
     {
         match fault {
             OpenFault::KeeperFailed => StartFault::KeeperFailed,
-            OpenFault::HasEntries => StartFault::HasEntries,
+            OpenFault::Damaged { .. } => StartFault::Unopened,
+            OpenFault::Broken { .. } => StartFault::Unopened,
             OpenFault::NoMemory => StartFault::NoMemory,
         }
     }
@@ -201,12 +208,14 @@ pub fn run_main<S: Source, K: Sink, R: Keeper, H: Host, C: Clock>(
         (outside (inlet S.left S.ended S.failures source.new) (outlet K.held K.failures sink.new)
         (R.store result.1) (hosted H.told H.failures host.new) (C.readings clock.new)))) }
 
-    // Whole messages and no fault: all of them are answered, or memory was refused. A call of the
-    // host that fails makes an operation fail, and no request.
+    // Whole messages, entries that open to rows and no fault: all messages are answered, or memory
+    // was refused. A call of the host that fails makes an operation fail, and no request.
     ensures complete { IfSome (S.left source.old)
         (λ text. (messages : List Request) → Splits text messages ended
         → length messages < most_requests →
-        are_read (map (λ w. string_bytes w) words.now) ≡ true → (R.store keeper).told ≡ Some [] →
+        (entries : List EntryValue) (s : State)
+        → are_read (map (λ w. string_bytes w) words.now) ≡ true
+        → (R.store keeper).told ≡ Some entries → opening_of entries ≡ opened s →
         ¬ (Rose (S.failures source.old) (S.failures source.new))
         → ¬ (Rose (K.failures sink.old) (K.failures sink.new))
         → ¬ (Rose (R.store keeper).failures (R.store result.1).failures) →
@@ -221,11 +230,28 @@ pub fn run_main<S: Source, K: Sink, R: Keeper, H: Host, C: Clock>(
     // Where the words say a moment, the clock that is handed in is not read.
     ensures still { IfSome (now_of (map (λ w. string_bytes w) words.now))
         (λ _. C.readings clock.new ≡ C.readings clock.old) }
-    ensures has_entries { result.0 ≡ 13 → IfSome (R.store keeper).told (λ entries. entries ≢ []) }
-    ensures entries { IfSome (R.store keeper).told (λ entries. entries ≢ []
-        → are_read (map (λ w. string_bytes w) words.now) ≡ true →
+    // Entries that open to no rows: nothing is written, and the keeper is as it was but for a load.
+    ensures unopened { result.0 ≡ 7 → (are_read (map (λ w. string_bytes w) words.now) ≡ true)
+        × (R.store result.1 ≡ after_calls 1 (R.store keeper))
+        × IfSome (R.store keeper).told (λ entries. is_refused (opening_of entries) ≡ true) }
+    ensures refused { IfSome (R.store keeper).told (λ entries.
+        is_refused (opening_of entries) ≡ true → are_read (map (λ w. string_bytes w) words.now) ≡ true →
         ¬ (Rose (R.store keeper).failures (R.store result.1).failures)
-        → (K.held sink.new ≡ K.held sink.old) × ((result.0 ≡ 13) ⊎ (result.0 ≡ 9))) }
+        → (K.held sink.new ≡ K.held sink.old) × ((result.0 ≡ 7) ⊎ (result.0 ≡ 9))) }
 {
     run(alloc, words, source, sink, keeper, host, clock, boot)
+}
+
+/// Why the entries of a keeper open to no rows, for a person to read after a run that ended with
+/// status 7; none where they open.
+pub fn opening_fault<R: Keeper>(alloc: Global, keeper: &mut R) -> Option<OpenFault>
+    ensures { Explains result (R.store keeper.old) (R.store keeper.new) }
+{
+    match load_rows(alloc, keeper) {
+        Ok(estate) => {
+            drop(estate);
+            None
+        }
+        Err(fault) => Some(fault),
+    }
 }

@@ -1,6 +1,6 @@
 use Rattle.std.proofs.Common.{refl}
 use Rattle.serial_run.proofs.Tops.{top_text, top_complete, top_cut, top_read_fault, top_write_fault, top_keeper_fault}
-use Rattle.serial_run.proofs.Tops.{top_words, top_not_read, top_has_entries, top_entries, top_still}
+use Rattle.serial_run.proofs.Tops.{top_words, top_not_read, top_unopened, top_refused, top_still}
 use Rattle.serial_run.proofs.running.run_main.Goals as goal
 
 pub returns-clause-text : goal.returns-clause-text
@@ -27,8 +27,8 @@ returns-clause-words g c = (top_words _ _ _ _ _ c.run.ensures, top_not_read _ _ 
 pub returns-clause-still : goal.returns-clause-still
 returns-clause-still g c = top_still _ _ _ _ _ c.run.ensures
 
-pub returns-clause-has_entries : goal.returns-clause-has_entries
-returns-clause-has_entries g c = top_has_entries _ _ _ _ _ c.run.ensures
+pub returns-clause-unopened : goal.returns-clause-unopened
+returns-clause-unopened g c = top_unopened _ _ _ _ _ c.run.ensures
 
-pub returns-clause-entries : goal.returns-clause-entries
-returns-clause-entries g c = top_entries _ _ _ _ _ _ c.run.ensures refl
+pub returns-clause-refused : goal.returns-clause-refused
+returns-clause-refused g c = top_refused _ _ _ _ _ _ c.run.ensures refl
