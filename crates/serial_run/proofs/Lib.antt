@@ -1,2 +1,3 @@
 pub mod Beginning
+pub mod Others
 pub mod Tops

@@ -4,6 +4,7 @@ use Rattle.std.proofs.Common.{None, IfSome, refl, ap, sym, ◌∙◌, subst, ari
 use Rattle.std.proofs.lemmas.List.{length-take}
 use Rattle.std.proofs.lemmas.Bool.{false≢true}
 use Rattle.std.specs.Io.KnownBytes.{Appends, prepend_known}
+use Rattle.std.specs.Option.{is_some, option_and_then}
 use Rattle.size_values.specs.Causes.{Rose}
 use Rattle.size_values.specs.declared.entry.Entry.{Entry}
 use Rattle.http_heads.specs.Messages.{Splits, Ending, ended}
@@ -14,7 +15,7 @@ use Rattle.core_rows.specs.Opening.{OpensToNone, Refuses, is_refused}
 use Rattle.core_rows.specs.declared.opening.OpenFault.TheVariants as fault
 use Rattle.record_keeper.specs.Store.{Store, after_calls}
 use Rattle.serial_steps.specs.Steps.{Serial}
-use Rattle.run_words.specs.Words.{are_read, now_of, pace_of}
+use Rattle.run_words.specs.Words.{as_run, is_run, now_of, pace_of, words_of}
 use Rattle.run_words.specs.declared.words.Pace.{Pace}
 use Rattle.rest_service.specs.Exchanges.{LeadTo, moments_of, printed_replies, keeper_failures_of, host_failures_of}
 use Rattle.rest_service.proofs.Along.{IsAlong}
@@ -214,7 +215,7 @@ seven≢ten : ◌≢◌ {A = ℕ} 7 10
 seven≢ten e = omega (arith, e)
 
 -- the keeper failed at the opening
-refuses_rose : (store store' : Store) → Refuses fault.KeeperFailed store store' → Rose store.failures store'.failures
+pub refuses_rose : (store store' : Store) → Refuses fault.KeeperFailed store store' → Rose store.failures store'.failures
 refuses_rose store store' (inl fails) = fails.rose
 refuses_rose store store' (inr fails) = fails.1.rose
 
@@ -234,29 +235,34 @@ top_keeper_fault words handed before after status (inr refused) six =
 
 -- status 8: the words are not read
 pub top_words : (words : List (List ℕ)) (handed : ℕ) (before after : Outside) (status : ℕ)
-    → Runs words handed before after status → status ≡ 8 → are_read words ≡ false
+    → Runs words handed before after status → status ≡ 8 → words_of words ≡ None
 top_words words handed before after status (inl ran) eight =
     not_of_session ran.opened.ends 8 (sym ran.opened.status_is ∙ eight) (omega arith) eight≢nine eight≢ten
 top_words words handed before after status (inr refused) eight =
     by refused.why refused.cause (sym refused.status_is ∙ eight) where
       by : (why : StartFault) → HasCauseToRefuse why words before.keeper after.keeper → start_status why ≡ 8
-          → are_read words ≡ false
+          → words_of words ≡ None
       by start.Words cause is = cause.0
       by start.KeeperFailed cause is = let none : ⊥ = omega (arith, is) in absurd none
       by start.Unopened cause is = let none : ⊥ = omega (arith, is) in absurd none
       by start.NoMemory cause is = let none : ⊥ = omega (arith, is) in absurd none
 
--- and where they are not read, that is the status
+-- words that are not read are not those of a run
+pub not_read-no_run : (words : List (List ℕ)) → words_of words ≡ None → is_run words ≡ false
+not_read-no_run words none = ap (λ o. is_some (option_and_then as_run o)) none
+
+-- and where they are not read, that is the status, or memory was refused
 pub top_not_read : (words : List (List ℕ)) (handed : ℕ) (before after : Outside) (status : ℕ)
-    → Runs words handed before after status → are_read words ≡ false → status ≡ 8
-top_not_read words handed before after status (inl ran) other = absurd (false≢true (sym other ∙ ran.read))
-top_not_read words handed before after status (inr refused) other = by refused.why refused.cause refused.status_is where
+    → Runs words handed before after status → words_of words ≡ None → (status ≡ 8) ⊎ (status ≡ 9)
+top_not_read words handed before after status (inl ran) none =
+    absurd (false≢true (sym (not_read-no_run words none) ∙ ran.read))
+top_not_read words handed before after status (inr refused) none = by refused.why refused.cause refused.status_is where
   by : (why : StartFault) → HasCauseToRefuse why words before.keeper after.keeper → status ≡ start_status why
-      → status ≡ 8
-  by start.Words cause is = is
-  by start.KeeperFailed cause is = absurd (false≢true (sym other ∙ cause.0))
-  by start.Unopened cause is = absurd (false≢true (sym other ∙ cause.0))
-  by start.NoMemory cause is = absurd (false≢true (sym other ∙ cause.0))
+      → (status ≡ 8) ⊎ (status ≡ 9)
+  by start.Words cause is = inl is
+  by start.KeeperFailed cause is = absurd (false≢true (sym (not_read-no_run words none) ∙ cause.0))
+  by start.Unopened cause is = absurd (false≢true (sym (not_read-no_run words none) ∙ cause.0))
+  by start.NoMemory cause is = inr is
 
 -- ---- entries that open to no rows
 
@@ -267,11 +273,11 @@ tells_same None entries opening are is = tt
 tells_same (Some es) entries opening are is = ap opening_of are ∙ is
 
 -- what the entries of a keeper open to, where it tells them, is what they were found to open to
-tells_opening : (opening : Opening) (keeper keeper' : Store) → OpensToNone opening keeper keeper'
+pub tells_opening : (opening : Opening) (keeper keeper' : Store) → OpensToNone opening keeper keeper'
     → IfSome keeper.told (λ es. opening_of es ≡ opening)
 tells_opening opening keeper keeper' h = tells_same keeper.told h.entries opening h.told h.opens
 
-tells_refused : (told : Option (List Entry)) (opening : Opening) → is_refused opening ≡ true
+pub tells_refused : (told : Option (List Entry)) (opening : Opening) → is_refused opening ≡ true
     → IfSome told (λ es. opening_of es ≡ opening) → IfSome told (λ es. is_refused (opening_of es) ≡ true)
 tells_refused None opening refused is = tt
 tells_refused (Some es) opening refused is = ap is_refused is ∙ refused
@@ -279,14 +285,14 @@ tells_refused (Some es) opening refused is = ap is_refused is ∙ refused
 -- status 7: the words were read, the load did not fail, and an entry is damaged or the rows break a rule
 pub top_unopened : (words : List (List ℕ)) (handed : ℕ) (before after : Outside) (status : ℕ)
     → Runs words handed before after status → status ≡ 7
-    → (are_read words ≡ true) × (after.keeper ≡ after_calls 1 before.keeper)
+    → (is_run words ≡ true) × (after.keeper ≡ after_calls 1 before.keeper)
     × IfSome before.keeper.told (λ entries. is_refused (opening_of entries) ≡ true)
 top_unopened words handed before after status (inl ran) seven =
     not_of_session ran.opened.ends 7 (sym ran.opened.status_is ∙ seven) (omega arith) seven≢nine seven≢ten
 top_unopened words handed before after status (inr refused) seven =
     by refused.why refused.cause (sym refused.status_is ∙ seven) where
       by : (why : StartFault) → HasCauseToRefuse why words before.keeper after.keeper → start_status why ≡ 7
-          → (are_read words ≡ true) × (after.keeper ≡ after_calls 1 before.keeper)
+          → (is_run words ≡ true) × (after.keeper ≡ after_calls 1 before.keeper)
           × IfSome before.keeper.told (λ entries. is_refused (opening_of entries) ≡ true)
       by start.Unopened cause is = (
         cause.0,
@@ -404,7 +410,7 @@ ran_complete words handed before after status r text messages known splits few r
 pub top_complete : (words : List (List ℕ)) (handed : ℕ) (before after : Outside) (status : ℕ)
     (known : Option (List ℕ)) → Runs words handed before after status → before.source.left ≡ known
     → IfSome known (λ text. (messages : List Request) → Splits text messages ended → length messages < most_requests
-    → (entries : List Entry) (s : State) → are_read words ≡ true → before.keeper.told ≡ Some entries
+    → (entries : List Entry) (s : State) → is_run words ≡ true → before.keeper.told ≡ Some entries
     → opening_of entries ≡ opened s
     → ¬ (Rose before.source.failures after.source.failures) → ¬ (Rose before.sink.failures after.sink.failures)
     → ¬ (Rose before.keeper.failures after.keeper.failures) → (status ≡ 0) ⊎ (status ≡ 9))
@@ -416,10 +422,10 @@ top_complete words handed before after status (Some text) (inr refused) is =
     λ messages splits few entries s read told opens reads writes keeps.
     by refused.why refused.cause refused.status_is read entries s told opens keeps where
       by : (why : StartFault) → HasCauseToRefuse why words before.keeper after.keeper → status ≡ start_status why
-          → are_read words ≡ true → (entries : List Entry) (s : State) → before.keeper.told ≡ Some entries
+          → is_run words ≡ true → (entries : List Entry) (s : State) → before.keeper.told ≡ Some entries
           → opening_of entries ≡ opened s → ¬ (Rose before.keeper.failures after.keeper.failures)
           → (status ≡ 0) ⊎ (status ≡ 9)
-      by start.Words cause is read entries s told opens keeps = absurd (false≢true (sym cause.0 ∙ read))
+      by start.Words cause is read entries s told opens keeps = absurd (false≢true (sym (not_read-no_run words cause.0) ∙ read))
       by start.KeeperFailed cause is read entries s told opens keeps =
           absurd (keeps (refuses_rose before.keeper after.keeper cause.1))
       by start.Unopened cause is read entries s told opens keeps =
@@ -431,7 +437,7 @@ top_complete words handed before after status (Some text) (inr refused) is =
 -- a run over entries that open to no rows ends with the status that says so, or is refused memory, and writes nothing
 pub top_refused : (words : List (List ℕ)) (handed : ℕ) (before after : Outside) (status : ℕ)
     (known : Option (List Entry)) → Runs words handed before after status → before.keeper.told ≡ known
-    → IfSome known (λ entries. is_refused (opening_of entries) ≡ true → are_read words ≡ true
+    → IfSome known (λ entries. is_refused (opening_of entries) ≡ true → is_run words ≡ true
     → ¬ (Rose before.keeper.failures after.keeper.failures)
     → (after.sink.held ≡ before.sink.held) × ((status ≡ 7) ⊎ (status ≡ 9)))
 top_refused words handed before after status None done is = tt
@@ -442,8 +448,8 @@ top_refused words handed before after status (Some entries) (inl ran) is = λ no
 top_refused words handed before after status (Some entries) (inr refused) is = λ none read keeps.
     (ap (λ sink. sink.held) refused.sink, by refused.why refused.cause refused.status_is read keeps) where
       by : (why : StartFault) → HasCauseToRefuse why words before.keeper after.keeper → status ≡ start_status why
-          → are_read words ≡ true → ¬ (Rose before.keeper.failures after.keeper.failures) → (status ≡ 7) ⊎ (status ≡ 9)
-      by start.Words cause is read keeps = absurd (false≢true (sym cause.0 ∙ read))
+          → is_run words ≡ true → ¬ (Rose before.keeper.failures after.keeper.failures) → (status ≡ 7) ⊎ (status ≡ 9)
+      by start.Words cause is read keeps = absurd (false≢true (sym (not_read-no_run words cause.0) ∙ read))
       by start.KeeperFailed cause is read keeps = absurd (keeps (refuses_rose before.keeper after.keeper cause.1))
       by start.Unopened cause is read keeps = inl is
       by start.NoMemory cause is read keeps = inr is
