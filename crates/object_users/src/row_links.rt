@@ -61,7 +61,7 @@ fn link_texts(alloc: Global, rows: &[RowRef<'_>]) -> Result<Vec<Text>, NoMemory>
 }
 
 /// The links of rows.
-pub fn row_links(alloc: Global, rows: &[RowRef<'_>]) -> Result<Seq<Text>, NoMemory>
+pub fn links_of_rows(alloc: Global, rows: &[RowRef<'_>]) -> Result<Seq<Text>, NoMemory>
     ensures { IfOk result (λ ts. ts ≡ links rows.now) }
 {
     let texts = link_texts(alloc, rows)?;
