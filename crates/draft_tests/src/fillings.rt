@@ -169,9 +169,7 @@ fn has_rows(draft: Option<Draft>, wanted: &[Given]) -> bool {
     };
     let same = {
         let view = draft.view();
-        are_networks(&view, wanted)
-            && are_instances(&view, wanted)
-            && are_stopped(&view, wanted)
+        are_networks(&view, wanted) && are_instances(&view, wanted) && are_stopped(&view, wanted)
     };
     drop(draft);
     same
@@ -182,6 +180,9 @@ fn rows_stand_in_the_order_of_their_names(rt: HostRuntime) {
     let alloc = rt.alloc();
     for (case, given, stand) in FILLINGS {
         assert!(rt; has_rows(begun(alloc, given), stand), "{case}");
-        assert!(rt; has_rows(changed(alloc, given), stand), "{case}, by changes");
+        assert!(rt;
+            has_rows(changed(alloc, given), stand),
+            "{case}, by changes"
+        );
     }
 }

@@ -180,13 +180,6 @@ fn kept_parts(rule: Rule) -> &'static [Part]
     }
 }
 
-/// The name of a rule, as `N4`.
-pub fn rule_name(rule: Rule) -> &'static str
-    ensures { result.now ≡ rule_name rule }
-{
-    rule_line(rule).name
-}
-
 /// The HTTP status code of a rule.
 pub(crate) fn rule_code(rule: Rule) -> u16
     ensures code { result ≡ rule_code rule }

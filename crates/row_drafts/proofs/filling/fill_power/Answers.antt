@@ -1,4 +1,4 @@
-use Rattle.std.proofs.Common.{◌≡◌, ◌++◌, [], ◌∷◌, true, ap, sym, ◌∙◌}
+use Rattle.std.proofs.Common.{◌≡◌, ◌++◌, [], ◌∷◌, true, sym, ◌∙◌}
 use Rattle.row_machine.specs.machine.Rows.{texts_before, standing_names}
 use Rattle.row_machine.specs.machine.State.{Standing}
 use Rattle.row_drafts.specs.Drafted.{stopped}
