@@ -10,7 +10,7 @@ use Rattle.row_machine.specs.machine.State.{State, empty_state}
 use Rattle.row_machine.specs.opening.Opening.{opened, opening_of, opening_by, opening_with, rows_in, with_rows, first_rows}
 use Rattle.machine_laws.proofs.OpeningKept.{IsOpening, anew, again, is-opening}
 use Rattle.machine_laws.proofs.OpeningRows.{rows_alone, with_all, with_rows-is, opened-alone}
-use Rattle.core_rows.specs.Kept.{IsSilent}
+use Rattle.work_reports.specs.Waiting.{IsSilent}
 
 -- ---- a state that entries open to
 
