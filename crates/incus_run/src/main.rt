@@ -5,7 +5,7 @@
 use host_model::ModelHost;
 use http_front::{Clock, ReaderSource, SystemClock, WriterSink};
 use record_keeper::MapKeeper;
-use run_words::setup_of;
+use run_words::{setup_of, usage};
 use serial_run::{StartFault, run_main};
 use std::io::ErrorKind;
 use std::process::ExitCode;
@@ -29,13 +29,21 @@ fn words_of(rt: &HostRuntime) -> io::Result<Vec<String>> {
     Ok(words)
 }
 
+/// The exit code of a status. Where it says that the words are not read, standard error tells which were expected.
+fn end_with(rt: &HostRuntime, status: u8) -> ExitCode {
+    if status == StartFault::Words.status() {
+        drop(eprint!(rt; "{}", usage()));
+    }
+    ExitCode::from(status)
+}
+
 fn main(rt: HostRuntime) -> ExitCode {
     let words = match words_of(&rt) {
         Ok(words) => words,
-        Err(error) => return ExitCode::from(fault_of(&error).status()),
+        Err(error) => return end_with(&rt, fault_of(&error).status()),
     };
     let Ok(setup) = setup_of(rt.alloc(), &words) else {
-        return ExitCode::from(StartFault::NoMemory.status());
+        return end_with(&rt, StartFault::NoMemory.status());
     };
     let mut host = ModelHost::new(rt.alloc(), setup.fail_host);
     let keeper = MapKeeper::new(rt.alloc(), setup.fail_keeper);
@@ -54,5 +62,5 @@ fn main(rt: HostRuntime) -> ExitCode {
         &mut clock,
         boot,
     );
-    ExitCode::from(status)
+    end_with(&rt, status)
 }

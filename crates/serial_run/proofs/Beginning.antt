@@ -1,14 +1,15 @@
 -- A run, from what it does once its words are read.
 use Rattle.std.proofs.Common.{◌≡◌, ℕ, List, Bool, true, false, Some, None, refl, ap, sym, ◌∙◌, subst, inl, inr}
-use Rattle.std.specs.Option.{unwrap_or}
+use Rattle.std.specs.Option.{is_some, option_and_then, option_map_or, unwrap_or}
 use Rattle.http_front.specs.Clocks.{Readings, standing_still}
 use Rattle.record_keeper.specs.Store.{Store}
 use Rattle.core_rows.specs.Opening.{Refuses}
 use Rattle.core_rows.specs.declared.opening.OpenFault.{OpenFault}
 use Rattle.core_rows.specs.declared.opening.OpenFault.TheVariants as fault
 use Rattle.serial_steps.specs.Steps.{Hosted}
+use Rattle.run_words.specs.declared.words.Pace.TheVariants.{All}
 use Rattle.run_words.specs.declared.words.RunWords.{RunWords}
-use Rattle.run_words.specs.Words.{are_read, boot_of, now_of, pace_of, words_of}
+use Rattle.run_words.specs.Words.{boot_of, is_run, now_of, pace_of, run_of}
 use Rattle.serial_run.specs.Runs.{HasCauseToRefuse, IsUnread, Opened, Refused, Runs, RunsOver, Unopened, boot_with}
 use Rattle.serial_run.specs.Runs.{clock_of, start_fault}
 use Rattle.serial_run.specs.Worlds.{Inlet, Outlet, Outside, outside}
@@ -16,16 +17,18 @@ use Rattle.serial_run.proofs.Served.{session_still}
 
 -- what was read is what the words say
 pub record AreSaid (words : List (List ℕ)) (said : RunWords) : Type 0 where
-  pub read : are_read words ≡ true
+  pub read : is_run words ≡ true
   pub now : said.now ≡ now_of words
   pub pace : said.pace ≡ pace_of words
   pub boot : said.boot ≡ boot_of words
 
-pub words_said : (words : List (List ℕ)) (said : RunWords) → Some said ≡ words_of words → AreSaid words said
-words_said words said is = by (are_read words) refl where
-  by : (read : Bool) → are_read words ≡ read → AreSaid words said
-  by true read = record { read = read; now = cc (is, read); pace = cc (is, read); boot = cc (is, read) }
-  by false read = absurd (cc (is, read))
+pub words_said : (words : List (List ℕ)) (said : RunWords) → Some said ≡ run_of words → AreSaid words said
+words_said words said is = record {
+  read = sym (ap is_some is);
+  now = ap (option_and_then (λ (run : RunWords). run.now)) is;
+  pace = ap (λ o. option_map_or (λ (run : RunWords). run.pace) o All) is;
+  boot = ap (option_and_then (λ (run : RunWords). run.boot)) is;
+}
 
 -- a run with the boot word and the pace that were read
 pub as_said : (words : List (List ℕ)) (handed : ℕ) (said : RunWords) (boot : ℕ) (before after : Outside) (status : ℕ)
@@ -37,16 +40,16 @@ as_said words handed said boot before after status are is runs =
     (subst (λ pace. RunsOver boot pace before after status) are.pace runs)
 
 -- a refused opening is a cause for no session
-has_cause : (why : OpenFault) (words : List (List ℕ)) (keeper keeper' : Store) → are_read words ≡ true
+has_cause : (why : OpenFault) (words : List (List ℕ)) (keeper keeper' : Store) → is_run words ≡ true
     → Refuses why keeper keeper' → HasCauseToRefuse (start_fault why) words keeper keeper'
 has_cause fault.KeeperFailed words keeper keeper' read refuses = (read, refuses)
 has_cause fault.HasEntries words keeper keeper' read refuses = (read, refuses)
-has_cause fault.NoMemory words keeper keeper' read refuses = (read, refuses)
+has_cause fault.NoMemory words keeper keeper' read refuses = inr (read, refuses)
 
 -- rows that were not opened are a run without a session
 not_opened : (words : List (List ℕ)) (source source' : Inlet) (sink sink' : Outlet) (keeper keeper' : Store)
     (host host' : Hosted) (told told' run run' : Readings) (status : ℕ)
-    → are_read words ≡ true → told' ≡ told
+    → is_run words ≡ true → told' ≡ told
     → Unopened (outside source sink keeper host run) (outside source' sink' keeper' host' run') status
     → Refused words (outside source sink keeper host told) (outside source' sink' keeper' host' told') status
 not_opened words source source' sink sink' keeper keeper' host host' told told' run run' status read same un = record {
@@ -62,7 +65,7 @@ not_opened words source source' sink sink' keeper keeper' host host' told told' 
 -- a run whose words say a moment, over a clock that stands still at it
 pub runs_still : (words : List (List ℕ)) (handed : ℕ) (source source' : Inlet) (sink sink' : Outlet)
     (keeper keeper' : Store) (host host' : Hosted) (told run' : Readings) (moment status : ℕ)
-    → are_read words ≡ true → now_of words ≡ Some moment
+    → is_run words ≡ true → now_of words ≡ Some moment
     → RunsOver (boot_with words handed) (pace_of words) (outside source sink keeper host (standing_still moment))
     (outside source' sink' keeper' host' run') status
     → Runs words handed (outside source sink keeper host told) (outside source' sink' keeper' host' told) status
@@ -88,7 +91,7 @@ runs_still words handed source source' sink sink' keeper keeper' host host' told
 -- a run whose words say none, over the clock that is handed in
 pub runs_by : (words : List (List ℕ)) (handed : ℕ) (source source' : Inlet) (sink sink' : Outlet)
     (keeper keeper' : Store) (host host' : Hosted) (told told' : Readings) (status : ℕ)
-    → are_read words ≡ true → now_of words ≡ None
+    → is_run words ≡ true → now_of words ≡ None
     → RunsOver (boot_with words handed) (pace_of words) (outside source sink keeper host told)
     (outside source' sink' keeper' host' told') status
     → Runs words handed (outside source sink keeper host told) (outside source' sink' keeper' host' told') status

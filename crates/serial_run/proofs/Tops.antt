@@ -12,7 +12,7 @@ use Rattle.core_rows.specs.Opening.{Refuses}
 use Rattle.core_rows.specs.declared.opening.OpenFault.TheVariants as fault
 use Rattle.record_keeper.specs.Store.{Store}
 use Rattle.serial_steps.specs.Steps.{Serial}
-use Rattle.run_words.specs.Words.{are_read, now_of, pace_of}
+use Rattle.run_words.specs.Words.{is_run, now_of, pace_of}
 use Rattle.run_words.specs.declared.words.Pace.{Pace}
 use Rattle.rest_service.specs.Exchanges.{LeadTo, moments_of, printed_replies, keeper_failures_of, host_failures_of}
 use Rattle.rest_service.proofs.Along.{IsAlong}
@@ -269,31 +269,31 @@ top_keeper_fault words handed before after status (inr refused) six =
       by start.HasEntries cause is = let none : ⊥ = omega (arith, is) in absurd none
       by start.NoMemory cause is = let none : ⊥ = omega (arith, is) in absurd none
 
--- status 8: the words are not read
+-- status 8: the words are not those of a run
 pub top_words : (words : List (List ℕ)) (handed : ℕ) (before after : Outside) (status : ℕ)
-    → Runs words handed before after status → status ≡ 8 → are_read words ≡ false
+    → Runs words handed before after status → status ≡ 8 → is_run words ≡ false
 top_words words handed before after status (inl ran) eight =
     not_of_session ran.opened.ends 8 (sym ran.opened.status_is ∙ eight) (omega arith) eight≢nine eight≢ten
 top_words words handed before after status (inr refused) eight =
     by refused.why refused.cause (sym refused.status_is ∙ eight) where
       by : (why : StartFault) → HasCauseToRefuse why words before.keeper after.keeper → start_status why ≡ 8
-          → are_read words ≡ false
+          → is_run words ≡ false
       by start.Words cause is = cause.0
       by start.KeeperFailed cause is = let none : ⊥ = omega (arith, is) in absurd none
       by start.HasEntries cause is = let none : ⊥ = omega (arith, is) in absurd none
       by start.NoMemory cause is = let none : ⊥ = omega (arith, is) in absurd none
 
--- and where they are not read, that is the status
+-- and where they are not, that is the status, or memory was refused
 pub top_not_read : (words : List (List ℕ)) (handed : ℕ) (before after : Outside) (status : ℕ)
-    → Runs words handed before after status → are_read words ≡ false → status ≡ 8
+    → Runs words handed before after status → is_run words ≡ false → (status ≡ 8) ⊎ (status ≡ 9)
 top_not_read words handed before after status (inl ran) other = absurd (false≢true (sym other ∙ ran.read))
 top_not_read words handed before after status (inr refused) other = by refused.why refused.cause refused.status_is where
   by : (why : StartFault) → HasCauseToRefuse why words before.keeper after.keeper → status ≡ start_status why
-      → status ≡ 8
-  by start.Words cause is = is
+      → (status ≡ 8) ⊎ (status ≡ 9)
+  by start.Words cause is = inl is
   by start.KeeperFailed cause is = absurd (false≢true (sym other ∙ cause.0))
   by start.HasEntries cause is = absurd (false≢true (sym other ∙ cause.0))
-  by start.NoMemory cause is = absurd (false≢true (sym other ∙ cause.0))
+  by start.NoMemory cause is = inr is
 
 -- status 13: the keeper has entries
 pub top_has_entries : (words : List (List ℕ)) (handed : ℕ) (before after : Outside) (status : ℕ)
@@ -416,14 +416,14 @@ ran_complete words handed before after status r text messages known splits few r
 pub top_complete : (words : List (List ℕ)) (handed : ℕ) (before after : Outside) (status : ℕ)
     (known : Option (List ℕ)) → Runs words handed before after status → before.source.left ≡ known
     → IfSome known (λ text. (messages : List Request) → Splits text messages ended → length messages < most_requests
-    → are_read words ≡ true → before.keeper.told ≡ Some []
+    → is_run words ≡ true → before.keeper.told ≡ Some []
     → ¬ (Rose before.source.failures after.source.failures) → ¬ (Rose before.sink.failures after.sink.failures)
     → ¬ (Rose before.keeper.failures after.keeper.failures) → (status ≡ 0) ⊎ (status ≡ 9))
 top_complete words handed before after status None done is = tt
 top_complete words handed before after status (Some text) (inl ran) is = λ messages splits few read none reads writes keeps. ran_complete words handed before after status ran text messages is splits few reads writes
 top_complete words handed before after status (Some text) (inr refused) is = λ messages splits few read none reads writes keeps. by refused.why refused.cause refused.status_is read none keeps where
   by : (why : StartFault) → HasCauseToRefuse why words before.keeper after.keeper → status ≡ start_status why
-      → are_read words ≡ true → before.keeper.told ≡ Some [] → ¬ (Rose before.keeper.failures after.keeper.failures)
+      → is_run words ≡ true → before.keeper.told ≡ Some [] → ¬ (Rose before.keeper.failures after.keeper.failures)
       → (status ≡ 0) ⊎ (status ≡ 9)
   by start.Words cause is read none keeps = absurd (false≢true (sym cause.0 ∙ read))
   by start.KeeperFailed cause is read none keeps = absurd (keeps (refuses_rose before.keeper after.keeper cause.1))
@@ -434,7 +434,7 @@ top_complete words handed before after status (Some text) (inr refused) is = λ 
 -- a run over a keeper that has entries ends with the status that says so, or is refused memory, and writes nothing
 pub top_entries : (words : List (List ℕ)) (handed : ℕ) (before after : Outside) (status : ℕ)
     (known : Option (List Entry)) → Runs words handed before after status → before.keeper.told ≡ known
-    → IfSome known (λ entries. entries ≢ [] → are_read words ≡ true
+    → IfSome known (λ entries. entries ≢ [] → is_run words ≡ true
     → ¬ (Rose before.keeper.failures after.keeper.failures)
     → (after.sink.held ≡ before.sink.held) × ((status ≡ 13) ⊎ (status ≡ 9)))
 top_entries words handed before after status None done is = tt
@@ -443,7 +443,7 @@ top_entries words handed before after status (Some entries) (inl ran) is =
 top_entries words handed before after status (Some entries) (inr refused) is = λ some read keeps.
     (ap (λ sink. sink.held) refused.sink, by refused.why refused.cause refused.status_is read keeps) where
       by : (why : StartFault) → HasCauseToRefuse why words before.keeper after.keeper → status ≡ start_status why
-          → are_read words ≡ true → ¬ (Rose before.keeper.failures after.keeper.failures) → (status ≡ 13) ⊎ (status ≡ 9)
+          → is_run words ≡ true → ¬ (Rose before.keeper.failures after.keeper.failures) → (status ≡ 13) ⊎ (status ≡ 9)
       by start.Words cause is read keeps = absurd (false≢true (sym cause.0 ∙ read))
       by start.KeeperFailed cause is read keeps = absurd (keeps (refuses_rose before.keeper after.keeper cause.1))
       by start.HasEntries cause is read keeps = inl is

@@ -7,7 +7,7 @@ use Rattle.core_rows.specs.Opening.{Refuses, opened_store}
 use Rattle.core_rows.specs.declared.opening.OpenFault.{OpenFault}
 use Rattle.core_rows.specs.declared.opening.OpenFault.TheVariants as fault
 use Rattle.serial_steps.specs.Steps.{Serial}
-use Rattle.run_words.specs.Words.{are_read, boot_of, now_of, pace_of}
+use Rattle.run_words.specs.Words.{boot_of, is_run, now_of, pace_of}
 use Rattle.run_words.specs.declared.words.Pace.{Pace}
 use Rattle.rest_service.specs.Answers.{first_serial}
 use Rattle.serial_run.specs.declared.running.StartFault.{StartFault}
@@ -81,19 +81,20 @@ pub record Opened (boot : ℕ) (pace : Pace) (before after : Outside) (status : 
 -- The words were read, and there was one session over the clock of the run, with its boot word, at the pace that the
 -- words say.
 pub record Ran (words : List (List ℕ)) (handed : ℕ) (before after : Outside) (status : ℕ) : Type 0 where
-  pub read : are_read words ≡ true
+  pub read : is_run words ≡ true
   pub opened : Opened (boot_with words handed) (pace_of words) (seen_with words before) (seen_with words after) status
   pub unread : IsUnread (now_of words) before.clock after.clock
 
--- Why there was no session. Words that are not read leave the keeper as it was, and a refused opening does what it may
--- do to it.
+-- Why there was no session. Words that are not those of a run leave the keeper as it was, as does want of memory for
+-- reading them, and a refused opening does what it may do to it.
 abbrev pub HasCauseToRefuse : StartFault → List (List ℕ) → Store → Store → Type 0
-HasCauseToRefuse start.Words words keeper keeper' = (are_read words ≡ false) × (keeper' ≡ keeper)
-HasCauseToRefuse start.KeeperFailed words keeper keeper' = (are_read words ≡ true)
+HasCauseToRefuse start.Words words keeper keeper' = (is_run words ≡ false) × (keeper' ≡ keeper)
+HasCauseToRefuse start.KeeperFailed words keeper keeper' = (is_run words ≡ true)
     × Refuses fault.KeeperFailed keeper keeper'
-HasCauseToRefuse start.HasEntries words keeper keeper' = (are_read words ≡ true)
+HasCauseToRefuse start.HasEntries words keeper keeper' = (is_run words ≡ true)
     × Refuses fault.HasEntries keeper keeper'
-HasCauseToRefuse start.NoMemory words keeper keeper' = (are_read words ≡ true) × Refuses fault.NoMemory keeper keeper'
+HasCauseToRefuse start.NoMemory words keeper keeper' = (keeper' ≡ keeper)
+    ⊎ ((is_run words ≡ true) × Refuses fault.NoMemory keeper keeper')
 
 -- The run had no session. No call of the source, of the sink, of the host or of the clock was made.
 pub record Refused (words : List (List ℕ)) (before after : Outside) (status : ℕ) : Type 0 where

@@ -1,10 +1,12 @@
-ghost use Rattle.std.specs.Prelude.{◌≡◌, ◌≢◌, ◌<◌, ◌⊎◌, ◌↔◌, List, [], true, false, length, Some};
-ghost use Rattle.std.specs.Prelude.{IfSome, map};
+ghost use Rattle.std.specs.Prelude.{◌≡◌, ◌≢◌, ◌<◌, ◌⊎◌, List, [], true, false, length, Some};
+ghost use Rattle.std.specs.Prelude.{IfOk, IfSome, map};
 ghost use Rattle.std.specs.Prelude.{string_bytes};
+ghost use Rattle.std.specs.Option.{option_and_then};
 ghost use Rattle.size_values.specs.Causes.{Rose};
+ghost use Rattle.size_values.specs.Moments.{moment_limit};
 ghost use Rattle.http_heads.specs.Messages.{Ending, ended, Splits};
 ghost use Rattle.http_heads.specs.declared.request.Request.{Request};
-ghost use Rattle.run_words.specs.Words.{are_read, now_of, pace_of};
+ghost use Rattle.run_words.specs.Words.{AreInRange, as_run, is_run, now_of, pace_of, run_of};
 ghost use Rattle.serial_steps.specs.Steps.{hosted};
 ghost use Rattle.serial_run.specs.Most.{most_requests};
 ghost use Rattle.serial_run.specs.Runs.{Runs, RunsOver, SessionFrom, boot_with, seen_with};
@@ -18,13 +20,14 @@ use host_model::Host;
 use http_front::{Buffer, Clock, Sink, Source, StillClock};
 use record_keeper::Keeper;
 use rest_service::{OpenFault, Service};
-use run_words::{Pace, read_words};
+use run_words::{CommandWords, Pace, RunWords, read_words};
+use size_values::NoMemory;
 use std::alloc::Global;
 
 /// Why a run has no session.
 #[derive(Clone, Copy, Debug, PartialEq, Eq)]
 pub enum StartFault {
-    /// The words of the command line are not read.
+    /// The words of the command line are not those of a run.
     Words,
     KeeperFailed,
     /// The keeper has entries already; rows of an earlier run are not read yet.
@@ -153,6 +156,30 @@ fn run_over<S: Source, K: Sink, R: Keeper, H: Host, C: Clock>(
     }
 }
 
+/// What is said of a run, where a run is asked for.
+fn as_run(said: Option<CommandWords>) -> Option<RunWords>
+    requires { IfSome said AreInRange }
+    ensures says { result ≡ option_and_then as_run said }
+    ensures early { IfSome result (λ run. IfSome run.now (λ moment. moment < moment_limit)) }
+{
+    match said {
+        Some(CommandWords::Run(run)) => Some(run),
+        Some(CommandWords::Make { .. }) => None,
+        Some(CommandWords::Drill { .. }) => None,
+        Some(CommandWords::Check) => None,
+        None => None,
+    }
+}
+
+/// What the words say of a run, where they are those of one.
+fn run_words_of(alloc: Global, words: &[String]) -> Result<Option<RunWords>, NoMemory>
+    ensures says { IfOk result (λ said. said ≡ run_of (map (λ w. string_bytes w) words.now)) }
+    ensures early { IfOk result (λ said. IfSome said (λ run. IfSome run.now (λ moment. moment < moment_limit))) }
+{
+    let said = read_words(alloc, words)?;
+    Ok(as_run(said))
+}
+
 /// A run of the program.
 fn run<S: Source, K: Sink, R: Keeper, H: Host, C: Clock>(
     alloc: Global,
@@ -170,8 +197,10 @@ fn run<S: Source, K: Sink, R: Keeper, H: Host, C: Clock>(
         (outside (inlet S.left S.ended S.failures source.new) (outlet K.held K.failures sink.new)
         (R.store result.1) (hosted H.told H.failures host.new) (C.readings clock.new)) result.0 }
 {
-    let Some(said) = read_words(words) else {
-        return (StartFault::Words.status(), keeper);
+    let said = match run_words_of(alloc, words) {
+        Ok(Some(said)) => said,
+        Ok(None) => return (StartFault::Words.status(), keeper),
+        Err(NoMemory) => return (StartFault::NoMemory.status(), keeper),
     };
     let boot = said.boot.unwrap_or(boot);
     match said.now {
@@ -223,7 +252,7 @@ pub fn run_main<S: Source, K: Sink, R: Keeper, H: Host, C: Clock>(
     ensures complete { IfSome (S.left source.old)
         (λ text. (messages : List Request) → Splits text messages ended
         → length messages < most_requests →
-        are_read (map (λ w. string_bytes w) words.now) ≡ true → (R.store keeper).told ≡ Some [] →
+        is_run (map (λ w. string_bytes w) words.now) ≡ true → (R.store keeper).told ≡ Some [] →
         ¬ (Rose (S.failures source.old) (S.failures source.new))
         → ¬ (Rose (K.failures sink.old) (K.failures sink.new))
         → ¬ (Rose (R.store keeper).failures (R.store result.1).failures) →
@@ -234,13 +263,15 @@ pub fn run_main<S: Source, K: Sink, R: Keeper, H: Host, C: Clock>(
     ensures write_fault { result.0 ≡ 5 → Rose (K.failures sink.old) (K.failures sink.new) }
     ensures keeper_fault { result.0 ≡ 6
         → Rose (R.store keeper).failures (R.store result.1).failures }
-    ensures words { (result.0 ≡ 8) ↔ (are_read (map (λ w. string_bytes w) words.now) ≡ false) }
+    ensures words { result.0 ≡ 8 → is_run (map (λ w. string_bytes w) words.now) ≡ false }
+    ensures not_read { is_run (map (λ w. string_bytes w) words.now) ≡ false
+        → (result.0 ≡ 8) ⊎ (result.0 ≡ 9) }
     // Where the words say a moment, the clock that is handed in is not read.
     ensures still { IfSome (now_of (map (λ w. string_bytes w) words.now))
         (λ _. C.readings clock.new ≡ C.readings clock.old) }
     ensures has_entries { result.0 ≡ 13 → IfSome (R.store keeper).told (λ entries. entries ≢ []) }
     ensures entries { IfSome (R.store keeper).told (λ entries. entries ≢ []
-        → are_read (map (λ w. string_bytes w) words.now) ≡ true →
+        → is_run (map (λ w. string_bytes w) words.now) ≡ true →
         ¬ (Rose (R.store keeper).failures (R.store result.1).failures)
         → (K.held sink.new ≡ K.held sink.old) × ((result.0 ≡ 13) ⊎ (result.0 ≡ 9))) }
 {

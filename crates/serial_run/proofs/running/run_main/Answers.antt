@@ -22,7 +22,10 @@ pub returns-clause-keeper_fault : goal.returns-clause-keeper_fault
 returns-clause-keeper_fault g c = top_keeper_fault _ _ _ _ _ c.run.ensures
 
 pub returns-clause-words : goal.returns-clause-words
-returns-clause-words g c = (top_words _ _ _ _ _ c.run.ensures, top_not_read _ _ _ _ _ c.run.ensures)
+returns-clause-words g c = top_words _ _ _ _ _ c.run.ensures
+
+pub returns-clause-not_read : goal.returns-clause-not_read
+returns-clause-not_read g c = top_not_read _ _ _ _ _ c.run.ensures
 
 pub returns-clause-still : goal.returns-clause-still
 returns-clause-still g c = top_still _ _ _ _ _ c.run.ensures
