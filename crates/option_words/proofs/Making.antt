@@ -1,5 +1,5 @@
 -- Commands that are put together.
-use Rattle.std.proofs.Common.{◌≡◌, ◌∙◌, ◌||◌, Bool, true, false, refl, ap, sym, subst, List, ℕ, [], Result, Ok, Err, IfOk}
+use Rattle.std.proofs.Common.{◌≡◌, ◌∙◌, ◌||◌, Bool, true, false, refl, ap, subst, [], Result, Ok, Err, IfOk}
 use Rattle.std.proofs.lemmas.Bool.{false≢true}
 use Rattle.std.specs.Prelude.{IsErr, MatchResult}
 use Rattle.clap.specs.Words.{AddsArg, App, Rule, Shape, Text, app_of, new_app, rule_of, shape_of, with_rule}

@@ -1,7 +1,7 @@
 -- What a parse of words gives.
-use Rattle.std.proofs.Common.{◌≡◌, ◌≢◌, ◌∙◌, ◌⊎◌, ◌==◌, ◌&&◌, not, ℕ, Bool, true, false, refl, sym, ap, ap₂, List, [], ◌∷◌}
-use Rattle.std.proofs.Common.{length, Option, Some, None, is_some, inl, inr, arith, ne_eqb, Result, Ok, Err, IfOk, IfSome, subst}
-use Rattle.clap.specs.Words.{App, FailsBy, HasKind, HasMatchesOf, IsAmong, Kinds, fault_of, is_simple, is_simple_and_free, kind_of}
+use Rattle.std.proofs.Common.{◌≡◌, ◌≢◌, ◌∙◌, ◌==◌, ◌&&◌, not, ℕ, Bool, true, false, refl, sym, ap, ap₂, List, [], ◌∷◌}
+use Rattle.std.proofs.Common.{length, Option, None, is_some, inl, inr, arith, ne_eqb, Result, Ok, Err, IfOk, IfSome, subst}
+use Rattle.clap.specs.Words.{App, HasKind, HasMatchesOf, IsAmong, Kinds, fault_of, is_simple, is_simple_and_free, kind_of}
 use Rattle.clap.specs.declared.error.Error.{Error}
 use Rattle.clap.specs.declared.error.kind.ErrorKind.{ErrorKind}
 use Rattle.clap.specs.declared.error.kind.ErrorKind.TheVariants as kind

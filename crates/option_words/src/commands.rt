@@ -43,9 +43,7 @@ pub fn with_place<'a>(
 ) -> Result<Command<'a>, NoMemory>
     ensures { IfOk result (AddsRule (place_of name.entry.now) command.entry) }
 {
-    let place = Arg::new(alloc, name)
-        .action(ArgAction::Set)
-        .required(true);
+    let place = Arg::new(alloc, name).action(ArgAction::Set).required(true);
     Ok(command.arg(place)?)
 }
 

@@ -1,5 +1,5 @@
 -- The program, and what the words give to its commands.
-use Rattle.std.proofs.Common.{◌≡◌, ◌∙◌, ℕ, List, [], Bool, true, false, cond, refl, sym, ap, ap₂, subst, Option, Some, None, is_some, IfSome, IfOk}
+use Rattle.std.proofs.Common.{◌≡◌, ◌∙◌, ℕ, List, [], true, false, cond, refl, ap, ap₂, Option, Some, None, is_some, IfSome, IfOk}
 use Rattle.std.proofs.Common.{Result, Ok, Err}
 use Rattle.std.specs.Option.{option_and_then, option_map, unwrap_or}
 use Rattle.clap.specs.Words.{App, Row, Text, app_of, is_simple_and_free, subcommand_of, subcommand_rows_of}
@@ -10,7 +10,7 @@ use Rattle.clap.specs.declared.parser.matches.ArgMatches.TheViews.{out-ArgMatche
 use Rattle.clap.proofs.OnLiterals.{clap_on_literals}
 use Rattle.size_values.specs.declared.memory.NoMemory.{NoMemory}
 use Rattle.option_words.specs.Commands.{AreGiven, HasShape, are_taken}
-use Rattle.run_words.specs.Words.{bare_program, check_command, words_of_command, drill_command, parsed_command, make_command}
+use Rattle.run_words.specs.Words.{bare_program, check_command, drill_command, parsed_command, make_command}
 use Rattle.run_words.specs.Words.{run_command, run_program}
 
 -- no argument of the program has a rule on another one

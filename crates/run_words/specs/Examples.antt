@@ -1,5 +1,5 @@
 -- Lists of words, each with what it says, or with nothing where it is not read.
-use Rattle.std.specs.Prelude.{◌≡◌, ℕ, List, [], ◌∷◌, Option, Some, None, codes}
+use Rattle.std.specs.Prelude.{◌≡◌, [], ◌∷◌, Some, None, codes}
 use Rattle.run_words.specs.Words.{no_setup, setup_of, words_of}
 use Rattle.run_words.specs.declared.words.CommandWords.TheVariants.{Check, Drill, Make, Run}
 use Rattle.run_words.specs.declared.words.Pace.TheVariants.{All, Steps}

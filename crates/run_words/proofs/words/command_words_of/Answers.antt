@@ -1,4 +1,4 @@
-use Rattle.std.proofs.Common.{ap, sym, ◌∙◌, List, ℕ, Option}
+use Rattle.std.proofs.Common.{ap, sym, ◌∙◌, List}
 use Rattle.std.specs.Option.{option_and_then, option_map, is_some}
 use Rattle.clap.specs.Words.{Row, Text, found_of, rows_of}
 use Rattle.run_words.specs.Words.{words_of_command}
