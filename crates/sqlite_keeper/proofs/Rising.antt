@@ -1,11 +1,12 @@
 -- Entries each of which stands above the one before it are in order, and others are not.
-use Rattle.std.proofs.Common.{◌≡◌, ℕ, zero, suc, ◌+◌, ◌<◌, Bool, true, false, List, [], ◌∷◌, length, get_or, refl, ap, ◌∙◌, sym, arith}
+use Rattle.std.proofs.Common.{◌≡◌, ℕ, zero, suc, ◌+◌, ◌<◌, Bool, true, false, List, [], ◌∷◌, length, get_or, refl, ap, ◌∙◌, sym, subst, arith}
 use Rattle.std.specs.Prelude.{◌↔◌, IsTrue}
 use Rattle.std.specs.List.{AllAdjacentBelow, AllByRecursion, IsAllAdjacentAnswer}
 use Rattle.std.specs.List.Sorted.{IsStrictlySortedBy}
 use Rattle.std.specs.Ordering.{is_lt}
 use Rattle.std.specs.declared.cmp.Ordering.{Ordering}
 use Rattle.std.specs.declared.cmp.Ordering.TheVariants.{Less, Equal, Greater}
+use Rattle.std.proofs.lemmas.Bool.{false≢true}
 use Rattle.std.proofs.lemmas.Map.Keys.{Less-from_sorted}
 use Rattle.size_values.specs.declared.entry.Entry.{Entry}
 use Rattle.record_keeper.specs.Entries.{entry_order, IsOrderedEntries}
@@ -32,7 +33,8 @@ rising-ordered [] rising = tt
 rising-ordered (x ∷ []) rising = (tt, tt)
 rising-ordered (x ∷ y ∷ zs) rising =
     let low : entry_order x y ≡ Less = before-Less (entry_order x y) (rising 0 x (omega arith)) in
-    let rest : IsOrderedEntries (y ∷ zs) = rising-ordered (y ∷ zs) (λ k d within. rising (suc k) d (omega (arith, within))) in
+    let rest : IsOrderedEntries (y ∷ zs) = rising-ordered (y ∷ zs) (λ k d within. let next : suc k + 1 ≡ suc (k + 1) = omega arith in
+    subst (λ j. stands_before (get_or (y ∷ zs) k d) (get_or (x ∷ y ∷ zs) j d) ≡ true) next (rising (suc k) d (omega (arith, within)))) in
     ((low, above-first x y zs low rest.0), rest)
 
 pub ordered-rising : (es : List Entry) → IsOrderedEntries es → (k : ℕ) (d : Entry) → k + 1 < length es
@@ -41,7 +43,10 @@ ordered-rising es ordered k d within = ap is_lt (Less-from_sorted entry_order es
 
 -- what a test of each entry and the next one tells of the list
 pub judged : (es : List Entry) (r : Bool) → IsAllAdjacentAnswer (λ a b answer. answer ≡ stands_before a b) es r → IsTrue r ↔ IsOrderedEntries es
-judged es true rising = (λ _. rising-ordered es (λ k d within. sym (rising k d within)), λ _. tt)
-judged es false falls = (λ no. absurd no, λ ordered.
-    let none : Entry = record { kind = 0; key = []; body = [] } in
-    let told : false ≡ true = falls.1.1 none ∙ ordered-rising es ordered falls.0 none falls.1.0 in cc)
+judged es true rising = (λ _. rising-ordered es (λ k d within. sym (rising k d within)), λ _. refl)
+judged es false falls = (
+  λ no. absurd (false≢true no),
+  λ ordered.
+      let none : Entry = record { kind = 0; key = []; body = [] } in
+      absurd (false≢true (falls.2 none ∙ ordered-rising es ordered falls.0 none falls.1)),
+)

@@ -1,4 +1,5 @@
-ghost use Rattle.std.specs.Prelude.{◌≡◌, ◌≢◌, true, false, None, Some, option_copied, IfOk, OnOk, IsErrOf};
+ghost use Rattle.std.specs.Prelude.{◌≡◌, ◌≢◌, true, false, None, Some, option_copied};
+ghost use Rattle.std.specs.Prelude.{IfOk, OnOk, IsErr, IsErrOf};
 ghost use Rattle.size_values.specs.CallCounts.{CountsFailure, called};
 ghost use Rattle.size_values.specs.Calls.{has_failed};
 ghost use Rattle.record_keeper.specs.Entries.{IsOrderedEntries};
@@ -97,6 +98,7 @@ impl SqliteKeeper {
     /// What a call answers that was refused for this: a trouble is counted and kept, and out of memory
     /// is none.
     fn refused<T>(&mut self, why: Or<Trouble>) -> Result<T, Or<KeeperFailed>>
+        ensures err { IsErr result }
         ensures kept { self.new ≡ after_refusal why self.old }
         ensures failures { CountsFailure self.old.failures self.new.failures result }
         ensures says { SaysWhy self.old self.new result }

@@ -17,7 +17,13 @@ pub(crate) const VERSION: u32 = 1;
 
 const FORMAT: &str = "CREATE TABLE format (version INTEGER NOT NULL)";
 
-const RECORDS: &str = "CREATE TABLE records (kind INTEGER NOT NULL, key TEXT NOT NULL, body BLOB NOT NULL, PRIMARY KEY (kind, key))";
+const RECORDS: &str = "CREATE TABLE records (kind INTEGER NOT NULL, key TEXT NOT NULL, \
+    body BLOB NOT NULL, PRIMARY KEY (kind, key))";
+
+const PUT: &str = "INSERT INTO records (kind, key, body) VALUES (?1, ?2, ?3) \
+    ON CONFLICT (kind, key) DO UPDATE SET body = excluded.body";
+
+const REMOVE: &str = "DELETE FROM records WHERE kind = ?1 AND key = ?2";
 
 const SAYS_VERSION: &str = "INSERT INTO format (version) VALUES (1)";
 
@@ -88,10 +94,11 @@ fn may_be_database(rt: &HostRuntime, path: &str) -> io::Result<bool> {
     let mut file = fs::open(rt, path)?;
     let mut head = [0u8; 16];
     file.read(&mut head)?;
-    Ok(head
-        .iter()
-        .zip(MAGIC)
-        .all(|(byte, magic)| *byte == 0 || byte == magic))
+    Ok(
+        head.iter()
+            .zip(MAGIC)
+            .all(|(byte, magic)| *byte == 0 || byte == magic),
+    )
 }
 
 /// Lets a database pass that is of this program, and makes its tables in an empty one.
@@ -179,7 +186,10 @@ fn entries_in(alloc: Global, database: &mut Database) -> Result<Vec<Entry>, Erro
 }
 
 fn read_rows(database: &mut Database, found: &mut Vec<Entry>) -> Result<(), Error> {
-    let mut rows = database.query("SELECT kind, key, body FROM records ORDER BY kind, key", &[])?;
+    let mut rows = database.query(
+        "SELECT kind, key, body FROM records ORDER BY kind, key",
+        &[],
+    )?;
     for _ in 0..u64::MAX {
         let Some(row) = rows.next()? else {
             return Ok(());
@@ -232,11 +242,11 @@ fn change_one(
 ) -> Result<usize, Error> {
     match change {
         EntryChange::Put(entry) => transaction.execute(
-            "INSERT INTO records (kind, key, body) VALUES (?1, ?2, ?3) ON CONFLICT (kind, key) DO UPDATE SET body = excluded.body",
+            PUT,
             params![u32::from(entry.kind), entry.key.view(), entry.body.view()],
         ),
         EntryChange::Remove { kind, key } => transaction.execute(
-            "DELETE FROM records WHERE kind = ?1 AND key = ?2",
+            REMOVE,
             params![u32::from(*kind), key.view()],
         ),
     }

@@ -33,7 +33,8 @@ impl fmt::Display for Trouble {
             Trouble::OtherTables => "the file is a database of another program",
             Trouble::NewerVersion(version) => return write!(
                 f,
-                "the file was made by a newer version of this program (format {version}, this one reads {VERSION})"
+                "the file was made by a newer version of this program (format {version}, \
+                this one reads {VERSION})"
             ),
             Trouble::NotAnEntry => "a row of the table records is not one that this program writes",
             Trouble::NotLoaded => "rows were to be written before they were read",

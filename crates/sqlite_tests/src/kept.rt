@@ -20,7 +20,10 @@ const COMMITS: [(&str, &[&[Row]], &[Row]); 10] = [
     ),
     (
         "a removal",
-        &[&[(1, "a", Some(b"x")), (1, "b", Some(b"y"))], &[(1, "a", None)]],
+        &[
+            &[(1, "a", Some(b"x")), (1, "b", Some(b"y"))],
+            &[(1, "a", None)],
+        ],
         &[(1, "b", Some(b"y"))],
     ),
     (

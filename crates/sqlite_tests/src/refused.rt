@@ -22,9 +22,17 @@ enum Made {
 }
 
 const REFUSED: [(&str, Made, Trouble); 17] = [
-    ("a text", Made::Bytes(b"bread, milk\n"), Trouble::NotADatabase),
+    (
+        "a text",
+        Made::Bytes(b"bread, milk\n"),
+        Trouble::NotADatabase,
+    ),
     ("one byte", Made::Bytes(b"x"), Trouble::NotADatabase),
-    ("a longer text", Made::Bytes(&[b'S'; 10_000]), Trouble::NotADatabase),
+    (
+        "a longer text",
+        Made::Bytes(&[b'S'; 10_000]),
+        Trouble::NotADatabase,
+    ),
     (
         "no more than the beginning of a database",
         Made::Bytes(b"SQLite format 3\0\x10\0\x01\x01\0\x40\x20\x20"),
@@ -48,7 +56,11 @@ const REFUSED: [(&str, Made, Trouble); 17] = [
         Made::Changed("DROP TABLE records; CREATE TABLE records (kind INTEGER, key TEXT)"),
         Trouble::OtherTables,
     ),
-    ("a table fewer", Made::Changed("DROP TABLE records"), Trouble::OtherTables),
+    (
+        "a table fewer",
+        Made::Changed("DROP TABLE records"),
+        Trouble::OtherTables,
+    ),
     (
         "a table more",
         Made::Changed("CREATE TABLE notes (title TEXT)"),
@@ -66,7 +78,9 @@ const REFUSED: [(&str, Made, Trouble); 17] = [
     ),
     (
         "a later version with other tables",
-        Made::Changed("DROP TABLE records; CREATE TABLE entries (id INTEGER); UPDATE format SET version = 70000"),
+        Made::Changed(
+            "DROP TABLE records; CREATE TABLE entries (id INTEGER); UPDATE format SET version = 70000",
+        ),
         Trouble::NewerVersion(70_000),
     ),
     (
@@ -74,7 +88,11 @@ const REFUSED: [(&str, Made, Trouble); 17] = [
         Made::Changed("UPDATE format SET version = 0"),
         Trouble::OtherTables,
     ),
-    ("no version", Made::Changed("DELETE FROM format"), Trouble::OtherTables),
+    (
+        "no version",
+        Made::Changed("DELETE FROM format"),
+        Trouble::OtherTables,
+    ),
     (
         "a kind that is no kind",
         Made::Changed("INSERT INTO records VALUES (256, 'a', x'00')"),
@@ -199,8 +217,14 @@ const SENTENCES: [(Trouble, &str); 3] = [
         Trouble::NewerVersion(2),
         "the file was made by a newer version of this program (format 2, this one reads 1)",
     ),
-    (Trouble::OtherTables, "the file is a database of another program"),
-    (Trouble::NotADatabase, "the file is not a whole SQLite database"),
+    (
+        Trouble::OtherTables,
+        "the file is a database of another program",
+    ),
+    (
+        Trouble::NotADatabase,
+        "the file is not a whole SQLite database",
+    ),
 ];
 
 fn says(alloc: Global, trouble: Trouble, sentence: &str) -> bool {
