@@ -12,13 +12,22 @@ use Rattle.row_machine.specs.machine.State.{State}
 abbrev pub count_line : List ℕ → ℕ → List ℕ
 count_line kind count = kind ++ codes " " ++ decimal count ++ codes "\n"
 
+-- a number behind a space
+abbrev pub number_behind : ℕ → List ℕ
+number_behind number = codes " " ++ decimal number
+
 -- the seven parts of an amount, in the order in which limits are judged
 abbrev pub amounts_line : List ℕ → (Part → ℕ) → List ℕ
 amounts_line name amount =
-    name ++ codes " " ++ decimal (amount Instances) ++ codes " " ++ decimal (amount Containers)
-    ++ codes " " ++ decimal (amount Machines) ++ codes " " ++ decimal (amount Cpu)
-    ++ codes " " ++ decimal (amount Memory) ++ codes " " ++ decimal (amount Processes)
-    ++ codes " " ++ decimal (amount Disk) ++ codes "\n"
+    name
+    ++ number_behind (amount Instances)
+    ++ number_behind (amount Containers)
+    ++ number_behind (amount Machines)
+    ++ number_behind (amount Cpu)
+    ++ number_behind (amount Memory)
+    ++ number_behind (amount Processes)
+    ++ number_behind (amount Disk)
+    ++ codes "\n"
 
 -- how many rows of each kind there are
 unfoldable pub counts_of : State → List ℕ

@@ -1,11 +1,10 @@
-ghost use Rattle.std.specs.Prelude.{◌≡◌, ◌+◌, ◌<◌, ◌^◌, ◌++◌, codes, IfOk, string_bytes};
+ghost use Rattle.std.specs.Prelude.{◌≡◌, ◌+◌, ◌-◌, ◌≤◌, ◌++◌, IfOk, string_bytes};
 ghost use Rattle.size_values.specs.Amounts.{part};
 ghost use Rattle.size_values.specs.declared.amounts.Part.{Part};
-ghost use Rattle.reservations.specs.Holdings.{all_part};
 ghost use Rattle.row_machine.specs.facts.Whole.{AreBalanced};
-ghost use Rattle.store_report.specs.Report.{amounts_line, books_of, count_line, counts_of, report_of};
+ghost use Rattle.store_report.specs.Report.{amounts_line, books_of, count_line, counts_of, number_behind, report_of};
 
-use reservations::Hold;
+use reservations::Books;
 use row_readings::View;
 use size_values::{Amounts, NoMemory, Text};
 use std::alloc::Global;
@@ -24,6 +23,15 @@ fn push_count(
     Ok(())
 }
 
+/// Adds a number behind a space.
+fn push_number(alloc: Global, text: &mut String, number: u128) -> Result<(), NoMemory>
+    ensures { IfOk result (λ _. string_bytes text.new ≡ string_bytes text.old ++ number_behind number) }
+{
+    let word = format!(in alloc; " {number}")?;
+    text.push_str(word.as_str())?;
+    Ok(())
+}
+
 /// Adds the line of seven numbers.
 fn push_amounts(
     alloc: Global,
@@ -34,41 +42,26 @@ fn push_amounts(
     ensures { IfOk result (λ _. string_bytes text.new
         ≡ string_bytes text.old ++ amounts_line name.now (λ k. part k amounts.now)) }
 {
-    let Amounts {
-        instances,
-        containers,
-        machines,
-        cpu,
-        memory,
-        processes,
-        disk,
-    } = *amounts;
-    let line = format!(in alloc;
-        "{name} {instances} {containers} {machines} {cpu} {memory} {processes} {disk}\n"
-    )?;
-    text.push_str(line.as_str())?;
+    text.push_str(name)?;
+    push_number(alloc, text, amounts.instances)?;
+    push_number(alloc, text, amounts.containers)?;
+    push_number(alloc, text, amounts.machines)?;
+    push_number(alloc, text, amounts.cpu)?;
+    push_number(alloc, text, amounts.memory)?;
+    push_number(alloc, text, amounts.processes)?;
+    push_number(alloc, text, amounts.disk)?;
+    text.push_str("\n")?;
     Ok(())
 }
 
-/// What operations hold together.
-fn held_by_all(holds: &[Hold]) -> Amounts
-    requires { (k : Part) → all_part k holds.now < 2 ^ 128 }
-    ensures { (k : Part) → part k result ≡ all_part k holds.now }
+/// What operations still hold: what was granted and neither became an object's nor went back.
+fn held_of(books: &Books) -> Amounts
+    requires { (k : Part) → part k books.now.converted + part k books.now.returned ≤ part k books.now.granted }
+    ensures { (k : Part) → part k result
+        ≡ part k books.now.granted - part k books.now.converted - part k books.now.returned }
 {
-    let mut total = Amounts::zero();
-    for hold in holds {
-        total = total.plus(&hold.share);
-    }
-    total
-}
-
-/// Adds the line of what operations hold.
-fn push_held(alloc: Global, text: &mut String, holds: &[Hold]) -> Result<(), NoMemory>
-    requires { (k : Part) → all_part k holds.now < 2 ^ 128 }
-    ensures { IfOk result (λ _. string_bytes text.new
-        ≡ string_bytes text.old ++ amounts_line (codes "held") (λ k. all_part k holds.now)) }
-{
-    push_amounts(alloc, text, "held", &held_by_all(holds))
+    let left = books.granted.minus(&books.converted);
+    left.minus(&books.returned)
 }
 
 /// The lines of the rows.
@@ -88,7 +81,6 @@ fn counts_of(alloc: Global, view: &View<'_>) -> Result<String, NoMemory>
 }
 
 /// Adds the lines of the books.
-#[tactic(auto, unfolding(crate::specs::Report::books_of))]
 fn push_books(alloc: Global, text: &mut String, view: &View<'_>) -> Result<(), NoMemory>
     requires { AreBalanced view.now }
     ensures { IfOk result (λ _. string_bytes text.new ≡ string_bytes text.old ++ books_of view.now) }
@@ -97,7 +89,7 @@ fn push_books(alloc: Global, text: &mut String, view: &View<'_>) -> Result<(), N
     push_amounts(alloc, text, "granted", &books.granted)?;
     push_amounts(alloc, text, "converted", &books.converted)?;
     push_amounts(alloc, text, "returned", &books.returned)?;
-    push_held(alloc, text, view.held)
+    push_amounts(alloc, text, "held", &held_of(&books))
 }
 
 /// The lines of `check`: `projects N`, `profiles N`, `networks N`, `pools N`, `volumes N`, `instances N` and `snapshots
