@@ -54,7 +54,10 @@ pub(crate) fn tell_fault<R: Keeper>(rt: HostRuntime, keeper: &mut R) {
 fn trouble_line(alloc: Global, keeper: &SqliteKeeper) -> Result<String, NoMemory> {
     match keeper.trouble() {
         Some(trouble) => Ok(format!(in alloc; "incus_run: {}: {trouble}\n", keeper.path())?),
-        None => Ok(format!(in alloc; "incus_run: {}: the rows could not be read or written\n", keeper.path())?),
+        None => Ok(format!(in alloc;
+            "incus_run: {}: the rows could not be read or written\n",
+            keeper.path()
+        )?),
     }
 }
 

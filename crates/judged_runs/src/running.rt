@@ -149,11 +149,7 @@ fn source_of(alloc: Global, lines: &str, settings: &str) -> Result<ByteSource, N
     let piece: usize = value_of(settings, "piece").parse().unwrap_or(65_536);
     let fails = failing_calls(alloc, settings, "reads")?;
     match sent_for(alloc, lines) {
-        Ok(bytes) => Ok(ByteSource::new(
-            Seq::from_vec(bytes),
-            piece.max(1),
-            fails,
-        )),
+        Ok(bytes) => Ok(ByteSource::new(Seq::from_vec(bytes), piece.max(1), fails)),
         Err(why) => {
             drop(fails);
             Err(why)

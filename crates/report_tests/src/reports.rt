@@ -12,14 +12,16 @@ use std::alloc::Global;
 use store_report::check_report;
 
 /// What is told of two projects, with a share that became its object's and one that went back.
-const TOLD: &str = "projects 2\nprofiles 0\nnetworks 0\npools 0\nvolumes 0\ninstances 0\nsnapshots 0\n\
+const TOLD: &str =
+    "projects 2\nprofiles 0\nnetworks 0\npools 0\nvolumes 0\ninstances 0\nsnapshots 0\n\
     granted 2 1 1 6 5368709120 300 21474836480\n\
     converted 1 1 0 4 1073741824 100 10737418240\n\
     returned 1 0 1 2 4294967296 200 10737418240\n\
     held 0 0 0 0 0 0 0\n";
 
 /// What is told of nothing.
-const NOTHING: &str = "projects 0\nprofiles 0\nnetworks 0\npools 0\nvolumes 0\ninstances 0\nsnapshots 0\n\
+const NOTHING: &str =
+    "projects 0\nprofiles 0\nnetworks 0\npools 0\nvolumes 0\ninstances 0\nsnapshots 0\n\
     granted 0 0 0 0 0 0 0\nconverted 0 0 0 0 0 0 0\nreturned 0 0 0 0 0 0 0\nheld 0 0 0 0 0 0 0\n";
 
 fn some_books() -> Books

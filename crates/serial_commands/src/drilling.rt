@@ -211,9 +211,7 @@ fn drill_from<K: Sink, R: Keeper, H: Host, C: Clock>(
         (C.readings clock.new) (outlet K.held K.failures sink.new) }
 {
     match Service::new(alloc, keeper) {
-        Ok(service) => drill_over(
-            alloc, sink, keeper, host, clock, service, boot, seed, count,
-        ),
+        Ok(service) => drill_over(alloc, sink, keeper, host, clock, service, boot, seed, count),
         Err(why) => {
             let status = open_status(&why);
             drop(why);

@@ -430,7 +430,7 @@ top_complete words handed before after status (Some text) (inr refused) is =
           absurd (keeps (refuses_rose before.keeper after.keeper cause.1))
       by start.Unopened cause is read entries s told opens keeps =
           let found : opening_of entries ≡ cause.1.0 = subst (λ known. IfSome known (λ es. opening_of es ≡ cause.1.0)) told
-              (tells_opening cause.1.0 before.keeper after.keeper cause.1.2) in
+          (tells_opening cause.1.0 before.keeper after.keeper cause.1.2) in
           absurd (false≢true (ap is_refused (sym opens ∙ found) ∙ cause.1.1))
       by start.NoMemory cause is read entries s told opens keeps = inr is
 
@@ -443,7 +443,7 @@ pub top_refused : (words : List (List ℕ)) (handed : ℕ) (before after : Outsi
 top_refused words handed before after status None done is = tt
 top_refused words handed before after status (Some entries) (inl ran) is = λ none read keeps.
     let are : entries ≡ ran.opened.entries =
-        subst (λ known. IfSome known (λ es. es ≡ ran.opened.entries)) is ran.opened.told in
+    subst (λ known. IfSome known (λ es. es ≡ ran.opened.entries)) is ran.opened.told in
     absurd (false≢true (sym (ap is_refused (ap opening_of are ∙ ran.opened.opens)) ∙ none))
 top_refused words handed before after status (Some entries) (inr refused) is = λ none read keeps.
     (ap (λ sink. sink.held) refused.sink, by refused.why refused.cause refused.status_is read keeps) where

@@ -230,9 +230,7 @@ fn run<S: Source, K: Sink, R: Keeper, H: Host, C: Clock>(
         (R.store result.1) (hosted H.told H.failures host.new) (C.readings clock.new)) result.0 }
 {
     match read_words(alloc, words) {
-        Ok(Some(command)) => {
-            carry_out(alloc, command, source, sink, keeper, host, clock, boot)
-        }
+        Ok(Some(command)) => { carry_out(alloc, command, source, sink, keeper, host, clock, boot) }
         Ok(None) => (StartFault::Words.status(), keeper),
         Err(NoMemory) => (StartFault::NoMemory.status(), keeper),
     }

@@ -10,12 +10,7 @@ use size_values::{Amounts, NoMemory, Text};
 use std::alloc::Global;
 
 /// Adds the line that tells how many rows of a kind there are.
-fn push_count(
-    alloc: Global,
-    text: &mut String,
-    kind: &str,
-    count: usize,
-) -> Result<(), NoMemory>
+fn push_count(alloc: Global, text: &mut String, kind: &str, count: usize) -> Result<(), NoMemory>
     ensures { IfOk result (λ _. string_bytes text.new ≡ string_bytes text.old ++ count_line kind.now count) }
 {
     let line = format!(in alloc; "{kind} {count}\n")?;
