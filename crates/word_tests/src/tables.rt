@@ -254,8 +254,8 @@ const LISTED: &[(&[&str], &[u64], &[u64])] = &[
     (&["run", "--fail-keeper", SIXTY_FOUR], &[], &NUMBERS),
 ];
 
-/// Lists of words that are not read. No call is listed by them.
-const NOT_READ: &[&[&str]] = &[
+/// Lists of words that name no command, or too much beside one, or no number that it takes. No call is listed by them.
+const NO_COMMANDS: &[&[&str]] = &[
     &[],
     &[""],
     &["runs"],
@@ -299,6 +299,10 @@ const NOT_READ: &[&[&str]] = &[
     &["make", "7", "040"],
     &["drill", "7", "10001"],
     &["drill", "00", "40"],
+];
+
+/// Lists of words that give an option which the command does not have, or two that do not stand together, or a sign without an option. No call is listed by them.
+const NO_OPTIONS: &[&[&str]] = &[
     // The command does not have the option.
     &["make", "7", "40", "--db", "rows"],
     &["make", "--steps=3", "7", "40"],
@@ -336,6 +340,10 @@ const NOT_READ: &[&[&str]] = &[
     &["run", "5"],
     &["run", "--boots", "5"],
     &["run", "--bo", "5"],
+];
+
+/// Lists of words whose option stands in another place, is given twice, or has no value. No call is listed by them.
+const NO_VALUES: &[&[&str]] = &[
     // The option stands before the command.
     &["--now=5", "run"],
     &["--fail-host", "2", "run"],
@@ -374,6 +382,10 @@ const NOT_READ: &[&[&str]] = &[
     &["run", "--now", "5", "6"],
     &["run", "--now=5", "6"],
     &["run", "--fail-host=2", "3"],
+];
+
+/// Lists of words whose option has a value that it does not take. No call is listed by them.
+const BAD_VALUES: &[&[&str]] = &[
     // Its value is too great.
     &["run", "--now=253402300800"],
     &["run", "--now", "18446744073709551616"],
@@ -520,8 +532,29 @@ fn words_list_the_calls_that_fail(rt: HostRuntime) {
 }
 
 #[test]
-fn other_words_are_not_read(rt: HostRuntime) {
-    for words in NOT_READ {
+fn words_without_a_command_are_not_read(rt: HostRuntime) {
+    for words in NO_COMMANDS {
+        assert!(rt; is_said(rt.alloc(), words, None, "", &[], &[]), "{words:?}");
+    }
+}
+
+#[test]
+fn words_with_other_options_are_not_read(rt: HostRuntime) {
+    for words in NO_OPTIONS {
+        assert!(rt; is_said(rt.alloc(), words, None, "", &[], &[]), "{words:?}");
+    }
+}
+
+#[test]
+fn words_without_a_value_are_not_read(rt: HostRuntime) {
+    for words in NO_VALUES {
+        assert!(rt; is_said(rt.alloc(), words, None, "", &[], &[]), "{words:?}");
+    }
+}
+
+#[test]
+fn words_with_other_values_are_not_read(rt: HostRuntime) {
+    for words in BAD_VALUES {
         assert!(rt; is_said(rt.alloc(), words, None, "", &[], &[]), "{words:?}");
     }
 }
