@@ -1,4 +1,4 @@
-ghost use Rattle.std.specs.Prelude.{List};
+ghost use Rattle.std.specs.Prelude.{◌≡◌, List};
 ghost use Rattle.row_machine.specs.facts.Whole.{IsWhole};
 ghost use Rattle.serial_steps.specs.Steps.{hosted, site, Step};
 ghost use Rattle.rest_service.specs.Answers.{Answers, OpensService};
