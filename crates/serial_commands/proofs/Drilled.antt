@@ -32,9 +32,9 @@ wrote status n is large (inl zero) = let none : ⊥ = omega (arith, is, large, z
 wrote status n is large (inr five) = let none : ⊥ = omega (arith, is, large, five) in absurd none
 
 -- the rows were opened
-opened : (status : ℕ) (sink sink' : Outlet) (store store' : Store) (host host' : Hosted) (clock clock' : Readings) {P : Type 0}
+opened : {P : Type 0} (status : ℕ) (sink sink' : Outlet) (store store' : Store) (host host' : Hosted) (clock clock' : Readings)
     → UnopenedDrill status store host clock sink store' host' clock' sink' → (status ≡ 0) ⊎ (status ≡ 5) → P
-opened status sink sink' store store' host host' clock clock' d wrote_some = by d.unopened.why d.unopened.status_is where
+opened {P = P} status sink sink' store store' host host' clock clock' d wrote_some = by d.unopened.why d.unopened.status_is where
   by : (why : OpenFault) → status ≡ open_status why → P
   by fault.KeeperFailed is = wrote status 6 is (omega arith) wrote_some
   by (fault.Damaged kind key) is = wrote status 7 is (omega arith) wrote_some

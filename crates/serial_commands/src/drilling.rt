@@ -1,7 +1,7 @@
 ghost use Rattle.std.specs.Prelude.{◌≡◌, ◌≤◌, ◌++◌, ◌⊎◌, [], List, IfOk, string_bytes};
 ghost use Rattle.http_heads.specs.Messages.{ended, Splits};
 ghost use Rattle.http_heads.specs.declared.request.Request.{Request as RequestValue};
-ghost use Rattle.serial_commands.specs.Commands.{Answers, Drills, DrillsOver, DrillsText, TellsDrill, drilled_text};
+ghost use Rattle.serial_commands.specs.Commands.{Answers, Drills, DrillsOver, DrillsText, Tells, TellsDrill, drilled_text};
 ghost use Rattle.serial_sessions.specs.Worlds.{outlet};
 ghost use Rattle.serial_steps.specs.Steps.{hosted, site};
 ghost use Rattle.workload.specs.Stream.{stream_of};
@@ -102,6 +102,21 @@ fn answer_all<R: Keeper, H: Host, C: Clock>(
     ends
 }
 
+/// Tells what the replies of a drill and the rows after them come to.
+fn tell_text<K: Sink>(alloc: Global, sink: &mut K, replies: &[u8], service: &Service) -> u8
+    ensures { Tells result (drilled_text replies.now service.now.state)
+        (outlet K.held K.failures sink.old) (outlet K.held K.failures sink.new) }
+{
+    match drilled_text(alloc, replies, service) {
+        Ok(text) => {
+            let status = tell(sink, text.as_bytes());
+            drop(text);
+            status
+        }
+        Err(NoMemory) => OUT_OF_MEMORY,
+    }
+}
+
 /// Tells what a drill came to, where all of its requests were answered.
 fn tell_drill<K: Sink>(
     alloc: Global,
@@ -113,16 +128,14 @@ fn tell_drill<K: Sink>(
     ensures { TellsDrill ends result (drilled_text replies.now service.now.state)
         (outlet K.held K.failures sink.old) (outlet K.held K.failures sink.new) }
 {
-    if ends != SessionEnd::Ended {
-        return OUT_OF_MEMORY;
-    }
-    match drilled_text(alloc, replies, service) {
-        Ok(text) => {
-            let status = tell(sink, text.as_bytes());
-            drop(text);
-            status
-        }
-        Err(NoMemory) => OUT_OF_MEMORY,
+    match ends {
+        SessionEnd::Ended => tell_text(alloc, sink, replies, service),
+        SessionEnd::Cut => OUT_OF_MEMORY,
+        SessionEnd::Malformed(_) => OUT_OF_MEMORY,
+        SessionEnd::ReadFault => OUT_OF_MEMORY,
+        SessionEnd::WriteFault => OUT_OF_MEMORY,
+        SessionEnd::Spent => OUT_OF_MEMORY,
+        SessionEnd::NoMemory => OUT_OF_MEMORY,
     }
 }
 
