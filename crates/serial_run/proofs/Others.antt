@@ -16,7 +16,9 @@ use Rattle.core_rows.specs.declared.opening.OpenFault.TheVariants as fault
 use Rattle.run_words.specs.Words.{as_run, is_run, now_of, pace_of, words_of}
 use Rattle.run_words.specs.declared.words.CommandWords.{CommandWords}
 use Rattle.run_words.specs.declared.words.CommandWords.TheVariants.{Check, Drill, Make, Run}
-use Rattle.serial_commands.specs.Commands.{Checks, Drilled, Drills, Tells, TellsDrill, Unopened, drilled_text, open_status}
+use Rattle.serial_commands.specs.Commands.{Checks, Drills, DrillsOver, Tells, TellsDrill, Unopened, drilled_text, open_status}
+use Rattle.serial_steps.specs.Steps.{Site, serial, site}
+use Rattle.workload.specs.Stream.{stream_of}
 use Rattle.serial_sessions.specs.Most.{most_requests}
 use Rattle.serial_sessions.specs.Worlds.{Outlet, Outside}
 use Rattle.serial_sessions.specs.declared.session.SessionEnd.{SessionEnd}
@@ -91,6 +93,19 @@ by_drill end.WriteFault status text before after tells = out_of_memory tells.0
 by_drill end.NoMemory status text before after tells = out_of_memory tells.0
 by_drill end.Spent status text before after tells = out_of_memory tells.0
 
+drilled_cause : (boot : ℕ) (stream : List ℕ) (status : ℕ) (w : Site) (before after : Outside)
+    → DrillsOver boot stream status w before.sink after.keeper after.host after.clock after.sink → Cause status before after
+drilled_cause boot stream status w before after (inl d) =
+    by_drill d.ends status (drilled_text d.replies d.last.state) before after d.tells
+drilled_cause boot stream status w before after (inr out) = out_of_memory out.status_is
+
+drills_cause : (boot : ℕ) (stream : List ℕ) (status : ℕ) (before after : Outside)
+    → Drills boot stream status before.keeper before.host before.clock before.sink after.keeper after.host after.clock after.sink
+    → Cause status before after
+drills_cause boot stream status before after (inl o) =
+    drilled_cause boot stream status (site (serial o.state None) o.opened before.host before.clock) before after o.over
+drills_cause boot stream status before after (inr u) = by_opening status before after u.unopened
+
 cause_of : (command : CommandWords) (handed : ℕ) (before after : Outside) (status : ℕ)
     → DoesOther command handed before after status → Cause status before after
 cause_of (Run run) handed before after status does = absurd does
@@ -99,14 +114,7 @@ cause_of Check handed before after status does = by does.checks where
   by : Checks status before.sink after.sink before.keeper after.keeper → Cause status before after
   by (inl (s, opens, tells)) = by_text status _ before after tells
   by (inr h) = by_opening status before after h
-cause_of (Drill seed count) handed before after status does = by does.drills where
-  over : _ → Cause status before after
-  over (inl d) = by_drill d.ends status (drilled_text d.replies d.last.state) before after d.tells
-  over (inr out) = out_of_memory out.status_is
-
-  by : _ → Cause status before after
-  by (inl o) = over o.over
-  by (inr u) = by_opening status before after u.unopened
+cause_of (Drill seed count) handed before after status does = drills_cause handed (stream_of seed count) status before after does.drills
 
 -- where the status is one of these, its cause is the one of its number
 only : {P : Type 0} (n : ℕ) (before after : Outside) (status : ℕ) → Cause status before after → status ≡ n
@@ -127,7 +135,7 @@ pub does_text : (words : List (List ℕ)) (handed : ℕ) (before after : Outside
     → IfSome known (λ text. (messages : List Request) (ending : Ending) → Splits text messages ending → is_run words ≡ true
     → (is_fault status ≡ true)
     ⊎ RunsText (boot_with words handed) (pace_of words) messages ending status (seen_with words before) (seen_with words after))
-does_text words handed before after status None done is = tt
+does_text words handed before after status None ran is = tt
 does_text words handed before after status (Some text) (inl runs) is =
     λ messages ending splits run. top_text words handed before after status (Some text) runs is messages ending splits
 does_text words handed before after status (Some text) (inr c) is =
@@ -140,7 +148,7 @@ pub does_complete : (words : List (List ℕ)) (handed : ℕ) (before after : Out
     → opening_of entries ≡ opened s
     → ¬ (Rose before.source.failures after.source.failures) → ¬ (Rose before.sink.failures after.sink.failures)
     → ¬ (Rose before.keeper.failures after.keeper.failures) → (status ≡ 0) ⊎ (status ≡ 9))
-does_complete words handed before after status None done is = tt
+does_complete words handed before after status None ran is = tt
 does_complete words handed before after status (Some text) (inl runs) is = top_complete words handed before after status (Some text) runs is
 does_complete words handed before after status (Some text) (inr c) is = λ messages splits few entries s run told opens reads writes keeps.
     absurd (false≢true (sym (not_run words c.command handed before after status c.does c.said) ∙ run))
@@ -201,7 +209,7 @@ pub does_unopened : (words : List (List ℕ)) (handed : ℕ) (before after : Out
     → (is_some (words_of words) ≡ true) × (after.keeper ≡ after_calls 1 before.keeper)
     × IfSome before.keeper.told (λ entries. is_refused (opening_of entries) ≡ true)
 does_unopened words handed before after status (inl runs) seven =
-    let top = top_unopened words handed before after status runs seven in (run_is_read (words_of words) top.0, top.1)
+    let top = top_unopened words handed before after status runs seven in (run_is_read (words_of words) top.0, top.1, top.2)
 does_unopened words handed before after status (inr c) seven = only 7 before after status (cause_of c.command handed before after status c.does) seven
     (λ e. let no : ⊥ = omega (arith, e) in absurd no) (λ e rose. let no : ⊥ = omega (arith, e) in absurd no)
     (λ e rose. let no : ⊥ = omega (arith, e) in absurd no)
@@ -217,7 +225,7 @@ pub does_refused : (words : List (List ℕ)) (handed : ℕ) (before after : Outs
     → IfSome known (λ entries. is_refused (opening_of entries) ≡ true → is_run words ≡ true
     → ¬ (Rose before.keeper.failures after.keeper.failures)
     → (after.sink.held ≡ before.sink.held) × ((status ≡ 7) ⊎ (status ≡ 9)))
-does_refused words handed before after status None done is = tt
+does_refused words handed before after status None ran is = tt
 does_refused words handed before after status (Some entries) (inl runs) is = top_refused words handed before after status (Some entries) runs is
 does_refused words handed before after status (Some entries) (inr c) is = λ refused run keeps.
     absurd (false≢true (sym (not_run words c.command handed before after status c.does c.said) ∙ run))

@@ -16,6 +16,7 @@ use Rattle.serial_run.specs.declared.running.StartFault.{StartFault}
 use Rattle.serial_run.specs.declared.running.StartFault.TheVariants as start
 use Rattle.serial_sessions.specs.declared.session.SessionEnd.{SessionEnd}
 use Rattle.serial_sessions.specs.declared.session.SessionEnd.TheVariants as end
+use Rattle.serial_sessions.specs.Inputs.{status_of}
 use Rattle.serial_sessions.specs.Sessions.{Session}
 use Rattle.serial_sessions.specs.Worlds.{Outside, World, world}
 

@@ -19,6 +19,7 @@ use Rattle.run_words.specs.declared.words.Pace.{Pace}
 use Rattle.rest_service.specs.Exchanges.{Exchange, LeadTo, malformed_text, moments_of, printed_replies}
 use Rattle.rest_service.specs.Exchanges.{host_failures_of, keeper_failures_of}
 use Rattle.serial_sessions.specs.Most.{most_requests}
+use Rattle.serial_sessions.specs.Inputs.{requests_of, answered, end_due}
 use Rattle.serial_sessions.specs.Worlds.{Outside, within}
 
 -- The run did what its input asks, and nothing else. The requests that are answered, each with its moment, its outcome,
