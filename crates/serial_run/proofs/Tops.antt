@@ -26,7 +26,8 @@ use Rattle.serial_run.specs.Runs.{HasCauseToRefuse}
 use Rattle.serial_run.specs.Sessions.{Session, Stops, StopsBehindFinal, AllGoOn, OnlyFinalEnds}
 use Rattle.serial_run.specs.Texts.{through_last, has_last, answered, end_due, RunsText, is_fault}
 use Rattle.serial_run.specs.Worlds.{Outside, World, within, world}
-use Rattle.serial_run.proofs.Served.{Together, together, appends_nothing, appends_twice}
+use Rattle.rest_answers.proofs.Linking.{appends_nothing, appends_twice}
+use Rattle.serial_run.proofs.Served.{Together, together}
 use Rattle.serial_run.proofs.Whole.{IsSettled, IsDue, session_due, text_at, not_full}
 
 -- ---- what a settled session did

@@ -14,7 +14,9 @@ use Rattle.core_rows.specs.Opening.{opened_store}
 use Rattle.serial_steps.specs.Steps.{Serial}
 use Rattle.run_words.specs.declared.words.Pace.{Pace}
 use Rattle.rest_service.specs.Answers.{first_serial}
-use Rattle.rest_service.specs.Exchanges.{Exchange, LeadTo, malformed_text, moments_of, printed_replies}
+pub use Rattle.rest_answers.specs.Lasts.{has_last, through_last}
+use Rattle.rest_answers.specs.Texts.{malformed_text}
+use Rattle.rest_service.specs.Exchanges.{Exchange, LeadTo, moments_of, printed_replies}
 use Rattle.rest_service.specs.Exchanges.{host_failures_of, keeper_failures_of}
 use Rattle.serial_run.specs.Most.{most_requests}
 use Rattle.serial_run.specs.Worlds.{Outside, within}
@@ -23,18 +25,9 @@ use Rattle.serial_run.specs.Worlds.{Outside, within}
 abbrev pub requests_of : List Exchange → List Request
 requests_of exchanges = map (λ e. e.request) exchanges
 
--- the requests up to and with the first that is the last on its connection
-abbrev pub through_last : List Request → List Request
-through_last [] = []
-through_last (m ∷ more) = m ∷ (if m.last then [] else through_last more)
-
 -- the requests of a text that are answered: these, and at most as many as a session may answer
 abbrev pub answered : List Request → List Request
 answered messages = take most_requests (through_last messages)
-
--- one of the requests is the last on its connection
-abbrev pub has_last : List Request → Bool
-has_last messages = list_any (λ m. m.last) messages
 
 -- how a run ends: its exit status, and the text that is written after the replies
 pub record End : Type 0 where

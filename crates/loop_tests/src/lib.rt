@@ -1,0 +1,5 @@
+//! Tests of links and workers over gates.
+#![tactic(auto)]
+
+#[cfg(test)]
+mod alone_links;
