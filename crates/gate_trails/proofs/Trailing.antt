@@ -20,7 +20,7 @@ use Rattle.gate_trails.specs.Trails.{rest, rest_at, rests_in, turn, turn_at, tur
 pub chain-append : {S I : Type 0} {R : S → I → S → Type 0} {xs ys : List I} {a b c : S} → Chain R xs a b
     → Chain R ys b c → Chain R (xs ++ ys) a c
 chain-append none then = then
-chain-append (more first rest) then = more first (chain-append rest then)
+chain-append (more first others) then = more first (chain-append others then)
 
 -- a way of one step
 pub chain-one : {S I : Type 0} {R : S → I → S → Type 0} {i : I} {a b : S} → R a i b → Chain R (i ∷ []) a b
@@ -61,11 +61,11 @@ failures_of events = sum_by (λ (e : Event × Outcome). failed_commits e.1) even
 events-bear : {events : List (Event × Outcome)} {s t : Told} → Chain EventBy events s t
     → RoseBy (failures_of events) s.store.failures t.store.failures
 events-bear none = omega arith
-events-bear {events = e ∷ es} {s = s} {t = t} (more {m = m} first rest) =
+events-bear {events = e ∷ es} {s = s} {t = t} (more {m = m} first others) =
     subst (λ n. RoseBy n s.store.failures t.store.failures)
     (sym (sum_by-cons (λ (e : Event × Outcome). failed_commits e.1) e es))
     (rose-twice (failed_commits e.1) (failures_of es) s.store.failures m.store.failures t.store.failures
-    (caused-rose e.1 s.store.failures m.store.failures first.1.caused) (events-bear rest))
+    (caused-rose e.1 s.store.failures m.store.failures first.1.caused) (events-bear others))
 
 item-bears : (i : Item) (a b : Option Told) → ToldBy a i b → Bears (failures_at i) a b
 item-bears i None b by = tt

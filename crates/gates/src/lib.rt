@@ -2,5 +2,9 @@
 #![tactic(auto)]
 
 mod alone;
+mod locked;
+mod machine;
 
 pub use alone::AloneGate;
+pub use locked::{LONGEST_REST, LockedGate};
+pub use machine::DaemonMachine;

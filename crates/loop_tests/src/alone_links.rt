@@ -1,11 +1,14 @@
-//! Links over a gate of one's own: requests from bytes to bytes.
+//! Links and a worker over a gate of one's own.
+ghost use Rattle.std.specs.Prelude.{◌≤◌};
 
 use core_turns::Daemon;
+use gate_trails::Gate;
 use gates::AloneGate;
 use host_model::ModelHost;
 use http_front::{ByteSink, ByteSource, HeadFault, StillClock};
 use record_keeper::MapKeeper;
-use serve_loop::{LinkEnd, serve_link};
+use row_machine::{Answer, Event};
+use serve_loop::{LinkEnd, serve_link, work};
 use size_values::{NoMemory, Seq};
 use std::alloc::Global;
 use std::sync::Wait;
@@ -37,6 +40,14 @@ const CUT_REPLIES: &str = "HTTP/1.1 200 OK\r\nContent-Type: application/json\r\n
 const LAST: &str = "POST /1.0/projects HTTP/1.1\r\nHost: localhost\r\nConnection: close\r\nContent-Length: 14\r\n\r\n{\"name\":\"lab\"}POST /1.0/projects HTTP/1.1\r\nHost: localhost\r\nContent-Length: 14\r\n\r\n{\"name\":\"lab\"}";
 
 const LAST_REPLIES: &str = "HTTP/1.1 200 OK\r\nContent-Type: application/json\r\nContent-Length: 66\r\nConnection: close\r\n\r\n{\"metadata\":{},\"status\":\"Success\",\"status_code\":200,\"type\":\"sync\"}";
+
+const BEGUN: &str = "POST /1.0/storage-pools HTTP/1.1\r\nHost: localhost\r\nContent-Length: 28\r\n\r\n{\"driver\":\"dir\",\"name\":\"p0\"}PUT /1.0/profiles/default HTTP/1.1\r\nHost: localhost\r\nContent-Length: 73\r\n\r\n{\"devices\":{\"root\":{\"path\":\"/\",\"pool\":\"p0\",\"size\":\"1GiB\",\"type\":\"disk\"}}}POST /1.0/instances HTTP/1.1\r\nHost: localhost\r\nContent-Length: 37\r\n\r\n{\"name\":\"a\",\"source\":{\"type\":\"none\"}}";
+
+const BEGUN_REPLIES: &str = "HTTP/1.1 200 OK\r\nContent-Type: application/json\r\nContent-Length: 66\r\n\r\n{\"metadata\":{},\"status\":\"Success\",\"status_code\":200,\"type\":\"sync\"}HTTP/1.1 200 OK\r\nContent-Type: application/json\r\nContent-Length: 66\r\n\r\n{\"metadata\":{},\"status\":\"Success\",\"status_code\":200,\"type\":\"sync\"}HTTP/1.1 202 Accepted\r\nContent-Type: application/json\r\nContent-Length: 401\r\nLocation: /1.0/operations/00000000-0001-8000-8000-000000000001\r\n\r\n{\"metadata\":{\"class\":\"task\",\"created_at\":\"1970-01-01T00:00:00Z\",\"err\":\"\",\"id\":\"00000000-0001-8000-8000-000000000001\",\"may_cancel\":true,\"metadata\":null,\"resources\":{\"instances\":[\"/1.0/instances/a\"]},\"status\":\"Pending\",\"status_code\":105,\"updated_at\":\"1970-01-01T00:00:00Z\"},\"operation\":\"/1.0/operations/00000000-0001-8000-8000-000000000001\",\"status\":\"Operation created\",\"status_code\":100,\"type\":\"async\"}";
+
+const SHOWN: &str = "GET /1.0/operations/00000000-0001-8000-8000-000000000001 HTTP/1.1\r\nHost: localhost\r\n\r\n";
+
+const SHOWN_REPLIES: &str = "HTTP/1.1 200 OK\r\nContent-Type: application/json\r\nContent-Length: 324\r\n\r\n{\"metadata\":{\"class\":\"task\",\"created_at\":\"1970-01-01T00:00:00Z\",\"err\":\"\",\"id\":\"00000000-0001-8000-8000-000000000001\",\"may_cancel\":false,\"metadata\":null,\"resources\":{\"instances\":[\"/1.0/instances/a\"]},\"status\":\"Success\",\"status_code\":200,\"updated_at\":\"1970-01-01T00:00:00Z\"},\"status\":\"Success\",\"status_code\":200,\"type\":\"sync\"}";
 
 type OwnGate = AloneGate<MapKeeper, ModelHost, StillClock>;
 
@@ -116,4 +127,41 @@ fn links_are_served(rt: HostRuntime) {
         assert!(rt; is_served(&rt, rt.alloc(), text, 7, *ends, replies) == Ok(true), "{text}");
         assert!(rt; is_served(&rt, rt.alloc(), text, 4096, *ends, replies) == Ok(true), "{text}");
     }
+}
+
+/// Closes the server of a gate.
+fn close(gate: &mut OwnGate) -> bool {
+    match gate.turn(Event::Close) {
+        Answer::Closed => true,
+        _ => false,
+    }
+}
+
+/// Whether a worker makes the creation that a link began, on a host of its own, before it returns at the close.
+fn is_worked<T: Wait>(rt: &T, alloc: Global) -> Result<bool, NoMemory> {
+    let begun = Seq::of_bytes(alloc, BEGUN.as_bytes())?;
+    let shown = Seq::of_bytes(alloc, SHOWN.as_bytes())?;
+    match new_gate(alloc) {
+        Some(mut gate) => {
+            let first = serves(rt, alloc, &mut gate, begun, 100, LinkEnd::Ended, BEGUN_REPLIES);
+            let closed = close(&mut gate);
+            let mut host = ModelHost::new(alloc, Seq::new(alloc));
+            work(rt, &mut gate, &mut host, &mut StillClock::new(0));
+            let made = host.roots().len() == 1;
+            drop(host);
+            let last = serves(rt, alloc, &mut gate, shown, 100, LinkEnd::Ended, SHOWN_REPLIES);
+            drop(gate);
+            Ok(first && closed && made && last)
+        }
+        None => {
+            drop(begun);
+            drop(shown);
+            Ok(false)
+        }
+    }
+}
+
+#[test]
+fn a_worker_makes_what_was_begun(rt: HostRuntime) {
+    assert!(rt; is_worked(&rt, rt.alloc()) == Ok(true));
 }

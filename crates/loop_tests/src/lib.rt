@@ -3,3 +3,5 @@
 
 #[cfg(test)]
 mod alone_links;
+#[cfg(test)]
+mod locked_links;

@@ -234,25 +234,34 @@ stopped boot w w' ends other s = by s.stops where
   by (inl (is, next)) = absurd (other is)
   by (inr stops) = stops
 
-pub link_cut : (boot : ℕ) (w w' : Line) → Serving boot w w' end.Cut → w'.source.ended ≡ true
-link_cut boot w w' s = (stopped boot w w' end.Cut (λ e. cc) s).1.ended
+pub link_cut : (boot : ℕ) (w w' : Line) (ends : LinkEnd) → Serving boot w w' ends → ends ≡ end.Cut
+    → w'.source.ended ≡ true
+link_cut boot w w' ends s is = by (subst (Serving boot w w') is s) where
+  by : Serving boot w w' end.Cut → w'.source.ended ≡ true
+  by s = (stopped boot w w' end.Cut (λ e. cc) s).1.ended
 
-pub link_read_fault : (boot : ℕ) (w w' : Line) → Serving boot w w' end.ReadFault
+pub link_read_fault : (boot : ℕ) (w w' : Line) (ends : LinkEnd) → Serving boot w w' ends → ends ≡ end.ReadFault
     → Rose w.source.failures w'.source.failures
-link_read_fault boot w w' s =
-    let rose : Rose s.behind.source.failures w'.source.failures = (stopped boot w w' end.ReadFault (λ e. cc) s).0.fault in
-    let later : w.source.failures ≤ s.behind.source.failures = sources_later boot w s.behind s.exchanges s.serves in
-    omega (arith, rose, later)
+link_read_fault boot w w' ends s is = by (subst (Serving boot w w') is s) where
+  by : Serving boot w w' end.ReadFault → Rose w.source.failures w'.source.failures
+  by s =
+      let rose : Rose s.behind.source.failures w'.source.failures =
+      (stopped boot w w' end.ReadFault (λ e. cc) s).0.fault in
+      let later : w.source.failures ≤ s.behind.source.failures =
+      sources_later boot w s.behind s.exchanges s.serves in
+      omega (arith, rose, later)
 
-pub link_write_fault : (boot : ℕ) (w w' : Line) → Serving boot w w' end.WriteFault
+pub link_write_fault : (boot : ℕ) (w w' : Line) (ends : LinkEnd) → Serving boot w w' ends → ends ≡ end.WriteFault
     → Rose w.sink.failures w'.sink.failures
-link_write_fault boot w w' s = by (stopped boot w w' end.WriteFault (λ e. cc) s) where
-  later : w.sink.failures ≤ s.behind.sink.failures
-  later = sinks_later boot w s.behind s.exchanges s.serves
+link_write_fault boot w w' ends s is = by (subst (Serving boot w w') is s) where
+  rose_from : (v : Line) → w.sink.failures ≤ v.sink.failures → Rose v.sink.failures w'.sink.failures
+      → Rose w.sink.failures w'.sink.failures
+  rose_from v later rose = omega (arith, rose, later)
 
-  then : Rose s.behind.sink.failures w'.sink.failures → Rose w.sink.failures w'.sink.failures
-  then rose = omega (arith, rose, later)
+  stops_rose : (v : Line) → Stops boot end.WriteFault v w' → Rose v.sink.failures w'.sink.failures
+  stops_rose v (inl stops) = stops.2.rose
+  stops_rose v (inr stops) = stops.3.rose
 
-  by : Stops boot end.WriteFault s.behind w' → Rose w.sink.failures w'.sink.failures
-  by (inl stops) = then stops.2.rose
-  by (inr stops) = then stops.3.rose
+  by : Serving boot w w' end.WriteFault → Rose w.sink.failures w'.sink.failures
+  by s = rose_from s.behind (sinks_later boot w s.behind s.exchanges s.serves)
+      (stops_rose s.behind (stopped boot w w' end.WriteFault (λ e. cc) s))

@@ -62,30 +62,30 @@ reads_first : (next w' : Line) (e : Exchange) (more : List Exchange) (known : Op
     → IfSome known (λ bytes. ReadsNext bytes (input next) next.held (got.Request e.request))
     → IfSome (input next) (λ bytes. (rest : List ℕ) × Begins bytes (requests_of more) rest × (input w' ≡ Some rest))
     → IfSome known (λ bytes. (rest : List ℕ) × Begins bytes (requests_of (e ∷ more)) rest × (input w' ≡ Some rest))
-reads_first next w' e more None first then = tt
-reads_first next w' e more (Some bytes) first then =
+reads_first next w' e more None first follows = tt
+reads_first next w' e more (Some bytes) first follows =
     let rests : (rest : List ℕ) × Begins first.0 (requests_of more) rest × (input w' ≡ Some rest) =
     subst (λ known. IfSome known (λ bytes. (rest : List ℕ) × Begins bytes (requests_of more) rest
-    × (input w' ≡ Some rest))) first.2 then in
+    × (input w' ≡ Some rest))) first.2 follows in
     (rests.0, (first.0, first.1, rests.1), rests.2)
 
 -- one request, and then more of them
 first_together : (boot : ℕ) (w next w' : Line) (e : Exchange) (more : List Exchange) → Serves boot w next e
     → Together boot next more w' → Together boot w (e ∷ more) w'
-first_together boot w next w' e more serves then = record {
-  read = reads_first next w' e more (input w) serves.carries.asked.next then.read;
+first_together boot w next w' e more serves follows = record {
+  read = reads_first next w' e more (input w) serves.carries.asked.next follows.read;
   written = appends_twice w.sink.held next.sink.held w'.sink.held (printed e.reply boot e.request.last)
-      (printed_replies boot more) serves.replied.written then.written;
-  gate = between-append serves.carries.gate then.gate;
-  handles = (next.clock, serves.carries.handles, then.handles);
+      (printed_replies boot more) serves.replied.written follows.written;
+  gate = between-append serves.carries.gate follows.gate;
+  handles = (next.clock, serves.carries.handles, follows.handles);
 }
 
 -- all that went on, and then some more
 all_together : (boot : ℕ) (w v w' : Line) (xs ys : List Exchange) → ServesAll boot w xs v → Together boot v ys w'
     → Together boot w (xs ++ ys) w'
-all_together boot w v w' [] ys same then = subst (λ u. Together boot u ys w') (sym same) then
-all_together boot w v w' (e ∷ xs) ys serves then =
-    first_together boot w serves.0 w' e (xs ++ ys) serves.1 (all_together boot serves.0 v w' xs ys serves.3 then)
+all_together boot w v w' [] ys same follows = subst (λ u. Together boot u ys w') (sym same) follows
+all_together boot w v w' (e ∷ xs) ys serves follows =
+    first_together boot w serves.0 w' e (xs ++ ys) serves.1 (all_together boot serves.0 v w' xs ys serves.3 follows)
 
 -- ---- the last request
 

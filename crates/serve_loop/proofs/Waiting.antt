@@ -1,6 +1,6 @@
 -- How a command comes to its reply, from what its parts ensure.
-use Rattle.std.proofs.Common.{◌≡◌, ◌==◌, ◌≢◌, ◌<◌, ◌+◌, ℕ, ℤ, Bool, true, false, cond, List, [], ◌∷◌, Option, Some, None}
-use Rattle.std.proofs.Common.{refl, ap, sym, subst, arith}
+use Rattle.std.proofs.Common.{◌≡◌, ◌==◌, ◌≢◌, ◌<◌, ◌≤◌, ◌+◌, ℕ, ℤ, Bool, true, false, cond, List, [], ◌∷◌, Option, Some, None}
+use Rattle.std.proofs.Common.{refl, ap, sym, ◌∙◌, subst, arith}
 use Rattle.std.proofs.lemmas.Bool.Decides.{nat_tests}
 use Rattle.size_values.specs.Moments.{moment_limit}
 use Rattle.http_front.specs.Clocks.{Readings, Reads}
@@ -40,13 +40,13 @@ looked_sees op deadline rests (answer.Fetched fetched) live is = absurd is
 looked_sees op deadline rests answer.Closed live is = absurd is
 looked_sees op deadline rests answer.NoMemory live is = absurd is
 
-pub looks : {old new : Seen} {op : ℕ} {a : Answer} {live : Bool} (c : Command) (deadline : Option ℕ) (rests : ℕ)
-    (clock : Readings)
+pub looks : {old new : Seen} {op : ℕ} {a : Answer} (c : Command) (deadline : Option ℕ) (rests : ℕ)
+    (clock : Readings) (live : Bool)
     → TurnsTold old.told (event.Look op) a new.told → new.turned ≡ capped (old.turned + 1)
     → new.rested ≡ old.rested → Looked a live
     → Walk (ServeBy c) old new (stand (looking op deadline rests) clock)
     (stand (cond live (waiting op deadline rests) (due op)) clock)
-looks {old} {new} {op} {a} {live} c deadline rests clock turn turned rested looked =
+looks {old} {new} {op} {a} c deadline rests clock live turn turned rested looked =
     walk-turn (ServeBy c) (stand (looking op deadline rests) clock)
     (stand (cond live (waiting op deadline rests) (due op)) clock) turn turned rested (record {
       looks = refl;
@@ -56,13 +56,13 @@ looks {old} {new} {op} {a} {live} c deadline rests clock turn turned rested look
 
 -- ---- rests
 
-pub rests : {old new : Seen} {told told' : Readings} {late : Bool} {op : ℕ} {deadline : Option ℕ} {made : ℕ}
-    (c : Command)
+pub rests : {old new : Seen} {told told' : Readings} {op : ℕ} {deadline : Option ℕ} {made : ℕ}
+    (c : Command) (late : Bool)
     → RestsTold old.told new.told → new.turned ≡ old.turned → new.rested ≡ capped (old.rested + 1)
     → IsLate deadline told late told'
     → Walk (ServeBy c) old new (stand (waiting op deadline made) told)
     (stand (after_rest op deadline (made + 1) late) told')
-rests {old} {new} {told} {told'} {late} {op} {deadline} {made} c rest turned rested is =
+rests {old} {new} {told} {told'} {op} {deadline} {made} c late rest turned rested is =
     walk-rest (ServeBy c) (stand (waiting op deadline made) told)
     (stand (after_rest op deadline (made + 1) late) told') rest turned rested
     (record { late = late; clock = is; place = refl })
@@ -90,17 +90,31 @@ round_ends {a} {b} {d} {from} {op} {deadline} {made} {clock} {live} c few before
 
 -- it was live, and a rest followed
 pub round_rests : {a b d e : Seen} {from : Stand} {op : ℕ} {deadline : Option ℕ} {made : ℕ} {clock clock' : Readings}
-    {live late : Bool} (c : Command) → made < most_rests
+    {live : Bool} (c : Command) (late : Bool) → made < most_rests
     → Walk (ServeBy c) a b from (stand (after_rest op deadline made false) clock)
     → Walk (ServeBy c) b d (stand (looking op deadline made) clock)
     (stand (cond live (waiting op deadline made) (due op)) clock) → live ≡ true
     → Walk (ServeBy c) d e (stand (waiting op deadline made) clock)
     (stand (after_rest op deadline (made + 1) late) clock')
     → Walk (ServeBy c) a e from (stand (after_rest op deadline (made + 1) late) clock')
-round_rests {a} {b} {d} {e} {from} {op} {deadline} {made} {clock} {clock'} {live} {late} c few before look is rest =
+round_rests {a} {b} {d} {e} {from} {op} {deadline} {made} {clock} {clock'} {live} c late few before look is rest =
     walk-append (subst (λ p. Walk (ServeBy c) a b from (stand p clock)) (looking_on op deadline made few) before)
     (walk-append (subst (λ l. Walk (ServeBy c) b d (stand (looking op deadline made) clock)
     (stand (cond l (waiting op deadline made) (due op)) clock)) is look) rest)
+
+-- after the most rests the wait is over
+spent : (op : ℕ) (deadline : Option ℕ) (rests : ℕ) → most_rests ≤ rests → rests ≤ most_rests
+    → after_rest op deadline rests false ≡ due op
+spent op deadline rests most few =
+    let is : most_rests ≡ rests = omega (arith, most, few) in
+    subst (λ n. after_rest op deadline n false ≡ due op) is refl
+
+pub wait_spent : {a b : Seen} {from : Stand} {clock : Readings} (c : Command) (op : ℕ) (deadline : Option ℕ)
+    (made : ℕ) → most_rests ≤ made → made ≤ most_rests
+    → Walk (ServeBy c) a b from (stand (after_rest op deadline made false) clock)
+    → Walk (ServeBy c) a b from (stand (due op) clock)
+wait_spent {a} {b} {from} {clock} c op deadline made most few walk =
+    subst (λ p. Walk (ServeBy c) a b from (stand p clock)) (spent op deadline made most few) walk
 
 -- ---- the reply after a wait
 
@@ -184,3 +198,16 @@ kept_is c w is = record { project = (by c.what is).0; deadline = (by c.what is).
   by (what.Restore of snapshot) is = cc
   by (what.GetOp op) is = cc
   by (what.Cancel op) is = cc
+
+-- the answer of a wait was held back, and then its operation was asked for
+pub held_back : {a b d : Seen} {told mid told' : Readings} {r : Reply} (c : Command) (w : Waiting) (op moment : ℕ)
+    (deadline : Option ℕ) → Some w ≡ wait_of c → deadline ≡ deadline_of moment w.timeout
+    → Walk (ServeBy c) a b (stand (looking op deadline 0) told) (stand (due op) mid)
+    → (c.project ≡ w.project → Walk (ServeBy c) b d (stand (due op) mid) (stand (replied r) told'))
+    → Walk (ServeBy c) a d (stand (looking op (deadline_by moment c.what) 0) told) (stand (replied r) told')
+held_back {a} {b} {d} {told} {mid} {told'} {r} c w op moment deadline is due_is waits shows =
+    let kept : IsKept c w = kept_is c w is in
+    walk-append
+    (subst (λ at. Walk (ServeBy c) a b (stand (looking op at 0) told) (stand (due op) mid))
+    (due_is ∙ sym (kept.deadline moment)) waits)
+    (shows kept.project)

@@ -71,7 +71,7 @@ fn end_after(written: Written, fault: HeadFault) -> LinkEnd
 }
 
 /// One turn of a link: takes the next message and answers it.
-fn turn<G: Gate, S: Source, K: Sink, C: Clock>(
+fn serve_next<G: Gate, S: Source, K: Sink, C: Clock>(
     alloc: Global,
     router: &Router,
     buffer: &mut Buffer,
@@ -132,7 +132,7 @@ fn serve<T: Wait, G: Gate, S: Source, K: Sink, C: Clock>(
         result }
 {
     for _ in rt.forever() {
-        match turn(alloc, router, buffer, gate, source, sink, clock, boot) {
+        match serve_next(alloc, router, buffer, gate, source, sink, clock, boot) {
             Turn::GoOn => {}
             Turn::Final => return LinkEnd::Ended,
             Turn::Stop(ends) => return ends,
@@ -142,7 +142,7 @@ fn serve<T: Wait, G: Gate, S: Source, K: Sink, C: Clock>(
 }
 
 /// A link, from an empty buffer on.
-fn link<T: Wait, G: Gate, S: Source, K: Sink, C: Clock>(
+fn serve_from_empty<T: Wait, G: Gate, S: Source, K: Sink, C: Clock>(
     rt: &T,
     alloc: Global,
     gate: &mut G,
@@ -219,5 +219,5 @@ pub fn serve_link<T: Wait, G: Gate, S: Source, K: Sink, C: Clock>(
     ensures write_fault { result ≡ end.WriteFault
         → Rose (K.failures sink.old) (K.failures sink.new) }
 {
-    link(rt, alloc, gate, source, sink, clock, boot)
+    serve_from_empty(rt, alloc, gate, source, sink, clock, boot)
 }

@@ -1,6 +1,6 @@
 //! How a command comes to its reply at a gate: the answer of a wait is held back while its
 //! operation is live.
-ghost use Rattle.std.specs.Prelude.{◌≡◌, ◌≢◌, ◌<◌, ◌+◌, true, IfOk, if◌then◌else◌, None, Option, ℕ};
+ghost use Rattle.std.specs.Prelude.{◌≡◌, ◌≢◌, ◌<◌, ◌+◌, true, IfOk, if◌then◌else◌, None, Some, Option, ℕ};
 ghost use Rattle.size_values.specs.Moments.{moment_limit};
 ghost use Rattle.http_front.specs.Clocks.{Readings};
 ghost use Rattle.records.specs.Forms.{is_formed};
@@ -95,18 +95,12 @@ fn look<G: Gate>(gate: &mut G, number: u64) -> bool
     is_live(answer)
 }
 
-/// One rest, and then a look at the deadline: whether the wait is over.
-fn rest<G: Gate, C: Clock>(
-    gate: &mut G,
-    clock: &mut C,
-    number: u64,
-    deadline: Option<u64>,
-    rests: u32,
-) -> bool
-    ensures { (c : CommandValue) → Walk (ServeBy c)
+/// One rest, and then a look at the deadline: whether it is reached.
+fn rest<G: Gate, C: Clock>(gate: &mut G, clock: &mut C, deadline: Option<u64>) -> bool
+    ensures { (c : CommandValue) (op : ℕ) (rests : ℕ) → Walk (ServeBy c)
         (seen G.told G.turned G.rested gate.old) (seen G.told G.turned G.rested gate.new)
-        (stand (waiting number deadline rests) (C.readings clock.old))
-        (stand (after_rest number deadline (rests + 1) result) (C.readings clock.new)) }
+        (stand (waiting op deadline rests) (C.readings clock.old))
+        (stand (after_rest op deadline (rests + 1) result) (C.readings clock.new)) }
 {
     gate.rest();
     is_late(clock, deadline)
@@ -124,7 +118,7 @@ fn wait_for<G: Gate, C: Clock>(gate: &mut G, clock: &mut C, number: u64, deadlin
         if !look(gate, number) {
             return;
         }
-        if rest(gate, clock, number, deadline, rests) {
+        if rest(gate, clock, deadline) {
             return;
         }
     }
@@ -147,6 +141,25 @@ fn show<G: Gate, C: Clock>(gate: &mut G, clock: &mut C, project: Text, number: u
 }
 
 /// Holds the answer of a wait back, and then asks for its operation.
+fn wait_and_show<G: Gate, C: Clock>(
+    gate: &mut G,
+    clock: &mut C,
+    wait: Waiting,
+    moment: u64,
+    number: u64,
+) -> Reply
+    requires early { moment < moment_limit }
+    ensures { (c : CommandValue) → Some wait ≡ wait_of c → Walk (ServeBy c)
+        (seen G.told G.turned G.rested gate.old) (seen G.told G.turned G.rested gate.new)
+        (stand (looking number (deadline_by moment c.what) 0) (C.readings clock.old))
+        (stand (replied result) (C.readings clock.new)) }
+{
+    let Waiting { project, timeout } = wait;
+    wait_for(gate, clock, number, deadline_of(moment, timeout));
+    show(gate, clock, project, number)
+}
+
+/// The same for what was kept of a command whose answer is held back: it is a wait.
 fn hold<G: Gate, C: Clock>(
     gate: &mut G,
     clock: &mut C,
@@ -162,10 +175,7 @@ fn hold<G: Gate, C: Clock>(
         (stand (replied result) (C.readings clock.new)) }
 {
     match kept {
-        Some(Waiting { project, timeout }) => {
-            wait_for(gate, clock, number, deadline_of(moment, timeout));
-            show(gate, clock, project, number)
-        }
+        Some(wait) => wait_and_show(gate, clock, wait, moment, number),
         None => unreachable!(),
     }
 }

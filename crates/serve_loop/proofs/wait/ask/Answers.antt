@@ -15,8 +15,8 @@ returns-in-Reply g c = asks c.args.command c.now-moment.ensures.reading c.now-mo
     c.turn-answer.ensures.told c.turn-answer.ensures.turned c.turn-answer.ensures.rested
     (replies c.args.command _ c.in-Reply.reply _ (rw c.in-Reply.is at c.asked_of.ensures))
 
-pub hold-requires-kept : goal.hold-requires-kept
-hold-requires-kept g c = λ none. hold_waits c.args.command _ c.in-Hold.number
+pub hold-requires-clause-kept : goal.hold-requires-clause-kept
+hold-requires-clause-kept g c = λ none. hold_waits c.args.command _ c.in-Hold.number
     (subst (MayAnswer (event.Ask c.args.command c.now-moment.result)) (sym (rw c.in-Hold.is at c.asked_of.ensures))
     c.turn-answer.ensures.may)
     (sym c.requires.kept ∙ none)

@@ -9,4 +9,4 @@ pub returns-in-Over : goal.returns-in-Over
 returns-in-Over g c = rw c.in-Over.is at c.loop.invariant
 
 pub loop-preserved : goal.loop-preserved
-loop-preserved g c = walk-append c.loop.invariant c.go_on.ensures
+loop-preserved g c = walk-append c.loop.invariant c.go_on-post.ensures

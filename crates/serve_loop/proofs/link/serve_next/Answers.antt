@@ -2,7 +2,7 @@ use Rattle.std.proofs.Common.{refl, inl, inr}
 use Rattle.rest_answers.specs.Links.{inlet}
 use Rattle.rest_answers.proofs.Linking.{unread}
 use Rattle.serve_loop.proofs.Linking.{turn_answers, turn_refuses}
-use Rattle.serve_loop.proofs.link.turn.Goals as goal
+use Rattle.serve_loop.proofs.link.serve_next.Goals as goal
 
 pub returns-in-Request : goal.returns-in-Request
 returns-in-Request g c = rw c.turn_after.ensures (
