@@ -62,7 +62,7 @@ impl Config {
         }
     }
 
-    /// Whether a key has this value.
+    /// Whether the key is set, and to exactly this value.
     pub fn has(&self, key: &str, value: &str) -> bool
         ensures { result ≡ has_setting self.now key.now value.now }
     {
@@ -108,7 +108,7 @@ impl Config {
         self.settings.key_at(place)
     }
 
-    /// The value at a place.
+    /// The value at a place below the length, in the order of keys.
     pub fn value_at(&self, place: usize) -> &str
         requires { place < length self.now }
         ensures { slice_get (values_of self.now) place ≡ Some result.now }
@@ -133,12 +133,12 @@ impl Config {
     {
         let mut config = self.copy()?;
         for place in 0..changes.len() {
-            config.change(changes.key_at(place), changes.value_at(place))?;
+            config.apply_change(changes.key_at(place), changes.value_at(place))?;
         }
         Ok(config)
     }
 
-    fn change(&mut self, key: &str, value: &str) -> Result<(), NoMemory>
+    fn apply_change(&mut self, key: &str, value: &str) -> Result<(), NoMemory>
         requires { key.now ≢ [] }
         ensures { OnOk result (self.new ≡ changed self.old (key.now, value.now)) }
     {

@@ -36,7 +36,7 @@ impl Devices {
         }
     }
 
-    /// The device of a name.
+    /// The device of this name, or `None` where there is none.
     pub fn get(&self, name: &str) -> Option<&Device>
         ensures { option_copied result ≡ device self.now name.now }
     {
@@ -76,7 +76,7 @@ impl Devices {
         self.devices.key_at(place)
     }
 
-    /// The device at a place.
+    /// The device at a place below the length, in the order of names.
     pub fn device_at(&self, place: usize) -> &Device
         requires { place < length self.now }
         ensures { slice_get (values_of self.now) place ≡ Some result.now }
@@ -130,7 +130,7 @@ impl Devices {
         let mut root = Root::None;
         for place in 0..self.len() {
             if is_root_disk(self.device_at(place)) {
-                root = root.and(place);
+                root = root.and_one(place);
             }
         }
         root

@@ -15,7 +15,7 @@ impl Root {
     ghost use Rattle.config_lists.specs.Devices.{and_one};
 
     /// With one more root disk, after those that were found before.
-    pub(crate) fn and(self, place: usize) -> Root
+    pub(crate) fn and_one(self, place: usize) -> Root
         ensures { result ≡ and_one self place }
     {
         match self {

@@ -49,6 +49,7 @@ impl<V> Sorted<V> {
         Text::from_text(*self.entries.allocator(), text)
     }
 
+    /// How many keys there are.
     pub fn len(&self) -> usize
         ensures len { result ≡ length self.now }
         ensures rising { KeysRise self.now }
@@ -66,6 +67,7 @@ impl<V> Sorted<V> {
             .binary_search_by(|entry| entry.0.view().cmp(key))
     }
 
+    /// The value of a key, or `None` where the list lacks it.
     pub fn get(&self, key: &str) -> Option<&V>
         ensures { option_copied result ≡ value_of self.now key.now }
     {
@@ -75,6 +77,7 @@ impl<V> Sorted<V> {
         }
     }
 
+    /// The key at a place below the length; keys rise with their places.
     pub fn key_at(&self, place: usize) -> &str
         requires { place < length self.now }
         ensures { slice_get (keys_of self.now) place ≡ Some result.now }
@@ -82,6 +85,7 @@ impl<V> Sorted<V> {
         self.entries[place].0.view()
     }
 
+    /// The value at a place below the length.
     pub fn value_at(&self, place: usize) -> &V
         requires { place < length self.now }
         ensures { slice_get (values_of self.now) place ≡ Some result.now }

@@ -1,5 +1,5 @@
-//! Settings and devices that are made of a table, and whether they are as a table says. Where memory is refused, a row is
-//! missing in what is made, and it is not as its table says.
+//! Settings and devices that are made of a table, and whether they are as a table says. Where memory is refused, a row
+//! is missing in what is made, and it is not as its table says.
 use config_lists::{Config, Devices};
 use size_values::NoMemory;
 use std::alloc::Global;

@@ -16,7 +16,7 @@ use Rattle.row_machine.specs.machine.State.{State}
 use Rattle.row_machine.specs.machine.Rows.{instance_named, snapshot_named}
 use Rattle.row_machine.specs.machine.NameRules.{is_there, object_missing, snapshot_missing, what_is_missing}
 use Rattle.row_machine.specs.machine.Plans.{Plan, nothing, changes, starts, if_there, plan_delete, plan_move, plan_of, plan_put, plan_restore, row_of}
-use Rattle.row_machine.specs.machine.Tasks.{acting}
+use Rattle.row_machine.specs.machine.Tasks.{act_task}
 use Rattle.row_machine.specs.machine.Rules.{names_broken}
 use Rattle.size_values.specs.declared.kinds.Action.{Action}
 use Rattle.machine_laws.proofs.Commands.{command_of, target}
@@ -64,7 +64,7 @@ module _ (s : State) (project pool instance name : List ℕ) where
 
   -- the state of an instance is changed
   acts : (k : ObjectKind) (action : Action) → (is_instance k && stands_in k pool instance) ≡ true → object_missing s project (target k pool instance name) ≡ None
-      → task_in (if_there (λ i. starts (acting s project (target k pool instance name) action i)) (instance_named s.instances project name)) ≡ None → ⊥
+      → task_in (if_there (λ i. starts (act_task s project (target k pool instance name) action i)) (instance_named s.instances project name)) ≡ None → ⊥
   acts kind.Instance action formed found e =
       begins-there _ (instance_named s.instances project name) (λ i e. cc) (object-there s project (target kind.Instance pool instance name) found).1 e
   acts k action formed found e = cc

@@ -24,7 +24,7 @@ use Rattle.row_machine.specs.machine.TableRules.{cancel_broken}
 use Rattle.row_machine.specs.shown.Views.{read}
 use Rattle.core_rows.specs.Asked.{answered, changes_of, unless_refused}
 use Rattle.core_rows.specs.Planned.{Follows}
-use Rattle.core_rows.specs.Stores.{Stores}
+use Rattle.work_reports.specs.Stores.{Stores}
 use Rattle.core_rows.proofs.Following.{follows-why}
 use Rattle.core_objects.specs.Answers.{is_read, IsAnswer}
 

@@ -15,8 +15,9 @@ use Rattle.row_machine.specs.machine.Plans.{changes}
 use Rattle.row_machine.specs.facts.Whole.{IsWhole}
 use Rattle.machine_laws.specs.Entries.{entry_changes}
 use Rattle.machine_laws.proofs.Cases.{IsAccepted}
-use Rattle.core_rows.specs.Planned.{Follows, IsToDo, changes_judged, reply_for}
-use Rattle.core_rows.specs.Stores.{Commits}
+use Rattle.judged_changes.specs.Judged.{changes_judged, reply_for}
+use Rattle.core_rows.specs.Planned.{Follows, IsToDo}
+use Rattle.judged_changes.specs.Commits.{Commits}
 use Rattle.core_rows.proofs.Following.{follows-why, follows-judged, follows-uncommitted}
 use Rattle.core_rows.proofs.Judging.{accepted-so}
 

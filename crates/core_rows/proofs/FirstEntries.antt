@@ -5,7 +5,7 @@ use Rattle.std.specs.List.{AllByRecursion}
 use Rattle.estate_rules.specs.Names.{is_instance_name, is_project_name, is_object_name}
 use Rattle.row_machine.specs.opening.Opening.{first_rows}
 use Rattle.row_machine.specs.machine.Plans.{put_all}
-use Rattle.core_rows.specs.Kept.{HasEntry}
+use Rattle.work_reports.specs.Entries.{HasEntry}
 
 -- a length that computes below the bound
 short : (n : ℕ) → nat_lt n (2 ^ 32) ≡ true → n < 2 ^ 32

@@ -1,5 +1,5 @@
 -- What the parts of a change come to, as one step of the machine.
-use Rattle.std.proofs.Common.{◌≡◌, ◌≢◌, ℕ, true, false, Bool, cond, List, [], ◌∷◌, Option, Some, None, option_map, Err, refl, ap, sym, ◌∙◌, subst, inl, inr}
+use Rattle.std.proofs.Common.{◌≡◌, ◌≢◌, ℕ, true, false, Bool, cond, List, [], ◌∷◌, Option, Some, None, option_map, Err, refl, ap, sym, ◌∙◌, subst, inr}
 use Rattle.std.specs.Prelude.{codes}
 use Rattle.size_values.specs.Causes.{Refuses}
 use Rattle.size_values.specs.declared.memory.Or.{Or}
@@ -31,8 +31,11 @@ use Rattle.machine_laws.proofs.Cases.{IsAccepted, AtOnce}
 use Rattle.machine_laws.proofs.AtOnceCases.{at_once}
 use Rattle.machine_laws.proofs.RecordsKept.{records-follow}
 use Rattle.core_rows.specs.Asked.{IsAsked, changes_at_once, changes_of, unless_refused}
-use Rattle.core_rows.specs.Planned.{Follows, IsToDo, changes_judged, reply_for}
-use Rattle.core_rows.specs.Stores.{Commits, Stores}
+use Rattle.judged_changes.specs.Judged.{changes_judged, reply_for}
+use Rattle.core_rows.specs.Planned.{Follows, IsToDo}
+use Rattle.work_reports.specs.Stores.{Stores}
+use Rattle.work_reports.proofs.Stores.{failures-same, told-same}
+use Rattle.judged_changes.specs.Commits.{Commits}
 use Rattle.core_rows.proofs.Judging.{left-broken}
 use Rattle.core_rows.proofs.Stepping.{changes-step, refused-step, failed-step, no_memory-step}
 
@@ -80,16 +83,6 @@ stored-failed (c ∷ cs) rise store store' some fails before after = (fails, bef
 stored-no-memory : (cs : List RowChange) (store store' : Store) → cs ≢ [] → IsAfterUpTo 1 store store' → Stores cs no_memory store store'
 stored-no-memory [] store store' some h = absurd (some refl)
 stored-no-memory (c ∷ cs) store store' some h = h
-
--- at most one call leaves the count of failures
-pub failures-same : (store store' : Store) → IsAfterUpTo 1 store store' → store'.failures ≡ store.failures
-failures-same store store' (inl is) = ap (λ (x : Store). x.failures) is
-failures-same store store' (inr is) = ap (λ (x : Store). x.failures) is
-
--- and what is told of the entries
-pub told-same : (store store' : Store) → IsAfterUpTo 1 store store' → store'.told ≡ store.told
-told-same store store' (inl is) = ap (λ (x : Store). x.told) is
-told-same store store' (inr is) = ap (λ (x : Store). x.told) is
 
 -- ---- steps
 

@@ -2,8 +2,6 @@
 use Rattle.std.proofs.Common.{◌≡◌, ℕ, List, [], ◌∷◌, Option, Some, None, refl, ap, ◌∙◌}
 use Rattle.std.specs.List.{AllByRecursion}
 use Rattle.plain_lists.specs.Firsts.{first}
-use Rattle.plain_lists.specs.Members.{Each}
-use Rattle.plain_lists.proofs.Elements.{Each-head, Each-tail}
 use Rattle.size_values.specs.declared.kinds.ObjectKind.{ObjectKind}
 use Rattle.size_values.specs.declared.kinds.ObjectKind.TheVariants as kind
 use Rattle.records.specs.declared.notices.Untold.{Untold}
@@ -11,10 +9,8 @@ use Rattle.records.specs.declared.commands.Body.{Body}
 use Rattle.records.specs.declared.commands.Command.{Command}
 use Rattle.records.specs.declared.commands.What.{What}
 use Rattle.records.specs.declared.commands.What.TheVariants as what
-use Rattle.row_codec.specs.Rows.{HasGoodKey, HasMoments, HasShortParts}
 use Rattle.row_sizes.proofs.ShortParts.{short-parts}
 use Rattle.row_machine.specs.declared.changes.RowChange.{RowChange}
-use Rattle.row_machine.specs.declared.changes.RowChange.TheVariants as change
 use Rattle.row_machine.specs.machine.State.{State}
 use Rattle.row_machine.specs.machine.Task.{Task}
 use Rattle.row_machine.specs.machine.Rows.{instance_named}
@@ -33,8 +29,10 @@ use Rattle.machine_laws.proofs.Cases.{IsAccepted}
 use Rattle.machine_laws.proofs.Judged.{judged}
 use Rattle.machine_laws.proofs.NamesKept.{puts-named}
 use Rattle.machine_laws.proofs.SizesTables.{tables-judged}
-use Rattle.core_rows.specs.Kept.{HasEntry}
-use Rattle.core_rows.specs.Planned.{IsToDo, changes_judged}
+use Rattle.work_reports.specs.Entries.{HasEntry}
+use Rattle.work_reports.proofs.Writable.{entries-of}
+use Rattle.judged_changes.specs.Judged.{changes_judged}
+use Rattle.core_rows.specs.Planned.{IsToDo}
 
 -- ---- a policy blocks snapshots alone, which begin an operation
 
@@ -108,13 +106,6 @@ accepted-so s c moment cs n whole d none = record {
 }
 
 -- ---- what is accepted can be committed
-
--- rows that have good keys and moments and are small have entries
-pub entries-of : (cs : List RowChange) → Each HasGoodKey (rows_put cs) → Each HasMoments (rows_put cs) → Each HasShortParts (rows_put cs) → AllByRecursion HasEntry cs
-entries-of [] keyed timely short = tt
-entries-of (change.Put r ∷ cs) keyed timely short =
-    ((Each-head keyed, Each-head timely, Each-head short), entries-of cs (Each-tail keyed) (Each-tail timely) (Each-tail short))
-entries-of (change.Remove of key ∷ cs) keyed timely short = (tt, entries-of cs keyed timely short)
 
 pub entries-ready : (s : State) (c : Command) (moment : ℕ) (cs : List RowChange) → IsAccepted s c moment (changes cs) → AllByRecursion HasEntry cs
 entries-ready s c moment cs h =

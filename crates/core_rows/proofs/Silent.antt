@@ -1,17 +1,7 @@
--- Changes of rows tell nothing.
-use Rattle.std.proofs.Common.{◌≡◌, true, List, [], ◌∷◌, ◌++◌, map, refl, ◌∙◌, ap}
-use Rattle.row_machine.specs.declared.changes.RowChange.{RowChange}
+-- Where no notices wait, and none was told.
+use Rattle.std.proofs.Common.{◌≡◌, true, List, [], ◌∷◌, ◌++◌, map, refl, ap}
 use Rattle.row_machine.specs.machine.State.{State}
-use Rattle.row_machine.specs.machine.Changes.{applied}
-use Rattle.machine_laws.proofs.SizesSteps.{applied-notices}
-use Rattle.core_rows.specs.Kept.{IsSilent}
-
-pub applied-silent : (cs : List RowChange) (s : State) → IsSilent s → IsSilent (applied s cs)
-applied-silent cs s h = record {
-  notices = ap (λ told. told.0) (applied-notices cs s)
-      ∙ h.notices;
-  next = ap (λ told. told.1) (applied-notices cs s) ∙ h.next;
-}
+use Rattle.work_reports.specs.Waiting.{IsSilent}
 
 -- where no notices wait, none do as read over other operations
 pub still-quiet : {X Y : Type 0} (f g : X → Y) (xs : List X) → map f xs ≡ [] → map g xs ≡ []
@@ -29,6 +19,6 @@ pub none-wait : {X Y : Type 0} (f : X → Y) (xs : List X) → map f xs ≡ [] �
 none-wait f [] e = refl
 none-wait f (x ∷ xs) e = cc
 
--- neither does the end of the server's work
+-- the end of the server's work tells nothing
 pub closed-silent : (s : State) → IsSilent s → IsSilent (record s { closed = true })
 closed-silent s h = record { notices = h.notices; next = h.next }

@@ -47,9 +47,10 @@ use Rattle.row_machine.specs.machine.Work.{claiming, entered, project_of_task}
 use Rattle.row_machine.specs.shown.Notices.{telling, view_of}
 use Rattle.machine_laws.proofs.Cases.{IsAccepted}
 use Rattle.core_rows.specs.Asked.{IsAsked, answered, changes_at_once, changes_of, unless_refused}
-use Rattle.core_rows.specs.Kept.{IsSilent}
-use Rattle.core_rows.specs.Planned.{IsToStart, claim_judged_by, reply_for}
-use Rattle.core_rows.specs.Stores.{Stores}
+use Rattle.work_reports.specs.Waiting.{IsSilent}
+use Rattle.judged_changes.specs.Judged.{claim_judged_by, reply_for}
+use Rattle.core_rows.specs.Planned.{IsToStart}
+use Rattle.work_reports.specs.Stores.{Stores}
 use Rattle.core_rows.proofs.Following.{follows-why}
 
 -- ---- the operation that was entered last

@@ -10,7 +10,7 @@ use Rattle.row_machine.specs.declared.events.Event.TheVariants as event
 use Rattle.row_machine.specs.declared.events.Answer.TheVariants as answer
 use Rattle.row_machine.specs.machine.State.{State}
 use Rattle.row_machine.specs.machine.Changes.{applied}
-use Rattle.row_machine.specs.machine.Refusals.{plainly}
+use Rattle.row_machine.specs.machine.Refusals.{plain_refusal}
 use Rattle.row_machine.specs.machine.Plans.{changes, plan_of}
 use Rattle.row_machine.specs.machine.Rules.{broken}
 use Rattle.row_machine.specs.shown.Notices.{telling, change_notices}
@@ -31,7 +31,7 @@ refused-step s c moment r is = ap (asked s c moment well) is
 
 -- the store failed
 pub failed-step : (s : State) (c : Command) (moment : ℕ) (cs : List RowChange) (rise : Rise) → plan_of s c moment ≡ changes cs → broken s c moment ≡ None
-    → step s (event.Ask c moment) (keeper_failed rise) ≡ Some (and_then (answer.Reply (reply.Refused (plainly rule.K1))) s)
+    → step s (event.Ask c moment) (keeper_failed rise) ≡ Some (and_then (answer.Reply (reply.Refused (plain_refusal rule.K1))) s)
 unfolding step
 failed-step s c moment cs rise plan unbroken = ap (asked s c moment (keeper_failed rise)) unbroken ∙ ap (unavailable s) plan
 

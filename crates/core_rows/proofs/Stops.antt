@@ -44,18 +44,19 @@ use Rattle.machine_laws.proofs.Commands.{command_of}
 use Rattle.machine_laws.proofs.Told.{names-right}
 use Rattle.core_rows.specs.Asked.{changes_at_once, changes_of, unless_refused}
 use Rattle.core_rows.specs.Cancels.{stopped, waits}
-use Rattle.core_rows.specs.Kept.{IsSilent}
-use Rattle.core_rows.specs.Planned.{Follows, reply_for}
-use Rattle.core_rows.specs.Stores.{Stores}
-use Rattle.core_rows.specs.Turns.{shown_at}
-use Rattle.core_rows.specs.Waiting.{told_by}
-use Rattle.core_rows.specs.declared.waiting.Waiting.{Waiting}
-use Rattle.core_rows.proofs.Begun.{shown-told}
-use Rattle.core_rows.proofs.Comings.{cancelled-silent, cancelled-next}
+use Rattle.work_reports.specs.Waiting.{IsSilent}
+use Rattle.judged_changes.specs.Judged.{reply_for}
+use Rattle.core_rows.specs.Planned.{Follows}
+use Rattle.work_reports.specs.Stores.{Stores}
+use Rattle.work_reports.specs.Turns.{shown_at}
+use Rattle.work_reports.specs.Waiting.{told_by}
+use Rattle.work_reports.specs.declared.waiting.Waiting.{Waiting}
+use Rattle.work_reports.proofs.Begun.{shown-told}
+use Rattle.work_reports.proofs.Comings.{cancelled-silent, cancelled-next}
 use Rattle.core_rows.proofs.Following.{follows-why}
-use Rattle.core_rows.proofs.Handing.{told-kept, moved-live}
-use Rattle.core_rows.proofs.Reporting.{as_ended, cancelled-kept}
-use Rattle.core_rows.proofs.Turning.{IsLive, is-live}
+use Rattle.work_reports.proofs.Handing.{told-kept, moved-live}
+use Rattle.work_reports.proofs.Reporting.{as_ended, cancelled-kept}
+use Rattle.work_reports.proofs.Turning.{IsLive, is-live}
 
 -- ---- which operations can be cancelled
 

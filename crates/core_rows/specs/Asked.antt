@@ -16,7 +16,7 @@ use Rattle.row_machine.specs.machine.Plans.{Plan, nothing, changes, starts, plan
 use Rattle.row_machine.specs.machine.Rules.{broken}
 use Rattle.row_machine.specs.machine.Accept.{and_then}
 use Rattle.row_machine.specs.machine.Step.{Outcome, step}
-use Rattle.core_rows.specs.Stores.{IsCaused, Stores}
+use Rattle.work_reports.specs.Stores.{IsCaused, Stores}
 
 -- the answer that a reply is: out of memory is an answer of its own
 abbrev pub answered : Reply → Answer

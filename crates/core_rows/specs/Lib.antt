@@ -1,11 +1,6 @@
 pub mod Asked
 pub mod Cancels
-pub mod Jobs
 pub mod Kept
 pub mod Opening
 pub mod Planned
-pub mod Reported
-pub mod Stores
 pub mod View
-pub mod Waiting
-pub mod Turns

@@ -2,8 +2,9 @@
 use Rattle.std.specs.Prelude.{◌≡◌, ◌<◌, ◌≤◌, [], map, vec_capacity}
 use Rattle.row_machine.specs.facts.Whole.{IsWhole}
 use Rattle.core_rows.specs.declared.estate.Estate.TheInside.{Inside}
-use Rattle.core_rows.specs.Kept.{Kept, IsSilent, untold_limit}
-use Rattle.core_rows.specs.Waiting.{told_by}
+use Rattle.work_reports.specs.Waiting.{IsSilent, untold_limit}
+use Rattle.core_rows.specs.Kept.{Kept}
+use Rattle.work_reports.specs.Waiting.{told_by}
 
 -- the state, and the notices that wait
 abbrev pub kept : Inside → Kept

@@ -3,15 +3,12 @@ ghost use Rattle.std.specs.Prelude.{◌≡◌, ◌<◌, ◌≤◌, ◌++◌, [],
 ghost use Rattle.operations.specs.Kept.{live_at};
 ghost use Rattle.row_machine.specs.machine.Work.{is_held_by};
 ghost use Rattle.core_rows.specs.Cancels.{waits, stopped};
-ghost use Rattle.core_rows.specs.Turns.{shown_at};
+ghost use Rattle.work_reports.specs.Turns.{shown_at};
 
-use crate::ends::cancel;
-use crate::jobs::{is_pending, tell};
-use crate::turns::live_at;
-use crate::waiting::Waiting;
 use operations::Status;
 use row_drafts::Draft;
 use row_readings::View;
+use work_reports::{Waiting, cancel, is_pending, live_at, tell};
 
 /// Whether the live operation of a number waits for its first call.
 fn waits(view: &View<'_>, number: u64) -> bool

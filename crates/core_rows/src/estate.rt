@@ -1,25 +1,20 @@
-ghost use Rattle.std.specs.Prelude.{◌≡◌, ◌<◌, ◌∷◌, [], None, true, IfOk, IfSome, IfNone, OnOk, OnErr};
-ghost use Rattle.limit_rules.specs.Exceeding.{Serves};
-ghost use Rattle.row_drafts.specs.Drafted.{IsReady};
-ghost use Rattle.row_machine.specs.machine.Changes.{applied};
+ghost use Rattle.std.specs.Prelude.{◌≡◌, ◌<◌, ◌∷◌, [], None, true, IfOk, IfSome, IfNone, OnErr};
 ghost use Rattle.row_machine.specs.facts.Whole.{IsWhole};
 ghost use Rattle.row_machine.specs.machine.Rules.{names_broken, standing_broken};
 ghost use Rattle.records.specs.declared.commands.What.TheVariants as what;
 ghost use Rattle.size_values.specs.Moments.{moment_limit};
-ghost use Rattle.core_rows.specs.Jobs.{IsReported, IsTaken};
-ghost use Rattle.core_rows.specs.Kept.{IsSilent};
+ghost use Rattle.work_reports.specs.Jobs.{IsReported, IsTaken};
+ghost use Rattle.work_reports.specs.Waiting.{IsSilent};
 ghost use Rattle.core_rows.specs.Planned.{Follows, IsToDo, IsToStart};
 ghost use Rattle.core_rows.specs.Asked.{IsAsked};
 ghost use Rattle.record_keeper.specs.Store.{Store};
 
 use crate::cancels::stop;
-use crate::changing::{commit, copy_changes, give_up, judge, refused_reply};
-use crate::jobs::{Turned, begin, first_pending, tell};
-use crate::reported::take_report;
-use crate::starting::{judge_claim, make_beginning, settle_beginning};
-use crate::waiting::{Waiting, told_by};
 use host_model::{HostCall, Report};
-use limit_rules::{Usage, usage_before_changes};
+use judged_changes::{
+    commit, give_up, judge, judge_claim, make_beginning, make_ready, refused_reply,
+    settle_beginning,
+};
 use plain_lists::push_reserved;
 use record_keeper::Keeper;
 use records::{Command, Reply, Untold};
@@ -30,6 +25,7 @@ use size_values::{NoMemory, Seq};
 use std::alloc::Global;
 use std::marker::Model;
 use table_rules::cancel_broken;
+use work_reports::{Turned, Waiting, begin, first_pending, take_report, tell, told_by};
 
 /// The rows of the server, of which the facts hold at all times, and what is to be told. Contracts see the state of the
 /// row machine with these rows, and the notices that were not yet taken.
@@ -49,29 +45,6 @@ impl Model for Estate {
     ghost view = { kept };
 
     ghost invariant = { IsEstate };
-}
-
-/// What a change needs besides the rows: what counts for limits before it, and the changes once more.
-#[derive(Drop)]
-struct Ready {
-    before: Usage,
-    changes: Seq<RowChange>,
-}
-
-/// Takes all memory that a change needs, but for its entries.
-fn make_ready(alloc: Global, draft: &mut Draft, changes: &Seq<RowChange>) -> Result<Ready, NoMemory>
-    requires settled { draft.old.log ≡ [] }
-    ensures before { IfOk result (λ r. Serves r.before draft.old.state (applied draft.old.state changes.now)) }
-    ensures changes { IfOk result (λ r. r.changes ≡ changes.now) }
-    ensures ready { OnOk result (IsReady draft.new changes.now) }
-    ensures state { draft.new.state ≡ draft.old.state }
-    ensures log { draft.new.log ≡ [] }
-    ensures greatest { draft.new.backing.greatest ≡ draft.old.backing.greatest }
-{
-    draft.reserve_for(alloc, changes)?;
-    let before = usage_before_changes(alloc, &draft.view(), changes.view())?;
-    let changes = copy_changes(alloc, changes)?;
-    Ok(Ready { before, changes })
 }
 
 impl Estate {

@@ -3,20 +3,10 @@
 #![tactic(auto)]
 
 mod cancels;
-mod changing;
-mod ends;
-mod entries;
 mod estate;
-mod jobs;
+mod kept_rows;
 mod opening;
-mod reported;
-mod starting;
-mod success;
-mod turns;
-mod waiting;
 
-pub use changing::refused_reply;
-pub use entries::{default_profile, entry_changes};
 pub use estate::Estate;
-pub use jobs::Turned;
+pub use judged_changes::refused_reply;
 pub use opening::{OpenFault, load_rows};

@@ -2,25 +2,30 @@ ghost use Rattle.std.specs.Prelude.{◌≡◌, [], IfOk};
 ghost use Rattle.row_machine.specs.opening.Opening.{first_rows, default_project};
 ghost use Rattle.row_machine.specs.machine.Plans.{put_all};
 ghost use Rattle.machine_laws.specs.Entries.{entry_changes};
-ghost use Rattle.core_rows.specs.Opening.{Opens, Begins, Commits, FindsNothing, first_state};
+ghost use Rattle.plain_lists.specs.Members.{Each};
+ghost use Rattle.machine_laws.specs.Openings.{HasBytes};
+ghost use Rattle.core_rows.specs.Opening.{Opens, Begins, Commits, GoesOn, Loads, first_state};
 
-use crate::entries::{default_profile, entry_changes};
 use crate::estate::Estate;
+use crate::kept_rows::{have_bytes, open_entries};
 use config_lists::Config;
 use record_keeper::Keeper;
-use records::{Project, Row};
+use records::{Project, Row, Rule};
 use row_drafts::Draft;
 use row_machine::RowChange;
-use size_values::{EntryChange, NoMemory, Or, Seq, Text};
+use size_values::{Entry, EntryChange, NoMemory, Or, Seq, Text};
 use std::alloc::Global;
+use work_reports::{default_profile, entry_changes};
 
-/// Why the rows could not be opened.
-#[derive(Clone, Copy, Debug, PartialEq, Eq)]
+/// Why the rows could not be opened. A row is told by the number of its kind and its key, as its entry has them.
+#[derive(Drop)]
 pub enum OpenFault {
-    /// The keeper failed at the load or at the first commit.
+    /// The keeper failed at the load, or at the commit of the first rows.
     KeeperFailed,
-    /// The keeper has entries already; rows of an earlier run are not read yet.
-    HasEntries,
+    /// An entry spells no row.
+    Damaged { kind: u8, key: Text },
+    /// The rows break a rule.
+    Broken { rule: Rule, kind: u8, key: Text },
     NoMemory,
 }
 
@@ -96,17 +101,14 @@ fn first_of_all(alloc: Global) -> Result<(Estate, Seq<EntryChange>), NoMemory>
     Ok((estate, entries))
 }
 
-/// Loads the entries, of which there must be none.
-fn load_nothing<R: Keeper>(keeper: &mut R) -> Result<(), OpenFault>
-    ensures { FindsNothing result (R.store keeper.old) (R.store keeper.new) }
+/// The kept entries.
+fn load<R: Keeper>(keeper: &mut R) -> Result<Seq<Entry>, OpenFault>
+    ensures { Loads result (R.store keeper.old) (R.store keeper.new) }
 {
     match keeper.load() {
-        Ok(found) => {
-            if found.is_empty() {
-                Ok(())
-            } else {
-                Err(OpenFault::HasEntries)
-            }
+        Ok(entries) => {
+            have_bytes(entries.view());
+            Ok(entries)
         }
         Err(Or::NoMemory) => Err(OpenFault::NoMemory),
         Err(Or::Why(_)) => Err(OpenFault::KeeperFailed),
@@ -137,13 +139,28 @@ fn begin<R: Keeper>(alloc: Global, keeper: &mut R) -> Result<Estate, OpenFault>
     }
 }
 
-/// The rows of a keeper that has no entries yet: the project `default` with all features and its profile `default`,
-/// which are committed first, at once.
+/// Opens entries that were loaded.
+fn open<R: Keeper>(alloc: Global, keeper: &mut R, entries: Seq<Entry>) -> Result<Estate, OpenFault>
+    requires { Each HasBytes entries }
+    ensures { GoesOn result entries (R.store keeper.old) (R.store keeper.new) }
+{
+    if entries.is_empty() {
+        drop(entries);
+        return begin(alloc, keeper);
+    }
+    let opened = open_entries(alloc, entries.view());
+    drop(entries);
+    opened
+}
+
+/// The rows that a keeper has entries of. All of them are read and judged first: the first entry that is none is told,
+/// and then the first rule that the rows break, with the row. All instances are stopped, and there are no operations. A
+/// keeper without entries gets the project `default` with all features and its profile `default`, in one commit.
 pub fn load_rows<R: Keeper>(alloc: Global, keeper: &mut R) -> Result<Estate, OpenFault>
     ensures { Opens result (R.store keeper.old) (R.store keeper.new) }
 {
-    match load_nothing(keeper) {
-        Ok(()) => begin(alloc, keeper),
+    match load(keeper) {
+        Ok(entries) => open(alloc, keeper, entries),
         Err(fault) => Err(fault),
     }
 }

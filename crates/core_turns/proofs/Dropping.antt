@@ -3,7 +3,7 @@ use Rattle.std.proofs.Common.{◌≡◌, ◌==◌, ◌^◌, ◌-◌, Bool, true,
 use Rattle.records.specs.declared.notices.Untold.{Untold}
 use Rattle.row_machine.specs.machine.State.{State}
 use Rattle.row_machine.specs.shown.Notices.{push_notice, telling}
-use Rattle.core_rows.specs.Kept.{IsSilent}
+use Rattle.work_reports.specs.Waiting.{IsSilent}
 use Rattle.core_turns.specs.Turns.{unheard}
 
 -- one notice

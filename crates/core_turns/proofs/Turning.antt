@@ -13,9 +13,9 @@ use Rattle.row_machine.specs.machine.Accept.{After, and_then}
 use Rattle.row_machine.specs.machine.Step.{well, step}
 use Rattle.row_machine.specs.shown.Notices.{telling}
 use Rattle.core_rows.specs.Asked.{answered}
-use Rattle.core_rows.specs.Kept.{IsSilent}
+use Rattle.work_reports.specs.Waiting.{IsSilent}
 use Rattle.core_rows.specs.Planned.{Follows}
-use Rattle.core_rows.specs.Stores.{KeepsRecords, Stores}
+use Rattle.work_reports.specs.Stores.{KeepsRecords, Stores}
 use Rattle.core_turns.specs.Turns.{Comes, IsTurn, changes_by, turned, unheard}
 use Rattle.core_turns.proofs.Dropping.{rows-unheard}
 

@@ -19,8 +19,8 @@ use Rattle.row_machine.specs.machine.Work.{handing_out, moved, with_task}
 use Rattle.row_machine.specs.opening.Records.{records_of}
 use Rattle.row_machine.specs.shown.Notices.{operation_notice, telling}
 use Rattle.machine_laws.proofs.BooksSteps.{telling-keeps}
-use Rattle.core_rows.specs.Jobs.{IsReported, IsTaken, answer_of}
-use Rattle.core_rows.specs.declared.jobs.Turned.{Turned}
+use Rattle.work_reports.specs.Jobs.{IsReported, IsTaken, answer_of}
+use Rattle.work_reports.specs.declared.jobs.Turned.{Turned}
 use Rattle.core_turns.specs.Turns.{Comes}
 use Rattle.core_turns.proofs.Turning.{still-comes}
 

@@ -13,8 +13,8 @@ use Rattle.row_machine.specs.machine.Accept.{After, and_then}
 use Rattle.row_machine.specs.machine.Step.{Outcome, step}
 use Rattle.row_machine.specs.shown.Notices.{telling}
 use Rattle.core_rows.specs.Asked.{changes_of}
-use Rattle.core_rows.specs.Jobs.{changes_reported}
-use Rattle.core_rows.specs.Stores.{IsCaused, KeepsRecords, Stores}
+use Rattle.work_reports.specs.Jobs.{changes_reported}
+use Rattle.work_reports.specs.Stores.{IsCaused, KeepsRecords, Stores}
 
 -- The events that are served so far: the commands that a request can give, looks, jobs and their reports, and the close. Nobody
 -- fetches yet.

@@ -38,8 +38,8 @@ impl Model for Daemon {
 }
 
 impl Daemon {
-    /// The server over the rows of a keeper, which must have no entries yet: it gets the project
-    /// `default` and its profile `default`, in one commit.
+    /// The server over the rows that the entries of a keeper open to; one without entries gets the
+    /// project `default` and its profile `default`, in one commit. No operation is live.
     pub fn begin<R: Keeper>(alloc: Global, keeper: &mut R) -> Result<Daemon, OpenFault>
         ensures { Opens result (R.store keeper.old) (R.store keeper.new) }
     {

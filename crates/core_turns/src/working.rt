@@ -4,14 +4,15 @@ ghost use Rattle.record_keeper.specs.Store.{Store};
 ghost use Rattle.row_machine.specs.declared.events.Answer.TheVariants as answer;
 ghost use Rattle.row_machine.specs.declared.events.Event.TheVariants as event_of;
 ghost use Rattle.size_values.specs.Moments.{moment_limit};
-ghost use Rattle.core_rows.specs.Jobs.{answer_of};
+ghost use Rattle.work_reports.specs.Jobs.{answer_of};
 ghost use Rattle.core_turns.specs.Turns.{Comes};
 
-use core_rows::{Estate, Turned};
+use core_rows::Estate;
 use host_model::Report;
 use record_keeper::Keeper;
 use row_machine::Answer;
 use std::alloc::Global;
+use work_reports::Turned;
 
 /// What a worker gets where nothing waits.
 fn nothing_to_do(closed: bool) -> Answer

@@ -33,7 +33,7 @@ impl Expanded {
         ensures ok { OnOk result (self.new ≡ laid self.old (record { config = config.now; devices = devices.now })) }
         ensures err { OnErr result (self.new ≡ self.old) }
     {
-        let config = overlaid(&self.config, config)?;
+        let config = overlay(&self.config, config)?;
         let devices = self.devices.replaced(devices)?;
         self.config = config;
         self.devices = devices;
@@ -42,7 +42,7 @@ impl Expanded {
 }
 
 /// The settings with each of the others set.
-fn overlaid(config: &Config, by: &Config) -> Result<Config, NoMemory>
+fn overlay(config: &Config, by: &Config) -> Result<Config, NoMemory>
     ensures { IfOk result (λ c. c ≡ replaced config.now by.now) }
 {
     let mut config = config.copy()?;

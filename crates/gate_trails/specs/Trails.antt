@@ -8,7 +8,7 @@ use Rattle.row_machine.specs.declared.events.Event.{Event}
 use Rattle.row_machine.specs.machine.State.{State}
 use Rattle.row_machine.specs.machine.Step.{Outcome}
 use Rattle.row_machine.specs.facts.Whole.{IsWhole}
-use Rattle.core_rows.specs.Stores.{IsCaused, KeepsRecords}
+use Rattle.work_reports.specs.Stores.{IsCaused, KeepsRecords}
 use Rattle.core_turns.specs.Turns.{Turns}
 use Rattle.serial_steps.specs.Counts.{failed_commits}
 use Rattle.gate_trails.specs.Chains.{Chain}

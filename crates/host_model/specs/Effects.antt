@@ -7,7 +7,7 @@ use Rattle.host_model.specs.declared.root.HostRoot.{HostRoot}
 use Rattle.host_model.specs.declared.call.HostCall.{HostCall}
 use Rattle.host_model.specs.declared.call.HostCall.TheVariants.{Clear, MakeRoot, CopyRoot, Start, Stop, Freeze, Thaw}
 use Rattle.host_model.specs.declared.call.HostCall.TheVariants.{Apply, Rename, Snap, Unsnap, Restore}
-use Rattle.host_model.specs.Roots.{root_at, with_root, without_root, made, others, snapshot_of, content_of}
+use Rattle.host_model.specs.Roots.{root_at, with_root, without_root, new_root, others, snapshot_of, content_of}
 
 -- what a call makes of one root
 
@@ -36,8 +36,8 @@ restored name root = record root { content = unwrap_or (snapshot_of name root) r
 -- what each call makes of the roots
 abbrev pub effect_of : HostCall → List HostRoot → List HostRoot
 effect_of (Clear at) roots = without_root at roots
-effect_of (MakeRoot at origin) roots = with_root (made at origin) roots
-effect_of (CopyRoot from snapshot to) roots = with_root (made to (content_of from snapshot roots)) roots
+effect_of (MakeRoot at origin) roots = with_root (new_root at origin) roots
+effect_of (CopyRoot from snapshot to) roots = with_root (new_root to (content_of from snapshot roots)) roots
 effect_of (Start at spec) roots = with_root (with_power Running (with_spec spec (root_at at roots))) roots
 effect_of (Stop at) roots = with_root (with_power Stopped (root_at at roots)) roots
 effect_of (Freeze at) roots = with_root (with_power Frozen (root_at at roots)) roots

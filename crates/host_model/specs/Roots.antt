@@ -23,12 +23,12 @@ abbrev pub is_at : Place → HostRoot → Bool
 is_at at root = same_place root.place at
 
 -- a stopped root with this content, nothing applied and no snapshots
-abbrev pub made : Place → List ℕ → HostRoot
-made at content = record { place = at; power = Stopped; content = content; applied = no_spec; snapshots = [] }
+abbrev pub new_root : Place → List ℕ → HostRoot
+new_root at content = record { place = at; power = Stopped; content = content; applied = no_spec; snapshots = [] }
 
 -- an absent root counts as a stopped one with empty content
 abbrev pub absent : Place → HostRoot
-absent at = made at []
+absent at = new_root at []
 
 -- the root at a place
 abbrev pub root_at : Place → List HostRoot → HostRoot

@@ -2,7 +2,7 @@ ghost use Rattle.std.specs.Prelude.{◌≡◌, ◌<◌, ◌≤◌, ◌-◌, IfOk
 ghost use Rattle.std.specs.List.{find, position};
 ghost use Rattle.std.specs.Option.{option_copied};
 ghost use Rattle.size_values.specs.declared.kinds.Power.TheVariants as power_of;
-ghost use Rattle.host_model.specs.Roots.{is_at, root_at, with_root, without_root, made, content_of};
+ghost use Rattle.host_model.specs.Roots.{is_at, root_at, with_root, without_root, new_root, content_of};
 ghost use Rattle.host_model.specs.Effects.{effect_of, with_power, with_spec, renamed, snapped, unsnapped, restored};
 
 use crate::call::HostCall;
@@ -14,7 +14,7 @@ use std::alloc::Global;
 
 /// Makes of the roots what a call makes of them. Where memory is refused, they are as before: each call works
 /// on a root of its own and puts it back at its end.
-pub(crate) fn change(
+pub(crate) fn apply_call(
     alloc: Global,
     roots: &mut Vec<HostRoot>,
     call: &HostCall,
@@ -45,7 +45,7 @@ fn clear(roots: &mut Vec<HostRoot>, at: &Place)
     ensures items { roots.new.items ≡ without_root at.now roots.old.items }
     ensures room { vec_capacity roots.old - vec_len roots.old ≤ vec_capacity roots.new - vec_len roots.new }
 {
-    match place_of(roots, at) {
+    match index_of(roots, at) {
         Some(place) => {
             roots.remove(place);
         }
@@ -54,12 +54,17 @@ fn clear(roots: &mut Vec<HostRoot>, at: &Place)
 }
 
 /// Puts a stopped root with this content, nothing applied and no snapshots.
-fn make(alloc: Global, roots: &mut Vec<HostRoot>, at: &Place, content: Text) -> Result<(), NoMemory>
-    ensures ok { OnOk result (roots.new.items ≡ with_root (made at.now content) roots.old.items) }
+fn put_new_root(
+    alloc: Global,
+    roots: &mut Vec<HostRoot>,
+    at: &Place,
+    content: Text,
+) -> Result<(), NoMemory>
+    ensures ok { OnOk result (roots.new.items ≡ with_root (new_root at.now content) roots.old.items) }
     ensures err { OnErr result (roots.new.items ≡ roots.old.items) }
 {
-    let root = HostRoot::made(alloc, at, content)?;
-    put(roots, root)
+    let root = HostRoot::new_root(alloc, at, content)?;
+    put_root(roots, root)
 }
 
 /// Puts a stopped root with the content of this origin.
@@ -69,11 +74,11 @@ fn make_root(
     at: &Place,
     origin: &Text,
 ) -> Result<(), NoMemory>
-    ensures ok { OnOk result (roots.new.items ≡ with_root (made at.now origin.now) roots.old.items) }
+    ensures ok { OnOk result (roots.new.items ≡ with_root (new_root at.now origin.now) roots.old.items) }
     ensures err { OnErr result (roots.new.items ≡ roots.old.items) }
 {
     let content = origin.copy(alloc)?;
-    make(alloc, roots, at, content)
+    put_new_root(alloc, roots, at, content)
 }
 
 /// Puts a root with the content of another one, or of its named snapshot.
@@ -85,11 +90,11 @@ fn copy_content(
     to: &Place,
 ) -> Result<(), NoMemory>
     ensures ok { OnOk result (roots.new.items
-        ≡ with_root (made to.now (content_of from.now snapshot.now roots.old.items)) roots.old.items) }
+        ≡ with_root (new_root to.now (content_of from.now snapshot.now roots.old.items)) roots.old.items) }
     ensures err { OnErr result (roots.new.items ≡ roots.old.items) }
 {
     let content = content_of(alloc, roots, from, snapshot)?;
-    make(alloc, roots, to, content)
+    put_new_root(alloc, roots, to, content)
 }
 
 fn start(alloc: Global, roots: &mut Vec<HostRoot>, at: &Place, spec: &Spec) -> Result<(), NoMemory>
@@ -101,7 +106,7 @@ fn start(alloc: Global, roots: &mut Vec<HostRoot>, at: &Place, spec: &Spec) -> R
     let applied = spec.copy()?;
     let mut root = root_at(alloc, roots, at)?.with_applied(applied);
     root.power = Power::Running;
-    put(roots, root)
+    put_root(roots, root)
 }
 
 fn set_power(
@@ -116,7 +121,7 @@ fn set_power(
 {
     let mut root = root_at(alloc, roots, at)?;
     root.power = power;
-    put(roots, root)
+    put_root(roots, root)
 }
 
 fn apply(alloc: Global, roots: &mut Vec<HostRoot>, at: &Place, spec: &Spec) -> Result<(), NoMemory>
@@ -126,7 +131,7 @@ fn apply(alloc: Global, roots: &mut Vec<HostRoot>, at: &Place, spec: &Spec) -> R
 {
     let applied = spec.copy()?;
     let root = root_at(alloc, roots, at)?.with_applied(applied);
-    put(roots, root)
+    put_root(roots, root)
 }
 
 fn rename(
@@ -154,7 +159,7 @@ fn snap(alloc: Global, roots: &mut Vec<HostRoot>, at: &Place, name: &Text) -> Re
 {
     let root = root_at(alloc, roots, at)?;
     let snapshots = root.more_snapshots(alloc, name)?;
-    put(roots, root.with_snapshots(snapshots))
+    put_root(roots, root.with_snapshots(snapshots))
 }
 
 fn unsnap(alloc: Global, roots: &mut Vec<HostRoot>, at: &Place, name: &Text) -> Result<(), NoMemory>
@@ -164,7 +169,7 @@ fn unsnap(alloc: Global, roots: &mut Vec<HostRoot>, at: &Place, name: &Text) -> 
 {
     let root = root_at(alloc, roots, at)?;
     let snapshots = root.fewer_snapshots(alloc, name)?;
-    put(roots, root.with_snapshots(snapshots))
+    put_root(roots, root.with_snapshots(snapshots))
 }
 
 fn restore(
@@ -179,7 +184,7 @@ fn restore(
 {
     let root = root_at(alloc, roots, at)?;
     let content = root.restored_content(alloc, name)?;
-    put(roots, root.with_content(content))
+    put_root(roots, root.with_content(content))
 }
 
 /// The content of a root, or of its named snapshot.
@@ -203,7 +208,7 @@ fn root_at(alloc: Global, roots: &[HostRoot], at: &Place) -> Result<HostRoot, No
 {
     match find_root(roots, at) {
         Some(root) => root.copy(alloc),
-        None => HostRoot::made(alloc, at, Text::new(alloc)),
+        None => HostRoot::new_root(alloc, at, Text::new(alloc)),
     }
 }
 
@@ -213,14 +218,14 @@ fn find_root<'x>(roots: &'x [HostRoot], at: &Place) -> Option<&'x HostRoot>
     roots.iter().find(|root| root.place.is(at))
 }
 
-fn place_of(roots: &[HostRoot], at: &Place) -> Option<usize>
+fn index_of(roots: &[HostRoot], at: &Place) -> Option<usize>
     ensures { result ≡ position (is_at at.now) roots.now }
 {
     roots.iter().position(|root| root.place.is(at))
 }
 
 /// Puts a root in place of the one at its place, or at the end.
-fn put(roots: &mut Vec<HostRoot>, root: HostRoot) -> Result<(), NoMemory>
+fn put_root(roots: &mut Vec<HostRoot>, root: HostRoot) -> Result<(), NoMemory>
     ensures ok { OnOk result (roots.new.items ≡ with_root root roots.old.items) }
     ensures err { OnErr result (roots.new.items ≡ roots.old.items) }
 {
@@ -234,7 +239,7 @@ fn put_reserved(roots: &mut Vec<HostRoot>, root: HostRoot)
     requires { vec_len roots.old < vec_capacity roots.old }
     ensures { roots.new.items ≡ with_root root roots.old.items }
 {
-    match place_of(roots, &root.place) {
+    match index_of(roots, &root.place) {
         Some(place) => roots[place] = root,
         None => push_reserved(roots, root),
     }

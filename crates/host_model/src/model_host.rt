@@ -66,7 +66,7 @@ impl Host for ModelHost {
         if self.calls.next() {
             return Err(Or::Why(HostFailed));
         }
-        effects::change(self.alloc, &mut self.roots, call)?;
+        effects::apply_call(self.alloc, &mut self.roots, call)?;
         Ok(())
     }
 

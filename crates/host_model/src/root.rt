@@ -1,6 +1,6 @@
 ghost use Rattle.std.specs.Prelude.{◌≡◌, ◌∷◌, ◌++◌, [], IfOk, unwrap_or};
 ghost use Rattle.std.specs.Option.{option_copied};
-ghost use Rattle.host_model.specs.Roots.{no_spec, made, others, snapshot_of, content_in};
+ghost use Rattle.host_model.specs.Roots.{no_spec, new_root, others, snapshot_of, content_in};
 
 use crate::place::Place;
 use config_lists::{Config, Devices};
@@ -49,8 +49,8 @@ impl Spec {
 
 impl HostRoot {
     /// A stopped root with this content, nothing applied and no snapshots.
-    pub(crate) fn made(alloc: Global, at: &Place, content: Text) -> Result<HostRoot, NoMemory>
-        ensures { IfOk result (λ r. r ≡ made at.now content) }
+    pub(crate) fn new_root(alloc: Global, at: &Place, content: Text) -> Result<HostRoot, NoMemory>
+        ensures { IfOk result (λ r. r ≡ new_root at.now content) }
     {
         Ok(HostRoot {
             place: at.copy(alloc)?,
@@ -65,9 +65,9 @@ impl HostRoot {
     pub(crate) fn copy(&self, alloc: Global) -> Result<HostRoot, NoMemory>
         ensures { IfOk result (λ r. r ≡ self.now) }
     {
-        let (place, content) = both(self.place.copy(alloc), self.content.copy(alloc))?;
+        let (place, content) = zip_or_drop(self.place.copy(alloc), self.content.copy(alloc))?;
         let snapshots = copy_snapshots(alloc, self.snapshots.view());
-        let (applied, snapshots) = both(self.applied.copy(), snapshots)?;
+        let (applied, snapshots) = zip_or_drop(self.applied.copy(), snapshots)?;
         Ok(HostRoot {
             place,
             power: self.power,
@@ -116,7 +116,7 @@ impl HostRoot {
     ) -> Result<Seq<(Text, Text)>, NoMemory>
         ensures { IfOk result (λ s. s ≡ others name.now self.now.snapshots ++ (name.now, self.now.content) ∷ []) }
     {
-        let added = both(name.copy(alloc), self.content.copy(alloc))?;
+        let added = zip_or_drop(name.copy(alloc), self.content.copy(alloc))?;
         let mut snapshots = other_snapshots(alloc, self.snapshots.view(), name)?;
         snapshots.push(added)?;
         Ok(Seq::from_vec(snapshots))
@@ -168,7 +168,7 @@ impl HostRoot {
 }
 
 /// Both, where memory was enough for each.
-fn both<A: Drop, B: Drop>(
+fn zip_or_drop<A: Drop, B: Drop>(
     first: Result<A, NoMemory>,
     second: Result<B, NoMemory>,
 ) -> Result<(A, B), NoMemory>
@@ -208,5 +208,5 @@ fn other_snapshots(
 fn copy_snapshot(alloc: Global, snapshot: &(Text, Text)) -> Result<(Text, Text), NoMemory>
     ensures { IfOk result (λ s. s ≡ snapshot.now) }
 {
-    both(snapshot.0.copy(alloc), snapshot.1.copy(alloc))
+    zip_or_drop(snapshot.0.copy(alloc), snapshot.1.copy(alloc))
 }

@@ -50,13 +50,13 @@ fn status_line(alloc: Global, code: u16) -> Result<String, NoMemory>
     let mut text = String::from_str(alloc, "HTTP/1.1 ")?;
     text.push_str(code.to_string(alloc)?.as_str())?;
     text.push_str(" ")?;
-    text.push_str(phrase(code))?;
+    text.push_str(phrase_of(code))?;
     text.push_str("\r\n")?;
     Ok(text)
 }
 
 /// The phrase of a reply's code.
-fn phrase(code: u16) -> &'static str
+fn phrase_of(code: u16) -> &'static str
     requires { IsTrue (is_reply_code code) }
     ensures { result.now ≡ phrase_of code }
 {

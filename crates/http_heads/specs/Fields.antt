@@ -43,12 +43,13 @@ framing fields =
     else Err H3
 
 -- one of the parts between commas is the word, in any ASCII case and without the blanks and tabs at its ends
-unfoldable pub lists : List ℕ → List ℕ → Bool
-lists word value = list_any (λ part. str_eq_ignore_ascii_case (trim_ows part) word) (slice_split (λ b. b == 44) value)
+unfoldable pub lists_word : List ℕ → List ℕ → Bool
+lists_word word value =
+    list_any (λ part. str_eq_ignore_ascii_case (trim_ows part) word) (slice_split (λ b. b == 44) value)
 
 -- some header of this name lists the word
 abbrev pub some_lists : List ℕ → List ℕ → List (List ℕ × List ℕ) → Bool
-some_lists name word fields = list_any (lists word) (values_of name fields)
+some_lists name word fields = list_any (lists_word word) (values_of name fields)
 
 -- the connection ends after this request: it is of HTTP/1.0, or a Connection header lists `close`
 abbrev pub is_last : RequestHead → Bool

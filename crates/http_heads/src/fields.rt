@@ -4,7 +4,7 @@ ghost use Rattle.std.specs.Str.{str_eq_ignore_ascii_case};
 ghost use Rattle.httparse.specs.Grammar.{skip_ows, trim_ows};
 ghost use Rattle.httparse.specs.Spans.{IsWithin, IsHeaderWithin, span_bytes, header_bytes};
 ghost use Rattle.http_heads.specs.Limits.{max_body};
-ghost use Rattle.http_heads.specs.Fields.{values_of, length_in, framing, lists, some_lists};
+ghost use Rattle.http_heads.specs.Fields.{values_of, length_in, framing, lists_word, some_lists};
 
 use crate::request::{HeadFault, MAX_BODY};
 use httparse::spans::{HeaderSpan, Span};
@@ -87,7 +87,7 @@ pub(crate) fn some_lists(bytes: &[u8], headers: &[HeaderSpan], name: &[u8], word
     ensures { result ≡ some_lists name.now word.now (map (header_bytes bytes.now) headers.now) }
 {
     for header in headers {
-        if is_named(bytes, header.name, name) && lists(word, header.value.of(bytes)) {
+        if is_named(bytes, header.name, name) && lists_word(word, header.value.of(bytes)) {
             return true;
         }
     }
@@ -95,8 +95,8 @@ pub(crate) fn some_lists(bytes: &[u8], headers: &[HeaderSpan], name: &[u8], word
 }
 
 /// Whether one of the parts between commas is the word.
-fn lists(word: &[u8], value: &[u8]) -> bool
-    ensures { result ≡ lists word.now value.now }
+fn lists_word(word: &[u8], value: &[u8]) -> bool
+    ensures { result ≡ lists_word word.now value.now }
 {
     value
         .split(|byte| *byte == b',')

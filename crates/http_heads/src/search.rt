@@ -29,12 +29,12 @@ pub fn end_of_head(bytes: &[u8], search: Search) -> Result<usize, Search>
     ensures reached { IfErr result (λ reached. HasSearched reached bytes.now) }
 {
     match search {
-        Search::Blank(from) => end_behind_blank(bytes, from),
+        Search::Blank(from) => end_after_blank(bytes, from),
         Search::Lines(from) => end_in_lines(bytes, from),
     }
 }
 
-fn end_behind_blank(bytes: &[u8], from: usize) -> Result<usize, Search>
+fn end_after_blank(bytes: &[u8], from: usize) -> Result<usize, Search>
     requires { from ≤ length bytes.now }
     ensures { GoesOn bytes.now (Search.Blank from) result }
 {

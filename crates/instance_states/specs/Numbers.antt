@@ -17,20 +17,20 @@ before_hole (a ∷ []) = a ∷ []
 before_hole (a ∷ b ∷ rest) = if is_hole a b then [] else a ∷ before_hole (b ∷ rest)
 
 -- the text after the first `%d`
-abbrev pub behind_hole : List ℕ → List ℕ
-behind_hole [] = []
-behind_hole (a ∷ []) = []
-behind_hole (a ∷ b ∷ rest) = if is_hole a b then rest else behind_hole (b ∷ rest)
+abbrev pub after_hole : List ℕ → List ℕ
+after_hole [] = []
+after_hole (a ∷ []) = []
+after_hole (a ∷ b ∷ rest) = if is_hole a b then rest else after_hole (b ∷ rest)
 
 -- the numbers that were seen in names: the text before and after the number, and the greatest
 pub record Numbering : Type 0 where
   pub before : List ℕ
-  pub behind : List ℕ
+  pub after : List ℕ
   pub greatest : Option ℕ
 
 -- no name was seen yet
 abbrev pub unseen : List ℕ → Numbering
-unseen pattern = record { before = before_hole pattern; behind = behind_hole pattern; greatest = None }
+unseen pattern = record { before = before_hole pattern; after = after_hole pattern; greatest = None }
 
 -- one to nine digits without a leading zero
 abbrev pub is_number : List ℕ → Bool
@@ -43,26 +43,26 @@ abbrev pub number_of : List ℕ → Option ℕ
 number_of digits = if is_number digits then Some (digits_value 10 digits) else None
 
 -- the part of a name between the text before and the text after
-abbrev pub between : List ℕ → List ℕ → List ℕ → Option (List ℕ)
-between before behind name =
-    if nat_le (length before + length behind) (length name) && starts_with nat_eq name before
-    && ends_with nat_eq name behind
-    then Some (slice_range name (length before) (length name - length behind))
+abbrev pub text_between : List ℕ → List ℕ → List ℕ → Option (List ℕ)
+text_between before after name =
+    if nat_le (length before + length after) (length name) && starts_with nat_eq name before
+    && ends_with nat_eq name after
+    then Some (slice_range name (length before) (length name - length after))
     else None
 
 -- the number of a name, where the name is of the pattern
 abbrev pub number_in : Numbering → List ℕ → Option ℕ
-number_in numbers name = option_and_then number_of (between numbers.before numbers.behind name)
+number_in numbers name = option_and_then number_of (text_between numbers.before numbers.after name)
 
 -- the greater of two numbers, if there are any
-abbrev pub greater : Option ℕ → Option ℕ → Option ℕ
-greater None n = n
-greater (Some m) None = Some m
-greater (Some m) (Some n) = Some (max m n)
+abbrev pub greater_number : Option ℕ → Option ℕ → Option ℕ
+greater_number None n = n
+greater_number (Some m) None = Some m
+greater_number (Some m) (Some n) = Some (max m n)
 
 -- after one more name
 abbrev pub seen : List ℕ → Numbering → Numbering
-seen name numbers = record numbers { greatest = greater numbers.greatest (number_in numbers name) }
+seen name numbers = record numbers { greatest = greater_number numbers.greatest (number_in numbers name) }
 
 -- the next number is one more than the greatest, or 0
 abbrev pub next_number : Numbering → ℕ
@@ -70,4 +70,4 @@ next_number numbers = option_map_or (λ n. n + 1) numbers.greatest 0
 
 -- the name with the next number
 abbrev pub next_name : Numbering → List ℕ
-next_name numbers = numbers.before ++ decimal (next_number numbers) ++ numbers.behind
+next_name numbers = numbers.before ++ decimal (next_number numbers) ++ numbers.after

@@ -3,7 +3,8 @@ ghost use Rattle.std.specs.List.{list_all};
 ghost use Rattle.std.specs.Option.{option_copied, option_and_then};
 ghost use Rattle.std.specs.Char.{is_ascii_digit};
 ghost use Rattle.std.specs.Str.Parse.{digits_value};
-ghost use Rattle.instance_states.specs.Numbers.{unseen, is_number, number_of, between, greater, seen, next_name};
+ghost use Rattle.instance_states.specs.Numbers.{unseen, is_number, number_of, text_between, greater_number, seen};
+ghost use Rattle.instance_states.specs.Numbers.{next_name};
 
 use size_values::{NoMemory, Text};
 use std::alloc::Global;
@@ -14,7 +15,7 @@ use std::marker::Model;
 #[derive(Drop)]
 pub struct SnapshotNumbers<'a> {
     before: &'a str,
-    behind: &'a str,
+    after: &'a str,
     greatest: Option<u32>,
 }
 
@@ -24,7 +25,7 @@ impl<'a> Model for SnapshotNumbers<'a> {
 
     ghost Value = { Numbering };
 
-    ghost view = { λ s. record { before = s.before.now; behind = s.behind.now; greatest = s.greatest } };
+    ghost view = { λ s. record { before = s.before.now; after = s.after.now; greatest = s.greatest } };
 
     ghost invariant = { λ s. IfSome s.greatest (λ n. n < 10 ^ 9) };
 }
@@ -35,14 +36,14 @@ impl<'a> SnapshotNumbers<'a> {
         ensures { result ≡ unseen pattern.now }
     {
         match pattern.split_once("%d") {
-            Some((before, behind)) => SnapshotNumbers {
+            Some((before, after)) => SnapshotNumbers {
                 before,
-                behind,
+                after,
                 greatest: None,
             },
             None => SnapshotNumbers {
                 before: pattern,
-                behind: "",
+                after: "",
                 greatest: None,
             },
         }
@@ -54,10 +55,10 @@ impl<'a> SnapshotNumbers<'a> {
     {
         let number = number_in(
             self.before.as_bytes(),
-            self.behind.as_bytes(),
+            self.after.as_bytes(),
             name.as_bytes(),
         );
-        self.greatest = greater(self.greatest, number);
+        self.greatest = greater_number(self.greatest, number);
     }
 
     /// The name with the next number: one more than the greatest that was seen, or 0.
@@ -71,14 +72,14 @@ impl<'a> SnapshotNumbers<'a> {
         let digits = number.to_string(alloc)?;
         let mut name = String::from_str(alloc, self.before)?;
         name.push_str(&digits)?;
-        name.push_str(self.behind)?;
+        name.push_str(self.after)?;
         Ok(Text::from_string(name))
     }
 }
 
 /// The greater of two numbers, if there are any.
-fn greater(a: Option<u32>, b: Option<u32>) -> Option<u32>
-    ensures { result ≡ greater a b }
+fn greater_number(a: Option<u32>, b: Option<u32>) -> Option<u32>
+    ensures { result ≡ greater_number a b }
 {
     match (a, b) {
         (Some(m), Some(n)) => Some(m.max(n)),
@@ -88,28 +89,28 @@ fn greater(a: Option<u32>, b: Option<u32>) -> Option<u32>
 }
 
 /// The number of a name, where the name is of the pattern.
-fn number_in(before: &[u8], behind: &[u8], name: &[u8]) -> Option<u32>
-    ensures number { result ≡ option_and_then number_of (between before.now behind.now name.now) }
+fn number_in(before: &[u8], after: &[u8], name: &[u8]) -> Option<u32>
+    ensures number { result ≡ option_and_then number_of (text_between before.now after.now name.now) }
     ensures small { IfSome result (λ n. n < 10 ^ 9) }
 {
-    match between(before, behind, name) {
+    match text_between(before, after, name) {
         Some(digits) => number_of(digits),
         None => None,
     }
 }
 
 /// The part of a name between the text before and the text after.
-fn between<'x>(before: &[u8], behind: &[u8], name: &'x [u8]) -> Option<&'x [u8]>
-    requires { length before.now + length behind.now < 2 ^ 64 }
-    ensures { option_copied result ≡ between before.now behind.now name.now }
+fn text_between<'x>(before: &[u8], after: &[u8], name: &'x [u8]) -> Option<&'x [u8]>
+    requires { length before.now + length after.now < 2 ^ 64 }
+    ensures { option_copied result ≡ text_between before.now after.now name.now }
 {
-    if before.len() + behind.len() > name.len() {
+    if before.len() + after.len() > name.len() {
         return None;
     }
-    if !name.starts_with(before) || !name.ends_with(behind) {
+    if !name.starts_with(before) || !name.ends_with(after) {
         return None;
     }
-    Some(&name[before.len()..name.len() - behind.len()])
+    Some(&name[before.len()..name.len() - after.len()])
 }
 
 /// The number that one to nine digits write without a leading zero.

@@ -28,24 +28,28 @@ pub struct Plan {
     pub undo: Option<CallName>,
 }
 
-/// The plan of a deed.
+/// What a deed calls on the host, and the call that takes it back where the deed may be cancelled.
 pub fn plan_of(deed: Deed) -> Plan
     ensures calls { calls_in result ≡ calls_of deed }
     ensures undo { result.undo ≡ undo_of deed }
 {
     match deed {
-        Deed::Create => undone(CallName::Clear, Some(CallName::MakeRoot), CallName::Clear),
-        Deed::Copy | Deed::CopyVolume => undone(
+        Deed::Create => cancellable_plan(
+            CallName::Clear,
+            Some(CallName::MakeRoot),
+            CallName::Clear,
+        ),
+        Deed::Copy | Deed::CopyVolume => cancellable_plan(
             CallName::Clear,
             Some(CallName::CopyRoot),
             CallName::Clear,
         ),
-        Deed::Snap => undone(CallName::Snap, None, CallName::Unsnap),
-        Deed::Update => lasting(CallName::Apply, None),
-        Deed::Restore => lasting(CallName::Restore, None),
-        Deed::Rename => lasting(CallName::Rename, None),
-        Deed::Delete => lasting(CallName::Clear, None),
-        Deed::Unsnap => lasting(CallName::Unsnap, None),
+        Deed::Snap => cancellable_plan(CallName::Snap, None, CallName::Unsnap),
+        Deed::Update => uncancellable_plan(CallName::Apply, None),
+        Deed::Restore => uncancellable_plan(CallName::Restore, None),
+        Deed::Rename => uncancellable_plan(CallName::Rename, None),
+        Deed::Delete => uncancellable_plan(CallName::Clear, None),
+        Deed::Unsnap => uncancellable_plan(CallName::Unsnap, None),
         Deed::Act { action, ephemeral } => plan_of_action(action, ephemeral),
     }
 }
@@ -55,17 +59,17 @@ fn plan_of_action(action: Action, ephemeral: bool) -> Plan
     ensures undo { result.undo ≡ None }
 {
     match action {
-        Action::Start => lasting(CallName::Start, None),
-        Action::Stop if ephemeral => lasting(CallName::Stop, Some(CallName::Clear)),
-        Action::Stop => lasting(CallName::Stop, None),
-        Action::Restart => lasting(CallName::Stop, Some(CallName::Start)),
-        Action::Freeze => lasting(CallName::Freeze, None),
-        Action::Unfreeze => lasting(CallName::Thaw, None),
+        Action::Start => uncancellable_plan(CallName::Start, None),
+        Action::Stop if ephemeral => uncancellable_plan(CallName::Stop, Some(CallName::Clear)),
+        Action::Stop => uncancellable_plan(CallName::Stop, None),
+        Action::Restart => uncancellable_plan(CallName::Stop, Some(CallName::Start)),
+        Action::Freeze => uncancellable_plan(CallName::Freeze, None),
+        Action::Unfreeze => uncancellable_plan(CallName::Thaw, None),
     }
 }
 
 /// The plan of a deed that may be cancelled.
-fn undone(first: CallName, second: Option<CallName>, undo: CallName) -> Plan
+fn cancellable_plan(first: CallName, second: Option<CallName>, undo: CallName) -> Plan
     ensures { result ≡ record { first = first; second = second; undo = Some undo } }
 {
     Plan {
@@ -76,7 +80,7 @@ fn undone(first: CallName, second: Option<CallName>, undo: CallName) -> Plan
 }
 
 /// The plan of a deed that may not be cancelled.
-fn lasting(first: CallName, second: Option<CallName>) -> Plan
+fn uncancellable_plan(first: CallName, second: Option<CallName>) -> Plan
     ensures { result ≡ record { first = first; second = second; undo = None } }
 {
     Plan {

@@ -9,5 +9,5 @@ mod tasks;
 
 pub use calls::{copy_calls, place_of, push_clear};
 pub use making::copy_texts;
-pub use pairs::both;
+pub use pairs::zip_or_drop;
 pub use tasks::instance_creation;

@@ -7,12 +7,12 @@ ghost use Rattle.records.specs.declared.rows.Row.TheVariants as row_of;
 ghost use Rattle.row_machine.specs.machine.NewRows.{source_instance, source_snapshot};
 ghost use Rattle.row_machine.specs.machine.HostCalls.{place_of, create_calls, copy_calls};
 ghost use Rattle.row_machine.specs.machine.Plans.{instance_target, snapshot_target, copy_from, instance_creation};
-ghost use Rattle.row_machine.specs.machine.Tasks.{plain_task, creation, copy};
+ghost use Rattle.row_machine.specs.machine.Tasks.{plain_task, creation_task, copy};
 ghost use Rattle.instance_tasks.specs.Planned.{planned};
 
 use crate::calls::{copy_calls, create_calls, place_of};
 use crate::making::{Source, copied_instance, image_of, made_instance};
-use crate::pairs::both;
+use crate::pairs::zip_or_drop;
 use host_model::{HostCall, Place};
 use records::{Body, Instance, Origin, Row, Snapshot, Target};
 use row_machine::Work;
@@ -39,7 +39,7 @@ fn begun_with(
 ) -> Result<Begun, NoMemory>
     ensures { IfOk result (λ b. b ≡ record { project = project.now; target = of.now; at = at; calls = calls }) }
 {
-    match both(project.copy(alloc), of.copy(alloc)) {
+    match zip_or_drop(project.copy(alloc), of.copy(alloc)) {
         Ok(about) => Ok(Begun {
             project: about.0,
             target: about.1,
@@ -55,7 +55,12 @@ fn begun_with(
 }
 
 /// What makes a new instance of an image, or an empty one.
-fn making(alloc: Global, project: &Text, of: &Target, image: &str) -> Result<Begun, NoMemory>
+fn begin_from_image(
+    alloc: Global,
+    project: &Text,
+    of: &Target,
+    image: &str,
+) -> Result<Begun, NoMemory>
     ensures { IfOk result (λ b. b
         ≡ record {
           project = project.now;
@@ -66,12 +71,12 @@ fn making(alloc: Global, project: &Text, of: &Target, image: &str) -> Result<Beg
 {
     let at = place_of(alloc, project, &of.name)?;
     let calls = create_calls(alloc, &at, image);
-    let (at, calls) = both(Ok(at), calls)?;
+    let (at, calls) = zip_or_drop(Ok(at), calls)?;
     begun_with(alloc, project, of, at, calls)
 }
 
 /// What makes a copy of the root of an instance of the project, or of its snapshot.
-fn copying(
+fn begin_from_root(
     alloc: Global,
     project: &Text,
     of: &Target,
@@ -87,15 +92,15 @@ fn copying(
         }) }
 {
     let at = place_of(alloc, project, &of.name);
-    let (at, from) = both(at, place_of(alloc, project, instance))?;
+    let (at, from) = zip_or_drop(at, place_of(alloc, project, instance))?;
     let calls = copy_calls(alloc, &from, snapshot, &at);
     drop(from);
-    let (at, calls) = both(Ok(at), calls)?;
+    let (at, calls) = zip_or_drop(Ok(at), calls)?;
     begun_with(alloc, project, of, at, calls)
 }
 
 /// The task of a creation or of a copy, which claims this row.
-fn task(deed: Deed, begun: Begun, row: Instance, source: Option<Target>) -> Work
+fn claiming_task(deed: Deed, begun: Begun, row: Instance, source: Option<Target>) -> Work
     ensures { result
         ≡ record (plain_task deed begun.project begun.target begun.calls) {
           claim = Some (row_of.Instance row);
@@ -117,19 +122,19 @@ fn task(deed: Deed, begun: Begun, row: Instance, source: Option<Target>) -> Work
 }
 
 /// The creation of an instance from nothing or from an image.
-fn creation(
+fn creation_task(
     alloc: Global,
     project: &Text,
     of: &Target,
     body: &Body,
     moment: u64,
 ) -> Result<Work, NoMemory>
-    ensures { IfOk result (λ w. w ≡ creation project.now of.now body.now moment) }
+    ensures { IfOk result (λ w. w ≡ creation_task project.now of.now body.now moment) }
 {
-    let begun = making(alloc, project, of, image_of(&body.origin));
+    let begun = begin_from_image(alloc, project, of, image_of(&body.origin));
     let row = made_instance(alloc, project, &of.name, body, moment);
-    let (begun, row) = both(begun, row)?;
-    Ok(task(Deed::Create, begun, row, None))
+    let (begun, row) = zip_or_drop(begun, row)?;
+    Ok(claiming_task(Deed::Create, begun, row, None))
 }
 
 fn instance_target(alloc: Global, name: &Text) -> Result<Target, NoMemory>
@@ -157,7 +162,6 @@ fn snapshot_target(alloc: Global, instance: &Text, name: &Text) -> Result<Target
     })
 }
 
-/// A copy of an instance.
 fn instance_copy(
     alloc: Global,
     project: &Text,
@@ -176,10 +180,10 @@ fn instance_copy(
         config: &old.config,
         devices: &old.devices,
     };
-    let begun = copying(alloc, project, of, from, "");
+    let begun = begin_from_root(alloc, project, of, from, "");
     let row = copied_instance(alloc, project, &of.name, body, moment, &source);
-    let (made, target) = both(both(begun, row), instance_target(alloc, from))?;
-    Ok(task(Deed::Copy, made.0, made.1, Some(target)))
+    let (made, target) = zip_or_drop(zip_or_drop(begun, row), instance_target(alloc, from))?;
+    Ok(claiming_task(Deed::Copy, made.0, made.1, Some(target)))
 }
 
 /// A copy of a snapshot of an instance.
@@ -204,10 +208,10 @@ fn snapshot_copy(
         config: &snapshot.config,
         devices: &snapshot.devices,
     };
-    let begun = copying(alloc, project, of, from, name.view());
+    let begun = begin_from_root(alloc, project, of, from, name.view());
     let row = copied_instance(alloc, project, &of.name, body, moment, &source);
-    let (made, target) = both(both(begun, row), snapshot_target(alloc, from, name))?;
-    Ok(task(Deed::Copy, made.0, made.1, Some(target)))
+    let (made, target) = zip_or_drop(zip_or_drop(begun, row), snapshot_target(alloc, from, name))?;
+    Ok(claiming_task(Deed::Copy, made.0, made.1, Some(target)))
 }
 
 /// A copy from an instance, or from its snapshot where one is named.
@@ -252,11 +256,11 @@ pub fn instance_creation(
 {
     match &body.origin {
         Origin::None => {
-            let work = creation(alloc, project, of, body, moment)?;
+            let work = creation_task(alloc, project, of, body, moment)?;
             Ok(Some(work))
         }
         Origin::Image(_) => {
-            let work = creation(alloc, project, of, body, moment)?;
+            let work = creation_task(alloc, project, of, body, moment)?;
             Ok(Some(work))
         }
         Origin::Copy { from, snapshot, .. } => copy_from(

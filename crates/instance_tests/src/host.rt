@@ -78,35 +78,35 @@ fn named_call(step: Step, at: Place, name: Text) -> HostCall {
     }
 }
 
-fn plain(alloc: Global, step: Step, name: &str) -> Result<HostCall, NoMemory> {
+fn place_call(alloc: Global, step: Step, name: &str) -> Result<HostCall, NoMemory> {
     Ok(plain_call(step, place(alloc, name)?))
 }
 
-fn named(alloc: Global, step: Step, name: &str, text: &str) -> Result<HostCall, NoMemory> {
+fn text_call(alloc: Global, step: Step, name: &str, text: &str) -> Result<HostCall, NoMemory> {
     let text = Text::from_text(alloc, text)?;
     Ok(named_call(step, place(alloc, name)?, text))
 }
 
-fn started(alloc: Global, name: &str, cpu: &str) -> Result<HostCall, NoMemory> {
+fn start_call(alloc: Global, name: &str, cpu: &str) -> Result<HostCall, NoMemory> {
     let spec = spec(alloc, cpu)?;
     let at = place(alloc, name)?;
     Ok(HostCall::Start { at, spec })
 }
 
-fn applied(alloc: Global, name: &str, cpu: &str) -> Result<HostCall, NoMemory> {
+fn apply_call(alloc: Global, name: &str, cpu: &str) -> Result<HostCall, NoMemory> {
     let spec = spec(alloc, cpu)?;
     let at = place(alloc, name)?;
     Ok(HostCall::Apply { at, spec })
 }
 
-fn renamed(alloc: Global, name: &str, to: &str) -> Result<HostCall, NoMemory> {
+fn rename_call(alloc: Global, name: &str, to: &str) -> Result<HostCall, NoMemory> {
     let to = place(alloc, to)?;
     let from = place(alloc, name)?;
     Ok(HostCall::Rename { from, to })
 }
 
 /// A copy into the instance `b`, of a snapshot or of the root.
-fn copied(alloc: Global, name: &str, snapshot: &str) -> Result<HostCall, NoMemory> {
+fn copy_call(alloc: Global, name: &str, snapshot: &str) -> Result<HostCall, NoMemory> {
     let snapshot = Text::from_text(alloc, snapshot)?;
     let to = place(alloc, "b")?;
     let from = place(alloc, name)?;
@@ -115,12 +115,14 @@ fn copied(alloc: Global, name: &str, snapshot: &str) -> Result<HostCall, NoMemor
 
 fn call_of(alloc: Global, step: Step, name: &str, text: &str) -> Result<HostCall, NoMemory> {
     match step {
-        Step::Clear | Step::Freeze | Step::Stop | Step::Thaw => plain(alloc, step, name),
-        Step::Start => started(alloc, name, text),
-        Step::Apply => applied(alloc, name, text),
-        Step::Rename => renamed(alloc, name, text),
-        Step::CopyTo => copied(alloc, name, text),
-        Step::Make | Step::Snap | Step::Unsnap | Step::Restore => named(alloc, step, name, text),
+        Step::Clear | Step::Freeze | Step::Stop | Step::Thaw => place_call(alloc, step, name),
+        Step::Start => start_call(alloc, name, text),
+        Step::Apply => apply_call(alloc, name, text),
+        Step::Rename => rename_call(alloc, name, text),
+        Step::CopyTo => copy_call(alloc, name, text),
+        Step::Make | Step::Snap | Step::Unsnap | Step::Restore => text_call(
+            alloc, step, name, text,
+        ),
     }
 }
 
@@ -256,7 +258,7 @@ fn is_second_told(alloc: Global) -> Result<bool, NoMemory> {
 }
 
 fn worn_counts(alloc: Global) -> Result<Option<(u64, u64)>, NoMemory> {
-    let stop = plain(alloc, Step::Stop, "a")?;
+    let stop = place_call(alloc, Step::Stop, "a")?;
     let report = perform(&mut Worn, &stop);
     drop(stop);
     Ok(counts_of(Some(report)))

@@ -1,7 +1,7 @@
 //! How the runs of a text are judged.
 
 use crate::headers::{Header, header_of, words_of};
-use crate::lines::{is_reply, is_request, push_due, push_sent};
+use crate::lines::{is_reply, is_request, push_due};
 use crate::running::run_end;
 use crate::spelling::{push_texts, spelled_out};
 use run_words::setup_of;
@@ -146,15 +146,10 @@ fn report_wrong(
     }
 }
 
-/// Makes a run over these bytes, reports what is wrong, and says whether something is.
-fn judge_run(
-    alloc: Global,
-    run: Run<'_>,
-    input: &[u8],
-    report: &mut String,
-) -> Result<bool, NoMemory> {
+/// Makes a run, reports what is wrong, and says whether something is.
+fn judge_run(alloc: Global, run: Run<'_>, report: &mut String) -> Result<bool, NoMemory> {
     let mut written = Vec::new(alloc);
-    let wrong = match run_end(alloc, run.header, input, &mut written) {
+    let wrong = match run_end(alloc, run.header, run.script, &mut written) {
         Ok(ended) => {
             let wrong = report_wrong(alloc, run, written.as_slice(), ended.as_str(), report);
             drop(ended);
@@ -163,25 +158,6 @@ fn judge_run(
         Err(why) => Err(why),
     };
     drop(written);
-    wrong
-}
-
-/// Appends what is sent in a run.
-fn push_input(alloc: Global, bytes: &mut Vec<u8>, script: &str) -> Result<(), NoMemory> {
-    for line in script.lines() {
-        push_sent(alloc, bytes, line)?;
-    }
-    Ok(())
-}
-
-/// Judges a run, and says whether something is wrong.
-fn judge_script(alloc: Global, run: Run<'_>, report: &mut String) -> Result<bool, NoMemory> {
-    let mut input = Vec::new(alloc);
-    let wrong = match push_input(alloc, &mut input, run.script) {
-        Ok(()) => judge_run(alloc, run, input.as_slice(), report),
-        Err(why) => Err(why),
-    };
-    drop(input);
     wrong
 }
 
@@ -221,7 +197,7 @@ fn judge_first(
         header,
         script: script.as_str(),
     };
-    let wrong = judge_script(alloc, run, report);
+    let wrong = judge_run(alloc, run, report);
     drop(script);
     tally.count_run(wrong?);
     Ok(())

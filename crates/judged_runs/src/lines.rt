@@ -121,11 +121,31 @@ fn push_raw(bytes: &mut Vec<u8>, line: &str, sign: char) -> Result<(), NoMemory>
 }
 
 /// Appends what is sent for a line.
-pub(crate) fn push_sent(alloc: Global, bytes: &mut Vec<u8>, line: &str) -> Result<(), NoMemory> {
+fn push_sent(alloc: Global, bytes: &mut Vec<u8>, line: &str) -> Result<(), NoMemory> {
     if is_request(line) {
         push_request(alloc, bytes, line)
     } else {
         push_raw(bytes, line, '<')
+    }
+}
+
+/// Appends what is sent for lines.
+fn push_all_sent(alloc: Global, bytes: &mut Vec<u8>, lines: &str) -> Result<(), NoMemory> {
+    for line in lines.lines() {
+        push_sent(alloc, bytes, line)?;
+    }
+    Ok(())
+}
+
+/// What is sent for lines.
+pub(crate) fn sent_for(alloc: Global, lines: &str) -> Result<Vec<u8>, NoMemory> {
+    let mut bytes = Vec::new(alloc);
+    match push_all_sent(alloc, &mut bytes, lines) {
+        Ok(()) => Ok(bytes),
+        Err(why) => {
+            drop(bytes);
+            Err(why)
+        }
     }
 }
 

@@ -1,12 +1,13 @@
 //! Runs of the program over objects in memory.
 
 use crate::headers::{Header, numbers_of, value_of, words_of};
+use crate::lines::sent_for;
 use host_model::ModelHost;
 use http_front::{ByteSink, ByteSource, StillClock};
 use record_keeper::{Keeper, MapKeeper};
 use run_words::setup_of;
 use serial_run::run_main;
-use size_values::{Entry, NoMemory, Seq, Text};
+use size_values::{Entry, EntryChange, NoMemory, Or, Seq};
 use std::alloc::Global;
 
 /// The moment of the clock that is handed in. Runs whose words give no other one tell it.
@@ -15,8 +16,8 @@ const HANDED_MOMENT: u64 = 86_400;
 /// The boot word that is handed in.
 const HANDED_BOOT: u64 = 7;
 
-/// The kind of the entries of projects.
-const PROJECT_KIND: u8 = 1;
+/// What stands before the rest of the line at which a run ends and the next one begins.
+const RESTART: &str = "\n&";
 
 /// How a run ends: its exit status, how many entries are kept, and how many roots the host has.
 #[derive(Clone, Copy)]
@@ -31,38 +32,81 @@ fn failing_calls(alloc: Global, settings: &str, name: &str) -> Result<Seq<u64>, 
     Ok(Seq::from_vec(numbers_of(alloc, value_of(settings, name))?))
 }
 
-fn push_entry(alloc: Global, entries: &mut Seq<Entry>, key: &str) -> Result<(), NoMemory> {
-    let key = Text::from_text(alloc, key)?;
-    entries.push(Entry {
-        kind: PROJECT_KIND,
-        key,
-        body: Seq::new(alloc),
-    })
-}
-
-/// The entries that the keeper has before.
-fn entries_of(alloc: Global, settings: &str) -> Result<Seq<Entry>, NoMemory> {
-    let mut entries = Seq::new(alloc);
-    for key in value_of(settings, "entries")
-        .split(' ')
-        .filter(|key| !key.is_empty())
-    {
-        push_entry(alloc, &mut entries, key)?;
+/// The body of an entry after an edit: `+` is one byte more, `-` one fewer, and else the last one is
+/// another one.
+fn edited(alloc: Global, body: &[u8], edit: &str) -> Result<Seq<u8>, NoMemory> {
+    let mut bytes = Vec::from_slice(alloc, body)?;
+    match edit {
+        "+" => bytes.push(0)?,
+        "-" => {
+            bytes.pop();
+        }
+        _ => {
+            if let Some(last) = bytes.pop() {
+                bytes.push(last ^ 1)?;
+            }
+        }
     }
-    Ok(entries)
+    Ok(Seq::from_vec(bytes))
 }
 
-fn keeper_of(alloc: Global, settings: &str, fails: Seq<u64>) -> Result<MapKeeper, NoMemory> {
-    match entries_of(alloc, settings) {
+/// The change that edits the entry of this kind and key.
+fn change_of(alloc: Global, entry: &Entry, edit: &str) -> Result<EntryChange, NoMemory> {
+    let key = entry.key.copy(alloc)?;
+    let body = edited(alloc, entry.body.view(), edit)?;
+    Ok(EntryChange::Put(Entry {
+        kind: entry.kind,
+        key,
+        body,
+    }))
+}
+/// The changes that edit the entries of this kind and key.
+fn edits_of(
+    alloc: Global,
+    entries: &[Entry],
+    kind: u8,
+    key: &str,
+    edit: &str,
+) -> Result<Seq<EntryChange>, NoMemory> {
+    let mut changes = Seq::new(alloc);
+    for entry in entries {
+        if entry.kind == kind && entry.key.view() == key {
+            changes.push(change_of(alloc, entry, edit)?)?;
+        }
+    }
+    Ok(changes)
+}
+
+/// Commits changes, where there was memory for them.
+fn commit(
+    keeper: &mut MapKeeper,
+    changes: Result<Seq<EntryChange>, NoMemory>,
+) -> Result<(), NoMemory> {
+    let changes = changes?;
+    let done = keeper.commit(&changes);
+    drop(changes);
+    match done {
+        Err(Or::NoMemory) => Err(NoMemory),
+        _ => Ok(()),
+    }
+}
+
+/// Edits the entry that the rest of a line names by its kind and its key, if it names one.
+fn edit_entry(alloc: Global, keeper: &mut MapKeeper, rest: &str) -> Result<(), NoMemory> {
+    let (_, rest) = rest.split_once(' ').unwrap_or(("", ""));
+    let (kind, rest) = rest.split_once(' ').unwrap_or(("", ""));
+    let (key, edit) = rest.split_once(' ').unwrap_or(("", ""));
+    let Ok(kind) = kind.parse::<u8>() else {
+        return Ok(());
+    };
+    match keeper.load() {
         Ok(entries) => {
-            let keeper = MapKeeper::with_entries(alloc, &entries, fails);
+            let changes = edits_of(alloc, entries.view(), kind, key, edit);
             drop(entries);
-            keeper
+            commit(keeper, changes)
         }
-        Err(why) => {
-            drop(fails);
-            Err(why)
-        }
+        Err(Or::NoMemory) => Err(NoMemory),
+        Err(Or::Why(_)) => Ok(()),
     }
 }
 
@@ -78,6 +122,7 @@ fn count_entries(keeper: &mut MapKeeper) -> usize {
     }
 }
 
+/// One run over this source, and its exit status.
 fn run_over(
     alloc: Global,
     words: &[String],
@@ -85,9 +130,9 @@ fn run_over(
     sink: &mut ByteSink,
     keeper: MapKeeper,
     host: &mut ModelHost,
-) -> End {
+) -> (u8, MapKeeper) {
     let mut clock = StillClock::new(HANDED_MOMENT);
-    let (status, mut keeper) = run_main(
+    run_main(
         alloc,
         words,
         source,
@@ -96,40 +141,19 @@ fn run_over(
         host,
         &mut clock,
         HANDED_BOOT,
-    );
-    let entries = count_entries(&mut keeper);
-    drop(keeper);
-    let roots = host.roots().len();
-    End {
-        status,
-        entries,
-        roots,
-    }
+    )
 }
 
-/// A run with the keeper and the host that the words and the settings ask for.
-fn run_with(
-    alloc: Global,
-    words: &[String],
-    settings: &str,
-    source: &mut ByteSource,
-    sink: &mut ByteSink,
-) -> Result<End, NoMemory> {
-    let setup = setup_of(alloc, words)?;
-    let mut host = ModelHost::new(alloc, setup.fail_host);
-    let end = match keeper_of(alloc, settings, setup.fail_keeper) {
-        Ok(keeper) => Ok(run_over(alloc, words, source, sink, keeper, &mut host)),
-        Err(why) => Err(why),
-    };
-    drop(host);
-    end
-}
-
-fn source_of(alloc: Global, input: &[u8], settings: &str) -> Result<ByteSource, NoMemory> {
+/// A source of the bytes that are sent for lines.
+fn source_of(alloc: Global, lines: &str, settings: &str) -> Result<ByteSource, NoMemory> {
     let piece: usize = value_of(settings, "piece").parse().unwrap_or(65_536);
     let fails = failing_calls(alloc, settings, "reads")?;
-    match Seq::of_bytes(alloc, input) {
-        Ok(bytes) => Ok(ByteSource::new(bytes, piece.max(1), fails)),
+    match sent_for(alloc, lines) {
+        Ok(bytes) => Ok(ByteSource::new(
+            Seq::from_vec(bytes),
+            piece.max(1),
+            fails,
+        )),
         Err(why) => {
             drop(fails);
             Err(why)
@@ -137,29 +161,83 @@ fn source_of(alloc: Global, input: &[u8], settings: &str) -> Result<ByteSource, 
     }
 }
 
-/// The end of a run over these bytes, whose replies come into the sink.
-fn end_over(
+/// One run over these lines, and its exit status.
+fn run_part(
     alloc: Global,
+    header: Header<'_>,
     words: &[String],
-    settings: &str,
-    input: &[u8],
+    lines: &str,
+    sink: &mut ByteSink,
+    keeper: MapKeeper,
+    host: &mut ModelHost,
+) -> (Result<u8, NoMemory>, MapKeeper) {
+    match source_of(alloc, lines, header.settings) {
+        Ok(mut source) => {
+            let (status, keeper) = run_over(alloc, words, &mut source, sink, keeper, host);
+            drop(source);
+            (Ok(status), keeper)
+        }
+        Err(why) => (Err(why), keeper),
+    }
+}
+
+/// The runs of a script, one after the other over one keeper and one host, and how the last one
+/// ends.
+fn run_parts(
+    alloc: Global,
+    header: Header<'_>,
+    words: &[String],
+    script: &str,
+    sink: &mut ByteSink,
+    keeper: MapKeeper,
+    host: &mut ModelHost,
+) -> Result<End, NoMemory> {
+    let mut keeper = keeper;
+    let mut ended = Ok(0);
+    for (place, part) in script.split(RESTART).enumerate() {
+        let (rest, _) = part.split_once('\n').unwrap_or((part, ""));
+        if place > 0 && edit_entry(alloc, &mut keeper, rest).is_err() {
+            drop(keeper);
+            return Err(NoMemory);
+        }
+        let (status, kept) = run_part(alloc, header, words, part, sink, keeper, host);
+        keeper = kept;
+        ended = status;
+    }
+    let entries = count_entries(&mut keeper);
+    drop(keeper);
+    Ok(End {
+        status: ended?,
+        entries,
+        roots: host.roots().len(),
+    })
+}
+
+/// Runs with the keeper and the host that the words and the settings ask for.
+fn run_with(
+    alloc: Global,
+    header: Header<'_>,
+    words: &[String],
+    script: &str,
     sink: &mut ByteSink,
 ) -> Result<End, NoMemory> {
-    let mut source = source_of(alloc, input, settings)?;
-    let end = run_with(alloc, words, settings, &mut source, sink);
-    drop(source);
+    let setup = setup_of(alloc, words)?;
+    let mut host = ModelHost::new(alloc, setup.fail_host);
+    let keeper = MapKeeper::new(alloc, setup.fail_keeper);
+    let end = run_parts(alloc, header, words, script, sink, keeper, &mut host);
+    drop(host);
     end
 }
 
-/// The end of a run over these bytes, with the words of its header.
+/// The end of the runs of a script, with the words of its header.
 fn end_of(
     alloc: Global,
     header: Header<'_>,
-    input: &[u8],
+    script: &str,
     sink: &mut ByteSink,
 ) -> Result<End, NoMemory> {
     let words = words_of(alloc, header.words)?;
-    let end = end_over(alloc, &words, header.settings, input, sink);
+    let end = run_with(alloc, header, &words, script, sink);
     drop(words);
     end
 }
@@ -174,16 +252,16 @@ fn end_text(alloc: Global, end: End) -> Result<String, NoMemory> {
     Ok(format!(in alloc; "{status} {entries} {roots}")?)
 }
 
-/// Runs over these bytes, appends what is written, and says how the run ends.
+/// Makes the runs of a script, appends what is written, and says how the last one ends.
 pub(crate) fn run_end(
     alloc: Global,
     header: Header<'_>,
-    input: &[u8],
+    script: &str,
     written: &mut Vec<u8>,
 ) -> Result<String, NoMemory> {
     let fails = failing_calls(alloc, header.settings, "writes")?;
     let mut sink = ByteSink::new(alloc, fails);
-    let end = end_of(alloc, header, input, &mut sink);
+    let end = end_of(alloc, header, script, &mut sink);
     let copied = written.extend_from_slice(sink.bytes());
     drop(sink);
     copied?;

@@ -130,7 +130,7 @@ fn push_again(text: &mut String, lines: &str) -> Result<(), NoMemory> {
     Ok(())
 }
 
-/// A text in which those lines stand behind each refusal.
+/// A text in which those lines stand after each refusal.
 fn with_readings(alloc: Global, lines: &str) -> Result<String, NoMemory> {
     let mut text = String::new(alloc);
     for line in lines.lines() {

@@ -9,7 +9,7 @@ use Rattle.records.specs.declared.rows.Network.{Network}
 use Rattle.records.specs.declared.rows.Project.{Project}
 use Rattle.row_machine.specs.machine.State.{State}
 use Rattle.row_machine.specs.machine.Usage.{loads, networks_of}
-use Rattle.row_machine.specs.machine.LimitRules.{exceeds, part_exceeds, networks_exceed, limits_broken}
+use Rattle.row_machine.specs.machine.LimitRules.{limit_exceeded, part_exceeds, networks_exceed, limits_broken}
 use Rattle.limit_rules.specs.Counting.{Counts, counts_in}
 use Rattle.limit_rules.specs.Exceeding.{parts_over, networks_over, all_over, is_any_limited, Serves}
 
@@ -30,7 +30,7 @@ limits-are : (s after : State)
 unfolding limits_broken part_exceeds networks_exceed networks_of
 limits-are s after = λ i.
     option_or (parts_over (loads s) (loads after) after.projects)
-    (option_or (first_of (λ (p : Project). exceeds p Networks (limits_of p.config).networks (same-count p.name s.networks i) (length (filter (λ n. bytes_eq n.project p.name) after.networks))) after.projects) None)
+    (option_or (first_of (λ (p : Project). limit_exceeded p Networks (limits_of p.config).networks (same-count p.name s.networks i) (length (filter (λ n. bytes_eq n.project p.name) after.networks))) after.projects) None)
 
 -- by what counted before the change
 pub limits-split : (s after : State) (before : Counts) → before ≡ counts_in s

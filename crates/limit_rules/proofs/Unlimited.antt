@@ -26,7 +26,7 @@ use Rattle.row_machine.specs.machine.Task.{Task}
 use Rattle.row_machine.specs.machine.State.{State}
 use Rattle.row_machine.specs.machine.Usage.{used, networks_of}
 use Rattle.row_machine.specs.machine.Expansions.{expanded_of}
-use Rattle.row_machine.specs.machine.LimitRules.{project_uncounted, claim_uncounted, instance_uncounted, volume_uncounts, limits_broken, part_exceeds, networks_exceed, exceeds, uncounted}
+use Rattle.row_machine.specs.machine.LimitRules.{project_uncounted, claim_uncounted, instance_uncounted, volume_uncounts, limits_broken, part_exceeds, networks_exceed, limit_exceeded, object_uncounted}
 use Rattle.rule_refusals.proofs.Saying.{none-or}
 use Rattle.limit_rules.specs.Exceeding.{limits_sum, limits_any, is_any_limited}
 
@@ -92,12 +92,12 @@ module _ (p : Project) (free : HasNoSum (limits_of p.config)) where
   instance-none : (s : State) (i : Instance) → instance_uncounted s p i ≡ None
   unfolding instance_uncounted
   instance-none s i =
-      ap (uncounted p i.name)
+      ap (object_uncounted p i.name)
       (first_uncounted-none i.kind (expanded_of s.projects s.profiles i).config (expanded_of s.projects s.profiles i).devices)
 
   volume-none : (v : Volume) → volume_uncounts p v ≡ None
   unfolding volume_uncounts volume_uncounted
-  volume-none v = ap (λ limit. uncounted p v.name (sum_uncounted sum.Disk limit (size_in v.config (codes "size")))) (free.none sum.Disk)
+  volume-none v = ap (λ limit. object_uncounted p v.name (sum_uncounted sum.Disk limit (size_in v.config (codes "size")))) (free.none sum.Disk)
 
   claim-none : (s : State) (task : Task) → claim_uncounted s p task ≡ None
   claim-none s task =
@@ -121,11 +121,11 @@ each-free (p ∷ ps) e =
 
 part-none : (s after : State) (k : Part) (p : Project) → HasNone (limits_of p.config) → part_exceeds s after k p ≡ None
 unfolding part_exceeds
-part-none s after k p free = ap (λ limit. exceeds p (key_of k) limit (used s p.name k) (used after p.name k)) (free.parts k)
+part-none s after k p free = ap (λ limit. limit_exceeded p (key_of k) limit (used s p.name k) (used after p.name k)) (free.parts k)
 
 networks-none : (s after : State) (p : Project) → HasNone (limits_of p.config) → networks_exceed s after p ≡ None
 unfolding networks_exceed
-networks-none s after p free = ap (λ limit. exceeds p Networks limit (networks_of s p.name) (networks_of after p.name)) free.networks
+networks-none s after p free = ap (λ limit. limit_exceeded p Networks limit (networks_of s p.name) (networks_of after p.name)) free.networks
 
 pub unlimited-fits : (before after : State) → is_any_limited after.projects ≡ false → limits_broken before after ≡ None
 unfolding limits_broken

@@ -16,15 +16,15 @@ use Rattle.records.specs.declared.rows.Row.TheVariants as row
 use Rattle.row_machine.specs.declared.changes.RowChange.{RowChange}
 use Rattle.row_machine.specs.declared.changes.RowChange.TheVariants as change
 use Rattle.row_machine.specs.machine.State.{State}
-use Rattle.row_machine.specs.machine.Usage.{Load, loads, counted}
-use Rattle.row_machine.specs.machine.LimitRules.{exceeds}
+use Rattle.row_machine.specs.machine.Usage.{Load, loads, amount_for}
+use Rattle.row_machine.specs.machine.LimitRules.{limit_exceeded}
 use Rattle.limit_rules.specs.Counting.{Counts, counts_in}
 
 -- one part of what a project uses
 abbrev pub part_over : List Load → List Load → Part → Project → Option Refusal
 part_over before after k p =
-    exceeds p (key_of k) (limit_on k (limits_of p.config)) (sum_by (counted p.name k) before)
-    (sum_by (counted p.name k) after)
+    limit_exceeded p (key_of k) (limit_on k (limits_of p.config)) (sum_by (amount_for p.name k) before)
+    (sum_by (amount_for p.name k) after)
 
 -- the first part, and the first project at which it is exceeded
 abbrev pub parts_over : List Load → List Load → List Project → Option Refusal
@@ -33,7 +33,7 @@ parts_over before after projects = first_of (λ k. first_of (part_over before af
 -- its number of networks
 abbrev pub networks_over : List (List ℕ) → List Network → Project → Option Refusal
 networks_over before after p =
-    exceeds p Networks (limits_of p.config).networks (length (filter (λ name. bytes_eq name p.name) before))
+    limit_exceeded p Networks (limits_of p.config).networks (length (filter (λ name. bytes_eq name p.name) before))
     (length (filter (λ n. bytes_eq n.project p.name) after))
 
 -- whether one of the sums is limited to which settings of instances and volumes give the numbers

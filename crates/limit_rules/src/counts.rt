@@ -3,7 +3,7 @@ ghost use Rattle.std.specs.Prelude.{◌≡◌, option_and_then};
 ghost use Rattle.plain_lists.specs.Firsts.{first_of};
 ghost use Rattle.size_values.specs.Causes.{Says};
 ghost use Rattle.row_machine.specs.machine.Claims.{claimed_instance, claimed_volume};
-ghost use Rattle.row_machine.specs.machine.LimitRules.{sum_text, uncounted, claim_uncounted, project_uncounted};
+ghost use Rattle.row_machine.specs.machine.LimitRules.{sum_text, object_uncounted, claim_uncounted, project_uncounted};
 ghost use Rattle.row_machine.specs.machine.LimitRules.{counts_broken};
 ghost use Rattle.limit_rules.specs.Within.{own_instance, own_volume, own_objects};
 
@@ -29,13 +29,13 @@ fn sum_text(key: SumKey) -> &'static str
 }
 
 /// An object of this name gives no number for this sum.
-fn uncounted(
+fn object_uncounted(
     alloc: Global,
     project: &Project,
     name: &Text,
     key: Option<SumKey>,
 ) -> Result<(), Or<Refusal>>
-    ensures { Says result (uncounted project.now name.now key) }
+    ensures { Says result (object_uncounted project.now name.now key) }
 {
     let Some(key) = key else {
         return Ok(());
@@ -61,7 +61,7 @@ fn instance_uncounted(
     let limits = limits_of(&project.config);
     let key = countable(&limits, row.kind, &expanded.config, &expanded.devices).err();
     drop(expanded);
-    uncounted(alloc, project, &row.name, key)
+    object_uncounted(alloc, project, &row.name, key)
 }
 
 fn instances_uncounted(
@@ -89,7 +89,7 @@ fn volume_uncounted(alloc: Global, project: &Project, row: &Volume) -> Result<()
         return Ok(());
     }
     let key = volume_countable(&limits_of(&project.config), &row.config).err();
-    uncounted(alloc, project, &row.name, key)
+    object_uncounted(alloc, project, &row.name, key)
 }
 
 fn volumes_uncounted(alloc: Global, project: &Project, rows: &[Volume]) -> Result<(), Or<Refusal>>

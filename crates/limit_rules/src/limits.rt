@@ -6,7 +6,7 @@ ghost use Rattle.size_values.specs.Causes.{Says};
 ghost use Rattle.project_limits.specs.Admission.{parts};
 ghost use Rattle.row_machine.specs.machine.State.{State};
 ghost use Rattle.row_machine.specs.machine.Usage.{loads};
-ghost use Rattle.row_machine.specs.machine.LimitRules.{over_refusal, exceeds, limits_broken};
+ghost use Rattle.row_machine.specs.machine.LimitRules.{over_refusal, limit_exceeded, limits_broken};
 ghost use Rattle.row_readings.specs.Loads.{AreSmall};
 ghost use Rattle.limit_rules.specs.Counting.{counts_in};
 ghost use Rattle.limit_rules.specs.Exceeding.{part_over, parts_over, networks_over, all_over, Serves};
@@ -40,7 +40,7 @@ fn over_refusal(alloc: Global, project: &Project, over: Over) -> Result<Refusal,
 }
 
 /// What is used before a change, and what the change asks for above it, are together above a limit.
-fn exceeds(
+fn limit_exceeded(
     alloc: Global,
     project: &Project,
     key: LimitKey,
@@ -50,7 +50,7 @@ fn exceeds(
 ) -> Result<(), Or<Refusal>>
     requires before { before < 2 ^ 126 }
     requires after { after < 2 ^ 126 }
-    ensures { Says result (exceeds project.now key (Some limit) before after) }
+    ensures { Says result (limit_exceeded project.now key (Some limit) before after) }
 {
     let limit = u128::from(limit);
     let asked = after.saturating_sub(before);
@@ -85,7 +85,7 @@ fn project_exceeds(
     };
     let before = part_of(part, &usage_in(before, project.name.view()));
     let after = part_of(part, &usage_in(after, project.name.view()));
-    exceeds(alloc, project, key_of(part), limit, before, after)
+    limit_exceeded(alloc, project, key_of(part), limit, before, after)
 }
 
 fn part_exceeds(
@@ -168,7 +168,7 @@ fn count_exceeds(
     };
     let before = networks_before(before, &project.name);
     let after = networks_after(after, &project.name);
-    exceeds(alloc, project, LimitKey::Networks, limit, before, after)
+    limit_exceeded(alloc, project, LimitKey::Networks, limit, before, after)
 }
 
 /// The first project of which the number of networks is above its limit.

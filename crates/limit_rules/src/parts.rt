@@ -105,7 +105,6 @@ pub(crate) fn limits_sum(limits: &Limits) -> bool
         || limits.disk.is_some()
 }
 
-/// Whether there is any limit.
 fn limits_any(limits: &Limits) -> bool
     ensures { result ≡ limits_any limits.now }
 {

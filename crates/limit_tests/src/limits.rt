@@ -114,7 +114,7 @@ fn disks_with(alloc: Global, size: &str) -> Result<Devices, NoMemory> {
 }
 
 /// What an instance counts for.
-fn counted(alloc: Global, kind: Kind, instance: Instance) -> Result<Amounts, NoMemory> {
+fn amounts_of_instance(alloc: Global, kind: Kind, instance: Instance) -> Result<Amounts, NoMemory> {
     let config = config_with(alloc, instance)?;
     let devices = disks_with(alloc, instance.3)?;
     Ok(amounts_of(kind, &config, &devices))
@@ -193,7 +193,7 @@ const COUNTED: &[(Kind, Instance, Amounts)] = &[
 fn instances_count_for_their_numbers(rt: HostRuntime) {
     let alloc = rt.alloc();
     for (kind, instance, amounts) in COUNTED {
-        assert!(rt; counted(alloc, *kind, *instance) == Ok(*amounts));
+        assert!(rt; amounts_of_instance(alloc, *kind, *instance) == Ok(*amounts));
     }
 }
 
@@ -419,7 +419,7 @@ fn ten_of(key: LimitKey) -> Limits {
 }
 
 /// So much of everything.
-fn each(amount: u64) -> Amounts
+fn equal_amounts(amount: u64) -> Amounts
     ensures { (p : Part) → part p result ≡ amount }
 {
     let amount = u128::from(amount);
@@ -435,7 +435,7 @@ fn each(amount: u64) -> Amounts
 }
 
 fn admit_each(limits: &Limits, used: u64, asked: u64) -> Result<(), Over> {
-    admit(limits, &each(used), &each(asked))
+    admit(limits, &equal_amounts(used), &equal_amounts(asked))
 }
 
 fn is_over(answer: Result<(), Over>, key: LimitKey, used: u64, asked: u64, limit: u64) -> bool {
@@ -554,7 +554,7 @@ fn a_project_of_eight_processors(rt: HostRuntime) {
 }
 
 fn memory_of(alloc: Global, memory: &'static str) -> Result<u128, NoMemory> {
-    let amounts = counted(alloc, Kind::Container, ("", memory, "", "1GiB"))?;
+    let amounts = amounts_of_instance(alloc, Kind::Container, ("", memory, "", "1GiB"))?;
     Ok(amounts.memory)
 }
 

@@ -19,7 +19,7 @@ use Rattle.row_machine.specs.machine.State.{State}
 use Rattle.row_machine.specs.machine.Asked.{named_anew, with_name, next_snapshot}
 use Rattle.row_machine.specs.machine.Rows.{instance_named}
 use Rattle.row_machine.specs.machine.Refusals.{on_object, on_held}
-use Rattle.row_machine.specs.machine.NameRules.{project_missing, what_is_missing, name_broken, malformed, taken, held, is_there}
+use Rattle.row_machine.specs.machine.NameRules.{project_missing, what_is_missing, name_broken, name_malformed, name_taken, name_held, is_there}
 use Rattle.row_machine.specs.machine.Rules.{names_broken}
 use Rattle.row_machine.specs.machine.Rules.{standing_broken}
 use Rattle.row_machine.specs.machine.Plans.{plan_of}
@@ -68,8 +68,8 @@ anew s project kind.Operation of body named = refl
 
 stands-broken : (s : State) (project : List ℕ) (of : Target) → StandsAlready s project of → is_some (name_broken s project of) ≡ true
 unfolding name_broken
-stands-broken s project of (inl there) = over (malformed of) _ (front (taken s project of) _ (ap (λ b. is_some (cond b (Some (on_object rule.N4 of.kind of.name)) None)) there))
-stands-broken s project of (inr claimed) = over (malformed of) _ (over (taken s project of) _ (front (held s project of) None claimed))
+stands-broken s project of (inl there) = over (name_malformed of) _ (front (name_taken s project of) _ (ap (λ b. is_some (cond b (Some (on_object rule.N4 of.kind of.name)) None)) there))
+stands-broken s project of (inr claimed) = over (name_malformed of) _ (over (name_taken s project of) _ (front (name_held s project of) None claimed))
 
 -- of a good name it is N4 or N5
 its-rule : (s : State) (project : List ℕ) (of : Target) (refusal : Refusal) → good_name_of of.kind of.name ≡ true → name_broken s project of ≡ Some refusal
@@ -79,8 +79,8 @@ its-rule s project of refusal good is = at (is_there s project of) refl where
   some-is : {x y : Refusal} → Some x ≡ Some y → x ≡ y
   some-is e = cc
 
-  rest : option_or (taken s project of) (option_or (held s project of) None) ≡ Some refusal
-  rest = sym (ap (λ b. option_or (cond b None (Some (on_object rule.N3 of.kind of.name))) (option_or (taken s project of) (option_or (held s project of) None))) good) ∙ is
+  rest : option_or (name_taken s project of) (option_or (name_held s project of) None) ≡ Some refusal
+  rest = sym (ap (λ b. option_or (cond b None (Some (on_object rule.N3 of.kind of.name))) (option_or (name_taken s project of) (option_or (name_held s project of) None))) good) ∙ is
 
   claimed : (o : Option (Operation Task)) → option_or (option_map (λ (x : Operation Task). on_held rule.N5 of.kind of.name x.number) o) None ≡ Some refusal
       → refusal.rule ≡ rule.N5
@@ -89,9 +89,9 @@ its-rule s project of refusal good is = at (is_there s project of) refl where
 
   at : (b : Bool) → is_there s project of ≡ b → (refusal.rule ≡ rule.N4) ⊎ (refusal.rule ≡ rule.N5)
   at true there = inl (ap (λ (x : Refusal). x.rule)
-      (sym (some-is (sym (ap (λ b. option_or (cond b (Some (on_object rule.N4 of.kind of.name)) None) (option_or (held s project of) None)) there) ∙ rest))))
+      (sym (some-is (sym (ap (λ b. option_or (cond b (Some (on_object rule.N4 of.kind of.name)) None) (option_or (name_held s project of) None)) there) ∙ rest))))
   at false there = inr (claimed _
-      (sym (ap (λ b. option_or (cond b (Some (on_object rule.N4 of.kind of.name)) None) (option_or (held s project of) None)) there) ∙ rest))
+      (sym (ap (λ b. option_or (cond b (Some (on_object rule.N4 of.kind of.name)) None) (option_or (name_held s project of) None)) there) ∙ rest))
 
 -- ---- the whole answer
 

@@ -40,7 +40,7 @@ use Rattle.row_machine.specs.machine.LimitRules.{counts_broken, limits_broken}
 use Rattle.row_machine.specs.machine.TableRules.{entry_broken, tables_broken}
 use Rattle.row_machine.specs.machine.NewRows.{source_instance, source_snapshot}
 use Rattle.row_machine.specs.machine.Plans.{put_all, moved_row, project_creation, project_change, project_rename, project_deletion, instance_target, snapshot_target}
-use Rattle.row_machine.specs.machine.Tasks.{creation, copy, volume_copy, snapshot_creation, update, restoring, renaming, deletion, snapshot_deletion, acting}
+use Rattle.row_machine.specs.machine.Tasks.{creation_task, copy, volume_copy, snapshot_creation, update_task, restore_task, rename_task, deletion_task, snapshot_deletion, act_task}
 use Rattle.row_machine.specs.machine.Work.{claiming}
 pub use Rattle.machine_laws.specs.Accepted.{IsAccepted, IsLiveAs}
 
@@ -178,7 +178,7 @@ pub data AtOnce (s : State) : List RowChange → Type 0 where
 pub data Begins (s : State) : Task → Type 0 where
   creates : (project name : List ℕ) (body : Body) (moment : ℕ) → is_some (project_named s.projects project) ≡ true
       → IsNew s project (instance_target name) → option_map_or are_profiles body.profiles true ≡ true → moment < moment_limit
-      → Begins s (creation project (instance_target name) body moment)
+      → Begins s (creation_task project (instance_target name) body moment)
   copies_instance : (name : List ℕ) (body : Body) (moment : ℕ) (i : Instance) → IsIdle s i
       → IsNew s i.project (instance_target name) → option_map_or are_profiles body.profiles true ≡ true → moment < moment_limit
       → Begins s (copy i.project (instance_target name) body moment (instance_target i.name) (source_instance i))
@@ -190,15 +190,15 @@ pub data Begins (s : State) : Task → Type 0 where
       → volume_named s.volumes v.project v.pool v.name ≡ Some v → is_some (pool_named s.pools v.pool) ≡ true
       → is_some (pool_named s.pools pool) ≡ true → IsNew s v.project (volume_target pool name) → moment < moment_limit
       → Begins s (volume_copy v.project (volume_target pool name) body moment (volume_target v.pool v.name) v)
-  updates : (old i : Instance) → IsIdle s old → IsSameInstance old i → Begins s (update s old.project (instance_target old.name) i)
+  updates : (old i : Instance) → IsIdle s old → IsSameInstance old i → Begins s (update_task s old.project (instance_target old.name) i)
   restores : (i : Instance) (r : Snapshot) → IsIdle s i → Allows s deed.Restore i
       → snapshot_named s.snapshots i.project i.name r.name ≡ Some r
-      → Begins s (restoring i.project (instance_target i.name) i r)
+      → Begins s (restore_task i.project (instance_target i.name) i r)
   renames : (i : Instance) (to : List ℕ) → IsIdle s i → Allows s deed.Rename i → IsNew s i.project (instance_target to)
-      → Begins s (renaming i.project (instance_target i.name) to i)
-  deletes : (i : Instance) → IsIdle s i → Allows s deed.Delete i → Begins s (deletion i.project (instance_target i.name))
+      → Begins s (rename_task i.project (instance_target i.name) to i)
+  deletes : (i : Instance) → IsIdle s i → Allows s deed.Delete i → Begins s (deletion_task i.project (instance_target i.name))
   acts : (action : Action) (i : Instance) → IsIdle s i → Allows s (deed.Act action false) i
-      → Begins s (acting s i.project (instance_target i.name) action i)
+      → Begins s (act_task s i.project (instance_target i.name) action i)
   snaps : (name : List ℕ) (moment : ℕ) (i : Instance) → IsIdle s i → Allows s deed.Snap i → IsNew s i.project (snapshot_target i.name name)
       → moment < moment_limit → Begins s (snapshot_creation i.project (snapshot_target i.name name) moment i)
   unsnaps : (i : Instance) (r : Snapshot) → IsIdle s i → snapshot_named s.snapshots i.project i.name r.name ≡ Some r

@@ -22,10 +22,10 @@ use Rattle.row_machine.specs.machine.Homes.{home_of}
 use Rattle.row_machine.specs.machine.Holders.{busy_with}
 use Rattle.row_machine.specs.machine.Asked.{with_name, next_snapshot, copied_from}
 use Rattle.row_machine.specs.machine.NameRules.{what_is_missing, parent_missing, source_missing, volume_source}
-use Rattle.row_machine.specs.machine.StandingRules.{instance_busy, busy}
+use Rattle.row_machine.specs.machine.StandingRules.{instance_busy, named_instance_busy}
 use Rattle.row_machine.specs.machine.NewRows.{source_instance, source_snapshot}
 use Rattle.row_machine.specs.machine.Plans.{starts, plan_of, if_there, instance_creation, volume_creation, instance_target, snapshot_target}
-use Rattle.row_machine.specs.machine.Tasks.{creation, copy, volume_copy, snapshot_creation}
+use Rattle.row_machine.specs.machine.Tasks.{creation_task, copy, volume_copy, snapshot_creation}
 use Rattle.machine_laws.proofs.Cases.{IsAccepted, Begins, IsHome, IsNew, IsIdle, volume_target}
 use Rattle.machine_laws.proofs.Cases.Begins.{creates, copies_instance, copies_snapshot, copies_volume, snaps}
 use Rattle.machine_laws.proofs.Found.{instance-found, snapshot-found, volume-found, volume-itself}
@@ -65,13 +65,13 @@ makes-instance s project pool instance name body moment task h = by body.origin 
   targets : instance_target name ≡ of
   targets = plain-target kind.Instance parts.0 parts.1 refl
 
-  plainly : creation project of body moment ≡ task → Begins s task
-  plainly is = subst (Begins s) (ap (λ t. creation project t body moment) targets ∙ is) (creates project name body moment there new profiles h.early)
+  plainly : creation_task project of body moment ≡ task → Begins s task
+  plainly is = subst (Begins s) (ap (λ t. creation_task project t body moment) targets ∙ is) (creates project name body moment there new profiles h.early)
 
   -- a copy is of an instance that is not busy
   idle : (from snapshot from_pool : List ℕ) → body.origin ≡ origin.Copy from snapshot from_pool → busy_with s project from ≡ None
   idle from snapshot from_pool is =
-      not_mapped _ _ (ap (λ o. option_and_then (busy s project) (copied_from kind.Instance o)) (sym is) ∙ (accepted-way h).idle)
+      not_mapped _ _ (ap (λ o. option_and_then (named_instance_busy s project) (copied_from kind.Instance o)) (sym is) ∙ (accepted-way h).idle)
 
   and_snapshot : (from : List ℕ) (i : Instance) → instance_named s.instances project from ≡ Some i → IsIdle s i → (snapshot : List ℕ) (o : Option Snapshot)
       → snapshot_named s.snapshots project from snapshot ≡ o

@@ -26,7 +26,7 @@ use Rattle.row_machine.specs.machine.Homes.{home_of}
 use Rattle.row_machine.specs.machine.StandingRules.{power_of, wrong_state, in_wrong_state, deed_asked, instance_busy}
 use Rattle.row_machine.specs.machine.NewRows.{put_instance}
 use Rattle.row_machine.specs.machine.Plans.{starts, plan_of, plan_put, plan_move, plan_delete, plan_restore, if_there, instance_target, snapshot_target}
-use Rattle.row_machine.specs.machine.Tasks.{update, restoring, renaming, deletion, snapshot_deletion, acting}
+use Rattle.row_machine.specs.machine.Tasks.{update_task, restore_task, rename_task, deletion_task, snapshot_deletion, act_task}
 use Rattle.machine_laws.proofs.Cases.{IsAccepted, Begins, IsNew, IsSameInstance, Allows}
 use Rattle.machine_laws.proofs.Cases.Begins.{updates, restores, renames, deletes, acts, unsnaps}
 use Rattle.machine_laws.proofs.Found.{there-is, instance-found, snapshot-found}
@@ -87,7 +87,7 @@ updates-instance s project pool instance name body moment task h = by (instance_
         profiles = profiles-or body.profiles [] (change-profiles kind.Instance body forms.1) refl;
       } in
       subst (Begins s)
-      (ap (λ p. update s p (instance_target i.name) new) named.0 ∙ ap (λ t. update s project t new) (plain-target kind.Instance empty.0 empty.1 named.1) ∙ starts-are e)
+      (ap (λ p. update_task s p (instance_target i.name) new) named.0 ∙ ap (λ t. update_task s project t new) (plain-target kind.Instance empty.0 empty.1 named.1) ∙ starts-are e)
       (updates i new idle same)
 
 -- ---- renames
@@ -109,7 +109,7 @@ renames-instance s project pool instance name to moment task h = by (instance_na
       let empty = no-parts pool instance h.formed in
       let new : IsNew s project (instance_target to) = new-plain empty.0 empty.1 (name-new s project (target kind.Instance pool instance to) names.name) in
       subst (Begins s)
-      (ap (λ p. renaming p (instance_target i.name) to i) named.0 ∙ ap (λ t. renaming project t to i) (plain-target kind.Instance empty.0 empty.1 named.1) ∙ starts-are e)
+      (ap (λ p. rename_task p (instance_target i.name) to i) named.0 ∙ ap (λ t. rename_task project t to i) (plain-target kind.Instance empty.0 empty.1 named.1) ∙ starts-are e)
       (renames i to idle (status-allows deed.Rename name i (accepted-way h) refl is) (subst (λ p. IsNew s p (instance_target to)) (sym named.0) new))
 
 -- ---- deletions
@@ -129,7 +129,7 @@ deletes-instance s project pool instance name moment task h = by (instance_named
       let idle = idle-found s project name i is (its-project about (accepted-names h) refl) (it-is_idle name about (accepted-way h) refl) in
       let empty = no-parts pool instance h.formed in
       subst (Begins s)
-      (ap (λ p. deletion p (instance_target i.name)) named.0 ∙ ap (deletion project) (plain-target kind.Instance empty.0 empty.1 named.1) ∙ starts-are e)
+      (ap (λ p. deletion_task p (instance_target i.name)) named.0 ∙ ap (deletion_task project) (plain-target kind.Instance empty.0 empty.1 named.1) ∙ starts-are e)
       (deletes i idle (status-allows deed.Delete name i (accepted-way h) refl is))
 
 pub deletes-snapshot : (s : State) (project pool instance name : List ℕ) (moment : ℕ) (task : Task)
@@ -166,7 +166,7 @@ acts-on s project pool instance name action moment task h = by (instance_named s
   of : Target
   of = target kind.Instance pool instance name
 
-  by : (o : Option Instance) → instance_named s.instances project name ≡ o → if_there (λ i. starts (acting s project of action i)) o ≡ starts task → Begins s task
+  by : (o : Option Instance) → instance_named s.instances project name ≡ o → if_there (λ i. starts (act_task s project of action i)) o ≡ starts task → Begins s task
   by None is e = nothing_begins e
   by (Some i) is e =
       let named = instance-found s.instances project name i is in
@@ -174,7 +174,7 @@ acts-on s project pool instance name action moment task h = by (instance_named s
       let idle = idle-found s project name i is there (not_mapped _ _ (accepted-way h).idle) in
       let empty = no-parts pool instance h.formed in
       subst (Begins s)
-      (ap (λ p. acting s p (instance_target i.name) action i) named.0 ∙ ap (λ t. acting s project t action i) (plain-target kind.Instance empty.0 empty.1 named.1) ∙ starts-are e)
+      (ap (λ p. act_task s p (instance_target i.name) action i) named.0 ∙ ap (λ t. act_task s project t action i) (plain-target kind.Instance empty.0 empty.1 named.1) ∙ starts-are e)
       (acts action i idle (status-allows (deed.Act action false) name i (accepted-way h) refl is))
 
 pub restores-to : (s : State) (project pool instance name snapshot : List ℕ) (moment : ℕ) (task : Task)
@@ -185,7 +185,7 @@ restores-to s project pool instance name snapshot moment task h = by (instance_n
   of = target kind.Instance pool instance name
 
   and_row : (i : Instance) → instance_named s.instances project name ≡ Some i → (o : Option Snapshot) → snapshot_named s.snapshots project name snapshot ≡ o
-      → if_there (λ r. starts (restoring project of i r)) o ≡ starts task → Begins s task
+      → if_there (λ r. starts (restore_task project of i r)) o ≡ starts task → Begins s task
   and_row i is None found e = nothing_begins e
   and_row i is (Some r) found e =
       let named = instance-found s.instances project name i is in
@@ -194,7 +194,7 @@ restores-to s project pool instance name snapshot moment task h = by (instance_n
       let idle = idle-found s project name i is there (not_mapped _ _ (accepted-way h).idle) in
       let empty = no-parts pool instance h.formed in
       subst (Begins s)
-      (ap (λ p. restoring p (instance_target i.name) i r) named.0 ∙ ap (λ t. restoring project t i r) (plain-target kind.Instance empty.0 empty.1 named.1) ∙ starts-are e)
+      (ap (λ p. restore_task p (instance_target i.name) i r) named.0 ∙ ap (λ t. restore_task project t i r) (plain-target kind.Instance empty.0 empty.1 named.1) ∙ starts-are e)
       (restores i r idle (status-allows deed.Restore name i (accepted-way h) refl is)
       (ap (λ p. snapshot_named s.snapshots p i.name r.name) named.0 ∙ ap (λ n. snapshot_named s.snapshots project n r.name) named.1
       ∙ ap (snapshot_named s.snapshots project name) row_named.1.1 ∙ found))

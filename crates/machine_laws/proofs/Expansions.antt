@@ -14,7 +14,7 @@ use Rattle.row_machine.specs.machine.Homes.{home_of}
 use Rattle.row_machine.specs.machine.Expansions.{layer_of, own_layer, layers_by, expanded_of}
 use Rattle.row_machine.specs.machine.Claims.{amounts_of_instance}
 use Rattle.row_machine.specs.machine.SettingRules.{root_missing, is_one}
-use Rattle.row_machine.specs.machine.LimitRules.{instance_uncounted, uncounted}
+use Rattle.row_machine.specs.machine.LimitRules.{instance_uncounted, object_uncounted}
 use Rattle.project_limits.specs.Instance.{instance_amounts}
 use Rattle.project_limits.specs.Limits.{limits_of}
 use Rattle.project_limits.specs.Countable.{first_uncounted}
@@ -58,7 +58,7 @@ root-alike {i} h = ap (λ (e : Expanded). if is_one (root_of e.devices) then Non
 
 pub uncounted-alike : {s t : State} {i : Instance} (p : Project) → IsAlike s t i → instance_uncounted t p i ≡ instance_uncounted s p i
 unfolding instance_uncounted
-uncounted-alike {i} p h = ap (λ (e : Expanded). uncounted p i.name (first_uncounted (limits_of p.config) i.kind e.config e.devices)) (expanded-alike h)
+uncounted-alike {i} p h = ap (λ (e : Expanded). object_uncounted p i.name (first_uncounted (limits_of p.config) i.kind e.config e.devices)) (expanded-alike h)
 
 pub forbids-alike : {s t : State} {i : Instance} (p : Project) (number : ℕ) → IsAlike s t i → forbids_instance t p number i ≡ forbids_instance s p number i
 unfolding forbids_instance

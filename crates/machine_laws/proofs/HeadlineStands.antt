@@ -23,7 +23,7 @@ use Rattle.project_limits.specs.declared.sums.SumKey.{SumKey}
 use Rattle.project_limits.specs.Limits.{limits_of}
 use Rattle.plain_lists.proofs.FirstLemmas.{not_mapped}
 use Rattle.records.specs.declared.refusals.Rule.TheVariants as rule
-use Rattle.row_machine.specs.machine.LimitRules.{uncounted, sum_text, instance_uncounted, volume_uncounts}
+use Rattle.row_machine.specs.machine.LimitRules.{object_uncounted, sum_text, instance_uncounted, volume_uncounts}
 use Rattle.records.specs.declared.rows.Project.{Project}
 use Rattle.records.specs.declared.rows.Instance.{Instance}
 use Rattle.row_machine.specs.machine.State.{State}
@@ -50,7 +50,7 @@ used-part s project part_of.Processes = refl
 used-part s project part_of.Disk = refl
 
 -- what no rule tells of is countable
-countable : (p : Project) (name : List ℕ) (key : Option SumKey) → uncounted p name key ≡ None → key ≡ None
+countable : (p : Project) (name : List ℕ) (key : Option SumKey) → object_uncounted p name key ≡ None → key ≡ None
 countable p name key e = not_mapped (λ k. on_key_of rule.L0 (sum_text k) name p.name) key e
 
 keeps-limits : (s : State) (p : Project) → IsWithin s p → KeepsLimits s p

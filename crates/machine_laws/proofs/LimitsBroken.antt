@@ -28,7 +28,7 @@ use Rattle.row_machine.specs.machine.Task.{Task}
 use Rattle.row_machine.specs.machine.State.{State}
 use Rattle.row_machine.specs.machine.Claims.{of_live, claimed_instance, claimed_volume, judged_instances, judged_volumes}
 use Rattle.row_machine.specs.machine.Usage.{used, networks_of}
-use Rattle.row_machine.specs.machine.LimitRules.{exceeds, over_refusal, part_exceeds, networks_exceed, limits_broken, instance_uncounted, volume_uncounts, claim_uncounted, project_uncounted, counts_broken}
+use Rattle.row_machine.specs.machine.LimitRules.{limit_exceeded, over_refusal, part_exceeds, networks_exceed, limits_broken, instance_uncounted, volume_uncounts, claim_uncounted, project_uncounted, counts_broken}
 use Rattle.row_machine.specs.machine.PolicyRules.{forbids_profile, forbids_instance, project_forbids, policy_broken, subject_of}
 use Rattle.row_machine.specs.facts.Whole.{AreWithin}
 use Rattle.machine_laws.proofs.LimitsForbidden.{rule_numbers, is_rule, forbids-none, rule-or_not}
@@ -47,7 +47,7 @@ Mem-filter {X} p x (y ∷ ys) m is = at (p y) refl m (λ n. Mem-filter p x ys n 
 -- ---- limits
 
 -- of one number: what is used after is within the limit
-exceeds-not : (p : Project) (key : LimitKey) (limit : Option ℕ) (before after : ℕ) → exceeds p key limit before after ≡ None → IfSome limit (λ l. after ≤ l)
+exceeds-not : (p : Project) (key : LimitKey) (limit : Option ℕ) (before after : ℕ) → limit_exceeded p key limit before after ≡ None → IfSome limit (λ l. after ≤ l)
 exceeds-not p key None before after h = tt
 exceeds-not p key (Some l) before after h =
     at (nat_lt l (before + amount_above after before)) refl (not_mapped (over_refusal p) (over key (Some l) before (amount_above after before)) h) where

@@ -33,7 +33,7 @@ use Rattle.row_machine.specs.machine.Changes.{has_key}
 use Rattle.row_machine.specs.machine.Expansions.{expanded_of}
 use Rattle.row_machine.specs.machine.Claims.{claimed_instance, replaced_instance, amounts_of_instance, amounts_of, share_of, share_over, project_of_row}
 use Rattle.row_machine.specs.shown.Links.{target_of}
-use Rattle.row_machine.specs.machine.Usage.{used, counted}
+use Rattle.row_machine.specs.machine.Usage.{used, amount_for}
 use Rattle.row_machine.specs.facts.Whole.{IsWhole, IsByDeed, IsPlaced, IsRenamed}
 use Rattle.row_machine.specs.machine.Deeds.{claim_kind, replaces_target}
 use Rattle.machine_laws.proofs.Found.{instance-found, some-is}
@@ -49,12 +49,12 @@ use Rattle.plain_lists.proofs.Elements.{Each-head, Each-tail, Each-map}
 
 -- by its claim and its share
 abbrev pub share_part : List ℕ → Part → Row → Amounts → ℕ
-share_part project k r share = counted project k (record { project = project_of_row r; amounts = share })
+share_part project k r share = amount_for project k (record { project = project_of_row r; amounts = share })
 
 claim-part : (s : State) (project : List ℕ) (k : Part) (o : Operation Task) (r : Row) → o.work.claim ≡ Some r
     → claim_part s project k o ≡ share_part project k r (share_over s r (replaced_instance s o.work))
 unfolding share_of
-claim-part s project k o r is = ap (λ claim. option_map_or (counted project k)
+claim-part s project k o r is = ap (λ claim. option_map_or (amount_for project k)
     (option_map (λ new. record { project = project_of_row new; amounts = option_map_or (λ n. share_over s n (replaced_instance s o.work)) claim nothing }) claim) 0) is
 
 -- a share without a row that is replaced is what the claimed row counts for
@@ -227,7 +227,7 @@ module _ (s : State) (o : Operation Task) (h : IsWhole s) (live : live_at s.oper
       (dropped (λ r. has_key (two_names old.project old.name) (row.Instance r)) s.instances) in
       let renamed : record i { name = o.work.target.name } ≡ old = some-is (renames-target i is rename ∙ found) in
       let same_amounts : a i ≡ a old =
-      ap (λ (x : Amounts). counted project k (record { project = i.project; amounts = x })) (sym (renamed-amounts s i o.work.target.name)) ∙ ap a renamed in
+      ap (λ (x : Amounts). amount_for project k (record { project = i.project; amounts = x })) (sym (renamed-amounts s i o.work.target.name)) ∙ ap a renamed in
       omega (arith, was, put, same_amounts)
 
   rows-less : {later : Tables} → IsDone (tables s) o.work later → RowsLess later
@@ -244,7 +244,7 @@ module _ (s : State) (o : Operation Task) (h : IsWhole s) (live : live_at s.oper
 pub claims-same : (s t : State) (project : List ℕ) (k : Part) (xs : List (Operation Task)) → Each (λ (x : Operation Task). share_of t x.work ≡ share_of s x.work) xs
     → sum_by (claim_part t project k) xs ≡ sum_by (claim_part s project k) xs
 claims-same s t project k xs same = sum_by-same (claim_part t project k) (claim_part s project k) xs
-    (Each-map (λ x e. ap (λ share. option_map_or (counted project k) (option_map (λ new. record { project = project_of_row new; amounts = share }) x.work.claim) 0) e) same)
+    (Each-map (λ x e. ap (λ share. option_map_or (amount_for project k) (option_map (λ new. record { project = project_of_row new; amounts = share }) x.work.claim) 0) e) same)
 
 -- after a success
 pub used-done : (s : State) (o : Operation Task) (t : State) → IsWhole s → live_at s.operations o.number ≡ Some o → IsDone (tables s) o.work (tables t)
@@ -263,7 +263,7 @@ used-done s o t h live done rest same project k =
     let tables_same = done-projects s done in
     let instances : sum_by (instance_part t project k) t.instances ≡ sum_by (instance_part s project k) t.instances =
     sum_by-same (instance_part t project k) (instance_part s project k) t.instances
-    (record { at = λ i m. ap (λ x. counted project k (record { project = i.project; amounts = x })) (amounts-tables s t i tables_same.0 tables_same.1) }) in
+    (record { at = λ i m. ap (λ x. amount_for project k (record { project = i.project; amounts = x })) (amounts-tables s t i tables_same.0 tables_same.1) }) in
     omega (arith, before, after, claims, others, rows, instances)
 
 -- after a failure or a cancel: rows stay, and the claim goes
@@ -280,7 +280,7 @@ used-returned s t n rows rest same project k =
     let instances : sum_by (instance_part t project k) t.instances ≡ sum_by (instance_part s project k) s.instances =
     sum_by-same (instance_part t project k) (instance_part s project k) t.instances
     (record {
-      at = λ i m. ap (λ x. counted project k (record { project = i.project; amounts = x }))
+      at = λ i m. ap (λ x. amount_for project k (record { project = i.project; amounts = x }))
           (amounts-tables s t i (ap (λ (x : Tables). x.projects) rows) (ap (λ (x : Tables). x.profiles) rows));
     })
     ∙ ap (λ (x : Tables). sum_by (instance_part s project k) x.instances) rows in

@@ -14,7 +14,7 @@ use Rattle.restrictions.specs.declared.forbidden.Forbidden.{Forbidden}
 use Rattle.restrictions.specs.declared.rows.Subject.{Subject}
 use Rattle.restrictions.specs.Policies.{Restrictions, policy_of}
 use Rattle.restrictions.specs.Forbids.{SettingLine, DeviceLine, setting_lines, device_lines, missing_rule_in, device_rule_in, network_rule, device_rule, setting_rule, lowest, earlier, broken_settings, missing_setting, broken_devices, first_forbidden}
-use Rattle.restrictions.specs.Forbids.{at as place_at}
+use Rattle.restrictions.specs.Forbids.{forbidden_at as place_at}
 use Rattle.records.specs.declared.rows.Project.{Project}
 use Rattle.row_machine.specs.machine.PolicyRules.{forbids, policy_rule, forbidden_key}
 use Rattle.row_machine.specs.machine.Refusals.{on_key_of}

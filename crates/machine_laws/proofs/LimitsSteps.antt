@@ -10,7 +10,7 @@ use Rattle.row_machine.specs.machine.Task.{Task}
 use Rattle.records.specs.declared.notices.Notice.{Notice}
 use Rattle.row_machine.specs.machine.State.{State, Standing}
 use Rattle.row_machine.specs.machine.Claims.{claimed_instance, claimed_volume, judged_instances, judged_volumes, share_of, amounts_of_instance}
-use Rattle.row_machine.specs.machine.Usage.{Load, loads, used, claim_load, counted, instance_load, volume_load}
+use Rattle.row_machine.specs.machine.Usage.{Load, loads, used, claim_load, amount_for, instance_load, volume_load}
 use Rattle.row_machine.specs.facts.Whole.{IsWhole, AreWithin}
 use Rattle.machine_laws.proofs.LimitsRows.{Tables, tables, IsDone}
 use Rattle.machine_laws.proofs.LimitsLess.{IsLess, within-less}
@@ -34,7 +34,7 @@ less-cores s k same = record {
   instances = λ i m. subst (λ xs. Mem i (s.instances ++ xs)) (of_cores claimed_instance (λ task. refl) s (record s { operations = k }) same) m;
   volumes = λ v m. subst (λ xs. Mem v (s.volumes ++ xs)) (of_cores claimed_volume (λ task. refl) s (record s { operations = k }) same) m;
   usage = λ project part. let e : used (record s { operations = k }) project part ≡ used s project part =
-      ap (λ xs. sum_by (counted project part) (loads_of xs)) (of_cores (claim_load s) (λ task. core-load s task) s (record s { operations = k }) same) in omega (arith, e);
+      ap (λ xs. sum_by (amount_for project part) (loads_of xs)) (of_cores (claim_load s) (λ task. core-load s task) s (record s { operations = k }) same) in omega (arith, e);
 } where
   loads_of : List Load → List Load
   loads_of xs = map (instance_load s) s.instances ++ map volume_load s.volumes ++ xs

@@ -19,7 +19,7 @@ use Rattle.row_machine.specs.machine.Claims.{of_live, project_of_row, claimed_in
 use Rattle.row_machine.specs.shown.Links.{target_of}
 use Rattle.row_machine.specs.machine.NewRows.{copied_volume}
 use Rattle.row_machine.specs.machine.NameRules.{is_there}
-use Rattle.row_machine.specs.opening.Opening.{homeless}
+use Rattle.row_machine.specs.opening.Opening.{home_missing}
 use Rattle.row_machine.specs.facts.Whole.{IsPlaced, IsRenamed, AreLinked, instance_there}
 use Rattle.row_machine.specs.machine.Deeds.{has_target}
 use Rattle.machine_laws.proofs.Cases.{Begins, IsIdle, volume_target}
@@ -33,7 +33,7 @@ use Rattle.machine_laws.proofs.LinksVolumes.{volume-home}
 
 record FitsClaim (s : State) (of : List ℕ) (r : Row) : Type 0 where
   project : project_of_row r ≡ of
-  home : homeless s r ≡ None
+  home : home_missing s r ≡ None
   pool : (target_of r).kind ≡ kind.Volume → is_some (pool_named s.pools (target_of r).pool) ≡ true
   instance : (target_of r).kind ≡ kind.Snapshot → instance_there s of (target_of r)
 

@@ -24,7 +24,7 @@ use Rattle.row_machine.specs.machine.Expansions.{expanded_of}
 use Rattle.row_machine.specs.machine.Claims.{claimed_instance, judged_instances}
 use Rattle.row_machine.specs.machine.SettingRules.{devices_miss}
 use Rattle.row_machine.specs.machine.StandingRules.{is_occupied}
-use Rattle.row_machine.specs.opening.Opening.{homeless}
+use Rattle.row_machine.specs.opening.Opening.{home_missing}
 use Rattle.row_machine.specs.facts.Whole.{IsWhole, IsLinked, AreLinked}
 use Rattle.machine_laws.proofs.Found.{there-is, instance-found}
 use Rattle.machine_laws.proofs.Expansions.{IsAlike}
@@ -49,7 +49,7 @@ pub record EstateServes (s : State) (ps : List Project) (rs : List Profile) : Ty
   pub instances : Each (λ i. StaysHome s.projects ps i.project × IsAlike s (with_estate s ps rs) i) (judged_instances s)
   pub snapshots : Each (λ r. StaysHome s.projects ps r.project) s.snapshots
   pub operations : Each (λ o. StaysHome s.projects ps o.work.project) s.operations.live
-  pub profiles : Each (λ r. (homeless (with_estate s ps rs) (row.Profile r) ≡ None) × (devices_miss (with_estate s ps rs) r.project r.devices ≡ None)) rs
+  pub profiles : Each (λ r. (home_missing (with_estate s ps rs) (row.Profile r) ≡ None) × (devices_miss (with_estate s ps rs) r.project r.devices ≡ None)) rs
 
 pub estate-links : (s : State) (ps : List Project) (rs : List Profile) → IsWhole s → EstateServes s ps rs
     → AreLinked (with_estate s ps rs)
@@ -74,7 +74,7 @@ estate-links s ps rs h serve = record {
   t : State
   t = with_estate s ps rs
 
-  rows : EachRow (λ r. homeless s r ≡ None) s
+  rows : EachRow (λ r. home_missing s r ≡ None) s
   rows = each-row s h.links.homes
 
   own_instances : Each (λ i. StaysHome s.projects ps i.project) s.instances
@@ -99,7 +99,7 @@ estate-links s ps rs h serve = record {
 -- a profile whose project stays keeps its home and what its devices name
 pub profile-stays : (s : State) (ps : List Project) (rs : List Profile) (r : Profile) → IsWhole s → Mem r s.profiles
     → StaysHome s.projects ps r.project
-    → (homeless (with_estate s ps rs) (row.Profile r) ≡ None) × (devices_miss (with_estate s ps rs) r.project r.devices ≡ None)
+    → (home_missing (with_estate s ps rs) (row.Profile r) ≡ None) × (devices_miss (with_estate s ps rs) r.project r.devices ≡ None)
 profile-stays s ps rs r h m stays = (
   homeless-stays s (with_estate s ps rs) (row.Profile r) stays ((each-row s h.links.homes).profiles.at r m),
   devices-stay s (with_estate s ps rs) r.project r.devices
@@ -121,7 +121,7 @@ pub elsewhere-links : (Q : List ℕ → Type 0) (s : State) (ps : List Project) 
     → AreApart Q (λ project name. Q project) s (with_estate s ps rs)
     → ((r : Profile) → Mem r rs → (Mem r s.profiles × (Q r.project → ⊥))
     ⊎
-    ((homeless (with_estate s ps rs) (row.Profile r) ≡ None) × (devices_miss (with_estate s ps rs) r.project r.devices ≡ None)))
+    ((home_missing (with_estate s ps rs) (row.Profile r) ≡ None) × (devices_miss (with_estate s ps rs) r.project r.devices ≡ None)))
     → AreLinked (with_estate s ps rs)
 unfolding judged_instances
 elsewhere-links Q s ps rs h away apart profiles = estate-links s ps rs h (record {
@@ -149,8 +149,8 @@ elsewhere-links Q s ps rs h away apart profiles = estate-links s ps rs h (record
       (subst Q (sym (instance-found s.instances r.project r.instance found.0 found.1).0) touched)
 
   profile : (r : Profile)
-      → (Mem r s.profiles × (Q r.project → ⊥)) ⊎ ((homeless (with_estate s ps rs) (row.Profile r) ≡ None) × (devices_miss (with_estate s ps rs) r.project r.devices ≡ None))
-      → (homeless (with_estate s ps rs) (row.Profile r) ≡ None) × (devices_miss (with_estate s ps rs) r.project r.devices ≡ None)
+      → (Mem r s.profiles × (Q r.project → ⊥)) ⊎ ((home_missing (with_estate s ps rs) (row.Profile r) ≡ None) × (devices_miss (with_estate s ps rs) r.project r.devices ≡ None))
+      → (home_missing (with_estate s ps rs) (row.Profile r) ≡ None) × (devices_miss (with_estate s ps rs) r.project r.devices ≡ None)
   profile r (inl old) = profile-stays s ps rs r h old.0 (stays r.project old.1)
   profile r (inr own) = own
 

@@ -18,7 +18,7 @@ use Rattle.row_machine.specs.machine.Changes.{applied}
 use Rattle.row_machine.specs.machine.Holders.{keeps_busy, busy_with}
 use Rattle.row_machine.specs.machine.SettingRules.{profile_missing, devices_miss, instance_settings, row_settings}
 use Rattle.row_machine.specs.machine.Plans.{put_all}
-use Rattle.row_machine.specs.opening.Opening.{homeless}
+use Rattle.row_machine.specs.opening.Opening.{home_missing}
 use Rattle.row_machine.specs.facts.Whole.{IsWhole, IsLinked, IsByDeed, AreLinked}
 use Rattle.machine_laws.proofs.Cases.{IsIdle, IsSameInstance}
 use Rattle.machine_laws.proofs.NamesRows.{EachRow, each-row, rows-each}
@@ -34,8 +34,8 @@ with_guests s is ss = record s { instances = is; snapshots = ss }
 
 -- what the change of instances and snapshots leaves
 pub record GuestsServe (s : State) (is : List Instance) (ss : List Snapshot) : Type 0 where
-  pub homes : Each (λ i. homeless s (row.Instance i) ≡ None) is
-  pub snapshot_homes : Each (λ r. homeless s (row.Snapshot r) ≡ None) ss
+  pub homes : Each (λ i. home_missing s (row.Instance i) ≡ None) is
+  pub snapshot_homes : Each (λ r. home_missing s (row.Snapshot r) ≡ None) ss
   pub snapshots : Each (λ r. is_some (instance_named is r.project r.instance) ≡ true) ss
   pub snapshot_profiles : Each (λ r. are_profiles r.profiles ≡ true) ss
   pub linked : Each (IsLinked s) is
@@ -68,7 +68,7 @@ guests-links s is ss h deeds serve = record {
   instances = Each-map (linked-guests s is ss) (Each-append serve.linked (Each-right s.instances h.instances));
   operations = record { at = λ o m. placed-stays (deeds.at o m) (serve.operations.at o m) (h.operations.at o m) };
 } where
-  rows : EachRow (λ r. homeless s r ≡ None) s
+  rows : EachRow (λ r. home_missing s r ≡ None) s
   rows = each-row s h.homes
 
 -- ---- an instance is changed at once
@@ -81,7 +81,7 @@ idle-free s project name e = find-none (λ (o : Operation Task). keeps_busy proj
 
 -- the instance under its name is at home where its project is there
 pub instance-home : (s : State) (old i : Instance) → AreLinked s → Mem old s.instances → i.project ≡ old.project
-    → homeless s (row.Instance i) ≡ None
+    → home_missing s (row.Instance i) ≡ None
 instance-home s old i h m same =
     homeless-stays s s (row.Instance i) (stays-found s.projects s.projects i.project refl)
     (at-home s.projects i.project kind.Instance (subst (λ p. IsAtHome s.projects p kind.Instance) (sym same) (home-at s.projects old.project kind.Instance ((each-row s h.homes).instances.at old m))))

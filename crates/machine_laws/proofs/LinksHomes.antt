@@ -15,7 +15,7 @@ use Rattle.row_machine.specs.machine.State.{State}
 use Rattle.row_machine.specs.machine.Rows.{default_name, project_named}
 use Rattle.row_machine.specs.machine.Homes.{home_of, is_on}
 use Rattle.row_machine.specs.machine.Claims.{project_of_row}
-use Rattle.row_machine.specs.opening.Opening.{homeless}
+use Rattle.row_machine.specs.opening.Opening.{home_missing}
 
 -- ---- a project that is there as before
 
@@ -151,7 +151,7 @@ stays-so ps qs project k stays h = at-home qs project k (at-home-stays stays (ho
 
 -- Rows stay at home where their project stays as it was.
 pub homeless-stays : (s t : State) (r : Row) → StaysHome s.projects t.projects (project_of_row r)
-    → homeless s r ≡ None → homeless t r ≡ None
+    → home_missing s r ≡ None → home_missing t r ≡ None
 homeless-stays s t (row.Project r) stays h = refl
 homeless-stays s t (row.Profile r) stays h = stays-so s.projects t.projects r.project kind.Profile stays h
 homeless-stays s t (row.Network r) stays h = stays-so s.projects t.projects r.project kind.Network stays h

@@ -24,7 +24,7 @@ use Rattle.row_machine.specs.machine.Changes.{applied, has_key, removal}
 use Rattle.row_machine.specs.shown.Links.{target_of}
 use Rattle.row_machine.specs.machine.Holders.{devices_name, first_user_of}
 use Rattle.row_machine.specs.machine.Plans.{put_all, moved_row}
-use Rattle.row_machine.specs.opening.Opening.{homeless}
+use Rattle.row_machine.specs.opening.Opening.{home_missing}
 use Rattle.row_machine.specs.facts.Whole.{IsWhole, AreLinked}
 use Rattle.machine_laws.proofs.Cases.{IsHome}
 use Rattle.machine_laws.proofs.NamesRows.{each-row}
@@ -34,17 +34,17 @@ use Rattle.machine_laws.proofs.LinksRows.{network-each, network-still, network-u
 use Rattle.machine_laws.proofs.LinksStores.{stores-links, leaves-stores, is-home}
 use Rattle.machine_laws.proofs.LinksUnused.{IsUnused, unused-network}
 
-homes : {s : State} → IsWhole s → Each (λ r. homeless s (row.Network r) ≡ None) s.networks
+homes : {s : State} → IsWhole s → Each (λ r. home_missing s (row.Network r) ≡ None) s.networks
 homes {s} h = (each-row s h.links.homes).networks
 
 at_home : (s : State) (r : Network) (home : List ℕ) → IsHome s home kind.Network → r.project ≡ home
-    → homeless s (row.Network r) ≡ None
+    → home_missing s (row.Network r) ≡ None
 at_home s r home is same =
     at-home s.projects r.project kind.Network
     (is-home s r.project kind.Network (subst (λ p. IsHome s p kind.Network) (sym same) is))
 
 -- the networks are others, and what devices name is there
-serving : (s : State) (ns : List Network) → IsWhole s → Each (λ r. homeless s (row.Network r) ≡ None) ns
+serving : (s : State) (ns : List Network) → IsWhole s → Each (λ r. home_missing s (row.Network r) ≡ None) ns
     → Each (λ r. (name : List ℕ) → names_network r.devices name ≡ true → network_there s r.project name
     → network_there (record s { networks = ns }) r.project name) s.profiles
     → Each (λ i. (name : List ℕ) → names_network (expanded_of s.projects s.profiles i).devices name ≡ true → network_there s i.project name
@@ -66,7 +66,7 @@ serving s ns h at_homes profiles instances = stores-links s ns s.pools s.volumes
 })
 
 -- where each network stays
-more : (s : State) (ns : List Network) → IsWhole s → Each (λ r. homeless s (row.Network r) ≡ None) ns
+more : (s : State) (ns : List Network) → IsWhole s → Each (λ r. home_missing s (row.Network r) ≡ None) ns
     → ((home name : List ℕ) → is_some (network_named s.networks home name) ≡ true → is_some (network_named ns home name) ≡ true)
     → AreLinked (record s { networks = ns })
 more s ns h at_homes stay = serving s ns h at_homes
@@ -76,7 +76,7 @@ more s ns h at_homes stay = serving s ns h at_homes
 -- where each but one stays, which nothing names
 fewer : (s : State) (old : Network) (ns : List Network) → IsWhole s
     → first_user_of s old.project (target_of (row.Network old)) ≡ None
-    → Each (λ r. homeless s (row.Network r) ≡ None) ns
+    → Each (λ r. home_missing s (row.Network r) ≡ None) ns
     → ((home name : List ℕ) → network_names old ≢ home ∷ name ∷ [] → is_some (network_named s.networks home name) ≡ true → is_some (network_named ns home name) ≡ true)
     → AreLinked (record s { networks = ns })
 fewer s old ns h used at_homes stay = serving s ns h at_homes

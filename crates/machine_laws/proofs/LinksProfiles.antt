@@ -28,7 +28,7 @@ use Rattle.row_machine.specs.shown.Links.{target_of, link_of}
 use Rattle.row_machine.specs.machine.Holders.{names_profile, claim_rows, holder_of, first_user_of, user_link}
 use Rattle.row_machine.specs.machine.SettingRules.{tables_break, scope_of, root_missing, profile_missing, devices_miss, instance_settings, profile_settings, row_settings, naming}
 use Rattle.row_machine.specs.machine.Plans.{moved_row}
-use Rattle.row_machine.specs.opening.Opening.{homeless}
+use Rattle.row_machine.specs.opening.Opening.{home_missing}
 use Rattle.row_machine.specs.facts.Whole.{IsWhole, IsLinked, AreLinked}
 use Rattle.machine_laws.proofs.Cases.{IsHome}
 use Rattle.machine_laws.proofs.Expansions.{home_in, IsAlike}
@@ -73,7 +73,7 @@ profile-row_accepted t r e =
 
 -- the profiles are others, at home and with all that they name; each instance has the profiles that it had, or is judged anew
 record AreEnough (s : State) (rs : List Profile) : Type 0 where
-  homes : Each (λ r. homeless s (row.Profile r) ≡ None) rs
+  homes : Each (λ r. home_missing s (row.Profile r) ≡ None) rs
   devices : Each (λ r. devices_miss s r.project r.devices ≡ None) rs
   instances : Each (λ i. IsAlike s (record s { profiles = rs }) i ⊎ (instance_settings (record s { profiles = rs }) i ≡ None)) (judged_instances s)
 
@@ -99,7 +99,7 @@ profiles_links s rs h enough = record {
   t : State
   t = record s { profiles = rs }
 
-  rows : EachRow (λ r. homeless s r ≡ None) s
+  rows : EachRow (λ r. home_missing s r ≡ None) s
   rows = each-row s h.links.homes
 
   leaves : (o : Operation Task) → Leaves s t o.work
@@ -154,7 +154,7 @@ unnamed s old used held = Each-append
 -- ---- the changes
 
 pub profile-home : (s : State) (r : Profile) (home : List ℕ) → IsHome s home kind.Profile → r.project ≡ home
-    → homeless s (row.Profile r) ≡ None
+    → home_missing s (row.Profile r) ≡ None
 profile-home s r home is same =
     at-home s.projects r.project kind.Profile
     (is-home s r.project kind.Profile (subst (λ p. IsHome s p kind.Profile) (sym same) is))
@@ -175,7 +175,7 @@ judged_anew s rs r i settled m named =
     settled.at i (Mem-filter (names_profile s r.project r.name) i (judged_instances s) m named)
 
 -- A profile is put, and each instance that names it is judged.
-pub profile-put_links : (s : State) (r : Profile) → IsWhole s → homeless s (row.Profile r) ≡ None
+pub profile-put_links : (s : State) (r : Profile) → IsWhole s → home_missing s (row.Profile r) ≡ None
     → row_settings (record s { profiles = with_profile r s.profiles }) (row.Profile r) ≡ None
     → AreLinked (record s { profiles = with_profile r s.profiles })
 profile-put_links s r h home settled = profiles_links s (with_profile r s.profiles) h (record {

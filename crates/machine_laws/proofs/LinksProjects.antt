@@ -21,7 +21,7 @@ use Rattle.row_machine.specs.machine.NewRows.{default_profile}
 use Rattle.row_machine.specs.machine.SettingRules.{settings_broken, row_settings, devices_miss}
 use Rattle.row_machine.specs.machine.StandingRules.{is_occupied}
 use Rattle.row_machine.specs.machine.Plans.{put_all, moved_row, project_creation, project_rename, project_deletion, own_profile}
-use Rattle.row_machine.specs.opening.Opening.{homeless, has_all_features}
+use Rattle.row_machine.specs.opening.Opening.{home_missing, has_all_features}
 use Rattle.row_machine.specs.facts.Whole.{IsWhole, AreLinked}
 use Rattle.machine_laws.proofs.Found.{profile-found}
 use Rattle.machine_laws.proofs.ExpansionsApart.{AreApart, apart-both, apart-project, apart-profile, apart-no_project, apart-no_profile}
@@ -38,7 +38,7 @@ use Rattle.machine_laws.proofs.LinksElsewhere.{with_estate, AreElsewhere, elsewh
 
 -- what a profile of a state that comes needs
 abbrev pub IsPlacedProfile : State → Profile → Type 0
-IsPlacedProfile t r = (homeless t (row.Profile r) ≡ None) × (devices_miss t r.project r.devices ≡ None)
+IsPlacedProfile t r = (home_missing t (row.Profile r) ≡ None) × (devices_miss t r.project r.devices ≡ None)
 
 pub distinct_profiles : {s : State} → IsWhole s → Distinct profile_names s.profiles
 distinct_profiles {s} h = Rise-Distinct profile_names s.profiles h.names.profiles
@@ -59,7 +59,7 @@ rows_there s Q h never = record {
   operations = Each-map (λ o placed. never o.work.project placed.project) h.links.operations;
   default = never default_name (default_there (project_named s.projects default_name) h.defaults.project);
 } where
-  rows : EachRow (λ r. homeless s r ≡ None) s
+  rows : EachRow (λ r. home_missing s r ≡ None) s
   rows = each-row s h.links.homes
 
 profile_there : (s : State) → IsWhole s → Each (λ r. is_some (project_named s.projects r.project) ≡ true) s.profiles

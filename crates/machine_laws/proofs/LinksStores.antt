@@ -16,7 +16,7 @@ use Rattle.row_machine.specs.machine.Rows.{pool_named, volume_named}
 use Rattle.row_machine.specs.machine.Homes.{home_of}
 use Rattle.row_machine.specs.machine.Expansions.{expanded_of}
 use Rattle.row_machine.specs.machine.Claims.{judged_instances, claimed_volume}
-use Rattle.row_machine.specs.opening.Opening.{homeless}
+use Rattle.row_machine.specs.opening.Opening.{home_missing}
 use Rattle.row_machine.specs.facts.Whole.{IsByDeed, AreLinked}
 use Rattle.machine_laws.proofs.Cases.{IsHome}
 use Rattle.machine_laws.proofs.Expansions.{IsAlike}
@@ -31,8 +31,8 @@ with_stores s ns ps vs = record s { networks = ns; pools = ps; volumes = vs }
 
 -- what the change of networks, pools and volumes leaves
 pub record StoresServe (s : State) (ns : List Network) (ps : List Pool) (vs : List Volume) : Type 0 where
-  pub networks : Each (λ r. homeless s (row.Network r) ≡ None) ns
-  pub volumes : Each (λ v. homeless s (row.Volume v) ≡ None) vs
+  pub networks : Each (λ r. home_missing s (row.Network r) ≡ None) ns
+  pub volumes : Each (λ v. home_missing s (row.Volume v) ≡ None) vs
   pub pools : Each (λ v. is_some (pool_named ps v.pool) ≡ true) vs
   pub profiles : Each (λ r. Serves s (with_stores s ns ps vs) r.project r.devices) s.profiles
   pub instances : Each (λ i. Serves s (with_stores s ns ps vs) i.project (expanded_of s.projects s.profiles i).devices) (judged_instances s)
@@ -62,7 +62,7 @@ stores-links s ns ps vs h deeds serve = record {
   t : State
   t = with_stores s ns ps vs
 
-  rows : EachRow (λ r. homeless s r ≡ None) s
+  rows : EachRow (λ r. home_missing s r ≡ None) s
   rows = each-row s h.homes
 
   alike : (i : Instance) → IsAlike s t i

@@ -30,7 +30,7 @@ use Rattle.row_machine.specs.machine.Holders.{user_link, work_link, profile_uses
 use Rattle.row_machine.specs.facts.Whole.{AreLinked}
 use Rattle.machine_laws.proofs.Found.{there-is, project-found}
 use Rattle.machine_laws.proofs.NamesRows.{EachRow, each-row}
-use Rattle.row_machine.specs.opening.Opening.{homeless}
+use Rattle.row_machine.specs.opening.Opening.{home_missing}
 use Rattle.machine_laws.proofs.LinksHomes.{home-at}
 use Rattle.machine_laws.proofs.LinksClaims.{claim-instance}
 
@@ -178,7 +178,7 @@ module _ (s : State) (home : List ℕ) (of : Target) where
     };
     claims = record { at = no_claim e h };
   } where
-    rows : EachRow (λ r. homeless s r ≡ None) s
+    rows : EachRow (λ r. home_missing s r ≡ None) s
     rows = each-row s h.homes
 
 -- an object without a first user

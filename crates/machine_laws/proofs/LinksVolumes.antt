@@ -29,7 +29,7 @@ use Rattle.row_machine.specs.machine.Changes.{applied, has_key, removal}
 use Rattle.row_machine.specs.shown.Links.{target_of}
 use Rattle.row_machine.specs.machine.Holders.{devices_name, source_uses, first_user_of}
 use Rattle.row_machine.specs.machine.Plans.{moved_row}
-use Rattle.row_machine.specs.opening.Opening.{homeless}
+use Rattle.row_machine.specs.opening.Opening.{home_missing}
 use Rattle.row_machine.specs.facts.Whole.{IsWhole, AreLinked, IsPlaced, IsByDeed}
 use Rattle.row_machine.specs.machine.Deeds.{has_source, claim_kind}
 use Rattle.machine_laws.proofs.Cases.{IsHome}
@@ -74,7 +74,7 @@ copy_claim s task of by placed is same =
 
 -- the volumes are others, each in its pool, and what is named is there
 record AreEnough (s : State) (vs : List Volume) : Type 0 where
-  homes : Each (λ v. homeless s (row.Volume v) ≡ None) vs
+  homes : Each (λ v. home_missing s (row.Volume v) ≡ None) vs
   pools : Each (λ v. is_some (pool_named s.pools v.pool) ≡ true) vs
   profiles : Each (λ r. (pool name : List ℕ) → names_volume r.devices pool name ≡ true → volume_there s r.project pool name
       → volume_there (record s { volumes = vs }) r.project pool name) s.profiles
@@ -104,7 +104,7 @@ serving s vs h deeds enough = stores-links s s.networks s.pools vs h deeds (reco
 -- where each but one stays, which nothing names
 fewer : (s : State) (old : Volume) (vs : List Volume) → IsWhole s
     → first_user_of s old.project (target_of (row.Volume old)) ≡ None
-    → Each (λ v. homeless s (row.Volume v) ≡ None) vs → Each (λ v. is_some (pool_named s.pools v.pool) ≡ true) vs
+    → Each (λ v. home_missing s (row.Volume v) ≡ None) vs → Each (λ v. is_some (pool_named s.pools v.pool) ≡ true) vs
     → ((home pool name : List ℕ) → volume_names old ≢ home ∷ pool ∷ name ∷ [] → is_some (volume_named s.volumes home pool name) ≡ true
     → is_some (volume_named vs home pool name) ≡ true)
     → AreLinked (record s { volumes = vs })
@@ -162,7 +162,7 @@ fewer s old vs h used homes pools stay = serving s vs h.links h.operations.deeds
 
 -- A volume is put.
 pub volume-put_links : (s : State) (r : Volume) → AreLinked s → Each (λ o. IsByDeed o.work) s.operations.live
-    → homeless s (row.Volume r) ≡ None
+    → home_missing s (row.Volume r) ≡ None
     → is_some (pool_named s.pools r.pool) ≡ true → AreLinked (record s { volumes = with_volume r s.volumes })
 volume-put_links s r h deeds home pool = serving s (with_volume r s.volumes) h deeds (record {
   homes = volume-each _ r s.volumes home (each-row s h.homes).volumes;
@@ -173,7 +173,7 @@ volume-put_links s r h deeds home pool = serving s (with_volume r s.volumes) h d
 })
 
 pub volume-home : (s : State) (r : Volume) (home : List ℕ) → IsHome s home kind.Volume → r.project ≡ home
-    → homeless s (row.Volume r) ≡ None
+    → home_missing s (row.Volume r) ≡ None
 volume-home s r home is same =
     at-home s.projects r.project kind.Volume
     (is-home s r.project kind.Volume (subst (λ p. IsHome s p kind.Volume) (sym same) is))

@@ -36,7 +36,7 @@ use Rattle.row_machine.specs.machine.Rows.{is_instance, instance_named, instance
 use Rattle.row_machine.specs.machine.Changes.{applied}
 use Rattle.row_machine.specs.machine.Claims.{claimed_instance, replaced_instance, amounts_of_instance, share_of}
 use Rattle.row_machine.specs.shown.Links.{target_of}
-use Rattle.row_machine.specs.machine.Usage.{loads, used, usage_of, counted}
+use Rattle.row_machine.specs.machine.Usage.{loads, used, usage_of, amount_for}
 use Rattle.row_machine.specs.shown.Notices.{telling, success_notices, operation_notice}
 use Rattle.row_machine.specs.machine.Accept.{After}
 use Rattle.row_machine.specs.machine.Step.{well, step, success, committed, done, reported, call_done}
@@ -205,7 +205,7 @@ module _ (s : State) (o : Operation Task) (moment : ℕ) (h : IsLastDone s o) (k
         let same_parts : sum_by (instance_part (next s o moment h) project k) (next s o moment h).instances ≡ sum_by (instance_part s project k) (next s o moment h).instances =
         sum_by-same (instance_part (next s o moment h) project k) (instance_part s project k) (next s o moment h).instances
         (record {
-          at = λ i m. ap (λ x. counted project k (record { project = i.project; amounts = x }))
+          at = λ i m. ap (λ x. amount_for project k (record { project = i.project; amounts = x }))
               (amounts-tables s (next s o moment h) i (ap (λ (t : Tables). t.projects) rows) (ap (λ (t : Tables). t.profiles) rows));
         }) in
         let instances : sum_by (instance_part s project k) (next s o moment h).instances ≡ sum_by (instance_part s project k) (with_instance r.new s.instances) =

@@ -30,7 +30,7 @@ use Rattle.row_machine.specs.machine.SettingRules.{profile_missing, devices_miss
 use Rattle.row_machine.specs.machine.PolicyRules.{forbids_profile, forbids_instance, project_forbids, policy_broken}
 use Rattle.row_machine.specs.machine.LimitRules.{instance_uncounted, volume_uncounts, project_uncounted, counts_broken}
 use Rattle.row_machine.specs.machine.TableRules.{count_of}
-use Rattle.row_machine.specs.opening.Opening.{overnamed, undefaulted, unlinked, has_all_features}
+use Rattle.row_machine.specs.opening.Opening.{profiles_malformed, defaults_missing, named_row_missing, has_all_features}
 use Rattle.row_machine.specs.facts.Whole.{IsWhole, AreNamed, IsLinked, AreLinked, HasDefaults, AreSettled, AreOperations, AreBalanced, AreFew}
 use Rattle.machine_laws.proofs.NamesRise.{Rise-Distinct}
 use Rattle.machine_laws.proofs.NamesRows.{EachRow, each-row}
@@ -86,7 +86,7 @@ module _ (a : State) (rows : List Row) (h : IsOpened (rows_alone a) rows) where
     instances = Each-append (record { at = λ i m. linked i ((by_kind h.accepted.profiles).instances.at i m) ((by_kind h.accepted.links).instances.at i m) }) Each-none;
     operations = Each-none;
   } where
-    linked : (i : Instance) → overnamed s (row.Instance i) ≡ None → unlinked s (row.Instance i) ≡ None → IsLinked s i
+    linked : (i : Instance) → profiles_malformed s (row.Instance i) ≡ None → named_row_missing s (row.Instance i) ≡ None → IsLinked s i
     linked i few none =
         let both = none_both (profile_missing s i) _ (not_mapped (λ (r : Refusal). r.rule) _ none) in
         let devices = none_both (devices_miss s i.project (expanded_of s.projects s.profiles i).devices) None both.1 in
@@ -97,10 +97,10 @@ module _ (a : State) (rows : List Row) (h : IsOpened (rows_alone a) rows) where
     project = of_default (some_there (project_named s.projects default_name) (not_none (project_named s.projects default_name) h.accepted.default));
     profiles = Each-map (λ p none on. not_none _ (and_false (is_on p.config (codes "features.profiles")) _ (parts p none).1 on)) projects;
   } where
-    projects : Each (λ p. undefaulted s (row.Project p) ≡ None) s.projects
+    projects : Each (λ p. defaults_missing s (row.Project p) ≡ None) s.projects
     projects = (by_kind h.accepted.defaults).projects
 
-    parts : (p : Project) → undefaulted s (row.Project p) ≡ None
+    parts : (p : Project) → defaults_missing s (row.Project p) ≡ None
         → ((bytes_eq p.name default_name && not (has_all_features p)) ≡ false)
         × ((is_on p.config (codes "features.profiles") && is_none (profile_named s.profiles p.name default_name)) ≡ false)
     parts p none = or_false _ _ (told_if _ _ none)

@@ -21,21 +21,21 @@ use Rattle.row_machine.specs.machine.Rows.{default_name, project_named}
 use Rattle.row_machine.specs.machine.LimitRules.{part_exceeds, networks_exceed, limits_broken}
 use Rattle.row_machine.specs.machine.TableRules.{row_kinds, too_large, size_of, largest_row}
 use Rattle.row_machine.specs.machine.Kinds.{cap_of}
-use Rattle.row_machine.specs.opening.Opening.{Opening, opened, broken, broken_at, homeless, orphaned, overnamed, undefaulted, missettled, misdeviced, rootless, unlinked, forbidden, uncountable, row_rules, row_breaks, default_missing, limit_breaks, past_cap, size_breaks, rows_break}
+use Rattle.row_machine.specs.opening.Opening.{Opening, opened, broken, broken_at, home_missing, parent_row_missing, profiles_malformed, defaults_missing, settings_invalid, devices_invalid, root_disk_missing, named_row_missing, forbidden, uncountable, row_rules, row_breaks, default_missing, limit_breaks, past_cap, size_breaks, rows_break}
 use Rattle.machine_laws.proofs.SizesTables.{IsSmall}
 use Rattle.machine_laws.proofs.OpeningRows.{of_kind}
 
 -- each row meets each rule
 pub record AreAccepted (s : State) (rows : List Row) : Type 0 where
   pub default : is_none (project_named s.projects default_name) ≡ false
-  pub homes : Each (λ r. homeless s r ≡ None) rows
-  pub parents : Each (λ r. orphaned s r ≡ None) rows
-  pub profiles : Each (λ r. overnamed s r ≡ None) rows
-  pub defaults : Each (λ r. undefaulted s r ≡ None) rows
-  pub settings : Each (λ r. missettled s r ≡ None) rows
-  pub devices : Each (λ r. misdeviced s r ≡ None) rows
-  pub roots : Each (λ r. rootless s r ≡ None) rows
-  pub links : Each (λ r. unlinked s r ≡ None) rows
+  pub homes : Each (λ r. home_missing s r ≡ None) rows
+  pub parents : Each (λ r. parent_row_missing s r ≡ None) rows
+  pub profiles : Each (λ r. profiles_malformed s r ≡ None) rows
+  pub defaults : Each (λ r. defaults_missing s r ≡ None) rows
+  pub settings : Each (λ r. settings_invalid s r ≡ None) rows
+  pub devices : Each (λ r. devices_invalid s r ≡ None) rows
+  pub roots : Each (λ r. root_disk_missing s r ≡ None) rows
+  pub links : Each (λ r. named_row_missing s r ≡ None) rows
   pub policy : (number : ℕ) → Mem number (1 ∷ 2 ∷ 3 ∷ 4 ∷ 5 ∷ 6 ∷ 7 ∷ []) → Each (λ r. forbidden number s r ≡ None) rows
   pub counts : Each (λ r. uncountable s r ≡ None) rows
   pub limits : limits_broken s s ≡ None
@@ -92,14 +92,14 @@ rows-accepted s rows h =
     let c = none_both (limit_breaks s rows) _ b.1 in
     let d = none_both (first_of (past_cap rows) row_kinds) _ c.1 in
     let e = none_both (size_breaks rows) None d.1 in
-    let r1 = none_both (row_breaks s rows homeless) _ b.0 in
-    let r2 = none_both (row_breaks s rows orphaned) _ r1.1 in
-    let r3 = none_both (row_breaks s rows overnamed) _ r2.1 in
-    let r4 = none_both (row_breaks s rows undefaulted) _ r3.1 in
-    let r5 = none_both (row_breaks s rows missettled) _ r4.1 in
-    let r6 = none_both (row_breaks s rows misdeviced) _ r5.1 in
-    let r7 = none_both (row_breaks s rows rootless) _ r6.1 in
-    let r8 = none_both (row_breaks s rows unlinked) _ r7.1 in
+    let r1 = none_both (row_breaks s rows home_missing) _ b.0 in
+    let r2 = none_both (row_breaks s rows parent_row_missing) _ r1.1 in
+    let r3 = none_both (row_breaks s rows profiles_malformed) _ r2.1 in
+    let r4 = none_both (row_breaks s rows defaults_missing) _ r3.1 in
+    let r5 = none_both (row_breaks s rows settings_invalid) _ r4.1 in
+    let r6 = none_both (row_breaks s rows devices_invalid) _ r5.1 in
+    let r7 = none_both (row_breaks s rows root_disk_missing) _ r6.1 in
+    let r8 = none_both (row_breaks s rows named_row_missing) _ r7.1 in
     let f1 = none_both (row_breaks s rows (forbidden 1)) _ r8.1 in
     let f2 = none_both (row_breaks s rows (forbidden 2)) _ f1.1 in
     let f3 = none_both (row_breaks s rows (forbidden 3)) _ f2.1 in
@@ -112,14 +112,14 @@ rows-accepted s rows h =
     Each-cons _ f1.0 (Each-cons _ f2.0 (Each-cons _ f3.0 (Each-cons _ f4.0 (Each-cons _ f5.0 (Each-cons _ f6.0 (Each-cons _ f7.0 Each-none)))))) in
     record {
       default = told_if _ _ a.0;
-      homes = rule-none s rows homeless r1.0;
-      parents = rule-none s rows orphaned r2.0;
-      profiles = rule-none s rows overnamed r3.0;
-      defaults = rule-none s rows undefaulted r4.0;
-      settings = rule-none s rows missettled r5.0;
-      devices = rule-none s rows misdeviced r6.0;
-      roots = rule-none s rows rootless r7.0;
-      links = rule-none s rows unlinked r8.0;
+      homes = rule-none s rows home_missing r1.0;
+      parents = rule-none s rows parent_row_missing r2.0;
+      profiles = rule-none s rows profiles_malformed r3.0;
+      defaults = rule-none s rows defaults_missing r4.0;
+      settings = rule-none s rows settings_invalid r5.0;
+      devices = rule-none s rows devices_invalid r6.0;
+      roots = rule-none s rows root_disk_missing r7.0;
+      links = rule-none s rows named_row_missing r8.0;
       policy = λ number m. rule-none s rows (forbidden number) (policy.at number m);
       counts = rule-none s rows uncountable last.0;
       limits = limits-none s rows c.0;

@@ -28,7 +28,7 @@ use Rattle.row_machine.specs.machine.Holders.{names_profile}
 use Rattle.machine_laws.proofs.LimitsBroken.{Mem-filter}
 use Rattle.records.specs.declared.rows.Profile.{Profile}
 use Rattle.row_machine.specs.machine.SettingRules.{naming, tables_break, setting_refusal, scope_of, root_missing, instance_settings, profile_settings, row_settings, settings_broken}
-use Rattle.row_machine.specs.opening.Opening.{missettled, misdeviced, rule_of}
+use Rattle.row_machine.specs.opening.Opening.{settings_invalid, devices_invalid, rule_of}
 use Rattle.row_machine.specs.machine.Work.{success_changes, renames_instance}
 use Rattle.row_machine.specs.machine.Asked.{snapshots_of}
 use Rattle.row_machine.specs.machine.Rows.{instance_named, snapshot_named}
@@ -36,8 +36,8 @@ use Rattle.machine_laws.proofs.ExpansionsNamed.{claim-is}
 
 -- what the tables say of a row, in any state
 pub record IsTabled (s : State) (r : Row) : Type 0 where
-  pub settings : missettled s r ≡ None
-  pub devices : misdeviced s r ≡ None
+  pub settings : settings_invalid s r ≡ None
+  pub devices : devices_invalid s r ≡ None
 
 -- no row of the state is read
 pub accepted-any : (s t : State) (r : Row) → IsTabled s r → IsTabled t r

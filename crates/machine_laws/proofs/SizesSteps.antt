@@ -203,7 +203,7 @@ few-applied s cs roomy small h = record {
 -- ---- success
 
 -- what a live operation's claim and the rows of the state are, for sizes
-sized : (s : State) (o : Operation Task) → IsWhole s → live_at s.operations o.number ≡ Some o → IsSized s o.work
+pub sized : (s : State) (o : Operation Task) → IsWhole s → live_at s.operations o.number ≡ Some o → IsSized s o.work
 sized s o h live = record {
   small = λ r is. (Each-right (rows_of s) h.sizes.rows).at r (Mem-read (λ (x : Operation Task). x.work.claim) o r s.operations.live there is);
   kind = (h.operations.deeds.at o there).kind;

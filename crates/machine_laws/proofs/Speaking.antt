@@ -16,7 +16,7 @@ use Rattle.row_machine.specs.machine.Asked.{object_of, instance_in, instance_cha
 use Rattle.row_machine.specs.machine.Holders.{busy_with, holder_of, first_user_of}
 use Rattle.row_machine.specs.machine.NameRules.{what_is_missing, object_missing, parent_missing, is_there}
 use Rattle.row_machine.specs.machine.Kinds.{is_in_project}
-use Rattle.row_machine.specs.machine.StandingRules.{object_changed, instance_busy, object_protected, is_protected, object_used, project_occupied, must_be_empty, is_occupied, profile_held, held_profile, busy}
+use Rattle.row_machine.specs.machine.StandingRules.{object_changed, instance_busy, object_protected, is_protected, object_used, project_occupied, must_be_empty, is_occupied, profile_held, held_profile, named_instance_busy}
 use Rattle.machine_laws.proofs.Commands.{command_of, target}
 use Rattle.machine_laws.proofs.Told.{AreNamesRight, IsWayFree, project-there, object-there}
 
@@ -77,7 +77,7 @@ pub it-is_idle : {s : State} {project : List ℕ} {w : What} {of : Target} (name
     → instance_in of ≡ Some name → busy_with s project name ≡ None
 unfolding instance_busy
 it-is_idle {s} {project} {w} {of} name about way is =
-    not_mapped _ _ (ap (option_and_then (busy s project)) (sym (about.instance ∙ is)) ∙ way.idle)
+    not_mapped _ _ (ap (option_and_then (named_instance_busy s project)) (sym (about.instance ∙ is)) ∙ way.idle)
 
 pub rename-unused : {s : State} {project to : List ℕ} {of : Target} → IsWayFree s (command_of project (what.Move of to))
     → first_user_of s (home_of s.projects project of.kind) of ≡ None

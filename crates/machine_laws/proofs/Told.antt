@@ -16,7 +16,7 @@ use Rattle.records.specs.declared.commands.Command.{Command}
 use Rattle.row_machine.specs.machine.State.{State}
 use Rattle.row_machine.specs.machine.Rows.{default_name, project_named}
 use Rattle.row_machine.specs.machine.Homes.{home_of, home_by, has_feature}
-use Rattle.row_machine.specs.machine.NameRules.{project_missing, what_is_missing, name_broken, is_there, malformed, taken, held, object_missing, parent_missing, missing_unless, claims_object}
+use Rattle.row_machine.specs.machine.NameRules.{project_missing, what_is_missing, name_broken, is_there, name_malformed, name_taken, name_held, object_missing, parent_missing, missing_unless, claims_object}
 use Rattle.row_machine.specs.machine.Rules.{names_broken}
 use Rattle.row_machine.specs.machine.Kinds.{is_in_project}
 use Rattle.row_machine.specs.machine.StandingRules.{instance_busy, wrong_state, object_protected, object_used, project_occupied, profile_held}
@@ -151,9 +151,9 @@ object-there s project of e =
 pub name-new : (s : State) (project : List ℕ) (of : Target) → name_broken s project of ≡ None → IsNew s (home_of s.projects project of.kind) of
 unfolding name_broken
 name-new s project of e =
-    let good = none_both (malformed of) _ e in
-    let free = none_both (taken s project of) _ good.1 in
-    let unclaimed = none_both (held s project of) None free.1 in
+    let good = none_both (name_malformed of) _ e in
+    let free = none_both (name_taken s project of) _ good.1 in
+    let unclaimed = none_both (name_held s project of) None free.1 in
     record {
       good = told_unless _ _ good.0;
       free = sym (row-there s project of.kind of.pool of.instance of.name) ∙ told_if _ _ free.0;

@@ -39,16 +39,16 @@ use Rattle.machine_laws.proofs.WaitsSteps.Does.{idles, idles_on, takes, goes_on,
 
 -- ---- how many steps an operation needs
 
-abbrev steps_in : Status → Task → ℕ
+abbrev pub steps_in : Status → Task → ℕ
 steps_in status.Pending task = 1 + length task.calls
 steps_in status.Running task = 1 + length task.calls
 steps_in status.Cancelling task = 1 + length (option_to_list task.undo)
 steps_in other task = 1
 
-abbrev steps : Operation Task → ℕ
+abbrev pub steps : Operation Task → ℕ
 steps o = steps_in o.status o.work
 
-abbrev steps_of : State → ℕ
+abbrev pub steps_of : State → ℕ
 steps_of s = sum_by steps s.operations.live
 
 -- at least one
@@ -63,7 +63,7 @@ steps-some o = by o.status where
   by status.Cancelled = omega arith
 
 -- a deed has one call or two
-few-calls : (d : Deed) → (1 ≤ length (calls_of d)) × (length (calls_of d) ≤ 2)
+pub few-calls : (d : Deed) → (1 ≤ length (calls_of d)) × (length (calls_of d) ≤ 2)
 few-calls deed.Create = (omega arith, omega arith)
 few-calls deed.Copy = (omega arith, omega arith)
 few-calls deed.Update = (omega arith, omega arith)
@@ -81,7 +81,7 @@ few-calls deed.Unsnap = (omega arith, omega arith)
 few-calls deed.CopyVolume = (omega arith, omega arith)
 
 -- at most four
-steps-few : (o : Operation Task) → IsUnderWay o → steps o ≤ 4
+pub steps-few : (o : Operation Task) → IsUnderWay o → steps o ≤ 4
 steps-few o h = by o.status where
   few : length o.work.calls ≤ 2
   few = let most = few-calls o.work.deed in omega (arith, h.calls, most.1)
@@ -98,11 +98,11 @@ steps-few o h = by o.status where
   by status.Failure = omega arith
   by status.Cancelled = omega arith
 
-sum-few : (os : List (Operation Task)) → Each (λ (o : Operation Task). steps o ≤ 4) os → sum_by steps os ≤ 4 * length os
+pub sum-few : (os : List (Operation Task)) → Each (λ (o : Operation Task). steps o ≤ 4) os → sum_by steps os ≤ 4 * length os
 sum-few [] h = omega arith
 sum-few (o ∷ os) h = let rest = sum-few os (Each-tail h) in omega (arith, sum_by-cons steps o os, Each-head h, rest)
 
-none-left : (os : List (Operation Task)) → sum_by steps os ≤ 0 → os ≡ []
+pub none-left : (os : List (Operation Task)) → sum_by steps os ≤ 0 → os ≡ []
 none-left [] h = refl
 none-left (o ∷ os) h = absurd (omega (arith, sum_by-cons steps o os, steps-some o, h))
 
@@ -121,9 +121,9 @@ gone-steps os n o e = omega (arith, sum_by-Puts steps (dropped-Puts (has_number 
 -- ---- a step
 
 -- what a step keeps and lessens
-record Lessens (s : State) (x : Served) : Type 0 where
-  less : steps_of x.state ≤ steps_of s - 1
-  alone : IsAlone x.state x.hand
+pub record Lessens (s : State) (x : Served) : Type 0 where
+  pub less : steps_of x.state ≤ steps_of s - 1
+  pub alone : IsAlone x.state x.hand
 
 -- with nothing in hand all wait
 all-wait : (s : State) → IsAlone s None → Each (λ (o : Operation Task). o.status ≡ Pending) s.operations.live
@@ -165,7 +165,7 @@ found-hand os f o e same apart n is = (
   some-is : {x y : ℕ} → Some x ≡ Some y → x ≡ y
   some-is same = cc
 
-lessens : (s : State) (hand : Option ℕ) (x : Served) → IsWhole s → IsAlone s hand → Does s hand x → Lessens s x
+pub lessens : (s : State) (hand : Option ℕ) (x : Served) → IsWhole s → IsAlone s hand → Does s hand x → Lessens s x
 lessens s None x h alone (idles none) = record {
   less = subst (λ os. sum_by steps os ≤ sum_by steps os - 1) (sym (no-first s.operations.live (all-wait s alone) none)) (omega arith);
   alone = alone;

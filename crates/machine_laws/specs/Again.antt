@@ -12,13 +12,13 @@ use Rattle.records.specs.declared.replies.Reply.TheVariants as reply
 use Rattle.row_machine.specs.declared.events.Event.TheVariants as event
 use Rattle.row_machine.specs.declared.events.Answer.TheVariants as answer
 use Rattle.row_machine.specs.machine.State.{State}
-use Rattle.row_machine.specs.machine.NameRules.{project_missing, what_is_missing, is_there, held}
+use Rattle.row_machine.specs.machine.NameRules.{project_missing, what_is_missing, is_there, name_held}
 use Rattle.row_machine.specs.machine.Accept.{and_then}
 use Rattle.row_machine.specs.machine.Step.{step, well}
 
 -- the row under the name of the object, or a live claim of it, stands
 abbrev pub StandsAlready : State → List ℕ → Target → Type 0
-StandsAlready s project of = (is_there s project of ≡ true) ⊎ (is_some (held s project of) ≡ true)
+StandsAlready s project of = (is_there s project of ≡ true) ⊎ (is_some (name_held s project of) ≡ true)
 
 -- The creation is refused, and changes nothing. Where no earlier rule is broken the refusal is N4 or N5.
 pub record IsRefusedAgain (s : State) (c : Command) (moment : ℕ) (of : Target) : Type 0 where

@@ -3,7 +3,8 @@ ghost use Rattle.std.specs.Prelude.{◌≡◌, find};
 ghost use Rattle.std.specs.Option.{option_copied};
 ghost use Rattle.size_values.specs.Causes.{Says};
 ghost use Rattle.row_machine.specs.shown.Links.{target_of};
-ghost use Rattle.row_machine.specs.machine.NameRules.{malformed, taken, same_target, claims_object, held, name_broken};
+ghost use Rattle.row_machine.specs.machine.NameRules.{name_malformed, name_taken, same_target, claims_object};
+ghost use Rattle.row_machine.specs.machine.NameRules.{name_held, name_broken};
 ghost use Rattle.name_rules.specs.Pointed.{target_at, has_names};
 
 use crate::places::{Place, is_there};
@@ -17,8 +18,8 @@ use size_values::{ObjectKind, Or};
 use std::alloc::Global;
 
 /// N3: the name is malformed.
-fn malformed(alloc: Global, of: Place<'_>) -> Result<(), Or<Refusal>>
-    ensures { Says result (malformed (target_at of.entry)) }
+fn name_malformed(alloc: Global, of: Place<'_>) -> Result<(), Or<Refusal>>
+    ensures { Says result (name_malformed (target_at of.entry)) }
 {
     if good_name(of.kind, of.name) {
         return Ok(());
@@ -27,8 +28,13 @@ fn malformed(alloc: Global, of: Place<'_>) -> Result<(), Or<Refusal>>
 }
 
 /// N4: there is an object of the name.
-fn taken(alloc: Global, view: &View<'_>, project: &str, of: Place<'_>) -> Result<(), Or<Refusal>>
-    ensures { Says result (taken view.now project.now (target_at of.entry)) }
+fn name_taken(
+    alloc: Global,
+    view: &View<'_>,
+    project: &str,
+    of: Place<'_>,
+) -> Result<(), Or<Refusal>>
+    ensures { Says result (name_taken view.now project.now (target_at of.entry)) }
 {
     if !is_there(view, project, of) {
         return Ok(());
@@ -74,18 +80,27 @@ fn claims_object(home: &str, of: Place<'_>, work: &Work) -> bool
     }
 }
 
-fn holder<'x>(live: &'x [Operation<Work>], home: &str, of: Place<'_>) -> Option<&'x Operation<Work>>
+fn claiming_operation<'x>(
+    live: &'x [Operation<Work>],
+    home: &str,
+    of: Place<'_>,
+) -> Option<&'x Operation<Work>>
     ensures { option_copied result ≡ find (λ o. claims_object home.now (target_at of.entry) o.work) live.now }
 {
     live.iter().find(|o| claims_object(home, of, &o.work))
 }
 
 /// N5: a live operation would put an object of the name.
-fn held(alloc: Global, view: &View<'_>, project: &str, of: Place<'_>) -> Result<(), Or<Refusal>>
-    ensures { Says result (held view.now project.now (target_at of.entry)) }
+fn name_held(
+    alloc: Global,
+    view: &View<'_>,
+    project: &str,
+    of: Place<'_>,
+) -> Result<(), Or<Refusal>>
+    ensures { Says result (name_held view.now project.now (target_at of.entry)) }
 {
     let home = home_of(view.projects, project, of.kind);
-    let Some(operation) = holder(view.live, home, of) else {
+    let Some(operation) = claiming_operation(view.live, home, of) else {
         return Ok(());
     };
     let number = operation.number;
@@ -102,7 +117,7 @@ pub(crate) fn name_broken(
 ) -> Result<(), Or<Refusal>>
     ensures { Says result (name_broken view.now project.now (target_at of.entry)) }
 {
-    malformed(alloc, of)?;
-    taken(alloc, view, project, of)?;
-    held(alloc, view, project, of)
+    name_malformed(alloc, of)?;
+    name_taken(alloc, view, project, of)?;
+    name_held(alloc, view, project, of)
 }

@@ -10,7 +10,7 @@ ghost use Rattle.row_machine.specs.machine.Rules.{names_broken};
 
 use crate::free::name_broken;
 use crate::missing::{project_missing, what_is_missing};
-use crate::places::{Place, place_of, renamed};
+use crate::places::{Place, named_place, place_of};
 use records::{Command, Refusal, What};
 use row_readings::{View, instance_named, next_snapshot};
 use size_values::{ObjectKind, Or};
@@ -32,7 +32,7 @@ fn snapshot_name_broken(
         return name_broken(alloc, view, project, of);
     };
     let name = next_snapshot(alloc, view, row)?;
-    let broken = name_broken(alloc, view, project, renamed(of, name.view()));
+    let broken = name_broken(alloc, view, project, named_place(of, name.view()));
     drop(name);
     broken
 }
@@ -71,7 +71,7 @@ fn given_name_broken(
     match what {
         What::Create { of, .. } => new_name_broken(alloc, view, project, place_of(of)),
         What::Move { of, to } => {
-            name_broken(alloc, view, project, renamed(place_of(of), to.view()))
+            name_broken(alloc, view, project, named_place(place_of(of), to.view()))
         }
         What::Root
         | What::Server

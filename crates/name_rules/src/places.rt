@@ -19,7 +19,6 @@ pub(crate) struct Place<'a> {
     pub(crate) name: &'a str,
 }
 
-/// The place of a target.
 pub(crate) fn place_of(of: &Target) -> Place<'_>
     ensures { target_at result ≡ of.now }
 {
@@ -32,7 +31,7 @@ pub(crate) fn place_of(of: &Target) -> Place<'_>
 }
 
 /// The place under another name.
-pub(crate) fn renamed<'x>(of: Place<'x>, name: &'x str) -> Place<'x>
+pub(crate) fn named_place<'x>(of: Place<'x>, name: &'x str) -> Place<'x>
     ensures { target_at result ≡ record (target_at of.entry) { name = name.now } }
 {
     Place {
@@ -44,7 +43,7 @@ pub(crate) fn renamed<'x>(of: Place<'x>, name: &'x str) -> Place<'x>
 }
 
 /// The place under another name, in another pool.
-pub(crate) fn moved<'x>(of: Place<'x>, pool: &'x str, name: &'x str) -> Place<'x>
+pub(crate) fn place_in_pool<'x>(of: Place<'x>, pool: &'x str, name: &'x str) -> Place<'x>
     ensures { target_at result ≡ record (target_at of.entry) { name = name.now; pool = pool.now } }
 {
     Place {

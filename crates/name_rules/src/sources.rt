@@ -6,7 +6,7 @@ ghost use Rattle.name_rules.specs.Sought.{instance_source_missing};
 ghost use Rattle.row_machine.specs.machine.NameRules.{source_missing};
 
 use crate::missing::{missing_unless, object_missing, snapshot_missing};
-use crate::places::{Place, moved};
+use crate::places::{Place, place_in_pool};
 use records::{Origin, Refusal};
 use row_readings::{View, instance_named};
 use size_values::{ObjectKind, Or};
@@ -44,7 +44,7 @@ fn copied_missing(
         (source_missing view.now project.now (target_at of.entry) (origin_of.Copy from.now snapshot.now pool.now)) }
 {
     match of.kind {
-        ObjectKind::Volume => object_missing(alloc, view, project, moved(of, pool, from)),
+        ObjectKind::Volume => object_missing(alloc, view, project, place_in_pool(of, pool, from)),
         ObjectKind::Project
         | ObjectKind::Profile
         | ObjectKind::Network

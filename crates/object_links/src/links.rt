@@ -7,7 +7,7 @@ use size_values::{NoMemory, ObjectKind, Text};
 use std::alloc::Global;
 
 /// A path of two parts.
-fn joined(alloc: Global, list: &str, name: &str) -> Result<String, NoMemory>
+fn join_path(alloc: Global, list: &str, name: &str) -> Result<String, NoMemory>
     ensures { IfOk result (λ s. string_bytes s ≡ list.now ++ name.now) }
 {
     let mut path = String::from_str(alloc, list)?;
@@ -38,10 +38,10 @@ fn path_text(alloc: Global, of: &Target) -> Result<String, NoMemory>
 {
     let name = of.name.view();
     match of.kind {
-        ObjectKind::Project => joined(alloc, "/1.0/projects/", name),
-        ObjectKind::Profile => joined(alloc, "/1.0/profiles/", name),
-        ObjectKind::Network => joined(alloc, "/1.0/networks/", name),
-        ObjectKind::Pool => joined(alloc, "/1.0/storage-pools/", name),
+        ObjectKind::Project => join_path(alloc, "/1.0/projects/", name),
+        ObjectKind::Profile => join_path(alloc, "/1.0/profiles/", name),
+        ObjectKind::Network => join_path(alloc, "/1.0/networks/", name),
+        ObjectKind::Pool => join_path(alloc, "/1.0/storage-pools/", name),
         ObjectKind::Volume => joined_inside(
             alloc,
             "/1.0/storage-pools/",
@@ -49,7 +49,7 @@ fn path_text(alloc: Global, of: &Target) -> Result<String, NoMemory>
             "/volumes/custom/",
             name,
         ),
-        ObjectKind::Instance => joined(alloc, "/1.0/instances/", name),
+        ObjectKind::Instance => join_path(alloc, "/1.0/instances/", name),
         ObjectKind::Snapshot => joined_inside(
             alloc,
             "/1.0/instances/",
@@ -57,7 +57,7 @@ fn path_text(alloc: Global, of: &Target) -> Result<String, NoMemory>
             "/snapshots/",
             name,
         ),
-        ObjectKind::Operation => joined(alloc, "/1.0/operations/", name),
+        ObjectKind::Operation => join_path(alloc, "/1.0/operations/", name),
     }
 }
 

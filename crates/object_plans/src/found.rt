@@ -30,21 +30,35 @@ pub(crate) fn row_of<'x>(view: &View<'x>, project: &str, of: &Target) -> Option<
     let home = home_of(view.projects, project, of.kind);
     let name = of.name.view();
     match of.kind {
-        ObjectKind::Project => Some(Found::Project(project_named(view.projects, name)?)),
-        ObjectKind::Profile => Some(Found::Profile(profile_named(view.profiles, home, name)?)),
-        ObjectKind::Network => Some(Found::Network(network_named(view.networks, home, name)?)),
-        ObjectKind::Pool => Some(Found::Pool(pool_named(view.pools, name)?)),
-        ObjectKind::Volume => {
-            let row = volume_named(view.volumes, home, of.pool.view(), name)?;
-            Some(Found::Volume(row))
-        }
-        ObjectKind::Instance => {
-            let row = instance_named(view.instances, project, name)?;
-            Some(Found::Instance(row))
-        }
+        ObjectKind::Project => match project_named(view.projects, name) {
+            Some(row) => Some(Found::Project(row)),
+            None => None,
+        },
+        ObjectKind::Profile => match profile_named(view.profiles, home, name) {
+            Some(row) => Some(Found::Profile(row)),
+            None => None,
+        },
+        ObjectKind::Network => match network_named(view.networks, home, name) {
+            Some(row) => Some(Found::Network(row)),
+            None => None,
+        },
+        ObjectKind::Pool => match pool_named(view.pools, name) {
+            Some(row) => Some(Found::Pool(row)),
+            None => None,
+        },
+        ObjectKind::Volume => match volume_named(view.volumes, home, of.pool.view(), name) {
+            Some(row) => Some(Found::Volume(row)),
+            None => None,
+        },
+        ObjectKind::Instance => match instance_named(view.instances, project, name) {
+            Some(row) => Some(Found::Instance(row)),
+            None => None,
+        },
         ObjectKind::Snapshot => {
-            let row = snapshot_named(view.snapshots, project, of.instance.view(), name)?;
-            Some(Found::Snapshot(row))
+            match snapshot_named(view.snapshots, project, of.instance.view(), name) {
+                Some(row) => Some(Found::Snapshot(row)),
+                None => None,
+            }
         }
         ObjectKind::Operation => None,
     }

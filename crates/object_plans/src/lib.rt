@@ -3,19 +3,12 @@
 #![tactic(auto)]
 
 mod changes;
-mod contents;
 mod found;
-mod instances;
 mod made;
-mod networks;
 mod notices;
 mod planned;
 mod plans;
-mod pools;
-mod profiles;
 mod projects;
-mod volumes;
 
 pub use planned::Planned;
 pub use plans::plan_change;
-pub use profiles::default_profile;

@@ -10,14 +10,14 @@ ghost use Rattle.object_plans.specs.Planning.{changes_in};
 
 use crate::changes::{and_put, one_put, one_removal};
 use crate::found::Found;
-use crate::instances::patched_instance;
-use crate::networks::{made_network, patched_network, put_network, renamed_network};
-use crate::pools::{made_pool, patched_pool, put_pool};
-use crate::profiles::{made_profile, patched_profile, put_profile, renamed_profile};
 use crate::projects::{
     project_creation, project_deletion, project_patch, project_put, project_rename,
 };
-use crate::volumes::{made_volume, patched_volume, put_volume, renamed_volume};
+use changed_rows::{
+    made_network, made_pool, made_profile, made_volume, patched_instance, patched_network,
+    patched_pool, patched_profile, patched_volume, put_network, put_pool, put_profile, put_volume,
+    renamed_network, renamed_profile, renamed_volume,
+};
 use records::{Body, Origin, Row, Target};
 use row_machine::RowChange;
 use row_readings::{View, home_of};

@@ -1,6 +1,5 @@
 //! What each command that changes rows at once is to do.
-ghost use Rattle.std.specs.Prelude.{◌≡◌, [], ◌∷◌, IfOk};
-ghost use Rattle.std.specs.Option.{option_map, option_to_list};
+ghost use Rattle.std.specs.Prelude.{◌≡◌, IfOk};
 ghost use Rattle.records.specs.declared.commands.What.TheVariants as what;
 ghost use Rattle.object_plans.specs.Planning.{IsPlanOf};
 

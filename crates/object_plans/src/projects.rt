@@ -1,104 +1,22 @@
-//! The rows of projects that commands make, and the changes that projects bring with them: a project that has profiles
-//! of its own has a profile `default` (<https://linuxcontainers.org/incus/docs/main/reference/projects/>).
-ghost use Rattle.std.specs.Prelude.{◌≡◌, ◌≢◌, [], ◌∷◌, ◌++◌, IfOk, OnOk};
+//! The changes that projects bring with them: a project that has profiles of its own has a profile `default`
+//! (<https://linuxcontainers.org/incus/docs/main/reference/projects/>).
+ghost use Rattle.std.specs.Prelude.{◌≡◌, [], ◌∷◌, ◌++◌, IfOk};
 ghost use Rattle.records.specs.declared.rows.Row.TheVariants as row_of;
 ghost use Rattle.row_machine.specs.declared.changes.RowChange.TheVariants as change;
-ghost use Rattle.row_machine.specs.machine.NewRows.{new_description, new_config, patched_description, patched_config};
-ghost use Rattle.row_machine.specs.machine.NewRows.{default_profile, feature_on, with_features, made_project};
-ghost use Rattle.row_machine.specs.machine.NewRows.{put_project, patched_project};
+ghost use Rattle.row_machine.specs.machine.NewRows.{default_profile, made_project, put_project, patched_project};
 ghost use Rattle.row_machine.specs.machine.Plans.{moved_row, project_creation, project_change, project_rename};
 ghost use Rattle.row_machine.specs.machine.Plans.{project_deletion};
 
 use crate::changes::{and_default_removal, and_put, and_removal, one_put, one_removal};
-use crate::contents::{Content, copied_content, new_content, patched_content};
 use crate::found::Found;
-use crate::profiles::{default_profile, rehomed_profile};
-use config_lists::Config;
-use new_rows::{new_config, new_description};
+use changed_rows::{
+    default_profile, made_project, patched_project, put_project, rehomed_profile, renamed_project,
+};
 use records::{Body, Profile, Project, Row};
 use row_machine::RowChange;
 use row_readings::{View, is_on, profile_named};
 use size_values::{NoMemory, Seq, Text};
 use std::alloc::Global;
-
-/// Turns a feature on, unless the settings name it.
-fn turn_on(config: &mut Config, feature: &str) -> Result<(), NoMemory>
-    requires { feature.now ≢ [] }
-    ensures { OnOk result (config.new ≡ feature_on config.old feature.now) }
-{
-    if config.get(feature).is_some() {
-        return Ok(());
-    }
-    config.set(feature, "true")
-}
-
-/// The settings of a new project: all features but that of networks are on, where the request does not say otherwise.
-fn project_config(alloc: Global, body: &Body) -> Result<Config, NoMemory>
-    ensures { IfOk result (λ c. c ≡ with_features (new_config body.now)) }
-{
-    let mut config = new_config(alloc, body)?;
-    turn_on(&mut config, "features.profiles")?;
-    turn_on(&mut config, "features.storage.volumes")?;
-    turn_on(&mut config, "features.images")?;
-    turn_on(&mut config, "features.storage.buckets")?;
-    Ok(config)
-}
-
-/// The project of this name.
-fn project_of(alloc: Global, name: &Text, content: Content) -> Result<Project, NoMemory>
-    ensures { IfOk result (λ r. r ≡ record {
-      name = name.now;
-      description = content.description;
-      config = content.config;
-    }) }
-{
-    let name = name.copy(alloc)?;
-    Ok(Project {
-        name,
-        description: content.description,
-        config: content.config,
-    })
-}
-
-/// A project as it is created.
-fn made_project(alloc: Global, name: &Text, body: &Body) -> Result<Project, NoMemory>
-    ensures { IfOk result (λ r. r ≡ made_project name.now body.now) }
-{
-    let config = project_config(alloc, body)?;
-    let description = new_description(alloc, body)?;
-    project_of(
-        alloc,
-        name,
-        Content {
-            description,
-            config,
-        },
-    )
-}
-
-/// A project after a PUT. Features that the request does not name are off.
-fn put_project(alloc: Global, old: &Project, body: &Body) -> Result<Project, NoMemory>
-    ensures { IfOk result (λ r. r ≡ put_project old.now body.now) }
-{
-    let content = new_content(alloc, body)?;
-    project_of(alloc, &old.name, content)
-}
-
-/// A project after a PATCH.
-fn patched_project(alloc: Global, old: &Project, body: &Body) -> Result<Project, NoMemory>
-    ensures { IfOk result (λ r. r ≡ patched_project old.now body.now) }
-{
-    let content = patched_content(alloc, &old.description, &old.config, body)?;
-    project_of(alloc, &old.name, content)
-}
-
-/// A project under another name.
-fn renamed_project(alloc: Global, old: &Project, to: &Text) -> Result<Project, NoMemory>
-    ensures { IfOk result (λ r. r ≡ record old.now { name = to.now }) }
-{
-    let content = copied_content(alloc, &old.description, &old.config)?;
-    project_of(alloc, to, content)
-}
 
 /// The changes, and then the profile `default` of a project of this name is put.
 fn and_default_put(

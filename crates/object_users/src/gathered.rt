@@ -7,7 +7,7 @@ use crate::row_ref::{AnyRow, RowRef};
 use records::{Instance, Network, Pool, Profile, Project, Snapshot, Volume};
 use size_values::NoMemory;
 
-/// All projects.
+/// Adds all projects.
 pub fn add_projects<'x>(rows: &'x [Project], all: &mut Vec<RowRef<'x>>) -> Result<(), NoMemory>
     ensures { OnOk result (all.new.items ≡ all.old.items ++ map row.Project rows.now) }
 {
@@ -19,7 +19,7 @@ pub fn add_projects<'x>(rows: &'x [Project], all: &mut Vec<RowRef<'x>>) -> Resul
     Ok(())
 }
 
-/// All storage pools.
+/// Adds all storage pools.
 pub fn add_pools<'x>(rows: &'x [Pool], all: &mut Vec<RowRef<'x>>) -> Result<(), NoMemory>
     ensures { OnOk result (all.new.items ≡ all.old.items ++ map row.Pool rows.now) }
 {
@@ -31,7 +31,7 @@ pub fn add_pools<'x>(rows: &'x [Pool], all: &mut Vec<RowRef<'x>>) -> Result<(), 
     Ok(())
 }
 
-/// The profiles of a project.
+/// Adds the profiles of a project.
 pub fn add_profiles<'x>(
     rows: &'x [Profile],
     project: &str,
@@ -50,7 +50,7 @@ pub fn add_profiles<'x>(
     Ok(())
 }
 
-/// The networks of a project.
+/// Adds the networks of a project.
 pub fn add_networks<'x>(
     rows: &'x [Network],
     project: &str,
@@ -69,7 +69,7 @@ pub fn add_networks<'x>(
     Ok(())
 }
 
-/// The volumes of a project.
+/// Adds the volumes of a project.
 pub fn add_volumes<'x>(
     rows: &'x [Volume],
     project: &str,
@@ -88,7 +88,7 @@ pub fn add_volumes<'x>(
     Ok(())
 }
 
-/// The instances of a project.
+/// Adds the instances of a project.
 pub fn add_instances<'x>(
     rows: &'x [Instance],
     project: &str,
@@ -107,7 +107,7 @@ pub fn add_instances<'x>(
     Ok(())
 }
 
-/// The volumes of a project and a storage pool.
+/// Adds the volumes of a project and a storage pool.
 pub fn add_volumes_in<'x>(
     rows: &'x [Volume],
     project: &str,
@@ -127,7 +127,7 @@ pub fn add_volumes_in<'x>(
     Ok(())
 }
 
-/// The snapshots of an instance.
+/// Adds the snapshots of an instance.
 pub fn add_snapshots<'x>(
     rows: &'x [Snapshot],
     project: &str,

@@ -11,7 +11,7 @@ pub use gathered::{
     add_instances, add_networks, add_pools, add_profiles, add_projects, add_snapshots, add_volumes,
     add_volumes_in,
 };
-pub use row_links::{link, links};
+pub use row_links::{links_of_rows, row_link};
 pub use row_ref::{AnyRow, RowRef};
 pub use users::used_by;
 pub use uses::{instance_uses, names_profile, profile_uses, volume_uses};

@@ -41,7 +41,7 @@ fn project_of<'x>(row: &RowRef<'x>) -> &'x str
 }
 
 /// The link of a row.
-pub fn link(alloc: Global, row: &RowRef<'_>) -> Result<Text, NoMemory>
+pub fn row_link(alloc: Global, row: &RowRef<'_>) -> Result<Text, NoMemory>
     ensures { IfOk result (λ t. t ≡ row_link row.now) }
 {
     let of = target_of(alloc, row)?;
@@ -55,13 +55,13 @@ fn link_texts(alloc: Global, rows: &[RowRef<'_>]) -> Result<Vec<Text>, NoMemory>
 {
     let mut texts = Vec::new(alloc);
     for row in rows {
-        texts.push(link(alloc, row)?)?;
+        texts.push(row_link(alloc, row)?)?;
     }
     Ok(texts)
 }
 
 /// The links of rows.
-pub fn links(alloc: Global, rows: &[RowRef<'_>]) -> Result<Seq<Text>, NoMemory>
+pub fn links_of_rows(alloc: Global, rows: &[RowRef<'_>]) -> Result<Seq<Text>, NoMemory>
     ensures { IfOk result (λ ts. ts ≡ links rows.now) }
 {
     let texts = link_texts(alloc, rows)?;
@@ -69,7 +69,7 @@ pub fn links(alloc: Global, rows: &[RowRef<'_>]) -> Result<Seq<Text>, NoMemory>
 }
 
 /// Puts texts in byte order.
-fn sort(texts: &mut Vec<Text>) -> Result<(), NoMemory>
+fn sort_texts(texts: &mut Vec<Text>) -> Result<(), NoMemory>
     ensures { OnOk result (texts.new.items ≡ sorted texts.old.items) }
 {
     texts.sort_by(|one, other| one.compare(other))?;
@@ -81,6 +81,6 @@ pub(crate) fn sorted_links(alloc: Global, rows: &[RowRef<'_>]) -> Result<Seq<Tex
     ensures { IfOk result (λ ts. ts ≡ sorted (links rows.now)) }
 {
     let mut texts = link_texts(alloc, rows)?;
-    sort(&mut texts)?;
+    sort_texts(&mut texts)?;
     Ok(Seq::from_vec(texts))
 }

@@ -27,7 +27,7 @@ fn rows_in<'x>(alloc: Global, view: &View<'x>, project: &str) -> Result<Vec<RowR
 }
 
 /// The instances that name the profile of this home and name.
-fn naming<'x>(
+fn instances_naming<'x>(
     alloc: Global,
     view: &View<'x>,
     home: &str,
@@ -175,7 +175,7 @@ fn links_naming(
     ensures { IfOk result (λ ts. ts
         ≡ sorted (links (map row.Instance (filter (names_profile view.now home.now profile.now) view.now.instances)))) }
 {
-    let rows = naming(alloc, view, home, profile)?;
+    let rows = instances_naming(alloc, view, home, profile)?;
     sorted_links(alloc, &rows)
 }
 

@@ -1,9 +1,7 @@
-//! What reads answer: views of objects, lists of them with links or views, the usage of a project, and operations.
+//! What reads answer: views of objects, lists of them with links or views, and the usage of a project; operations as `operation_views` shows them.
 #![tactic(auto)]
 
 mod listed;
-mod operation_ref;
-mod operations_shown;
 mod reading;
 mod row_views;
 mod usage;

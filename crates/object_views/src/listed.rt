@@ -1,5 +1,6 @@
 //! The rows of lists, and rows by what names them.
-ghost use Rattle.std.specs.Prelude.{◌≡◌, ◌++◌, IfOk, OnOk};
+ghost use Rattle.std.specs.Prelude.{◌≡◌, ◌++◌, Some, IfOk, OnOk};
+ghost use Rattle.object_users.specs.Lent.{row_in};
 ghost use Rattle.row_machine.specs.machine.Plans.{row_of};
 ghost use Rattle.row_machine.specs.shown.Views.{listed};
 
@@ -9,8 +10,8 @@ use object_users::{
 };
 use records::Target;
 use row_readings::{
-    View, instance_named, network_home, network_named, pool_named, profile_home, profile_named,
-    project_named, snapshot_named, volume_home, volume_named,
+    View, home_of, instance_named, network_home, network_named, pool_named, profile_home,
+    profile_named, project_named, snapshot_named, volume_home, volume_named,
 };
 use size_values::{NoMemory, ObjectKind};
 use std::alloc::Global;
@@ -54,44 +55,49 @@ pub(crate) fn listed<'x>(
     Ok(all)
 }
 
+/// A row that was found, lent.
+fn lent(row: AnyRow<'_>) -> Option<RowRef<'_>>
+    ensures { result ≡ Some (row_in row.entry) }
+{
+    Some(RowRef { row })
+}
+
 /// What stands under these names.
 pub(crate) fn row_of<'x>(view: &View<'x>, project: &str, of: &Target) -> Option<RowRef<'x>>
     ensures { result ≡ row_of view.now project.now of.now }
 {
+    let home = home_of(view.projects, project, of.kind);
     let name = of.name.view();
     match of.kind {
-        ObjectKind::Project => Some(RowRef {
-            row: AnyRow::Project(project_named(view.projects, name)?),
-        }),
-        ObjectKind::Profile => {
-            let home = profile_home(view.projects, project);
-            Some(RowRef {
-                row: AnyRow::Profile(profile_named(view.profiles, home, name)?),
-            })
-        }
-        ObjectKind::Network => {
-            let home = network_home(view.projects, project);
-            Some(RowRef {
-                row: AnyRow::Network(network_named(view.networks, home, name)?),
-            })
-        }
-        ObjectKind::Pool => Some(RowRef {
-            row: AnyRow::Pool(pool_named(view.pools, name)?),
-        }),
-        ObjectKind::Volume => {
-            let home = volume_home(view.projects, project);
-            Some(RowRef {
-                row: AnyRow::Volume(volume_named(view.volumes, home, of.pool.view(), name)?),
-            })
-        }
-        ObjectKind::Instance => Some(RowRef {
-            row: AnyRow::Instance(instance_named(view.instances, project, name)?),
-        }),
+        ObjectKind::Project => match project_named(view.projects, name) {
+            Some(row) => lent(AnyRow::Project(row)),
+            None => None,
+        },
+        ObjectKind::Profile => match profile_named(view.profiles, home, name) {
+            Some(row) => lent(AnyRow::Profile(row)),
+            None => None,
+        },
+        ObjectKind::Network => match network_named(view.networks, home, name) {
+            Some(row) => lent(AnyRow::Network(row)),
+            None => None,
+        },
+        ObjectKind::Pool => match pool_named(view.pools, name) {
+            Some(row) => lent(AnyRow::Pool(row)),
+            None => None,
+        },
+        ObjectKind::Volume => match volume_named(view.volumes, home, of.pool.view(), name) {
+            Some(row) => lent(AnyRow::Volume(row)),
+            None => None,
+        },
+        ObjectKind::Instance => match instance_named(view.instances, project, name) {
+            Some(row) => lent(AnyRow::Instance(row)),
+            None => None,
+        },
         ObjectKind::Snapshot => {
-            let instance = of.instance.view();
-            Some(RowRef {
-                row: AnyRow::Snapshot(snapshot_named(view.snapshots, project, instance, name)?),
-            })
+            match snapshot_named(view.snapshots, project, of.instance.view(), name) {
+                Some(row) => lent(AnyRow::Snapshot(row)),
+                None => None,
+            }
         }
         ObjectKind::Operation => None,
     }

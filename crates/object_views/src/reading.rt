@@ -8,10 +8,10 @@ ghost use Rattle.row_machine.specs.shown.Views.{list_reply, listed, one, read, r
 ghost use Rattle.row_machine.specs.machine.StandingRules.{power_of};
 
 use crate::listed::{listed, row_of};
-use crate::operations_shown::{operation_reply, operations_reply};
 use crate::row_views::{row_view, row_views};
 use crate::usage::usage_view;
-use object_users::{AnyRow, RowRef, links};
+use object_users::{AnyRow, RowRef, links_of_rows};
+use operation_views::{operation_reply, operations_reply};
 use records::{Instance, Reply, Target, View as Shown, What};
 use row_readings::{View, power_of};
 use size_values::{NoMemory, ObjectKind, Seq, Text};
@@ -32,7 +32,7 @@ fn rows_reply(
         let views = row_views(alloc, view, rows)?;
         Ok(Reply::Many(views))
     } else {
-        let links = links(alloc, rows)?;
+        let links = links_of_rows(alloc, rows)?;
         Ok(Reply::Links(links))
     }
 }

@@ -1,7 +1,6 @@
 //! How a row is shown.
-ghost use Rattle.std.specs.Prelude.{◌≡◌, IfOk, map, unwrap_or};
+ghost use Rattle.std.specs.Prelude.{◌≡◌, Ok, IfOk, map, unwrap_or};
 ghost use Rattle.size_values.specs.declared.kinds.Power.TheVariants as power_of_kind;
-ghost use Rattle.records.specs.declared.rows.Row.TheVariants as row_of_kind;
 ghost use Rattle.row_machine.specs.machine.StandingRules.{power_of};
 ghost use Rattle.row_machine.specs.shown.Views.{instance_view, row_view};
 
@@ -25,8 +24,7 @@ fn instance_view(alloc: Global, view: &View<'_>, row: &Instance) -> Result<Shown
     ensures { IfOk result (λ v. v ≡ instance_view view.now row.now) }
 {
     let power = shown_power(view, row);
-    let expanded = view.expansion(alloc, row)?;
-    let row = row.copy(alloc)?;
+    let (expanded, row) = both(view.expansion(alloc, row), row.copy(alloc))?;
     Ok(Shown::Instance {
         row,
         config: expanded.config,
@@ -35,30 +33,42 @@ fn instance_view(alloc: Global, view: &View<'_>, row: &Instance) -> Result<Shown
     })
 }
 
+/// Two parts of a view, where memory was refused for neither.
+fn both<A: Drop, B: Drop>(
+    first: Result<A, NoMemory>,
+    second: Result<B, NoMemory>,
+) -> Result<(A, B), NoMemory>
+    ensures { IfOk result (λ pair. (first ≡ Ok pair.0) × (second ≡ Ok pair.1)) }
+{
+    let first = first?;
+    let second = second?;
+    Ok((first, second))
+}
+
 /// How a row is shown.
 pub(crate) fn row_view(alloc: Global, view: &View<'_>, row: &RowRef<'_>) -> Result<Shown, NoMemory>
     ensures { IfOk result (λ v. v ≡ row_view view.now row.now) }
 {
     match row.row {
         AnyRow::Project(project) => {
-            let users = used_by(alloc, view, row)?;
-            Ok(Shown::Project(project.copy(alloc)?, users))
+            let (project, users) = both(project.copy(alloc), used_by(alloc, view, row))?;
+            Ok(Shown::Project(project, users))
         }
         AnyRow::Profile(profile) => {
-            let users = used_by(alloc, view, row)?;
-            Ok(Shown::Profile(profile.copy(alloc)?, users))
+            let (profile, users) = both(profile.copy(alloc), used_by(alloc, view, row))?;
+            Ok(Shown::Profile(profile, users))
         }
         AnyRow::Network(network) => {
-            let users = used_by(alloc, view, row)?;
-            Ok(Shown::Network(network.copy(alloc)?, users))
+            let (network, users) = both(network.copy(alloc), used_by(alloc, view, row))?;
+            Ok(Shown::Network(network, users))
         }
         AnyRow::Pool(pool) => {
-            let users = used_by(alloc, view, row)?;
-            Ok(Shown::Pool(pool.copy(alloc)?, users))
+            let (pool, users) = both(pool.copy(alloc), used_by(alloc, view, row))?;
+            Ok(Shown::Pool(pool, users))
         }
         AnyRow::Volume(volume) => {
-            let users = used_by(alloc, view, row)?;
-            Ok(Shown::Volume(volume.copy(alloc)?, users))
+            let (volume, users) = both(volume.copy(alloc), used_by(alloc, view, row))?;
+            Ok(Shown::Volume(volume, users))
         }
         AnyRow::Instance(instance) => instance_view(alloc, view, instance),
         AnyRow::Snapshot(snapshot) => Ok(Shown::Snapshot(snapshot.copy(alloc)?)),

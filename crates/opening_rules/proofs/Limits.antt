@@ -10,7 +10,7 @@ use Rattle.project_limits.specs.declared.admission.LimitKey.{LimitKey}
 use Rattle.project_limits.specs.declared.admission.LimitKey.TheVariants.{Networks}
 use Rattle.records.specs.declared.rows.Project.{Project}
 use Rattle.records.specs.declared.rows.Row.{Row}
-use Rattle.row_machine.specs.machine.LimitRules.{exceeds, over_refusal, part_exceeds, networks_exceed, limits_broken}
+use Rattle.row_machine.specs.machine.LimitRules.{limit_exceeded, over_refusal, part_exceeds, networks_exceed, limits_broken}
 use Rattle.row_machine.specs.machine.State.{State}
 use Rattle.row_machine.specs.machine.Usage.{used, networks_of}
 use Rattle.row_machine.specs.opening.Opening.{broken, limit_breaks}
@@ -31,7 +31,7 @@ map-first f rule told (x ∷ xs) same =
     ∙ ap (option_or (told x)) (map-first f rule told xs same)
 
 exceeds-at : (p : Project) (key : LimitKey) (limit : Option ℕ) (before after : ℕ)
-    → option_map breach_of (exceeds p key limit before after) ≡ option_map (λ r. broken r.rule 1 p.name) (exceeds p key limit before after)
+    → option_map breach_of (limit_exceeded p key limit before after) ≡ option_map (λ r. broken r.rule 1 p.name) (limit_exceeded p key limit before after)
 exceeds-at p key None before after = refl
 exceeds-at p key (Some limit) before after = at (nat_lt limit (before + amount_above after before)) where
   at : (b : Bool)

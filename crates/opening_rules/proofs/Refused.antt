@@ -15,7 +15,7 @@ use Rattle.restrictions.specs.declared.rows.Subject.{Subject}
 use Rattle.records.specs.declared.refusals.Refusal.{Refusal}
 use Rattle.records.specs.declared.refusals.Rule.{Rule}
 use Rattle.records.specs.declared.rows.Project.{Project}
-use Rattle.row_machine.specs.machine.LimitRules.{uncounted}
+use Rattle.row_machine.specs.machine.LimitRules.{object_uncounted}
 use Rattle.row_machine.specs.machine.PolicyRules.{forbids, policy_rule, forbidden_key}
 use Rattle.row_machine.specs.machine.Refusals.{on_key_of}
 use Rattle.row_machine.specs.machine.SettingRules.{tables_break, setting_refusal}
@@ -88,7 +88,7 @@ unrestricted_told p number judged config devices free =
 
 -- sums
 
-pub uncounted_told : (p : Project) (name : List ℕ) (key : Option SumKey) → uncounted_by key ≡ rule_of (uncounted p name key)
+pub uncounted_told : (p : Project) (name : List ℕ) (key : Option SumKey) → uncounted_by key ≡ rule_of (object_uncounted p name key)
 uncounted_told p name None = refl
 uncounted_told p name (Some k) = refl
 

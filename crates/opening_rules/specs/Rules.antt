@@ -23,15 +23,17 @@ use Rattle.row_machine.specs.machine.PolicyRules.{policy_rule}
 use Rattle.row_machine.specs.machine.Rows.{default_name, profile_named}
 use Rattle.row_machine.specs.machine.SettingRules.{is_one, profile_missing, devices_miss, volume_missing}
 use Rattle.row_machine.specs.machine.State.{State}
-use Rattle.row_machine.specs.opening.Opening.{Opening, broken, has_all_features, homeless, orphaned, overnamed}
-use Rattle.row_machine.specs.opening.Opening.{undefaulted, missettled, misdeviced, rootless, unlinked, forbidden}
+use Rattle.row_machine.specs.opening.Opening.{Opening, broken, has_all_features, home_missing, parent_row_missing}
+use Rattle.row_machine.specs.opening.Opening.{profiles_malformed}
+use Rattle.row_machine.specs.opening.Opening.{defaults_missing, settings_invalid, devices_invalid, root_disk_missing}
+use Rattle.row_machine.specs.opening.Opening.{named_row_missing, forbidden}
 use Rattle.row_machine.specs.opening.Opening.{uncountable}
 use Rattle.opening_rules.specs.declared.rules.RowRule.{RowRule}
 use Rattle.opening_rules.specs.declared.rules.RowRule.TheVariants as row_rule_of
 
 -- the project `default` lacks a feature, or a project with profiles of its own has no profile `default`
-abbrev pub is_undefaulted : State → Project → Bool
-is_undefaulted s p =
+abbrev pub lacks_defaults : State → Project → Bool
+lacks_defaults s p =
     (bytes_eq p.name default_name && not (has_all_features p))
     || (is_on p.config (codes "features.profiles") && is_none (profile_named s.profiles p.name default_name))
 
@@ -70,14 +72,14 @@ uncounted_by key = option_map (λ k. rule.L0) key
 
 -- a rule on one row, by its name
 abbrev pub row_rule : RowRule → State → Row → Option Rule
-row_rule row_rule_of.Homeless s r = homeless s r
-row_rule row_rule_of.Orphaned s r = orphaned s r
-row_rule row_rule_of.Overnamed s r = overnamed s r
-row_rule row_rule_of.Undefaulted s r = undefaulted s r
-row_rule row_rule_of.Missettled s r = missettled s r
-row_rule row_rule_of.Misdeviced s r = misdeviced s r
-row_rule row_rule_of.Rootless s r = rootless s r
-row_rule row_rule_of.Unlinked s r = unlinked s r
+row_rule row_rule_of.HomeMissing s r = home_missing s r
+row_rule row_rule_of.ParentRowMissing s r = parent_row_missing s r
+row_rule row_rule_of.ProfilesMalformed s r = profiles_malformed s r
+row_rule row_rule_of.DefaultsMissing s r = defaults_missing s r
+row_rule row_rule_of.SettingsInvalid s r = settings_invalid s r
+row_rule row_rule_of.DevicesInvalid s r = devices_invalid s r
+row_rule row_rule_of.RootDiskMissing s r = root_disk_missing s r
+row_rule row_rule_of.NamedRowMissing s r = named_row_missing s r
 row_rule (row_rule_of.Forbidden number) s r = forbidden number s r
 row_rule row_rule_of.Uncountable s r = uncountable s r
 

@@ -5,7 +5,7 @@ ghost use Rattle.plain_lists.specs.Firsts.{first};
 ghost use Rattle.row_machine.specs.machine.Rows.{profile_named};
 ghost use Rattle.row_machine.specs.machine.SettingRules.{is_one, profile_missing, network_missing, pool_missing};
 ghost use Rattle.row_machine.specs.machine.SettingRules.{volume_missing, disk_misses, device_misses, devices_miss};
-ghost use Rattle.row_machine.specs.opening.Opening.{rule_of, rootless, unlinked};
+ghost use Rattle.row_machine.specs.opening.Opening.{rule_of, root_disk_missing, named_row_missing};
 ghost use Rattle.row_machine.specs.machine.SettingRules.{root_missing};
 ghost use Rattle.opening_rules.specs.Rules.{without_root, source_missing, names_missing, instance_unlinked};
 
@@ -57,8 +57,12 @@ fn instance_rootless(
 }
 
 /// A row is an instance that has not exactly one root disk.
-pub(crate) fn rootless(alloc: Global, view: &View<'_>, row: &Row) -> Result<Option<Rule>, NoMemory>
-    ensures { IfOk result (λ found. found ≡ rootless view.now row.now) }
+pub(crate) fn root_disk_missing(
+    alloc: Global,
+    view: &View<'_>,
+    row: &Row,
+) -> Result<Option<Rule>, NoMemory>
+    ensures { IfOk result (λ found. found ≡ root_disk_missing view.now row.now) }
 {
     match row {
         Row::Instance(row) => instance_rootless(alloc, view, row),
@@ -194,8 +198,12 @@ fn instance_unlinked(
 }
 
 /// What a profile or an instance names is missing.
-pub(crate) fn unlinked(alloc: Global, view: &View<'_>, row: &Row) -> Result<Option<Rule>, NoMemory>
-    ensures { IfOk result (λ found. found ≡ unlinked view.now row.now) }
+pub(crate) fn named_row_missing(
+    alloc: Global,
+    view: &View<'_>,
+    row: &Row,
+) -> Result<Option<Rule>, NoMemory>
+    ensures { IfOk result (λ found. found ≡ named_row_missing view.now row.now) }
 {
     match row {
         Row::Profile(row) => Ok(devices_miss(view, row.project.view(), &row.devices)),

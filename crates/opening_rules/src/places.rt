@@ -6,9 +6,10 @@ ghost use Rattle.records.specs.Forms.{are_distinct, are_profiles};
 ghost use Rattle.row_machine.specs.machine.Homes.{home_of};
 ghost use Rattle.row_machine.specs.machine.Rows.{project_named};
 ghost use Rattle.row_machine.specs.machine.State.{State};
-ghost use Rattle.row_machine.specs.opening.Opening.{if_so, homeless, orphaned, overnamed, undefaulted};
+ghost use Rattle.row_machine.specs.opening.Opening.{if_so, home_missing, parent_row_missing, profiles_malformed};
+ghost use Rattle.row_machine.specs.opening.Opening.{defaults_missing};
 ghost use Rattle.row_machine.specs.opening.Opening.{has_all_features};
-ghost use Rattle.opening_rules.specs.Rules.{is_undefaulted};
+ghost use Rattle.opening_rules.specs.Rules.{lacks_defaults};
 
 use records::{Project, Row, Rule};
 use row_readings::{
@@ -27,7 +28,7 @@ pub(crate) fn if_so(breaks: bool, rule: Rule) -> Option<Rule>
 }
 
 /// Whether a project is missing, or is not its own home for rows of a kind.
-fn is_homeless(projects: &[Project], project: &str, kind: ObjectKind) -> bool
+fn lacks_home(projects: &[Project], project: &str, kind: ObjectKind) -> bool
     ensures { result
         ≡ (is_none (project_named projects.now project.now)
         || not (bytes_eq (home_of projects.now project.now kind) project.now)) }
@@ -36,8 +37,8 @@ fn is_homeless(projects: &[Project], project: &str, kind: ObjectKind) -> bool
 }
 
 /// A row's project is missing, or is not its own home for rows of this kind.
-pub(crate) fn homeless(view: &View<'_>, row: &Row) -> Option<Rule>
-    ensures { result ≡ homeless view.now row.now }
+pub(crate) fn home_missing(view: &View<'_>, row: &Row) -> Option<Rule>
+    ensures { result ≡ home_missing view.now row.now }
 {
     let (project, kind) = match row {
         Row::Project(_) | Row::Pool(_) => return None,
@@ -47,12 +48,12 @@ pub(crate) fn homeless(view: &View<'_>, row: &Row) -> Option<Rule>
         Row::Instance(row) => (row.project.view(), ObjectKind::Instance),
         Row::Snapshot(row) => (row.project.view(), ObjectKind::Snapshot),
     };
-    if_so(is_homeless(view.projects, project, kind), Rule::N1)
+    if_so(lacks_home(view.projects, project, kind), Rule::N1)
 }
 
 /// A volume's pool or a snapshot's instance is missing.
-pub(crate) fn orphaned(view: &View<'_>, row: &Row) -> Option<Rule>
-    ensures { result ≡ orphaned view.now row.now }
+pub(crate) fn parent_row_missing(view: &View<'_>, row: &Row) -> Option<Rule>
+    ensures { result ≡ parent_row_missing view.now row.now }
 {
     match row {
         Row::Volume(row) => {
@@ -92,8 +93,8 @@ fn are_profiles(names: &[Text]) -> bool
 }
 
 /// An instance or a snapshot names too many profiles, or one twice.
-pub(crate) fn overnamed(row: &Row) -> Option<Rule>
-    ensures { (s : State) → result ≡ overnamed s row.now }
+pub(crate) fn profiles_malformed(row: &Row) -> Option<Rule>
+    ensures { (s : State) → result ≡ profiles_malformed s row.now }
 {
     match row {
         Row::Instance(row) => if_so(!are_profiles(row.profiles.view()), Rule::N3),
@@ -113,8 +114,8 @@ fn has_all_features(project: &Project) -> bool
         && is_on(&project.config, "features.storage.buckets")
 }
 
-fn is_undefaulted(view: &View<'_>, project: &Project) -> bool
-    ensures { result ≡ is_undefaulted view.now project.now }
+fn lacks_defaults(view: &View<'_>, project: &Project) -> bool
+    ensures { result ≡ lacks_defaults view.now project.now }
 {
     let name = project.name.view();
     if name == "default" && !has_all_features(project) {
@@ -125,11 +126,11 @@ fn is_undefaulted(view: &View<'_>, project: &Project) -> bool
 }
 
 /// The project `default` lacks a feature, or a project with profiles of its own has no profile `default`.
-pub(crate) fn undefaulted(view: &View<'_>, row: &Row) -> Option<Rule>
-    ensures { result ≡ undefaulted view.now row.now }
+pub(crate) fn defaults_missing(view: &View<'_>, row: &Row) -> Option<Rule>
+    ensures { result ≡ defaults_missing view.now row.now }
 {
     match row {
-        Row::Project(project) => if_so(is_undefaulted(view, project), Rule::B3),
+        Row::Project(project) => if_so(lacks_defaults(view, project), Rule::B3),
         _ => None,
     }
 }

@@ -7,10 +7,10 @@ ghost use Rattle.opening_rules.specs.Rules.{row_rule};
 
 use crate::breach::{Breach, broken_at};
 use crate::counting::uncountable;
-use crate::links::{rootless, unlinked};
-use crate::places::{homeless, orphaned, overnamed, undefaulted};
+use crate::links::{named_row_missing, root_disk_missing};
+use crate::places::{defaults_missing, home_missing, parent_row_missing, profiles_malformed};
 use crate::policies::forbidden;
-use crate::settings::{misdeviced, missettled};
+use crate::settings::{devices_invalid, settings_invalid};
 use records::{Row, Rule};
 use row_readings::View;
 use size_values::{NoMemory, Or};
@@ -19,14 +19,14 @@ use std::alloc::Global;
 /// A rule on one row.
 #[derive(Clone, Copy)]
 pub(crate) enum RowRule {
-    Homeless,
-    Orphaned,
-    Overnamed,
-    Undefaulted,
-    Missettled,
-    Misdeviced,
-    Rootless,
-    Unlinked,
+    HomeMissing,
+    ParentRowMissing,
+    ProfilesMalformed,
+    DefaultsMissing,
+    SettingsInvalid,
+    DevicesInvalid,
+    RootDiskMissing,
+    NamedRowMissing,
     /// The rule on policy of this number.
     Forbidden(u8),
     Uncountable,
@@ -34,14 +34,14 @@ pub(crate) enum RowRule {
 
 /// The rules in their order.
 const ROW_RULES: [RowRule; 16] = [
-    RowRule::Homeless,
-    RowRule::Orphaned,
-    RowRule::Overnamed,
-    RowRule::Undefaulted,
-    RowRule::Missettled,
-    RowRule::Misdeviced,
-    RowRule::Rootless,
-    RowRule::Unlinked,
+    RowRule::HomeMissing,
+    RowRule::ParentRowMissing,
+    RowRule::ProfilesMalformed,
+    RowRule::DefaultsMissing,
+    RowRule::SettingsInvalid,
+    RowRule::DevicesInvalid,
+    RowRule::RootDiskMissing,
+    RowRule::NamedRowMissing,
     RowRule::Forbidden(1),
     RowRule::Forbidden(2),
     RowRule::Forbidden(3),
@@ -62,14 +62,14 @@ fn broken_rule(
     ensures { IfOk result (λ found. found ≡ row_rule rule view.now row.now) }
 {
     match rule {
-        RowRule::Homeless => Ok(homeless(view, row)),
-        RowRule::Orphaned => Ok(orphaned(view, row)),
-        RowRule::Overnamed => Ok(overnamed(row)),
-        RowRule::Undefaulted => Ok(undefaulted(view, row)),
-        RowRule::Missettled => Ok(missettled(row)),
-        RowRule::Misdeviced => Ok(misdeviced(row)),
-        RowRule::Rootless => rootless(alloc, view, row),
-        RowRule::Unlinked => unlinked(alloc, view, row),
+        RowRule::HomeMissing => Ok(home_missing(view, row)),
+        RowRule::ParentRowMissing => Ok(parent_row_missing(view, row)),
+        RowRule::ProfilesMalformed => Ok(profiles_malformed(row)),
+        RowRule::DefaultsMissing => Ok(defaults_missing(view, row)),
+        RowRule::SettingsInvalid => Ok(settings_invalid(row)),
+        RowRule::DevicesInvalid => Ok(devices_invalid(row)),
+        RowRule::RootDiskMissing => root_disk_missing(alloc, view, row),
+        RowRule::NamedRowMissing => named_row_missing(alloc, view, row),
         RowRule::Forbidden(number) => forbidden(alloc, view, number, row),
         RowRule::Uncountable => uncountable(alloc, view, row),
     }

@@ -3,7 +3,7 @@ ghost use Rattle.std.specs.Prelude.{◌≡◌, option_map};
 ghost use Rattle.std.specs.Result.{result_err};
 ghost use Rattle.row_machine.specs.machine.SettingRules.{scope_of};
 ghost use Rattle.row_machine.specs.machine.State.{State};
-ghost use Rattle.row_machine.specs.opening.Opening.{missettled, misdeviced};
+ghost use Rattle.row_machine.specs.opening.Opening.{settings_invalid, devices_invalid};
 ghost use Rattle.opening_rules.specs.Rules.{fault_rule};
 
 use option_tables::{
@@ -45,8 +45,8 @@ fn scope_of(kind: Kind) -> Scope
 
 /// A setting is refused by the tables.
 #[tactic(auto, using(crate::proofs::Refused::settings_told))]
-pub(crate) fn missettled(row: &Row) -> Option<Rule>
-    ensures { (s : State) → result ≡ missettled s row.now }
+pub(crate) fn settings_invalid(row: &Row) -> Option<Rule>
+    ensures { (s : State) → result ≡ settings_invalid s row.now }
 {
     match row {
         Row::Project(row) => refused_by(check_project(&row.config)),
@@ -61,8 +61,8 @@ pub(crate) fn missettled(row: &Row) -> Option<Rule>
 
 /// A device is refused by the tables.
 #[tactic(auto, using(crate::proofs::Refused::devices_told))]
-pub(crate) fn misdeviced(row: &Row) -> Option<Rule>
-    ensures { (s : State) → result ≡ misdeviced s row.now }
+pub(crate) fn devices_invalid(row: &Row) -> Option<Rule>
+    ensures { (s : State) → result ≡ devices_invalid s row.now }
 {
     match row {
         Row::Profile(row) => refused_by(check_devices(&row.devices)),

@@ -8,7 +8,8 @@ ghost use Rattle.row_codec.specs.Spelling.{kind_of};
 ghost use Rattle.row_machine.specs.machine.Kinds.{kind_number, cap_of};
 ghost use Rattle.row_machine.specs.machine.LimitRules.{limits_broken};
 ghost use Rattle.row_machine.specs.machine.TableRules.{row_kinds, too_large};
-ghost use Rattle.row_machine.specs.opening.Opening.{broken_at, default_missing, limit_breaks, past_cap, size_breaks, rows_break};
+ghost use Rattle.row_machine.specs.opening.Opening.{broken_at, default_missing, limit_breaks, past_cap, size_breaks};
+ghost use Rattle.row_machine.specs.opening.Opening.{rows_break};
 ghost use Rattle.opening_rules.specs.Rules.{breach_of};
 
 use crate::breach::{Breach, broken_at, broken_in};

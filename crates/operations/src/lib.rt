@@ -11,7 +11,7 @@ mod status;
 
 pub use faults::{CancelFault, EnterFault};
 pub use limits::{ENDED_LIMIT, LIVE_LIMIT, NUMBER_LIMIT, limits_are_the_defined_numbers};
-pub use lists::{drop_oldest, known_place, place_of, set_status, swap_in, take_out};
+pub use lists::{drop_oldest, index_of, known_place, set_status, swap_in, take_out};
 pub use operation::{OpFault, Operation};
 pub use size_values::MOMENT_LIMIT;
 pub use slots::Slots;

@@ -13,7 +13,7 @@ use crate::status::Status;
 use std::mem;
 
 /// The place of the operation of this number.
-pub fn place_of<W>(operations: &[Operation<W>], number: u64) -> Option<usize>
+pub fn index_of<W>(operations: &[Operation<W>], number: u64) -> Option<usize>
     ensures { result ≡ position (has_number number) operations.now }
 {
     operations.iter().position(|o| o.number == number)
@@ -25,7 +25,7 @@ pub fn known_place<W>(operations: &[Operation<W>], number: u64) -> usize
     ensures place { Some result ≡ position (has_number number) operations.now }
     ensures within { result < length operations.now }
 {
-    match place_of(operations, number) {
+    match index_of(operations, number) {
         Some(place) => place,
         None => unreachable!(),
     }

@@ -253,7 +253,6 @@ fn forget(numbers: &mut Vec<u64>, gone: Option<u64>)
     }
 }
 
-/// The place of a number.
 fn place_in(numbers: &[u64], number: u64) -> Option<usize>
     ensures { result ≡ position (λ n. n == number) numbers.now }
 {

@@ -31,7 +31,7 @@ fn check_device(name: &str, device: &Device) -> Result<(), DeviceFault>
     let Some(type_name) = device.get("type") else {
         return Err(DeviceFault::NoType);
     };
-    let Some(kind) = DeviceType::named(type_name) else {
+    let Some(kind) = DeviceType::from_name(type_name) else {
         return Err(DeviceFault::UnknownType);
     };
     check_keys(Table::Device(kind), device)?;

@@ -50,7 +50,7 @@ pub enum Words {
 }
 
 impl Words {
-    fn listed(self) -> &'static [&'static str]
+    fn listed_words(self) -> &'static [&'static str]
         ensures { map (λ word. word.now) result.now ≡ words_of self }
     {
         match self {
@@ -76,23 +76,23 @@ impl Form {
     {
         match self {
             Form::Text => Ok(()),
-            Form::Truth => readable(read_truth(value)),
-            Form::Count(least, most) => readable(read_count(value, least, most)),
-            Form::Size => readable(read_size(value)),
-            Form::Cpu => readable(read_cpu(value)),
-            Form::Memory => readable(read_memory(value)),
-            Form::Expiry => readable(read_expiry(value)),
+            Form::Truth => discard_value(read_truth(value)),
+            Form::Count(least, most) => discard_value(read_count(value, least, most)),
+            Form::Size => discard_value(read_size(value)),
+            Form::Cpu => discard_value(read_cpu(value)),
+            Form::Memory => discard_value(read_memory(value)),
+            Form::Expiry => discard_value(read_expiry(value)),
             Form::Pattern => in_range(is_pattern(value)),
-            Form::Address => readable(read_address(value)),
+            Form::Address => discard_value(read_address(value)),
             Form::Cidr => check_cidr(value),
             Form::Networks => in_range(are_network_names(value)),
-            Form::One(words) => in_range(is_one_of(words.listed(), value)),
+            Form::One(words) => in_range(is_one_of(words.listed_words(), value)),
         }
     }
 }
 
 /// Forgets what was read.
-fn readable<T: Drop>(read: Result<T, ValueFault>) -> Result<(), ValueFault>
+fn discard_value<T: Drop>(read: Result<T, ValueFault>) -> Result<(), ValueFault>
     ensures { result_err result ≡ result_err read }
 {
     match read {
@@ -118,7 +118,7 @@ fn check_cidr(value: &str) -> Result<(), ValueFault>
     if value == "none" {
         Ok(())
     } else {
-        readable(read_cidr(value))
+        discard_value(read_cidr(value))
     }
 }
 

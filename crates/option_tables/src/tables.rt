@@ -354,7 +354,7 @@ fn device_form(kind: DeviceType, key: &str) -> Option<Form>
 impl DeviceType {
     /// The type of this name.
     #[tactic(auto, unfolding(crate::specs::Tables::device_type))]
-    pub fn named(name: &str) -> Option<DeviceType>
+    pub fn from_name(name: &str) -> Option<DeviceType>
         ensures { result ≡ device_type name.now }
     {
         type_in(DEVICE_TYPES, name)

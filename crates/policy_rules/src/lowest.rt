@@ -21,7 +21,7 @@ fn lowest_of_profile(project: &Restricted<'_>, profile: &Profile) -> u8
     if !project.has(&profile.project) {
         return u8::MAX;
     }
-    project.lowest(Subject::Profile, &profile.config, &profile.devices)
+    project.lowest_rule(Subject::Profile, &profile.config, &profile.devices)
 }
 
 fn lowest_of_profiles(project: &Restricted<'_>, profiles: &[Profile]) -> u8
@@ -47,7 +47,7 @@ fn lowest_of_instance(
         return Ok(u8::MAX);
     }
     let expanded = view.expansion(alloc, row)?;
-    let lowest = project.lowest(subject_of(row.kind), &expanded.config, &expanded.devices);
+    let lowest = project.lowest_rule(subject_of(row.kind), &expanded.config, &expanded.devices);
     drop(expanded);
     Ok(lowest)
 }

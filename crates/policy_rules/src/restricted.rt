@@ -53,17 +53,22 @@ impl<'a> Restricted<'a> {
     }
 
     /// The first thing that the policy forbids of settings and devices.
-    fn forbidden(&self, subject: Subject, config: &Config, devices: &Devices) -> Option<Forbidden>
+    fn first_forbidden(
+        &self,
+        subject: Subject,
+        config: &Config,
+        devices: &Devices,
+    ) -> Option<Forbidden>
         ensures { result ≡ forbidden_first (policy_of self.now.config) subject config.now devices.now }
     {
         first_forbidden(&self.policy, subject, config, devices)
     }
 
     /// The number of the first rule that settings and devices break, or one above them all.
-    pub(crate) fn lowest(&self, subject: Subject, config: &Config, devices: &Devices) -> u8
+    pub(crate) fn lowest_rule(&self, subject: Subject, config: &Config, devices: &Devices) -> u8
         ensures { (name : List ℕ) → HoldBelow result (λ n. forbids self.now n subject name config.now devices.now) }
     {
-        match self.forbidden(subject, config, devices) {
+        match self.first_forbidden(subject, config, devices) {
             Some(found) => found.rule,
             None => u8::MAX,
         }
@@ -81,7 +86,7 @@ impl<'a> Restricted<'a> {
     ) -> Result<(), Or<Refusal>>
         ensures { Says result (forbids self.now number subject name.now config.now devices.now) }
     {
-        let Some(found) = self.forbidden(subject, config, devices) else {
+        let Some(found) = self.first_forbidden(subject, config, devices) else {
             return Ok(());
         };
         if found.rule != number {

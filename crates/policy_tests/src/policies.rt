@@ -527,7 +527,7 @@ const WORDS: &[(&str, Option<Word>)] = &[
 ];
 
 fn is_named(text: &str, wanted: Option<Word>) -> bool {
-    match (Word::named(text), wanted) {
+    match (Word::from_text(text), wanted) {
         (Some(word), Some(wanted)) => word.is(wanted),
         (None, None) => true,
         _ => false,

@@ -36,33 +36,33 @@ pub fn admit(limits: &Limits, used: &Amounts, asked: &Amounts) -> Result<(), Ove
     requires { (p : Part) → part p used.now + part p asked.now < 2 ^ 128 }
     ensures { result_err result ≡ first_over limits.now used.now asked.now }
 {
-    within(
+    refuse_over(
         LimitKey::Instances,
         limits.instances,
         used.instances,
         asked.instances,
     )?;
-    within(
+    refuse_over(
         LimitKey::Containers,
         limits.containers,
         used.containers,
         asked.containers,
     )?;
-    within(
+    refuse_over(
         LimitKey::Machines,
         limits.machines,
         used.machines,
         asked.machines,
     )?;
-    within(LimitKey::Cpu, limits.cpu, used.cpu, asked.cpu)?;
-    within(LimitKey::Memory, limits.memory, used.memory, asked.memory)?;
-    within(
+    refuse_over(LimitKey::Cpu, limits.cpu, used.cpu, asked.cpu)?;
+    refuse_over(LimitKey::Memory, limits.memory, used.memory, asked.memory)?;
+    refuse_over(
         LimitKey::Processes,
         limits.processes,
         used.processes,
         asked.processes,
     )?;
-    within(LimitKey::Disk, limits.disk, used.disk, asked.disk)
+    refuse_over(LimitKey::Disk, limits.disk, used.disk, asked.disk)
 }
 
 /// Whether more networks fit under the limit on their number.
@@ -71,7 +71,7 @@ pub fn admit_networks(limits: &Limits, used: u64, asked: u64) -> Result<(), Over
     requires { used + asked < 2 ^ 64 }
     ensures { result_err result ≡ networks_over limits.now used asked }
 {
-    within(
+    refuse_over(
         LimitKey::Networks,
         limits.networks,
         u128::from(used),
@@ -80,7 +80,7 @@ pub fn admit_networks(limits: &Limits, used: u64, asked: u64) -> Result<(), Over
 }
 
 /// Whether one sum is at most its limit, where it has one.
-fn within(key: LimitKey, limit: Option<u64>, used: u128, asked: u128) -> Result<(), Over>
+fn refuse_over(key: LimitKey, limit: Option<u64>, used: u128, asked: u128) -> Result<(), Over>
     requires { used + asked < 2 ^ 128 }
     ensures { result_err result ≡ over key limit used asked }
 {

@@ -28,14 +28,14 @@ pub fn countable(
 ) -> Result<(), SumKey>
     ensures { result_err result ≡ first_uncounted limits.now kind config.now devices.now }
 {
-    counted(SumKey::Cpu, limits.cpu, cpu_in(config))?;
-    counted(SumKey::Memory, limits.memory, memory_in(config))?;
-    counted(
+    refuse_uncounted(SumKey::Cpu, limits.cpu, cpu_in(config))?;
+    refuse_uncounted(SumKey::Memory, limits.memory, memory_in(config))?;
+    refuse_uncounted(
         SumKey::Processes,
         limits.processes,
         processes_in(kind, config),
     )?;
-    counted(SumKey::Disk, limits.disk, disk_in(devices))
+    refuse_uncounted(SumKey::Disk, limits.disk, disk_in(devices))
 }
 
 /// Whether a volume has a size where the project limits its disk.
@@ -43,11 +43,11 @@ pub fn countable(
 pub fn volume_countable(limits: &Limits, config: &Config) -> Result<(), SumKey>
     ensures { result_err result ≡ volume_uncounted limits.now config.now }
 {
-    counted(SumKey::Disk, limits.disk, size_in(config, "size"))
+    refuse_uncounted(SumKey::Disk, limits.disk, size_in(config, "size"))
 }
 
 /// Whether a sum has a number where it has a limit.
-fn counted(key: SumKey, limit: Option<u64>, number: Option<u64>) -> Result<(), SumKey>
+fn refuse_uncounted(key: SumKey, limit: Option<u64>, number: Option<u64>) -> Result<(), SumKey>
     ensures { result_err result ≡ uncounted key limit number }
 {
     if limit.is_some() && number.is_none() {

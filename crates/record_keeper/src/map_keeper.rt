@@ -144,7 +144,7 @@ fn change_all(entries: &mut Vec<Entry>, changes: Vec<EntryChange>)
     ensures order { IsOrderedEntries entries.new.items }
 {
     for change in changes {
-        places::change(entries, change);
+        places::apply_change(entries, change);
     }
 }
 

@@ -13,7 +13,7 @@ fn seen_from(entry: &Entry, kind: u8, key: &Text) -> Ordering
 }
 
 /// The index of the entry of a kind and key, or the one at which it would stand.
-fn find(entries: &[Entry], kind: u8, key: &Text) -> Result<usize, usize>
+fn entry_index(entries: &[Entry], kind: u8, key: &Text) -> Result<usize, usize>
     requires { IsOrderedEntries entries.now }
     ensures { Finds kind key.now entries.now result }
 {
@@ -29,7 +29,7 @@ pub fn put(entries: &mut Vec<Entry>, entry: Entry)
     ensures len { vec_len entries.new ≤ vec_len entries.old + 1 }
     ensures capacity { vec_capacity entries.old ≤ vec_capacity entries.new }
 {
-    match find(entries, entry.kind, &entry.key) {
+    match entry_index(entries, entry.kind, &entry.key) {
         Ok(index) => entries[index] = entry,
         Err(index) => {
             if entries.insert(index, entry).is_err() {
@@ -47,7 +47,7 @@ pub fn remove(entries: &mut Vec<Entry>, kind: u8, key: &Text)
     ensures len { vec_len entries.new ≤ vec_len entries.old }
     ensures capacity { vec_capacity entries.old ≤ vec_capacity entries.new }
 {
-    match find(entries, kind, key) {
+    match entry_index(entries, kind, key) {
         Ok(index) => {
             let _removed = entries.remove(index);
         }
@@ -56,7 +56,7 @@ pub fn remove(entries: &mut Vec<Entry>, kind: u8, key: &Text)
 }
 
 /// Makes one change, in room that is there.
-pub fn change(entries: &mut Vec<Entry>, change: EntryChange)
+pub fn apply_change(entries: &mut Vec<Entry>, change: EntryChange)
     requires order { IsOrderedEntries entries.old.items }
     requires room { vec_len entries.old + 1 ≤ vec_capacity entries.old }
     ensures items { entries.new.items ≡ after_change change entries.old.items }

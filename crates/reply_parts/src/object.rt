@@ -44,7 +44,7 @@ impl Object {
         Ok(())
     }
 
-    /// Puts a text.
+    /// Puts a member whose value is a JSON string.
     pub fn put_text(&mut self, key: &str, text: &str) -> Result<(), NoMemory>
         ensures { OnOk result (members_in self.new ≡ put key.now (string text.now) (members_in self.old)) }
     {
@@ -75,7 +75,7 @@ impl Object {
         self.with(key, Value::from(number))
     }
 
-    /// The object with a truth more.
+    /// The object with one more member, which is `true` or `false`.
     pub fn with_truth(self, key: &str, truth: bool) -> Result<Object, NoMemory>
         ensures { IfOk result (λ o. members_in o ≡ put key.now (boolean truth) (members_in self)) }
     {

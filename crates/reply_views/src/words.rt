@@ -73,7 +73,7 @@ pub(crate) fn power_code(power: Power) -> u64
     }
 }
 
-/// What an instance is.
+/// The `type` of an instance in a reply: `container` or `virtual-machine`.
 pub(crate) fn instance_kind(kind: Kind) -> &'static str
     ensures { result.now ≡ instance_kind kind }
 {

@@ -133,7 +133,7 @@ impl Ledger {
         share_in(&self.holds, op)
     }
 
-    /// The books.
+    /// The sums of all shares that were ever granted, converted and returned.
     pub fn books(&self) -> Books
         ensures books { result ≡ self.now.books }
         ensures facts { AreHoldings self.now }
@@ -149,25 +149,25 @@ fn take_out(holds: &mut Vec<Hold>, op: u64) -> Amounts
     ensures rest { holds.new.items ≡ dropped (has_op op) holds.old.items }
     ensures room { vec_capacity holds.old - vec_len holds.old ≤ vec_capacity holds.new - vec_len holds.new }
 {
-    let place = place_of(holds, op);
+    let place = index_of(holds, op);
     let hold = holds.remove(place);
     hold.share
 }
 
 /// The place of the share of an operation, which is there.
-fn place_of(holds: &[Hold], op: u64) -> usize
+fn index_of(holds: &[Hold], op: u64) -> usize
     requires { IsSome (find (has_op op) holds.now) }
     ensures place { Some result ≡ position (has_op op) holds.now }
     ensures within { result < length holds.now }
 {
-    match place_in(holds, op) {
+    match index_in(holds, op) {
         Some(place) => place,
         None => unreachable!(),
     }
 }
 
 /// The place of the share of an operation.
-fn place_in(holds: &[Hold], op: u64) -> Option<usize>
+fn index_in(holds: &[Hold], op: u64) -> Option<usize>
     ensures { result ≡ position (has_op op) holds.now }
 {
     holds.iter().position(|hold| hold.op == op)

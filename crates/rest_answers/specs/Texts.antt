@@ -7,7 +7,7 @@ use Rattle.records.specs.declared.refusals.Rule.{Rule}
 use Rattle.records.specs.declared.refusals.Rule.TheVariants as rule
 use Rattle.records.specs.declared.replies.Reply.{Reply}
 use Rattle.records.specs.declared.replies.Reply.TheVariants as reply
-use Rattle.row_machine.specs.machine.Refusals.{plainly}
+use Rattle.row_machine.specs.machine.Refusals.{plain_refusal}
 use Rattle.rest_replies.specs.Replies.{printed_of}
 use Rattle.rest_answers.specs.declared.answers.Answered.{Answered}
 use Rattle.rest_answers.specs.declared.answers.Answered.TheVariants as written
@@ -26,7 +26,7 @@ rule_of fault.H4 = rule.H4
 -- The bytes that answer a malformed place, after which the connection ends. A refusal tells no id, so the boot word
 -- does not matter.
 abbrev pub malformed_text : HeadFault → List ℕ
-malformed_text fault = printed (reply.Refused (plainly (rule_of fault))) 0 true
+malformed_text fault = printed (reply.Refused (plain_refusal (rule_of fault))) 0 true
 
 -- the bytes of the reply that takes no memory
 abbrev pub no_memory_text : Bool → List ℕ

@@ -1,12 +1,12 @@
 //! What is written for a reply.
 ghost use Rattle.std.specs.Prelude.{◌≡◌, true, IfOk};
-ghost use Rattle.row_machine.specs.machine.Refusals.{plainly};
+ghost use Rattle.row_machine.specs.machine.Refusals.{plain_refusal};
 ghost use Rattle.rest_answers.specs.Texts.{HasText, malformed_text, printed, rule_of};
 
 use http_front::{HeadFault, reply_bytes};
 use records::{Refusal, Reply, Rule};
 use rest_replies::{no_memory_is_known, print};
-use rule_refusals::untold;
+use rule_refusals::nothing_told;
 use size_values::{NoMemory, Seq};
 use std::alloc::Global;
 
@@ -63,11 +63,11 @@ fn rule_of(fault: HeadFault) -> Rule
 
 /// The refusal of a malformed place.
 fn refusal_of(alloc: Global, fault: HeadFault) -> Refusal
-    ensures { result ≡ plainly (rule_of fault) }
+    ensures { result ≡ plain_refusal (rule_of fault) }
 {
     Refusal {
         rule: rule_of(fault),
-        kept: untold(alloc),
+        kept: nothing_told(alloc),
     }
 }
 

@@ -5,7 +5,7 @@ use Rattle.serde_json.specs.Data.{Data}
 use Rattle.serde_json.specs.Find.{as_str}
 use Rattle.size_values.specs.declared.kinds.Action.{Action}
 use Rattle.size_values.specs.declared.kinds.Action.TheVariants as action
-use Rattle.rest_bodies.specs.Members.{given}
+use Rattle.rest_bodies.specs.Members.{non_null_member}
 
 -- the action of this name
 unfoldable pub action_of : List ℕ → Option Action
@@ -23,4 +23,4 @@ action_in value = option_and_then action_of (as_str value)
 
 -- the action in a body, if one is given
 unfoldable pub action_at : Data → Option Action
-action_at body = option_and_then action_in (given (codes "action") body)
+action_at body = option_and_then action_in (non_null_member (codes "action") body)

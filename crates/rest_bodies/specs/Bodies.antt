@@ -9,7 +9,7 @@ use Rattle.records.specs.declared.commands.Origin.TheVariants as origin
 use Rattle.rest_bodies.specs.Copies.{copy_origin}
 use Rattle.rest_bodies.specs.Drivers.{driver_at}
 use Rattle.rest_bodies.specs.Instances.{kind_at, ephemeral_at, instance_origin}
-use Rattle.rest_bodies.specs.Members.{given, text_at}
+use Rattle.rest_bodies.specs.Members.{non_null_member, text_at}
 use Rattle.rest_bodies.specs.Origins.{volume_origin}
 use Rattle.rest_bodies.specs.Profiles.{profiles_at}
 use Rattle.rest_bodies.specs.Settings.{changes_of, devices_of}
@@ -18,11 +18,11 @@ use Rattle.rest_bodies.specs.declared.fields.Shape.TheVariants as shape
 
 -- the settings in a body, if they are given
 unfoldable pub config_at : Data → Option Settings
-config_at body = option_map changes_of (given (codes "config") body)
+config_at body = option_map changes_of (non_null_member (codes "config") body)
 
 -- the devices in a body, if they are given
 unfoldable pub devices_at : Data → Option NamedDevices
-devices_at body = option_map devices_of (given (codes "devices") body)
+devices_at body = option_map devices_of (non_null_member (codes "devices") body)
 
 -- a part that bodies of this shape have
 abbrev pub part_of : {A : Type 0} → Bool → Option A → Option A
@@ -43,12 +43,12 @@ has_kind shape.NewInstance = true
 has_kind other = false
 
 -- bodies that make or change an object describe it: they have a description and settings, but that of a new snapshot
-abbrev pub describes : Shape → Bool
-describes shape.NewSnapshot = false
-describes shape.Rename = false
-describes shape.InstanceRename = false
-describes shape.StateChange = false
-describes other = true
+abbrev pub has_description : Shape → Bool
+has_description shape.NewSnapshot = false
+has_description shape.Rename = false
+has_description shape.InstanceRename = false
+has_description shape.StateChange = false
+has_description other = true
 
 -- bodies of profiles and instances have devices
 abbrev pub has_devices : Shape → Bool
@@ -71,8 +71,8 @@ origin_of other body pool = origin.None
 -- what a body says of an object, in the pool of its path
 unfoldable pub body_of : Shape → Data → List ℕ → Body
 body_of shape body pool = record {
-  description = part_of (describes shape) (text_at (codes "description") body);
-  config = part_of (describes shape) (config_at body);
+  description = part_of (has_description shape) (text_at (codes "description") body);
+  config = part_of (has_description shape) (config_at body);
   devices = part_of (has_devices shape) (devices_at body);
   profiles = part_of (is_of_instances shape) (profiles_at body);
   kind = part_of (has_kind shape) (kind_at body);

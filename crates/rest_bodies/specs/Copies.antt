@@ -6,7 +6,7 @@ use Rattle.serde_json.specs.Data.{Data}
 use Rattle.records.specs.Forms.{has_slash, is_empty}
 use Rattle.records.specs.declared.commands.Origin.{Origin}
 use Rattle.records.specs.declared.commands.Origin.TheVariants as origin
-use Rattle.rest_bodies.specs.Members.{given, text_at, unless}
+use Rattle.rest_bodies.specs.Members.{non_null_member, text_at, unless}
 
 -- ---- the text that names what is copied
 
@@ -45,4 +45,4 @@ copied_from (Some names) = origin.Copy names.0 names.1 []
 
 -- what a body copies a new instance from
 unfoldable pub copy_origin : Data → Origin
-copy_origin body = copied_from (option_and_then copied_at (given (codes "source") body))
+copy_origin body = copied_from (option_and_then copied_at (non_null_member (codes "source") body))

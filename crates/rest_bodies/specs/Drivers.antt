@@ -5,7 +5,7 @@ use Rattle.serde_json.specs.Data.{Data}
 use Rattle.serde_json.specs.Find.{as_str}
 use Rattle.records.specs.declared.rows.Driver.{Driver}
 use Rattle.records.specs.declared.rows.Driver.TheVariants as driver
-use Rattle.rest_bodies.specs.Members.{given}
+use Rattle.rest_bodies.specs.Members.{non_null_member}
 
 -- the driver of this name
 unfoldable pub driver_of : List ℕ → Option Driver
@@ -22,4 +22,4 @@ driver_in value = option_and_then driver_of (as_str value)
 
 -- the driver in a body, if one is given
 unfoldable pub driver_at : Data → Option Driver
-driver_at body = option_and_then driver_in (given (codes "driver") body)
+driver_at body = option_and_then driver_in (non_null_member (codes "driver") body)

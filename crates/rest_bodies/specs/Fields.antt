@@ -6,7 +6,7 @@ use Rattle.serde_json.specs.Find.{as_bool, as_str}
 use Rattle.rest_bodies.specs.Actions.{action_in}
 use Rattle.rest_bodies.specs.Drivers.{driver_in}
 use Rattle.rest_bodies.specs.Instances.{kind_in, is_false, restore_at, source_fault}
-use Rattle.rest_bodies.specs.Members.{given, is_word, unless}
+use Rattle.rest_bodies.specs.Members.{non_null_member, is_word, unless}
 use Rattle.rest_bodies.specs.Origins.{fits_source}
 use Rattle.rest_bodies.specs.Profiles.{fits_profiles}
 use Rattle.rest_bodies.specs.Settings.{fits_settings, fits_devices}
@@ -61,31 +61,31 @@ key_of field.Action = codes "action"
 key_of field.Restore = codes "restore"
 
 -- the value has the form of the field
-abbrev pub fits : Field → Data → Bool
-fits field.Name value = is_some (as_str value)
-fits field.SnapshotName value = is_some (as_str value)
-fits field.Driver value = is_some (driver_in value)
-fits field.NetworkType value = is_word (codes "bridge") value
-fits field.VolumeType value = is_word (codes "custom") value
-fits field.InstanceType value = is_some (kind_in value)
-fits field.Description value = is_some (as_str value)
-fits field.Config value = fits_settings value
-fits field.Devices value = fits_devices value
-fits field.Profiles value = fits_profiles value
-fits field.Ephemeral value = is_some (as_bool value)
-fits field.VolumeSource value = fits_source value
-fits field.InstanceSource value = is_none (source_fault value)
-fits field.Start value = is_false value
-fits field.Stateful value = is_false value
-fits field.Migration value = is_false value
-fits field.Project value = false
-fits field.Action value = is_some (action_in value)
-fits field.Restore value = is_some (as_str value)
+abbrev pub value_fits : Field → Data → Bool
+value_fits field.Name value = is_some (as_str value)
+value_fits field.SnapshotName value = is_some (as_str value)
+value_fits field.Driver value = is_some (driver_in value)
+value_fits field.NetworkType value = is_word (codes "bridge") value
+value_fits field.VolumeType value = is_word (codes "custom") value
+value_fits field.InstanceType value = is_some (kind_in value)
+value_fits field.Description value = is_some (as_str value)
+value_fits field.Config value = fits_settings value
+value_fits field.Devices value = fits_devices value
+value_fits field.Profiles value = fits_profiles value
+value_fits field.Ephemeral value = is_some (as_bool value)
+value_fits field.VolumeSource value = fits_source value
+value_fits field.InstanceSource value = is_none (source_fault value)
+value_fits field.Start value = is_false value
+value_fits field.Stateful value = is_false value
+value_fits field.Migration value = is_false value
+value_fits field.Project value = false
+value_fits field.Action value = is_some (action_in value)
+value_fits field.Restore value = is_some (as_str value)
 
 -- the fault of a value: the source of an instance tells which of its parts is at fault
 abbrev pub value_fault : Field → Data → Option (List ℕ)
 value_fault field.InstanceSource value = source_fault value
-value_fault other value = unless (fits other value) (key_of other)
+value_fault other value = unless (value_fits other value) (key_of other)
 
 -- a name, a driver, the source of an instance and an action have to be given, and other fields may be absent
 abbrev pub absent_fault : Field → Option (List ℕ)
@@ -102,7 +102,7 @@ fault_in field (Some value) = value_fault field value
 
 -- the key of a field that is at fault in a body
 unfoldable pub fault_of : Field → Data → Option (List ℕ)
-fault_of field body = fault_in field (given (key_of field) body)
+fault_of field body = fault_in field (non_null_member (key_of field) body)
 
 -- the first fault, or else the next
 abbrev pub or_next : Option (List ℕ) → Option (List ℕ) → Option (List ℕ)

@@ -10,7 +10,7 @@ use Rattle.size_values.specs.declared.kinds.Kind.TheVariants as kind
 use Rattle.records.specs.declared.commands.Origin.{Origin}
 use Rattle.records.specs.declared.commands.Origin.TheVariants as origin
 use Rattle.rest_bodies.specs.Copies.{copied_fault}
-use Rattle.rest_bodies.specs.Members.{given, text_at, unless}
+use Rattle.rest_bodies.specs.Members.{non_null_member, text_at, unless}
 use Rattle.rest_bodies.specs.Origins.{has_word}
 
 -- ---- kinds and truth values
@@ -28,7 +28,7 @@ kind_in value = option_and_then kind_of (as_str value)
 
 -- the kind in a body, if one is given
 unfoldable pub kind_at : Data → Option Kind
-kind_at body = option_and_then kind_in (given (codes "type") body)
+kind_at body = option_and_then kind_in (non_null_member (codes "type") body)
 
 -- `false`, which a number is not
 unfoldable pub is_false : Data → Bool
@@ -36,7 +36,7 @@ is_false value = option_map_or not (as_bool value) false
 
 -- whether an instance goes when it stops, if the body says so
 unfoldable pub ephemeral_at : Data → Option Bool
-ephemeral_at body = option_and_then as_bool (given (codes "ephemeral") body)
+ephemeral_at body = option_and_then as_bool (non_null_member (codes "ephemeral") body)
 
 -- ---- the form of a source
 
@@ -51,19 +51,19 @@ needed_fault key (Some value) = text_fault key value
 
 -- An image goes by its fingerprint, or else by its alias. Where a fingerprint is given, the alias is not looked at.
 abbrev pub named_fault : Option Data → Data → Option (List ℕ)
-named_fault None source = needed_fault (codes "alias") (given (codes "alias") source)
+named_fault None source = needed_fault (codes "alias") (non_null_member (codes "alias") source)
 named_fault (Some fingerprint) source = text_fault (codes "fingerprint") fingerprint
 
 -- the fault of the names of an image
 abbrev pub image_fault : Data → Option (List ℕ)
-image_fault source = named_fault (given (codes "fingerprint") source) source
+image_fault source = named_fault (non_null_member (codes "fingerprint") source) source
 
 -- nothing, an image or a copy
 unfoldable pub typed_fault : Data → Option (List ℕ)
 typed_fault source =
-    if has_word (codes "none") (given (codes "type") source) then None
-    else (if has_word (codes "image") (given (codes "type") source) then image_fault source
-    else (if has_word (codes "copy") (given (codes "type") source) then copied_fault source
+    if has_word (codes "none") (non_null_member (codes "type") source) then None
+    else (if has_word (codes "image") (non_null_member (codes "type") source) then image_fault source
+    else (if has_word (codes "copy") (non_null_member (codes "type") source) then copied_fault source
     else Some (codes "type")))
 
 -- the key of the first part of a source that is at fault, or that of the source itself, which has to be an object
@@ -79,11 +79,13 @@ image_name source = unwrap_or (text_at (codes "fingerprint") source) (unwrap_or 
 -- what a source that is no copy makes an instance from: an image, or nothing
 unfoldable pub instance_made : Data → Origin
 instance_made source =
-    if has_word (codes "image") (given (codes "type") source) then origin.Image (image_name source) else origin.None
+    if has_word (codes "image") (non_null_member (codes "type") source)
+    then origin.Image (image_name source)
+    else origin.None
 
 -- what a body that asks for no copy makes a new instance from
 unfoldable pub instance_origin : Data → Origin
-instance_origin body = option_map_or instance_made (given (codes "source") body) origin.None
+instance_origin body = option_map_or instance_made (non_null_member (codes "source") body) origin.None
 
 -- ---- what an instance is put back to
 

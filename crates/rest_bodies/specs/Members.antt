@@ -24,12 +24,12 @@ unfoldable pub if_given : Data → Option Data
 if_given value = if is_some (as_null value) then None else Some value
 
 -- the value of a field that is given
-unfoldable pub given : List ℕ → Data → Option Data
-given key body = option_and_then if_given (get key body)
+unfoldable pub non_null_member : List ℕ → Data → Option Data
+non_null_member key body = option_and_then if_given (get key body)
 
 -- the text of a field, if it is given
 unfoldable pub text_at : List ℕ → Data → Option (List ℕ)
-text_at key body = option_and_then as_str (given key body)
+text_at key body = option_and_then as_str (non_null_member key body)
 
 -- the value is this text
 unfoldable pub is_word : List ℕ → Data → Bool

@@ -6,7 +6,7 @@ use Rattle.std.specs.Str.{bytes_eq}
 use Rattle.serde_json.specs.Data.{Data, Items, no_items, item}
 use Rattle.serde_json.specs.Find.{as_array, as_str}
 use Rattle.records.specs.Forms.{most_profiles}
-use Rattle.rest_bodies.specs.Members.{given}
+use Rattle.rest_bodies.specs.Members.{non_null_member}
 
 -- ---- their form
 
@@ -70,4 +70,4 @@ profiles_in value = option_map_or texts_in (as_array value) []
 
 -- the profiles in a body, if they are given
 unfoldable pub profiles_at : Data → Option (List (List ℕ))
-profiles_at body = option_map profiles_in (given (codes "profiles") body)
+profiles_at body = option_map profiles_in (non_null_member (codes "profiles") body)

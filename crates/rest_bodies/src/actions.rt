@@ -2,7 +2,7 @@ ghost use Rattle.std.specs.Prelude.{◌≡◌};
 ghost use Rattle.serde_json.specs.View.{view};
 ghost use Rattle.rest_bodies.specs.Actions.{action_of, action_in, action_at};
 
-use crate::members::given;
+use crate::members::non_null_member;
 use serde_json::Value;
 use size_values::Action;
 
@@ -44,7 +44,7 @@ pub(crate) fn action_in(value: &Value) -> Option<Action>
 pub fn action_at(body: &Value) -> Option<Action>
     ensures { result ≡ action_at (view body.now) }
 {
-    match given("action", body) {
+    match non_null_member("action", body) {
         Some(value) => action_in(value),
         None => None,
     }

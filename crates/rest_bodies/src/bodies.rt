@@ -1,6 +1,6 @@
 ghost use Rattle.std.specs.Prelude.{◌≡◌, IfOk, codes};
 ghost use Rattle.serde_json.specs.View.{view};
-ghost use Rattle.rest_bodies.specs.Bodies.{config_at, devices_at, part_of, is_of_instances, has_kind, describes};
+ghost use Rattle.rest_bodies.specs.Bodies.{config_at, devices_at, part_of, is_of_instances, has_kind, has_description};
 ghost use Rattle.rest_bodies.specs.Bodies.{has_devices, has_driver, origin_of, body_of};
 ghost use Rattle.rest_bodies.specs.Drivers.{driver_at};
 ghost use Rattle.rest_bodies.specs.Instances.{kind_at, ephemeral_at};
@@ -11,7 +11,7 @@ use crate::copies::copy_origin;
 use crate::drivers::driver_at;
 use crate::fields::Shape;
 use crate::instances::{ephemeral_at, instance_origin, kind_at};
-use crate::members::{given, text_at};
+use crate::members::{non_null_member, text_at};
 use crate::origins::volume_origin;
 use crate::profiles::profiles_at;
 use crate::settings::{changes_of, devices_of};
@@ -25,7 +25,7 @@ use std::alloc::Global;
 fn config_at(alloc: Global, body: &Value) -> Result<Option<Changes>, NoMemory>
     ensures { IfOk result (λ o. o ≡ config_at (view body.now)) }
 {
-    match given("config", body) {
+    match non_null_member("config", body) {
         Some(value) => Ok(Some(changes_of(alloc, value)?)),
         None => Ok(None),
     }
@@ -35,7 +35,7 @@ fn config_at(alloc: Global, body: &Value) -> Result<Option<Changes>, NoMemory>
 fn devices_at(alloc: Global, body: &Value) -> Result<Option<Devices>, NoMemory>
     ensures { IfOk result (λ o. o ≡ devices_at (view body.now)) }
 {
-    match given("devices", body) {
+    match non_null_member("devices", body) {
         Some(value) => Ok(Some(devices_of(alloc, value)?)),
         None => Ok(None),
     }
@@ -65,8 +65,8 @@ fn has_kind(shape: Shape) -> bool
 }
 
 /// Whether a body of this shape has a description and settings.
-fn describes(shape: Shape) -> bool
-    ensures { result ≡ describes shape }
+fn has_description(shape: Shape) -> bool
+    ensures { result ≡ has_description shape }
 {
     match shape {
         Shape::NewSnapshot => false,
@@ -99,18 +99,18 @@ fn has_driver(shape: Shape) -> bool
 }
 
 fn description_part(alloc: Global, shape: Shape, body: &Value) -> Result<Option<Text>, NoMemory>
-    ensures { IfOk result (λ o. o ≡ part_of (describes shape) (text_at (codes "description") (view body.now))) }
+    ensures { IfOk result (λ o. o ≡ part_of (has_description shape) (text_at (codes "description") (view body.now))) }
 {
-    if describes(shape) {
+    if has_description(shape) {
         return text_at(alloc, "description", body);
     }
     Ok(None)
 }
 
 fn config_part(alloc: Global, shape: Shape, body: &Value) -> Result<Option<Changes>, NoMemory>
-    ensures { IfOk result (λ o. o ≡ part_of (describes shape) (config_at (view body.now))) }
+    ensures { IfOk result (λ o. o ≡ part_of (has_description shape) (config_at (view body.now))) }
 {
-    if describes(shape) {
+    if has_description(shape) {
         return config_at(alloc, body);
     }
     Ok(None)

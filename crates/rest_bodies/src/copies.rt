@@ -4,7 +4,7 @@ ghost use Rattle.records.specs.Forms.{has_slash};
 ghost use Rattle.rest_bodies.specs.Copies.{is_part, two_parts, copied_in, copied_at, copied_fault};
 ghost use Rattle.rest_bodies.specs.Copies.{copied_from, copy_origin};
 
-use crate::members::{given, str_at};
+use crate::members::{non_null_member, str_at};
 use records::Origin;
 use serde_json::Value;
 use size_values::{NoMemory, Text};
@@ -91,7 +91,7 @@ fn copied_from(alloc: Global, names: Option<(&str, &str)>) -> Result<Origin, NoM
 pub(crate) fn copy_origin(alloc: Global, body: &Value) -> Result<Origin, NoMemory>
     ensures { IfOk result (λ o. o ≡ copy_origin (view body.now)) }
 {
-    match given("source", body) {
+    match non_null_member("source", body) {
         Some(source) => copied_from(alloc, copied_at(source)),
         None => Ok(Origin::None),
     }

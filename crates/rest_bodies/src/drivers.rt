@@ -2,7 +2,7 @@ ghost use Rattle.std.specs.Prelude.{◌≡◌};
 ghost use Rattle.serde_json.specs.View.{view};
 ghost use Rattle.rest_bodies.specs.Drivers.{driver_of, driver_in, driver_at};
 
-use crate::members::given;
+use crate::members::non_null_member;
 use records::Driver;
 use serde_json::Value;
 
@@ -41,7 +41,7 @@ pub(crate) fn driver_in(value: &Value) -> Option<Driver>
 pub(crate) fn driver_at(body: &Value) -> Option<Driver>
     ensures { result ≡ driver_at (view body.now) }
 {
-    match given("driver", body) {
+    match non_null_member("driver", body) {
         Some(value) => driver_in(value),
         None => None,
     }

@@ -1,12 +1,13 @@
 ghost use Rattle.std.specs.Prelude.{◌≡◌, option_map};
 ghost use Rattle.serde_json.specs.View.{view};
-ghost use Rattle.rest_bodies.specs.Fields.{fields_of, key_of, fits, value_fault, absent_fault, fault_of, first_fault};
+ghost use Rattle.rest_bodies.specs.Fields.{fields_of, key_of, value_fits, value_fault, absent_fault, fault_of};
+ghost use Rattle.rest_bodies.specs.Fields.{first_fault};
 ghost use Rattle.rest_bodies.specs.Fields.{judged_fields, body_fault};
 
 use crate::actions::action_in;
 use crate::drivers::driver_in;
 use crate::instances::{is_false, is_restoration, kind_in, source_fault};
-use crate::members::{given, is_word};
+use crate::members::{is_word, non_null_member};
 use crate::origins::fits_source;
 use crate::profiles::fits_profiles;
 use crate::settings::{fits_devices, fits_settings};
@@ -174,8 +175,8 @@ fn key_of(field: Field) -> &'static str
     }
 }
 
-fn fits(field: Field, value: &Value) -> bool
-    ensures { result ≡ fits field (view value.now) }
+fn value_fits(field: Field, value: &Value) -> bool
+    ensures { result ≡ value_fits field (view value.now) }
 {
     match field {
         Field::Name => value.as_str().is_some(),
@@ -207,7 +208,7 @@ fn value_fault(field: Field, value: &Value) -> Option<&'static str>
     if let Field::InstanceSource = field {
         return source_fault(value);
     }
-    if fits(field, value) {
+    if value_fits(field, value) {
         None
     } else {
         Some(key_of(field))
@@ -231,7 +232,7 @@ fn absent_fault(field: Field) -> Option<&'static str>
 fn fault_of(field: Field, body: &Value) -> Option<&'static str>
     ensures { option_map (λ k. k.now) result ≡ fault_of field (view body.now) }
 {
-    match given(key_of(field), body) {
+    match non_null_member(key_of(field), body) {
         Some(value) => value_fault(field, value),
         None => absent_fault(field),
     }

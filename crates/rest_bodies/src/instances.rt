@@ -5,7 +5,7 @@ ghost use Rattle.rest_bodies.specs.Instances.{needed_fault, named_fault, image_f
 ghost use Rattle.rest_bodies.specs.Instances.{image_name, instance_made, instance_origin, restore_at};
 
 use crate::copies::copied_fault;
-use crate::members::{given, is_word, str_at, text_at};
+use crate::members::{is_word, non_null_member, str_at, text_at};
 use crate::origins::has_word;
 use records::Origin;
 use serde_json::Value;
@@ -41,7 +41,7 @@ pub(crate) fn kind_in(value: &Value) -> Option<Kind>
 pub(crate) fn kind_at(body: &Value) -> Option<Kind>
     ensures { result ≡ kind_at (view body.now) }
 {
-    match given("type", body) {
+    match non_null_member("type", body) {
         Some(value) => kind_in(value),
         None => None,
     }
@@ -63,7 +63,7 @@ pub(crate) fn is_false(value: &Value) -> bool
 pub(crate) fn ephemeral_at(body: &Value) -> Option<bool>
     ensures { result ≡ ephemeral_at (view body.now) }
 {
-    match given("ephemeral", body) {
+    match non_null_member("ephemeral", body) {
         Some(value) => value.as_bool(),
         None => None,
     }
@@ -97,27 +97,27 @@ fn named_fault(fingerprint: Option<&Value>, source: &Value) -> Option<&'static s
 {
     match fingerprint {
         Some(value) => text_fault("fingerprint", value),
-        None => needed_fault("alias", given("alias", source)),
+        None => needed_fault("alias", non_null_member("alias", source)),
     }
 }
 
 fn image_fault(source: &Value) -> Option<&'static str>
     ensures { option_map (λ k. k.now) result ≡ image_fault (view source.now) }
 {
-    named_fault(given("fingerprint", source), source)
+    named_fault(non_null_member("fingerprint", source), source)
 }
 
 #[tactic(auto, unfolding(crate::specs::Instances::typed_fault))]
 fn typed_fault(source: &Value) -> Option<&'static str>
     ensures { option_map (λ k. k.now) result ≡ typed_fault (view source.now) }
 {
-    if has_word("none", given("type", source)) {
+    if has_word("none", non_null_member("type", source)) {
         return None;
     }
-    if has_word("image", given("type", source)) {
+    if has_word("image", non_null_member("type", source)) {
         return image_fault(source);
     }
-    if has_word("copy", given("type", source)) {
+    if has_word("copy", non_null_member("type", source)) {
         return copied_fault(source);
     }
     Some("type")
@@ -153,7 +153,7 @@ fn image_name(source: &Value) -> &str
 fn instance_made(alloc: Global, source: &Value) -> Result<Origin, NoMemory>
     ensures { IfOk result (λ o. o ≡ instance_made (view source.now)) }
 {
-    if has_word("image", given("type", source)) {
+    if has_word("image", non_null_member("type", source)) {
         return Ok(Origin::Image(Text::from_text(alloc, image_name(source))?));
     }
     Ok(Origin::None)
@@ -164,7 +164,7 @@ fn instance_made(alloc: Global, source: &Value) -> Result<Origin, NoMemory>
 pub(crate) fn instance_origin(alloc: Global, body: &Value) -> Result<Origin, NoMemory>
     ensures { IfOk result (λ o. o ≡ instance_origin (view body.now)) }
 {
-    match given("source", body) {
+    match non_null_member("source", body) {
         Some(source) => instance_made(alloc, source),
         None => Ok(Origin::None),
     }

@@ -19,5 +19,5 @@ pub use bodies::body_of;
 pub use fields::{Field, Shape, judge_fields};
 pub use instances::restore_at;
 pub use laws::names_first_bad;
-pub use members::{given, name_at, object_in};
+pub use members::{name_at, non_null_member, object_in};
 pub use origins::{asks_for_copy, volume_origin};

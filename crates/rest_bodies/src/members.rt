@@ -1,6 +1,7 @@
 ghost use Rattle.std.specs.Prelude.{◌≡◌, IfOk, option_map, unwrap_or};
 ghost use Rattle.serde_json.specs.View.{view};
-ghost use Rattle.rest_bodies.specs.Members.{json_in, if_object, object_in, if_given, given, text_at, is_word, name_at};
+ghost use Rattle.rest_bodies.specs.Members.{json_in, if_object, object_in, if_given, non_null_member, text_at, is_word};
+ghost use Rattle.rest_bodies.specs.Members.{name_at};
 
 use serde_json::Value;
 use size_values::{NoMemory, Text};
@@ -52,9 +53,9 @@ fn if_given(value: &Value) -> Option<&Value>
 }
 
 /// The value of a field that is there and not null.
-#[tactic(auto, unfolding(crate::specs::Members::given))]
-pub fn given<'a>(key: &str, body: &'a Value) -> Option<&'a Value>
-    ensures { option_map (λ m. view m.now) result ≡ given key.now (view body.now) }
+#[tactic(auto, unfolding(crate::specs::Members::non_null_member))]
+pub fn non_null_member<'a>(key: &str, body: &'a Value) -> Option<&'a Value>
+    ensures { option_map (λ m. view m.now) result ≡ non_null_member key.now (view body.now) }
 {
     match body.get(key) {
         Some(value) => if_given(value),
@@ -76,7 +77,7 @@ fn copy_of(alloc: Global, text: Option<&str>) -> Result<Option<Text>, NoMemory>
 pub(crate) fn str_at<'a>(key: &str, body: &'a Value) -> Option<&'a str>
     ensures { option_map (λ s. s.now) result ≡ text_at key.now (view body.now) }
 {
-    match given(key, body) {
+    match non_null_member(key, body) {
         Some(value) => value.as_str(),
         None => None,
     }

@@ -3,7 +3,7 @@ ghost use Rattle.serde_json.specs.View.{view};
 ghost use Rattle.rest_bodies.specs.Origins.{may_be_text, has_word, is_copy_source, asks_for_copy, fits_source};
 ghost use Rattle.rest_bodies.specs.Origins.{source_pool, volume_copied, volume_origin};
 
-use crate::members::{given, is_word, name_at, str_at};
+use crate::members::{is_word, name_at, non_null_member, str_at};
 use records::Origin;
 use serde_json::Value;
 use size_values::{NoMemory, Text};
@@ -31,7 +31,7 @@ pub(crate) fn has_word(word: &str, field: Option<&Value>) -> bool
 fn is_copy_source(source: &Value) -> bool
     ensures { result ≡ is_copy_source (view source.now) }
 {
-    has_word("copy", given("type", source))
+    has_word("copy", non_null_member("type", source))
 }
 
 /// Whether a body asks for a copy of an object, whatever else it says.
@@ -39,7 +39,7 @@ fn is_copy_source(source: &Value) -> bool
 pub fn asks_for_copy(body: &Value) -> bool
     ensures { result ≡ asks_for_copy (view body.now) }
 {
-    match given("source", body) {
+    match non_null_member("source", body) {
         Some(source) => is_copy_source(source),
         None => false,
     }
@@ -50,7 +50,9 @@ pub fn asks_for_copy(body: &Value) -> bool
 pub(crate) fn fits_source(source: &Value) -> bool
     ensures { result ≡ fits_source (view source.now) }
 {
-    is_copy_source(source) && str_at("name", source).is_some() && may_be_text(given("pool", source))
+    is_copy_source(source)
+        && str_at("name", source).is_some()
+        && may_be_text(non_null_member("pool", source))
 }
 
 /// The pool that a source names. Only where it names none, not where its text is empty, the path's pool is meant.
@@ -81,7 +83,7 @@ fn volume_copied(alloc: Global, source: &Value, pool: &str) -> Result<Origin, No
 pub fn volume_origin(alloc: Global, body: &Value, pool: &str) -> Result<Origin, NoMemory>
     ensures { IfOk result (λ o. o ≡ volume_origin (view body.now) pool.now) }
 {
-    match given("source", body) {
+    match non_null_member("source", body) {
         Some(source) => volume_copied(alloc, source, pool),
         None => Ok(Origin::None),
     }

@@ -5,7 +5,7 @@ ghost use Rattle.records.specs.Forms.{most_profiles};
 ghost use Rattle.rest_bodies.specs.Profiles.{is_text, are_texts, is_here, is_among, comes_again, are_distinct};
 ghost use Rattle.rest_bodies.specs.Profiles.{are_names, fits_profiles, text_in, texts_in, profiles_in, profiles_at};
 
-use crate::members::given;
+use crate::members::non_null_member;
 use serde_json::Value;
 use size_values::{NoMemory, Seq, Text};
 use std::alloc::Global;
@@ -121,7 +121,7 @@ fn profiles_in(alloc: Global, value: &Value) -> Result<Seq<Text>, NoMemory>
 pub(crate) fn profiles_at(alloc: Global, body: &Value) -> Result<Option<Seq<Text>>, NoMemory>
     ensures { IfOk result (λ o. o ≡ profiles_at (view body.now)) }
 {
-    match given("profiles", body) {
+    match non_null_member("profiles", body) {
         Some(value) => Ok(Some(profiles_in(alloc, value)?)),
         None => Ok(None),
     }

@@ -7,7 +7,7 @@ use Rattle.matchit.specs.Rows.{RowsOf}
 use Rattle.matchit.specs.Seek.{has_slash, slash}
 use Rattle.size_values.specs.declared.kinds.ObjectKind.TheVariants as kind
 use Rattle.rest_paths.specs.Filled.{filled, names_in, NamesFill}
-use Rattle.rest_paths.specs.Paths.{is_slash, before_slash, after_slash, after_three, name_of, pool_of, instance_of}
+use Rattle.rest_paths.specs.Paths.{is_slash, before_slash, after_slash, after_three_slashes, name_of, pool_of, instance_of}
 use Rattle.rest_paths.specs.Places.{routes, rows}
 use Rattle.rest_paths.specs.declared.places.Line.{Line}
 use Rattle.rest_paths.proofs.Matching.{AreParts, Fits, In, params_in, has_catch_all, sound}
@@ -58,8 +58,8 @@ after-part (b ∷ p) rest clean = at (b == slash) refl clean (after-part p rest)
     at false is clean more = rw is (drop-more (bytes-before (p ++ slash ∷ rest)) b (p ++ slash ∷ rest) ∙ more clean)
 
 -- the name of a volume, behind its pool
-volume-name : (p q : List ℕ) → has_slash p ≡ false → has_slash q ≡ false → before_slash (after_three (p ++ slash ∷ (codes "volumes/custom/" ++ (q ++ [])))) ≡ q
-unfolding after_slash after_three
+volume-name : (p q : List ℕ) → has_slash p ≡ false → has_slash q ≡ false → before_slash (after_three_slashes (p ++ slash ∷ (codes "volumes/custom/" ++ (q ++ [])))) ≡ q
+unfolding after_slash after_three_slashes
 volume-name p q clean last =
     ap (λ r. before_slash (after_slash (after_slash r))) (after-part p (codes "volumes/custom/" ++ (q ++ [])) clean) ∙ before-end q last
 
@@ -121,7 +121,7 @@ abbrev Names : List ℕ → List ℕ → RouteOf Line → Type 0
 Names path t route = Fits t path ⊎ (has_catch_all t ≡ true) → path ≡ filled route.pattern (names_in route.value.place path)
 
 each-names : (path : List ℕ) → Each (Names path) rows
-unfolding matchit_on_literals routes rows before_slash after_slash after_three
+unfolding matchit_on_literals routes rows before_slash after_slash after_three_slashes
 each-names path = (
   λ f. plain _ refl refl f,
   (

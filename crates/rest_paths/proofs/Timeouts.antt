@@ -17,7 +17,7 @@ use Rattle.records.specs.declared.refusals.Refusal.{Refusal}
 use Rattle.rest_paths.specs.Answers.{followed}
 use Rattle.records.specs.declared.refusals.Rule.TheVariants as rule
 use Rattle.rest_paths.specs.Refusals.{on_key}
-use Rattle.rest_paths.specs.Queries.{text_of, project_after, recursion_of, has_leading_zero, seconds_of, timeout_of, are_types, no_query, flags_after, query_after, query_in, query_said, timeout_asked}
+use Rattle.rest_paths.specs.Queries.{text_of, project_after, recursion_of, has_leading_zero, timeout_seconds, timeout_of, are_types, no_query, flags_after, query_after, query_in, query_from_text, wait_timeout}
 use Rattle.rest_paths.specs.declared.query.Flags.{Flags}
 use Rattle.rest_paths.specs.declared.query.Query.{Query}
 
@@ -50,8 +50,8 @@ count_within text least most n h =
 abbrev is_fine : Option ℤ → Bool
 is_fine timeout = option_map_or is_timeout timeout true
 
-seconds_fine : (value : List ℕ) → is_fine (option_map pos (seconds_of value)) ≡ true
-unfolding seconds_of
+seconds_fine : (value : List ℕ) → is_fine (option_map pos (timeout_seconds value)) ≡ true
+unfolding timeout_seconds
 seconds_fine value = by (has_leading_zero value) (count_of value 0 longest_wait) (λ n. count_within value 0 longest_wait n)
   where
     below : (n : ℕ) → n ≤ longest_wait → nat_le n longest_wait ≡ true
@@ -67,8 +67,8 @@ timeout_fine : (value : List ℕ) → is_fine (timeout_of value) ≡ true
 unfolding timeout_of
 timeout_fine value = by (bytes_eq value (codes "-1")) (seconds_fine value)
   where
-    by : (endless : Bool) → is_fine (option_map pos (seconds_of value)) ≡ true
-        → is_fine (cond endless (Some (negsuc 0)) (option_map pos (seconds_of value))) ≡ true
+    by : (endless : Bool) → is_fine (option_map pos (timeout_seconds value)) ≡ true
+        → is_fine (cond endless (Some (negsuc 0)) (option_map pos (timeout_seconds value))) ≡ true
     by true h = refl
     by false h = h
 
@@ -124,14 +124,14 @@ pairs_fine ((key, value) ∷ pairs) query h =
     next_fine (query_after query (text_of key) (text_of value)) _ (query_fine query (text_of key) (text_of value) h) (λ next k. pairs_fine pairs next k)
 
 -- the time to wait that a query says, or that is meant where it says none
-pub timeout_formed : (text : List ℕ) → IfOk (query_said text) (λ query. is_timeout (timeout_asked query) ≡ true)
-unfolding query_said
+pub timeout_formed : (text : List ℕ) → IfOk (query_from_text text) (λ query. is_timeout (wait_timeout query) ≡ true)
+unfolding query_from_text
 timeout_formed text = by (query_in no_query (raw_pairs text)) (pairs_fine (raw_pairs text) no_query refl)
   where
     asked : (timeout : Option ℤ) → is_fine timeout ≡ true → is_timeout (unwrap_or timeout (negsuc 0)) ≡ true
     asked None h = refl
     asked (Some t) h = h
 
-    by : (answer : Result Query Refusal) → IfOk answer QueryFine → IfOk answer (λ query. is_timeout (timeout_asked query) ≡ true)
+    by : (answer : Result Query Refusal) → IfOk answer QueryFine → IfOk answer (λ query. is_timeout (wait_timeout query) ≡ true)
     by (Err refusal) h = tt
     by (Ok query) h = asked query.flags.timeout h

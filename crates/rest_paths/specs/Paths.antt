@@ -29,22 +29,22 @@ unfoldable pub query_of : List ℕ → List ℕ
 query_of target = after_first is_question_mark target
 
 -- what stands after the first three slashes, as `NAME` in `/1.0/profiles/NAME`
-unfoldable pub after_three : List ℕ → List ℕ
-after_three path = after_slash (after_slash (after_slash path))
+unfoldable pub after_three_slashes : List ℕ → List ℕ
+after_three_slashes path = after_slash (after_slash (after_slash path))
 
--- the name of the object in a path `/1.0/profiles/NAME`, for volumes `/1.0/storage-pools/POOL/volumes/custom/NAME`, and for
--- snapshots `/1.0/instances/INSTANCE/snapshots/NAME`
+-- the name of the object in a path `/1.0/profiles/NAME`, for volumes `/1.0/storage-pools/POOL/volumes/custom/NAME`,
+-- and for snapshots `/1.0/instances/INSTANCE/snapshots/NAME`
 abbrev pub name_of : ObjectKind → List ℕ → List ℕ
-name_of kind.Volume path = before_slash (after_three (after_three path))
-name_of kind.Snapshot path = before_slash (after_slash (after_slash (after_three path)))
-name_of other path = before_slash (after_three path)
+name_of kind.Volume path = before_slash (after_three_slashes (after_three_slashes path))
+name_of kind.Snapshot path = before_slash (after_slash (after_slash (after_three_slashes path)))
+name_of other path = before_slash (after_three_slashes path)
 
 -- the pool in a path of volumes, `/1.0/storage-pools/POOL/volumes`
 abbrev pub pool_of : ObjectKind → List ℕ → List ℕ
-pool_of kind.Volume path = before_slash (after_three path)
+pool_of kind.Volume path = before_slash (after_three_slashes path)
 pool_of other path = []
 
 -- the instance in a path of snapshots, `/1.0/instances/INSTANCE/snapshots`
 abbrev pub instance_of : ObjectKind → List ℕ → List ℕ
-instance_of kind.Snapshot path = before_slash (after_three path)
+instance_of kind.Snapshot path = before_slash (after_three_slashes path)
 instance_of other path = []

@@ -32,12 +32,12 @@ unfoldable pub has_leading_zero : List ℕ → Bool
 has_leading_zero value = nat_lt 1 (length value) && slice_index value 0 == 48
 
 -- seconds in decimal, with neither a sign nor leading zeros, and not too many
-unfoldable pub seconds_of : List ℕ → Option ℕ
-seconds_of value = if has_leading_zero value then None else result_ok (count_of value 0 longest_wait)
+unfoldable pub timeout_seconds : List ℕ → Option ℕ
+timeout_seconds value = if has_leading_zero value then None else result_ok (count_of value 0 longest_wait)
 
 -- the time to wait: -1 for no end, or seconds
 unfoldable pub timeout_of : List ℕ → Option ℤ
-timeout_of value = if bytes_eq value (codes "-1") then Some (negsuc 0) else option_map pos (seconds_of value)
+timeout_of value = if bytes_eq value (codes "-1") then Some (negsuc 0) else option_map pos (timeout_seconds value)
 
 -- one of the two types of events
 unfoldable pub is_type : List ℕ → Bool
@@ -83,17 +83,17 @@ query_in query ((key, value) ∷ pairs) =
     followed (query_after query (text_of key) (text_of value)) (λ next. query_in next pairs)
 
 -- what a query says, or the refusal of its first bad pair
-unfoldable pub query_said : List ℕ → Result Query Refusal
-query_said text = query_in no_query (raw_pairs text)
+unfoldable pub query_from_text : List ℕ → Result Query Refusal
+query_from_text text = query_in no_query (raw_pairs text)
 
 -- the project that is asked in, which is `default` where the query names none
 abbrev pub project_of : Query → List ℕ
 project_of query = unwrap_or query.project (codes "default")
 
 -- whether objects are listed, and not their links alone
-abbrev pub recursion_asked : Query → Bool
-recursion_asked query = unwrap_or query.flags.recursion false
+abbrev pub wants_objects : Query → Bool
+wants_objects query = unwrap_or query.flags.recursion false
 
 -- the time to wait for an operation, which has no end where the query says nothing
-abbrev pub timeout_asked : Query → ℤ
-timeout_asked query = unwrap_or query.flags.timeout (negsuc 0)
+abbrev pub wait_timeout : Query → ℤ
+wait_timeout query = unwrap_or query.flags.timeout (negsuc 0)

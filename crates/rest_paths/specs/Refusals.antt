@@ -6,17 +6,17 @@ use Rattle.records.specs.declared.refusals.Kept.{Kept}
 use Rattle.records.specs.declared.refusals.Refusal.{Refusal}
 
 -- nothing is told
-abbrev pub untold : Kept
-untold = record { kind = []; project = []; name = []; key = []; number = 0; used = 0; asked = 0; limit = 0 }
+abbrev pub nothing_told : Kept
+nothing_told = record { kind = []; project = []; name = []; key = []; number = 0; used = 0; asked = 0; limit = 0 }
 
 -- the rule and a key
 abbrev pub on_key : Rule → List ℕ → Refusal
-on_key rule key = record { rule = rule; kept = record untold { key = key } }
+on_key rule key = record { rule = rule; kept = record nothing_told { key = key } }
 
 -- the rule alone
-abbrev pub plainly : Rule → Refusal
-plainly rule = record { rule = rule; kept = untold }
+abbrev pub plain_refusal : Rule → Refusal
+plain_refusal rule = record { rule = rule; kept = nothing_told }
 
 -- no operation has this id
 abbrev pub no_operation : List ℕ → Refusal
-no_operation id = record { rule = rule.N2; kept = record untold { kind = codes "operation"; name = id } }
+no_operation id = record { rule = rule.N2; kept = record nothing_told { kind = codes "operation"; name = id } }

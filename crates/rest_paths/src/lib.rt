@@ -12,6 +12,6 @@ mod table;
 pub use laws::{names_fill_the_braces, paths_do_not_conflict};
 pub use paths::{instance_of, name_of, path_of, pool_of, query_of};
 pub use places::{Line, Methods, Place, Verb, has_body, verb_offered};
-pub use query::{Flags, Query, project_of, query_said, recursion_asked, timeout_asked};
-pub use refusals::{no_operation, plainly, refused};
+pub use query::{Flags, Query, project_of, query_from_text, wait_timeout, wants_objects};
+pub use refusals::{no_operation, plain_refusal, refusal_on_key};
 pub use table::PathTable;

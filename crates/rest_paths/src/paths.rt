@@ -1,5 +1,6 @@
 ghost use Rattle.std.specs.Prelude.{◌≡◌};
-ghost use Rattle.rest_paths.specs.Paths.{before_slash, after_slash, after_three, path_of, query_of, name_of, pool_of, instance_of};
+ghost use Rattle.rest_paths.specs.Paths.{before_slash, after_slash, after_three_slashes, path_of, query_of, name_of};
+ghost use Rattle.rest_paths.specs.Paths.{pool_of, instance_of};
 
 use size_values::ObjectKind;
 
@@ -48,9 +49,9 @@ pub fn query_of(target: &str) -> &str
 }
 
 /// What stands after the first three slashes.
-#[tactic(auto, unfolding(crate::specs::Paths::after_three))]
-fn after_three(path: &str) -> &str
-    ensures { result.now ≡ after_three path.now }
+#[tactic(auto, unfolding(crate::specs::Paths::after_three_slashes))]
+fn after_three_slashes(path: &str) -> &str
+    ensures { result.now ≡ after_three_slashes path.now }
 {
     after_slash(after_slash(after_slash(path)))
 }
@@ -62,9 +63,9 @@ pub fn name_of(kind: ObjectKind, path: &str) -> &str
     ensures { result.now ≡ name_of kind path.now }
 {
     match kind {
-        ObjectKind::Volume => before_slash(after_three(after_three(path))),
-        ObjectKind::Snapshot => before_slash(after_slash(after_slash(after_three(path)))),
-        _ => before_slash(after_three(path)),
+        ObjectKind::Volume => before_slash(after_three_slashes(after_three_slashes(path))),
+        ObjectKind::Snapshot => before_slash(after_slash(after_slash(after_three_slashes(path)))),
+        _ => before_slash(after_three_slashes(path)),
     }
 }
 
@@ -73,7 +74,7 @@ pub fn pool_of(kind: ObjectKind, path: &str) -> &str
     ensures { result.now ≡ pool_of kind path.now }
 {
     match kind {
-        ObjectKind::Volume => before_slash(after_three(path)),
+        ObjectKind::Volume => before_slash(after_three_slashes(path)),
         _ => "",
     }
 }
@@ -83,7 +84,7 @@ pub fn instance_of(kind: ObjectKind, path: &str) -> &str
     ensures { result.now ≡ instance_of kind path.now }
 {
     match kind {
-        ObjectKind::Snapshot => before_slash(after_three(path)),
+        ObjectKind::Snapshot => before_slash(after_three_slashes(path)),
         _ => "",
     }
 }

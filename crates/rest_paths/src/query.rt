@@ -1,11 +1,13 @@
 ghost use Rattle.std.specs.Prelude.{◌≡◌, ◌≤◌, IfOk, IfSome};
 ghost use Rattle.records.specs.Forms.{longest_wait};
 ghost use Rattle.rest_paths.specs.Answers.{Gives};
-ghost use Rattle.rest_paths.specs.Queries.{recursion_of, has_leading_zero, seconds_of, timeout_of, is_type, are_types};
-ghost use Rattle.rest_paths.specs.Queries.{no_query, flags_after, project_after, query_after, query_said, project_of};
-ghost use Rattle.rest_paths.specs.Queries.{recursion_asked, timeout_asked};
+ghost use Rattle.rest_paths.specs.Queries.{recursion_of, has_leading_zero, timeout_seconds, timeout_of, is_type};
+ghost use Rattle.rest_paths.specs.Queries.{are_types};
+ghost use Rattle.rest_paths.specs.Queries.{no_query, flags_after, project_after, query_after, query_from_text};
+ghost use Rattle.rest_paths.specs.Queries.{project_of};
+ghost use Rattle.rest_paths.specs.Queries.{wants_objects, wait_timeout};
 
-use crate::refusals::refused;
+use crate::refusals::refusal_on_key;
 use form_urlencoded::parse;
 use records::{Refusal, Rule};
 use size_values::{NoMemory, Or, Text, read_count};
@@ -49,9 +51,9 @@ fn has_leading_zero(value: &str) -> bool
 }
 
 /// Seconds from 0 to 1000000 without leading zeros.
-#[tactic(auto, unfolding(crate::specs::Queries::seconds_of), using(crate::proofs::Timeouts::count_within))]
-fn seconds_of(value: &str) -> Option<u64>
-    ensures is { result ≡ seconds_of value.now }
+#[tactic(auto, unfolding(crate::specs::Queries::timeout_seconds), using(crate::proofs::Timeouts::count_within))]
+fn timeout_seconds(value: &str) -> Option<u64>
+    ensures is { result ≡ timeout_seconds value.now }
     ensures within { IfSome result (λ n. n ≤ longest_wait) }
 {
     if has_leading_zero(value) {
@@ -71,7 +73,7 @@ fn timeout_of(value: &str) -> Option<i64>
     if value == "-1" {
         return Some(-1);
     }
-    match seconds_of(value) {
+    match timeout_seconds(value) {
         Some(seconds) => Some(seconds as i64),
         None => None,
     }
@@ -161,7 +163,7 @@ fn query_after(alloc: Global, query: Query, key: &str, value: &str) -> Result<Qu
 {
     let Query { project, flags } = query;
     let Some(flags) = flags_after(flags, key, value) else {
-        return Err(refused(alloc, Rule::A3, key));
+        return Err(refusal_on_key(alloc, Rule::A3, key));
     };
     let project = project_after(alloc, project, key, value)?;
     Ok(Query { project, flags })
@@ -169,9 +171,9 @@ fn query_after(alloc: Global, query: Query, key: &str, value: &str) -> Result<Qu
 
 /// What a query says, or the refusal of its first bad pair. Keys and values are those of a form (URL Standard,
 /// section 5), and bytes that are no UTF-8 are replaced.
-#[tactic(auto, unfolding(crate::specs::Queries::query_said))]
-pub fn query_said(alloc: Global, text: &str) -> Result<Query, Or<Refusal>>
-    ensures { Gives result (query_said text.now) }
+#[tactic(auto, unfolding(crate::specs::Queries::query_from_text))]
+pub fn query_from_text(alloc: Global, text: &str) -> Result<Query, Or<Refusal>>
+    ensures { Gives result (query_from_text text.now) }
 {
     let mut query = Query {
         project: None,
@@ -199,8 +201,8 @@ pub fn project_of(alloc: Global, query: Query) -> Result<Text, NoMemory>
 }
 
 /// Whether objects are listed, and not their links alone.
-pub fn recursion_asked(query: &Query) -> bool
-    ensures { result ≡ recursion_asked query.now }
+pub fn wants_objects(query: &Query) -> bool
+    ensures { result ≡ wants_objects query.now }
 {
     match query.flags.recursion {
         Some(objects) => objects,
@@ -209,8 +211,8 @@ pub fn recursion_asked(query: &Query) -> bool
 }
 
 /// How many seconds to wait for an operation, or -1 for no end, which is also where nothing is said.
-pub fn timeout_asked(query: &Query) -> i64
-    ensures { result ≡ timeout_asked query.now }
+pub fn wait_timeout(query: &Query) -> i64
+    ensures { result ≡ wait_timeout query.now }
 {
     match query.flags.timeout {
         Some(time) => time,

@@ -1,14 +1,14 @@
 ghost use Rattle.std.specs.Prelude.{◌≡◌, IfOk};
 ghost use Rattle.rest_paths.specs.Answers.{IsRefused};
-ghost use Rattle.rest_paths.specs.Refusals.{untold, on_key, plainly, no_operation};
+ghost use Rattle.rest_paths.specs.Refusals.{nothing_told, on_key, plain_refusal, no_operation};
 
 use records::{Kept, Refusal, Rule};
 use size_values::{NoMemory, Or, Text};
 use std::alloc::Global;
 
 /// What is kept of a rule that tells a key, or nothing where the key is empty.
-fn kept(alloc: Global, key: &str) -> Result<Kept, NoMemory>
-    ensures { IfOk result (λ k. k ≡ record untold { key = key.now }) }
+fn kept_key(alloc: Global, key: &str) -> Result<Kept, NoMemory>
+    ensures { IfOk result (λ k. k ≡ record nothing_told { key = key.now }) }
 {
     Ok(Kept {
         kind: Text::new(alloc),
@@ -23,20 +23,20 @@ fn kept(alloc: Global, key: &str) -> Result<Kept, NoMemory>
 }
 
 /// The refusal by a rule that tells a key.
-pub fn refused(alloc: Global, rule: Rule, key: &str) -> Or<Refusal>
+pub fn refusal_on_key(alloc: Global, rule: Rule, key: &str) -> Or<Refusal>
     ensures { IsRefused result (on_key rule key.now) }
 {
-    match kept(alloc, key) {
+    match kept_key(alloc, key) {
         Ok(kept) => Or::Why(Refusal { rule, kept }),
         Err(_) => Or::NoMemory,
     }
 }
 
 /// The refusal by a rule that tells nothing.
-pub fn plainly(alloc: Global, rule: Rule) -> Or<Refusal>
-    ensures { IsRefused result (plainly rule) }
+pub fn plain_refusal(alloc: Global, rule: Rule) -> Or<Refusal>
+    ensures { IsRefused result (plain_refusal rule) }
 {
-    refused(alloc, rule, "")
+    refusal_on_key(alloc, rule, "")
 }
 
 fn kept_of_operation(alloc: Global, id: &str) -> Result<Kept, NoMemory>

@@ -10,7 +10,7 @@ use Rattle.records.specs.declared.replies.Reply.{Reply}
 use Rattle.records.specs.declared.replies.Reply.TheVariants as reply
 use Rattle.serde_json.specs.Data.{Data, string, object, Members, no_members, put}
 use Rattle.serde_json.specs.Written.{compact_text}
-use Rattle.row_machine.specs.machine.Refusals.{untold}
+use Rattle.row_machine.specs.machine.Refusals.{nothing_told}
 use Rattle.reply_views.specs.Words.{status_key}
 use Rattle.reply_parts.specs.Ids.{operation_link}
 use Rattle.reply_parts.specs.Objects.{object_of, list_of, whole}
@@ -67,7 +67,7 @@ whole_by_status boot groups = object (put_operations boot groups no_members)
 
 -- the refusal where there is no memory
 abbrev pub no_memory_refusal : Refusal
-no_memory_refusal = record { rule = rule.M1; kept = untold }
+no_memory_refusal = record { rule = rule.M1; kept = nothing_told }
 
 -- the body of a reply
 abbrev pub reply_data : ℕ → Reply → Data

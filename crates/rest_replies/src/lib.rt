@@ -10,4 +10,5 @@ mod refusals;
 pub use laws::no_memory_is_known;
 pub use notices::print_notice;
 pub use printing::print;
+pub use refusals::rule_name;
 pub use reply_parts::{id_text, ids_read_back, number_of};

@@ -17,7 +17,7 @@ use Rattle.rest_bodies.specs.Drivers.{driver_in, driver_at}
 use Rattle.rest_bodies.specs.Fields.{fields_of, fault_of, fault_in, first_fault, body_fault, or_next}
 use Rattle.rest_bodies.specs.Instances.{kind_at, ephemeral_at, instance_origin}
 use Rattle.rest_bodies.specs.Copies.{copy_origin}
-use Rattle.rest_bodies.specs.Members.{text_at, given, unless}
+use Rattle.rest_bodies.specs.Members.{text_at, non_null_member, unless}
 use Rattle.rest_bodies.specs.Origins.{volume_origin}
 use Rattle.rest_bodies.specs.Profiles.{profiles_at}
 use Rattle.rest_bodies.specs.declared.fields.Field.TheVariants as field
@@ -119,7 +119,7 @@ fine_next (Some key) next h = cc
 -- a driver that is not at fault is there
 driver_there : (body : Data) → fault_of field.Driver body ≡ None → is_some (driver_at body) ≡ true
 unfolding fault_of driver_at
-driver_there body h = by (given (codes "driver") body) h
+driver_there body h = by (non_null_member (codes "driver") body) h
   where
     named_one : (driver : Option Driver) → unless (is_some driver) (codes "driver") ≡ None → is_some driver ≡ true
     named_one None h = cc

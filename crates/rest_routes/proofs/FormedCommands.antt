@@ -12,7 +12,7 @@ use Rattle.rest_paths.proofs.Timeouts.{timeout_formed}
 use Rattle.rest_paths.specs.Answers.{Gives, mapped, followed}
 use Rattle.rest_paths.specs.Paths.{path_of, query_of}
 use Rattle.rest_paths.specs.Places.{line_of, verb_offered}
-use Rattle.rest_paths.specs.Queries.{query_said, project_of, timeout_asked}
+use Rattle.rest_paths.specs.Queries.{query_from_text, project_of, wait_timeout}
 use Rattle.rest_paths.specs.declared.places.Place.{Place}
 use Rattle.rest_paths.specs.declared.places.Verb.{Verb}
 use Rattle.rest_routes.specs.Commands.{sent_body, command_at, command_of}
@@ -43,7 +43,7 @@ after_any (Err refusal) f fine = tt
 at_place : (place : Place) (verb : Verb) (target : List ℕ) (sent : Option Data) (boot : ℕ) → CommandIsFormed (command_at place verb target sent boot)
 unfolding command_at
 at_place place verb target sent boot =
-    after_good (λ query. is_timeout (timeout_asked query) ≡ true) (query_said (query_of target)) _ (timeout_formed (query_of target)) (λ query time.
+    after_good (λ query. is_timeout (wait_timeout query) ≡ true) (query_from_text (query_of target)) _ (timeout_formed (query_of target)) (λ query time.
     in_project (project_of query) _ (asked_formed place verb (path_of target) query boot sent time))
 
 pub routed_formed : RoutedIsFormed

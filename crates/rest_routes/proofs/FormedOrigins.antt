@@ -10,7 +10,7 @@ use Rattle.records.specs.declared.commands.Origin.{Origin}
 use Rattle.records.specs.declared.commands.Origin.TheVariants as origin
 use Rattle.rest_bodies.specs.Copies.{is_slash, is_part, two_parts, copied_in, copied_at, copied_from, copy_origin}
 use Rattle.rest_bodies.specs.Instances.{image_name, instance_made, instance_origin}
-use Rattle.rest_bodies.specs.Members.{given, text_at}
+use Rattle.rest_bodies.specs.Members.{non_null_member, text_at}
 use Rattle.rest_bodies.specs.Origins.{has_word, volume_copied, volume_origin}
 use Rattle.rest_routes.proofs.FormedSettings.{both, and_true}
 
@@ -24,7 +24,7 @@ is_new (origin.Copy from snapshot pool) = false
 
 made_new : (source : Data) → is_new (instance_made source) ≡ true
 unfolding instance_made
-made_new source = by (has_word (codes "image") (given (codes "type") source))
+made_new source = by (has_word (codes "image") (non_null_member (codes "type") source))
   where
     by : (b : Bool) → is_new (cond b (origin.Image (image_name source)) origin.None) ≡ true
     by true = refl
@@ -32,7 +32,7 @@ made_new source = by (has_word (codes "image") (given (codes "type") source))
 
 pub origin_new : (body : Data) → is_new (instance_origin body) ≡ true
 unfolding instance_origin
-origin_new body = by (given (codes "source") body)
+origin_new body = by (non_null_member (codes "source") body)
   where
     by : (o : Option Data) → is_new (option_map_or instance_made o origin.None) ≡ true
     by None = refl
@@ -86,7 +86,7 @@ names_at source = by (text_at (codes "source") source)
 -- what an instance is copied from
 pub copy_formed : (body : Data) → may_come_from kind.Instance (copy_origin body) ≡ true
 unfolding copy_origin
-copy_formed body = by (given (codes "source") body)
+copy_formed body = by (non_null_member (codes "source") body)
   where
     from : (found : Option (List ℕ × List ℕ)) → FoundNames found → may_come_from kind.Instance (copied_from found) ≡ true
     from None h = refl
@@ -101,7 +101,7 @@ copy_formed body = by (given (codes "source") body)
 -- what a volume is made from
 pub volume_formed : (body : Data) (pool : List ℕ) → may_come_from kind.Volume (volume_origin body pool) ≡ true
 unfolding volume_origin
-volume_formed body pool = by (given (codes "source") body)
+volume_formed body pool = by (non_null_member (codes "source") body)
   where
     by : (o : Option Data) → may_come_from kind.Volume (volume_copied o pool) ≡ true
     by None = refl

@@ -9,7 +9,7 @@ use Rattle.serde_json.specs.Find.{as_array, as_str}
 use Rattle.records.specs.Forms as Forms
 use Rattle.records.specs.Forms.{are_profiles, most_profiles}
 use Rattle.rest_bodies.specs.Fields.{fault_of, fault_in}
-use Rattle.rest_bodies.specs.Members.{given, unless}
+use Rattle.rest_bodies.specs.Members.{non_null_member, unless}
 use Rattle.rest_bodies.specs.Profiles.{count_of, are_texts, is_here, is_among, comes_again, are_distinct, are_names, fits_profiles, text_in, texts_in, profiles_in, profiles_at}
 use Rattle.rest_bodies.specs.declared.fields.Field.TheVariants as field
 use Rattle.rest_routes.proofs.FormedSettings.{both, and_true}
@@ -63,7 +63,7 @@ profiles_formed value h = by (as_array value) h
 
 pub profiles_at_formed : (body : Data) → fault_of field.Profiles body ≡ None → option_map_or are_profiles (profiles_at body) true ≡ true
 unfolding fault_of profiles_at
-profiles_at_formed body h = by (given (codes "profiles") body) h
+profiles_at_formed body h = by (non_null_member (codes "profiles") body) h
   where
     by : (o : Option Data) → fault_in field.Profiles o ≡ None → option_map_or are_profiles (option_map profiles_in o) true ≡ true
     by None h = refl

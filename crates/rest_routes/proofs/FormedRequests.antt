@@ -18,7 +18,7 @@ use Rattle.rest_bodies.specs.declared.fields.Shape.TheVariants as shape
 use Rattle.rest_paths.specs.Answers.{mapped, followed}
 use Rattle.rest_paths.specs.Paths.{pool_of}
 use Rattle.rest_paths.specs.Places.{has_body}
-use Rattle.rest_paths.specs.Queries.{timeout_asked}
+use Rattle.rest_paths.specs.Queries.{wait_timeout}
 use Rattle.rest_paths.specs.declared.places.Place.{Place}
 use Rattle.rest_paths.specs.declared.places.Place.TheVariants as place
 use Rattle.rest_paths.specs.declared.places.Verb.{Verb}
@@ -27,8 +27,8 @@ use Rattle.rest_paths.specs.declared.query.Query.{Query}
 use Rattle.rest_routes.specs.Commands.{what_of}
 use Rattle.rest_routes.specs.Shapes.{rename_shape, change_shape, object_shape, shape_of}
 use Rattle.rest_routes.specs.Targets.{object_of, objects_of, operation_at}
-use Rattle.rest_routes.specs.WithBody.{needed, unless_fault, put_said, what_said, what_sent}
-use Rattle.rest_routes.specs.WithoutBody.{one_read, operation_read, one_asked, what_read}
+use Rattle.rest_routes.specs.WithBody.{needed, unless_fault, put_from_body, what_from_body, what_with_body}
+use Rattle.rest_routes.specs.WithoutBody.{get_or_delete, get_or_cancel, get_or_delete_at, what_without_body}
 use Rattle.rest_routes.proofs.FormedBodies.{project_formed, profile_formed, network_formed, pool_formed, volume_body_formed, instance_formed, copy_body_formed, snapshot_formed, change_formed, profile_change_formed, put_profiles, instance_put_formed, instance_patch_formed}
 
 -- the request of an answer is formed, if it is one
@@ -37,11 +37,11 @@ AnswerIsFormed answer = IfOk answer (λ asked. is_request asked ≡ true)
 
 -- ---- requests that send no body
 
-one_formed : (verb : Verb) (kind : ObjectKind) (path : List ℕ) → is_object is_named (object_of kind path) ≡ true → is_request (one_read verb (object_of kind path)) ≡ true
+one_formed : (verb : Verb) (kind : ObjectKind) (path : List ℕ) → is_object is_named (object_of kind path) ≡ true → is_request (get_or_delete verb (object_of kind path)) ≡ true
 one_formed verb.Delete kind path h = h
 one_formed other kind path h = h
 
-operation_formed : (verb : Verb) (op : ℕ) → is_request (operation_read verb op) ≡ true
+operation_formed : (verb : Verb) (op : ℕ) → is_request (get_or_cancel verb op) ≡ true
 operation_formed verb.Delete op = refl
 operation_formed other op = refl
 
@@ -50,7 +50,7 @@ found_formed : (asked : ℕ → What) (found : Result ℕ Refusal) → ((op : �
 found_formed asked (Ok op) h = h op
 found_formed asked (Err refusal) h = tt
 
-one_asked_formed : (kind : ObjectKind) (verb : Verb) (path : List ℕ) (boot : ℕ) → AnswerIsFormed (one_asked kind verb path boot)
+one_asked_formed : (kind : ObjectKind) (verb : Verb) (path : List ℕ) (boot : ℕ) → AnswerIsFormed (get_or_delete_at kind verb path boot)
 one_asked_formed kind.Project verb path boot = one_formed verb kind.Project path refl
 one_asked_formed kind.Profile verb path boot = one_formed verb kind.Profile path refl
 one_asked_formed kind.Network verb path boot = one_formed verb kind.Network path refl
@@ -70,8 +70,8 @@ list_formed kind.Instance path = refl
 list_formed kind.Snapshot path = refl
 list_formed kind.Operation path = refl
 
-read_formed : (place : Place) (verb : Verb) (path : List ℕ) (query : Query) (boot : ℕ) → is_timeout (timeout_asked query) ≡ true
-    → AnswerIsFormed (what_read place verb path query boot)
+read_formed : (place : Place) (verb : Verb) (path : List ℕ) (query : Query) (boot : ℕ) → is_timeout (wait_timeout query) ≡ true
+    → AnswerIsFormed (what_without_body place verb path query boot)
 read_formed place.Root verb path query boot time = refl
 read_formed place.Server verb path query boot time = refl
 read_formed (place.List kind) verb path query boot time = list_formed kind path
@@ -86,21 +86,21 @@ read_formed place.Events verb path query boot time = tt
 -- what a body asks for is formed, where no field is at fault
 abbrev JudgedIsFormed : Place → Verb → List ℕ → Shape → Data → Type 0
 JudgedIsFormed place verb path shape body =
-    AnswerIsFormed (followed (unless_fault (body_fault shape body)) (λ fine. what_said place verb path shape body))
+    AnswerIsFormed (followed (unless_fault (body_fault shape body)) (λ fine. what_from_body place verb path shape body))
 
 judged : (place : Place) (verb : Verb) (path : List ℕ) (shape : Shape) (body : Data)
-    → (body_fault shape body ≡ None → AnswerIsFormed (what_said place verb path shape body)) → JudgedIsFormed place verb path shape body
+    → (body_fault shape body ≡ None → AnswerIsFormed (what_from_body place verb path shape body)) → JudgedIsFormed place verb path shape body
 judged place verb path shape body fine = by (body_fault shape body) fine
   where
-    by : (fault : Option (List ℕ)) → (fault ≡ None → AnswerIsFormed (what_said place verb path shape body))
-        → AnswerIsFormed (followed (unless_fault fault) (λ fine. what_said place verb path shape body))
+    by : (fault : Option (List ℕ)) → (fault ≡ None → AnswerIsFormed (what_from_body place verb path shape body))
+        → AnswerIsFormed (followed (unless_fault fault) (λ fine. what_from_body place verb path shape body))
     by None fine = fine refl
     by (Some key) fine = tt
 
 -- what a body at a place asks for, by its shape
 abbrev SaidIsFormed : Place → Verb → List ℕ → Option Shape → Data → Type 0
 SaidIsFormed place verb path found body =
-    AnswerIsFormed (followed (needed rule.A2 found) (λ shape. followed (unless_fault (body_fault shape body)) (λ fine. what_said place verb path shape body)))
+    AnswerIsFormed (followed (needed rule.A2 found) (λ shape. followed (unless_fault (body_fault shape body)) (λ fine. what_from_body place verb path shape body)))
 
 module _ (path : List ℕ) (body : Data) where
   new_instance : (verb : Verb) → SaidIsFormed (place.List kind.Instance) verb path (shape_of (place.List kind.Instance) verb body) body
@@ -122,12 +122,12 @@ module _ (path : List ℕ) (body : Data) where
   new_formed kind.Operation verb = tt
 
   -- a PUT of an instance restores it, or else its fields were judged
-  instance_put : body_fault shape.InstancePut body ≡ None → is_request (put_said (restore_at body) (object_of kind.Instance path) shape.InstancePut body) ≡ true
+  instance_put : body_fault shape.InstancePut body ≡ None → is_request (put_from_body (restore_at body) (object_of kind.Instance path) shape.InstancePut body) ≡ true
   unfolding body_fault
   instance_put fine = by (restore_at body) fine
     where
       by : (o : Option (List ℕ)) → first_fault (cond (is_some o) [] (fields_of shape.InstancePut)) body ≡ None
-          → is_request (put_said o (object_of kind.Instance path) shape.InstancePut body) ≡ true
+          → is_request (put_from_body o (object_of kind.Instance path) shape.InstancePut body) ≡ true
       by (Some snapshot) fine = refl
       by None fine = instance_put_formed body [] (put_profiles body fine)
 
@@ -184,18 +184,18 @@ module _ (path : List ℕ) (body : Data) where
   said_formed place.Wait verb = tt
   said_formed place.Events verb = tt
 
-sent_formed : (place : Place) (verb : Verb) (path : List ℕ) (sent : Option Data) → AnswerIsFormed (what_sent place verb path sent)
-unfolding what_sent
+sent_formed : (place : Place) (verb : Verb) (path : List ℕ) (sent : Option Data) → AnswerIsFormed (what_with_body place verb path sent)
+unfolding what_with_body
 sent_formed place verb path None = tt
 sent_formed place verb path (Some body) = said_formed path body place verb
 
 -- ---- both
 
-pub asked_formed : (place : Place) (verb : Verb) (path : List ℕ) (query : Query) (boot : ℕ) (sent : Option Data) → is_timeout (timeout_asked query) ≡ true
+pub asked_formed : (place : Place) (verb : Verb) (path : List ℕ) (query : Query) (boot : ℕ) (sent : Option Data) → is_timeout (wait_timeout query) ≡ true
     → AnswerIsFormed (what_of place verb path query boot sent)
 asked_formed place verb path query boot sent time = by (has_body verb) (sent_formed place verb path sent) (read_formed place verb path query boot time)
   where
-    by : (b : Bool) → AnswerIsFormed (what_sent place verb path sent) → AnswerIsFormed (what_read place verb path query boot)
-        → AnswerIsFormed (cond b (what_sent place verb path sent) (what_read place verb path query boot))
+    by : (b : Bool) → AnswerIsFormed (what_with_body place verb path sent) → AnswerIsFormed (what_without_body place verb path query boot)
+        → AnswerIsFormed (cond b (what_with_body place verb path sent) (what_without_body place verb path query boot))
     by true h k = h
     by false h k = k

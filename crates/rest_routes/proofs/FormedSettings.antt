@@ -14,7 +14,7 @@ use Rattle.config_lists.specs.Entries.{put}
 use Rattle.config_lists.specs.Settings.{Settings}
 use Rattle.records.specs.Forms.{are_settings, are_devices}
 use Rattle.rest_bodies.specs.Bodies.{config_at, devices_at}
-use Rattle.rest_bodies.specs.Members.{given}
+use Rattle.rest_bodies.specs.Members.{non_null_member}
 use Rattle.rest_bodies.specs.Settings.{is_empty, with_change, changes_after, changes_of, with_setting, settings_after, device_of, devices_after, devices_of}
 
 -- the parts of a test that passes
@@ -106,7 +106,7 @@ devices_of_formed value = by (as_object value)
 
 pub config_formed : (body : Data) → option_map_or are_settings (config_at body) true ≡ true
 unfolding config_at
-config_formed body = by (given (codes "config") body)
+config_formed body = by (non_null_member (codes "config") body)
   where
     by : (o : Option Data) → option_map_or are_settings (option_map changes_of o) true ≡ true
     by None = refl
@@ -114,7 +114,7 @@ config_formed body = by (given (codes "config") body)
 
 pub devices_at_formed : (body : Data) → option_map_or are_devices (devices_at body) true ≡ true
 unfolding devices_at
-devices_at_formed body = by (given (codes "devices") body)
+devices_at_formed body = by (non_null_member (codes "devices") body)
   where
     by : (o : Option Data) → option_map_or are_devices (option_map devices_of o) true ≡ true
     by None = refl

@@ -10,12 +10,12 @@ use Rattle.rest_bodies.specs.Members.{object_in}
 use Rattle.rest_paths.specs.Answers.{mapped, followed}
 use Rattle.rest_paths.specs.Paths.{path_of, query_of}
 use Rattle.rest_paths.specs.Places.{line_of, verb_offered, has_body}
-use Rattle.rest_paths.specs.Queries.{query_said, project_of}
+use Rattle.rest_paths.specs.Queries.{query_from_text, project_of}
 use Rattle.rest_paths.specs.declared.places.Place.{Place}
 use Rattle.rest_paths.specs.declared.places.Verb.{Verb}
 use Rattle.rest_paths.specs.declared.query.Query.{Query}
-use Rattle.rest_routes.specs.WithBody.{needed, what_sent}
-use Rattle.rest_routes.specs.WithoutBody.{what_read}
+use Rattle.rest_routes.specs.WithBody.{needed, what_with_body}
+use Rattle.rest_routes.specs.WithoutBody.{what_without_body}
 
 -- the object that a body spells, if the method sends one
 abbrev pub sent_body : Verb → List ℕ → Option Data
@@ -24,13 +24,13 @@ sent_body verb body = if has_body verb then object_in body else None
 -- what a request asks for at its place
 abbrev pub what_of : Place → Verb → List ℕ → Query → ℕ → Option Data → Result What Refusal
 what_of place verb path query boot sent =
-    if has_body verb then what_sent place verb path sent else what_read place verb path query boot
+    if has_body verb then what_with_body place verb path sent else what_without_body place verb path query boot
 
 -- A request at its place, by its query (A3) and then by what it asks for. The daemon's boot word is that of the ids of
 -- operations.
 unfoldable pub command_at : Place → Verb → List ℕ → Option Data → ℕ → Result Command Refusal
 command_at place verb target sent boot =
-    followed (query_said (query_of target)) (λ query.
+    followed (query_from_text (query_of target)) (λ query.
     mapped (λ asked. record { project = project_of query; what = asked })
     (what_of place verb (path_of target) query boot sent))
 

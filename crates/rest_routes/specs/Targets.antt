@@ -9,17 +9,17 @@ use Rattle.rest_paths.specs.Paths.{name_of, pool_of, instance_of}
 use Rattle.rest_paths.specs.Refusals.{no_operation}
 
 -- the object of this kind and name that stands where the path says: a volume in its pool, a snapshot in its instance
-abbrev pub named : ObjectKind → List ℕ → List ℕ → Target
-named kind path name =
+abbrev pub target_at_path : ObjectKind → List ℕ → List ℕ → Target
+target_at_path kind path name =
     record { kind = kind; pool = pool_of kind path; instance = instance_of kind path; name = name }
 
 -- the object that a path names
 abbrev pub object_of : ObjectKind → List ℕ → Target
-object_of kind path = named kind path (name_of kind path)
+object_of kind path = target_at_path kind path (name_of kind path)
 
 -- all objects of a kind at a path: volumes of its pool, snapshots of its instance
 abbrev pub objects_of : ObjectKind → List ℕ → Target
-objects_of kind path = named kind path []
+objects_of kind path = target_at_path kind path []
 
 -- the number of the operation that a path names: its text is an id of this boot, and every other text names none
 abbrev pub operation_at : List ℕ → ℕ → Result ℕ Refusal

@@ -8,8 +8,8 @@ use Rattle.records.specs.declared.commands.What.TheVariants as what
 use Rattle.records.specs.declared.refusals.Rule.TheVariants as rule
 use Rattle.records.specs.declared.refusals.Refusal.{Refusal}
 use Rattle.rest_paths.specs.Answers.{mapped}
-use Rattle.rest_paths.specs.Queries.{recursion_asked, timeout_asked}
-use Rattle.rest_paths.specs.Refusals.{plainly}
+use Rattle.rest_paths.specs.Queries.{wants_objects, wait_timeout}
+use Rattle.rest_paths.specs.Refusals.{plain_refusal}
 use Rattle.rest_paths.specs.declared.places.Place.{Place}
 use Rattle.rest_paths.specs.declared.places.Place.TheVariants as place
 use Rattle.rest_paths.specs.declared.places.Verb.{Verb}
@@ -18,27 +18,28 @@ use Rattle.rest_paths.specs.declared.query.Query.{Query}
 use Rattle.rest_routes.specs.Targets.{object_of, objects_of, operation_at}
 
 -- one object is deleted or shown
-abbrev pub one_read : Verb → Target → What
-one_read verb.Delete of = what.Delete of
-one_read other of = what.Get of
+abbrev pub get_or_delete : Verb → Target → What
+get_or_delete verb.Delete of = what.Delete of
+get_or_delete other of = what.Get of
 
 -- one operation is cancelled or shown
-abbrev pub operation_read : Verb → ℕ → What
-operation_read verb.Delete op = what.Cancel op
-operation_read other op = what.GetOp op
+abbrev pub get_or_cancel : Verb → ℕ → What
+get_or_cancel verb.Delete op = what.Cancel op
+get_or_cancel other op = what.GetOp op
 
 -- one object goes by its name, an operation by its number
-abbrev pub one_asked : ObjectKind → Verb → List ℕ → ℕ → Result What Refusal
-one_asked kind.Operation verb path boot = mapped (operation_read verb) (operation_at path boot)
-one_asked kind verb path boot = Ok (one_read verb (object_of kind path))
+abbrev pub get_or_delete_at : ObjectKind → Verb → List ℕ → ℕ → Result What Refusal
+get_or_delete_at kind.Operation verb path boot = mapped (get_or_cancel verb) (operation_at path boot)
+get_or_delete_at kind verb path boot = Ok (get_or_delete verb (object_of kind path))
 
 -- What GET and DELETE ask for at a place. Events are not sent to a client that speaks HTTP alone.
-abbrev pub what_read : Place → Verb → List ℕ → Query → ℕ → Result What Refusal
-what_read place.Root verb path query boot = Ok what.Root
-what_read place.Server verb path query boot = Ok what.Server
-what_read (place.List kind) verb path query boot = Ok (what.List (objects_of kind path) (recursion_asked query))
-what_read (place.One kind) verb path query boot = one_asked kind verb path boot
-what_read place.Usage verb path query boot = Ok (what.State (object_of kind.Project path))
-what_read place.State verb path query boot = Ok (what.State (object_of kind.Instance path))
-what_read place.Wait verb path query boot = mapped (λ op. what.Wait op (timeout_asked query)) (operation_at path boot)
-what_read place.Events verb path query boot = Err (plainly rule.A6)
+abbrev pub what_without_body : Place → Verb → List ℕ → Query → ℕ → Result What Refusal
+what_without_body place.Root verb path query boot = Ok what.Root
+what_without_body place.Server verb path query boot = Ok what.Server
+what_without_body (place.List kind) verb path query boot = Ok (what.List (objects_of kind path) (wants_objects query))
+what_without_body (place.One kind) verb path query boot = get_or_delete_at kind verb path boot
+what_without_body place.Usage verb path query boot = Ok (what.State (object_of kind.Project path))
+what_without_body place.State verb path query boot = Ok (what.State (object_of kind.Instance path))
+what_without_body place.Wait verb path query boot =
+    mapped (λ op. what.Wait op (wait_timeout query)) (operation_at path boot)
+what_without_body place.Events verb path query boot = Err (plain_refusal rule.A6)

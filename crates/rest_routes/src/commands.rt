@@ -4,14 +4,14 @@ ghost use Rattle.serde_json.specs.View.{view};
 ghost use Rattle.rest_paths.specs.Answers.{Gives};
 ghost use Rattle.rest_routes.specs.Commands.{sent_body, what_of, command_at, command_of};
 
-use crate::with_body::what_sent;
-use crate::without_body::what_read;
+use crate::with_body::what_with_body;
+use crate::without_body::what_without_body;
 use http_heads::Request;
 use records::{Command, Refusal, Rule, What};
 use rest_bodies::object_in;
 use rest_paths::{
-    PathTable, Place, Query, Verb, has_body, path_of, plainly, project_of, query_of, query_said,
-    verb_offered,
+    PathTable, Place, Query, Verb, has_body, path_of, plain_refusal, project_of, query_from_text,
+    query_of, verb_offered,
 };
 use serde_json::Value;
 use size_values::{NoMemory, Or};
@@ -39,9 +39,9 @@ fn what_of(
     ensures { Gives result (what_of place verb path.now query.now boot (option_map view sent.now)) }
 {
     if has_body(verb) {
-        return what_sent(alloc, place, verb, path, sent);
+        return what_with_body(alloc, place, verb, path, sent);
     }
-    what_read(alloc, place, verb, path, query, boot)
+    what_without_body(alloc, place, verb, path, query, boot)
 }
 
 /// The command that a method, a target and a body ask for at a place.
@@ -56,7 +56,7 @@ fn command_at(
 ) -> Result<Command, Or<Refusal>>
     ensures { Gives result (command_at place verb target.now (option_map view sent.now) boot) }
 {
-    let query = query_said(alloc, query_of(target))?;
+    let query = query_from_text(alloc, query_of(target))?;
     let path = path_of(target);
     let what = what_of(alloc, place, verb, path, &query, boot, sent)?;
     match project_of(alloc, query) {
@@ -80,10 +80,10 @@ pub(crate) fn command_of(
 {
     let target = request.target.view();
     let Some(line) = table.line_of(path_of(target)) else {
-        return Err(plainly(alloc, Rule::A1));
+        return Err(plain_refusal(alloc, Rule::A1));
     };
     let Some(verb) = verb_offered(line, request.method.view()) else {
-        return Err(plainly(alloc, Rule::A2));
+        return Err(plain_refusal(alloc, Rule::A2));
     };
     let sent = sent_body(alloc, verb, request.body.view())?;
     command_at(alloc, line.place, verb, target, &sent, boot)

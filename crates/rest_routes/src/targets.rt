@@ -1,7 +1,7 @@
 //! The objects that the path of a request names.
 ghost use Rattle.std.specs.Prelude.{◌≡◌, IfOk};
 ghost use Rattle.rest_paths.specs.Answers.{Gives};
-ghost use Rattle.rest_routes.specs.Targets.{named, object_of, objects_of, operation_at};
+ghost use Rattle.rest_routes.specs.Targets.{target_at_path, object_of, objects_of, operation_at};
 
 use records::{Refusal, Target};
 use rest_paths::{instance_of, name_of, no_operation, pool_of};
@@ -10,13 +10,13 @@ use size_values::{NoMemory, ObjectKind, Or, Text};
 use std::alloc::Global;
 
 /// The object of a kind and name that stands where the path says: a volume in its pool, a snapshot in its instance.
-pub(crate) fn named(
+pub(crate) fn target_at_path(
     alloc: Global,
     kind: ObjectKind,
     path: &str,
     name: Text,
 ) -> Result<Target, NoMemory>
-    ensures { IfOk result (λ of. of ≡ named kind path.now name) }
+    ensures { IfOk result (λ of. of ≡ target_at_path kind path.now name) }
 {
     let pool = Text::from_text(alloc, pool_of(kind, path))?;
     let instance = Text::from_text(alloc, instance_of(kind, path))?;
@@ -33,14 +33,14 @@ pub(crate) fn object_of(alloc: Global, kind: ObjectKind, path: &str) -> Result<T
     ensures { IfOk result (λ of. of ≡ object_of kind path.now) }
 {
     let name = Text::from_text(alloc, name_of(kind, path))?;
-    named(alloc, kind, path, name)
+    target_at_path(alloc, kind, path, name)
 }
 
 /// All objects of a kind at a path: volumes of its pool, snapshots of its instance.
 pub(crate) fn objects_of(alloc: Global, kind: ObjectKind, path: &str) -> Result<Target, NoMemory>
     ensures { IfOk result (λ of. of ≡ objects_of kind path.now) }
 {
-    named(alloc, kind, path, Text::new(alloc))
+    target_at_path(alloc, kind, path, Text::new(alloc))
 }
 
 /// The number of the operation that a path names by an id of this boot.

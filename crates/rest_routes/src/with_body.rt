@@ -2,36 +2,37 @@
 ghost use Rattle.std.specs.Prelude.{◌≡◌, IfOk, option_map};
 ghost use Rattle.serde_json.specs.View.{view};
 ghost use Rattle.rest_paths.specs.Answers.{Gives};
-ghost use Rattle.rest_routes.specs.WithBody.{creation_said, restored, put_said, change_said, action_said};
-ghost use Rattle.rest_routes.specs.WithBody.{what_said, what_sent};
+ghost use Rattle.rest_routes.specs.WithBody.{creation_from_body, snapshot_to_restore, put_from_body, change_from_body};
+ghost use Rattle.rest_routes.specs.WithBody.{action_from_body};
+ghost use Rattle.rest_routes.specs.WithBody.{what_from_body, what_with_body};
 
 use crate::shapes::shape_of;
-use crate::targets::{named, object_of};
+use crate::targets::{object_of, target_at_path};
 use records::{Refusal, Rule, Target, What};
 use rest_bodies::{Shape, action_at, body_of, judge_fields, name_at, restore_at};
-use rest_paths::{Place, Verb, plainly, pool_of, refused};
+use rest_paths::{Place, Verb, plain_refusal, pool_of, refusal_on_key};
 use serde_json::Value;
 use size_values::{NoMemory, ObjectKind, Or, Text};
 use std::alloc::Global;
 
 /// A new object of the name in the body, which stands where the path says.
-fn creation_said(
+fn creation_from_body(
     alloc: Global,
     kind: ObjectKind,
     path: &str,
     shape: Shape,
     body: &Value,
 ) -> Result<What, NoMemory>
-    ensures { IfOk result (λ w. w ≡ creation_said kind path.now shape (view body.now)) }
+    ensures { IfOk result (λ w. w ≡ creation_from_body kind path.now shape (view body.now)) }
 {
-    let of = named(alloc, kind, path, name_at(alloc, body)?)?;
+    let of = target_at_path(alloc, kind, path, name_at(alloc, body)?)?;
     let body = body_of(alloc, shape, body, pool_of(kind, path))?;
     Ok(What::Create { of, body })
 }
 
 /// The snapshot that a PUT takes its instance back to, if it says so.
-fn restored(alloc: Global, shape: Shape, body: &Value) -> Result<Option<Text>, NoMemory>
-    ensures { IfOk result (λ snapshot. snapshot ≡ restored shape (view body.now)) }
+fn snapshot_to_restore(alloc: Global, shape: Shape, body: &Value) -> Result<Option<Text>, NoMemory>
+    ensures { IfOk result (λ snapshot. snapshot ≡ snapshot_to_restore shape (view body.now)) }
 {
     match shape {
         Shape::InstancePut => restore_at(alloc, body),
@@ -40,10 +41,11 @@ fn restored(alloc: Global, shape: Shape, body: &Value) -> Result<Option<Text>, N
 }
 
 /// What PUT asks of an object: to be replaced, or to be taken back to a snapshot.
-fn put_said(alloc: Global, of: Target, shape: Shape, body: &Value) -> Result<What, NoMemory>
-    ensures { IfOk result (λ w. w ≡ put_said (restored shape (view body.now)) of shape (view body.now)) }
+fn put_from_body(alloc: Global, of: Target, shape: Shape, body: &Value) -> Result<What, NoMemory>
+    ensures { IfOk result
+        (λ w. w ≡ put_from_body (snapshot_to_restore shape (view body.now)) of shape (view body.now)) }
 {
-    if let Some(snapshot) = restored(alloc, shape, body)? {
+    if let Some(snapshot) = snapshot_to_restore(alloc, shape, body)? {
         return Ok(What::Restore { of, snapshot });
     }
     let body = body_of(alloc, shape, body, of.pool.view())?;
@@ -51,17 +53,17 @@ fn put_said(alloc: Global, of: Target, shape: Shape, body: &Value) -> Result<Wha
 }
 
 /// What a method with a body asks of the object in the path.
-fn change_said(
+fn change_from_body(
     alloc: Global,
     verb: Verb,
     of: Target,
     shape: Shape,
     body: &Value,
 ) -> Result<What, NoMemory>
-    ensures { IfOk result (λ w. w ≡ change_said verb of shape (view body.now)) }
+    ensures { IfOk result (λ w. w ≡ change_from_body verb of shape (view body.now)) }
 {
     match verb {
-        Verb::Put => put_said(alloc, of, shape, body),
+        Verb::Put => put_from_body(alloc, of, shape, body),
         Verb::Patch => {
             let body = body_of(alloc, shape, body, of.pool.view())?;
             Ok(What::Patch { of, body })
@@ -74,18 +76,18 @@ fn change_said(
 }
 
 /// An action on the instance in the path.
-fn action_said(alloc: Global, path: &str, body: &Value) -> Result<What, Or<Refusal>>
-    ensures { Gives result (action_said path.now (view body.now)) }
+fn action_from_body(alloc: Global, path: &str, body: &Value) -> Result<What, Or<Refusal>>
+    ensures { Gives result (action_from_body path.now (view body.now)) }
 {
     let Some(action) = action_at(body) else {
-        return Err(refused(alloc, Rule::A5, "action"));
+        return Err(refusal_on_key(alloc, Rule::A5, "action"));
     };
     let of = object_of(alloc, ObjectKind::Instance, path)?;
     Ok(What::Act { of, action })
 }
 
 /// What a body of a shape asks for.
-fn what_said(
+fn what_from_body(
     alloc: Global,
     place: Place,
     verb: Verb,
@@ -93,38 +95,38 @@ fn what_said(
     shape: Shape,
     body: &Value,
 ) -> Result<What, Or<Refusal>>
-    ensures { Gives result (what_said place verb path.now shape (view body.now)) }
+    ensures { Gives result (what_from_body place verb path.now shape (view body.now)) }
 {
     match place {
-        Place::List(kind) => Ok(creation_said(alloc, kind, path, shape, body)?),
+        Place::List(kind) => Ok(creation_from_body(alloc, kind, path, shape, body)?),
         Place::One(kind) => {
             let of = object_of(alloc, kind, path)?;
-            Ok(change_said(alloc, verb, of, shape, body)?)
+            Ok(change_from_body(alloc, verb, of, shape, body)?)
         }
-        Place::State => action_said(alloc, path, body),
-        _ => Err(plainly(alloc, Rule::A2)),
+        Place::State => action_from_body(alloc, path, body),
+        _ => Err(plain_refusal(alloc, Rule::A2)),
     }
 }
 
 /// What POST, PUT and PATCH ask for at a place.
-#[tactic(auto, unfolding(crate::specs::WithBody::what_sent))]
-pub(crate) fn what_sent(
+#[tactic(auto, unfolding(crate::specs::WithBody::what_with_body))]
+pub(crate) fn what_with_body(
     alloc: Global,
     place: Place,
     verb: Verb,
     path: &str,
     sent: &Option<Value>,
 ) -> Result<What, Or<Refusal>>
-    ensures { Gives result (what_sent place verb path.now (option_map view sent.now)) }
+    ensures { Gives result (what_with_body place verb path.now (option_map view sent.now)) }
 {
     let Some(body) = sent else {
-        return Err(plainly(alloc, Rule::A4));
+        return Err(plain_refusal(alloc, Rule::A4));
     };
     let Some(shape) = shape_of(place, verb, body) else {
-        return Err(plainly(alloc, Rule::A2));
+        return Err(plain_refusal(alloc, Rule::A2));
     };
     match judge_fields(shape, body) {
-        Some(key) => Err(refused(alloc, Rule::A5, key)),
-        None => what_said(alloc, place, verb, path, shape, body),
+        Some(key) => Err(refusal_on_key(alloc, Rule::A5, key)),
+        None => what_from_body(alloc, place, verb, path, shape, body),
     }
 }

@@ -1,16 +1,16 @@
 //! What GET and DELETE ask for.
 ghost use Rattle.std.specs.Prelude.{◌≡◌};
 ghost use Rattle.rest_paths.specs.Answers.{Gives};
-ghost use Rattle.rest_routes.specs.WithoutBody.{one_read, operation_read, one_asked, what_read};
+ghost use Rattle.rest_routes.specs.WithoutBody.{get_or_delete, get_or_cancel, get_or_delete_at, what_without_body};
 
 use crate::targets::{object_of, objects_of, operation_at};
 use records::{Refusal, Rule, Target, What};
-use rest_paths::{Place, Query, Verb, plainly, recursion_asked, timeout_asked};
+use rest_paths::{Place, Query, Verb, plain_refusal, wait_timeout, wants_objects};
 use size_values::{ObjectKind, Or};
 use std::alloc::Global;
 
-fn one_read(verb: Verb, of: Target) -> What
-    ensures { result ≡ one_read verb of }
+fn get_or_delete(verb: Verb, of: Target) -> What
+    ensures { result ≡ get_or_delete verb of }
 {
     match verb {
         Verb::Delete => What::Delete { of },
@@ -18,8 +18,8 @@ fn one_read(verb: Verb, of: Target) -> What
     }
 }
 
-fn operation_read(verb: Verb, op: u64) -> What
-    ensures { result ≡ operation_read verb op }
+fn get_or_cancel(verb: Verb, op: u64) -> What
+    ensures { result ≡ get_or_cancel verb op }
 {
     match verb {
         Verb::Delete => What::Cancel { op },
@@ -28,23 +28,23 @@ fn operation_read(verb: Verb, op: u64) -> What
 }
 
 /// What GET and DELETE ask of one object.
-fn one_asked(
+fn get_or_delete_at(
     alloc: Global,
     kind: ObjectKind,
     verb: Verb,
     path: &str,
     boot: u64,
 ) -> Result<What, Or<Refusal>>
-    ensures { Gives result (one_asked kind verb path.now boot) }
+    ensures { Gives result (get_or_delete_at kind verb path.now boot) }
 {
     match kind {
-        ObjectKind::Operation => Ok(operation_read(verb, operation_at(alloc, path, boot)?)),
-        _ => Ok(one_read(verb, object_of(alloc, kind, path)?)),
+        ObjectKind::Operation => Ok(get_or_cancel(verb, operation_at(alloc, path, boot)?)),
+        _ => Ok(get_or_delete(verb, object_of(alloc, kind, path)?)),
     }
 }
 
 /// What GET and DELETE ask for at a place.
-pub(crate) fn what_read(
+pub(crate) fn what_without_body(
     alloc: Global,
     place: Place,
     verb: Verb,
@@ -52,16 +52,16 @@ pub(crate) fn what_read(
     query: &Query,
     boot: u64,
 ) -> Result<What, Or<Refusal>>
-    ensures { Gives result (what_read place verb path.now query.now boot) }
+    ensures { Gives result (what_without_body place verb path.now query.now boot) }
 {
     match place {
         Place::Root => Ok(What::Root),
         Place::Server => Ok(What::Server),
         Place::List(kind) => Ok(What::List {
             of: objects_of(alloc, kind, path)?,
-            recursion: recursion_asked(query),
+            recursion: wants_objects(query),
         }),
-        Place::One(kind) => one_asked(alloc, kind, verb, path, boot),
+        Place::One(kind) => get_or_delete_at(alloc, kind, verb, path, boot),
         Place::Usage => Ok(What::State {
             of: object_of(alloc, ObjectKind::Project, path)?,
         }),
@@ -70,8 +70,8 @@ pub(crate) fn what_read(
         }),
         Place::Wait => Ok(What::Wait {
             op: operation_at(alloc, path, boot)?,
-            timeout: timeout_asked(query),
+            timeout: wait_timeout(query),
         }),
-        Place::Events => Err(plainly(alloc, Rule::A6)),
+        Place::Events => Err(plain_refusal(alloc, Rule::A6)),
     }
 }

@@ -14,7 +14,7 @@ use Rattle.records.specs.declared.replies.Reply.{Reply}
 use Rattle.row_machine.specs.declared.events.Answer.{Answer}
 use Rattle.row_machine.specs.machine.State.{State}
 use Rattle.row_machine.specs.machine.Step.{Outcome}
-use Rattle.core_rows.specs.Stores.{KeepsRecords}
+use Rattle.work_reports.specs.Stores.{KeepsRecords}
 use Rattle.serial_steps.specs.Steps.{Site, Step, StepsTo, StepsWhile}
 use Rattle.serial_steps.specs.Counts.{ComesTo, failed_commits, moments_in, keeper_failures_in, host_failures_in}
 use Rattle.serial_steps.proofs.Counting.{all-come_to, caused-later, caused-rose}

@@ -16,7 +16,7 @@ use Rattle.row_machine.specs.machine.State.{State}
 use Rattle.row_machine.specs.machine.Accept.{and_then}
 use Rattle.row_machine.specs.machine.Step.{well, no_memory}
 use Rattle.core_rows.specs.Asked.{answered}
-use Rattle.core_rows.specs.Planned.{reply_for}
+use Rattle.judged_changes.specs.Judged.{reply_for}
 use Rattle.core_turns.specs.Turns.{IsTurn}
 use Rattle.serial_steps.specs.Steps.{Site, Step, WaitsFor, most_steps}
 use Rattle.rest_paths.specs.Answers.{IsDue}

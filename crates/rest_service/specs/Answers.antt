@@ -12,7 +12,7 @@ use Rattle.records.specs.declared.replies.Reply.TheVariants as reply
 use Rattle.row_machine.specs.declared.events.Event.TheVariants as event
 use Rattle.row_machine.specs.machine.Step.{Outcome}
 use Rattle.core_rows.specs.Asked.{answered}
-use Rattle.core_rows.specs.Opening.{Refuses, first_state, opened_store}
+use Rattle.core_rows.specs.Opening.{OpensTo, Refuses}
 use Rattle.core_rows.specs.declared.opening.OpenFault.{OpenFault}
 use Rattle.core_turns.specs.Turns.{IsTurn}
 use Rattle.rest_routes.specs.Commands.{command_of}
@@ -23,16 +23,11 @@ use Rattle.rest_service.specs.Exchanges.{IsAnswered, Held}
 
 -- ---- opening
 
--- the first rows, and no call in hand
-abbrev pub first_serial : Serial
-first_serial = record { state = first_state; hand = None }
-
--- The keeper had no entries, and has those of the first rows now, after one load and one commit; or the opening was
--- refused.
+-- The entries of the keeper open to the rows of the service, and are their records now, and no call is in hand; or the
+-- opening was refused.
 abbrev pub OpensService : Result Serial OpenFault → Store → Store → Type 0
-OpensService (Ok s) store store' = (s ≡ first_serial) × IfSome store.told (λ entries. entries ≡ [])
-    × (store' ≡ opened_store store)
-OpensService (Err fault) store store' = Refuses fault store store'
+OpensService (Ok s) store store' = OpensTo s.state store store' × (s.hand ≡ None)
+OpensService (Err why) store store' = Refuses why store store'
 
 -- ---- what a command is answered
 

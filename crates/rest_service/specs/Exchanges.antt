@@ -19,7 +19,7 @@ use Rattle.row_machine.specs.declared.events.Event.TheVariants as event
 use Rattle.row_machine.specs.machine.State.{State}
 use Rattle.row_machine.specs.machine.Accept.{After, and_then}
 use Rattle.row_machine.specs.machine.Step.{Outcome, well, keeper_failed, no_memory}
-use Rattle.core_rows.specs.Stores.{IsCaused, KeepsRecords, Stores}
+use Rattle.work_reports.specs.Stores.{IsCaused, KeepsRecords, Stores}
 use Rattle.core_rows.specs.Asked.{answered, changes_of}
 use Rattle.core_turns.specs.Turns.{turned}
 use Rattle.serial_steps.specs.Steps.{Site, Step, StepsTo, Finishes, WaitsFor, most_steps}

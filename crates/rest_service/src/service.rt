@@ -1,4 +1,5 @@
 ghost use Rattle.std.specs.Prelude.{List};
+ghost use Rattle.row_machine.specs.facts.Whole.{IsWhole};
 ghost use Rattle.serial_steps.specs.Steps.{hosted, site, Step};
 ghost use Rattle.rest_service.specs.Answers.{Answers, OpensService};
 ghost use Rattle.rest_service.specs.Exchanges.{IsPaced};
@@ -11,6 +12,7 @@ use http_front::{Clock, Request};
 use record_keeper::Keeper;
 use rest_answers::{Answered, answer_for};
 use rest_routes::Router;
+use row_readings::View;
 use run_words::Pace;
 use serial_steps::SerialDaemon;
 use std::alloc::Global;
@@ -33,8 +35,8 @@ impl Model for Service {
 }
 
 impl Service {
-    /// A service over the rows of a keeper, which must have no entries yet: it gets the project
-    /// `default` and its profile `default`, in one commit.
+    /// A service over the rows that the entries of a keeper open to; one without entries gets the
+    /// project `default` and its profile `default`, in one commit. No operation is live.
     pub fn new<R: Keeper>(alloc: Global, keeper: &mut R) -> Result<Service, OpenFault>
         ensures { OpensService result (R.store keeper.old) (R.store keeper.new) }
     {
@@ -81,6 +83,14 @@ impl Service {
         let answered = answer_for(alloc, &reply, boot, request.last);
         drop(reply);
         answered
+    }
+
+    /// The rows and operations, to be read.
+    pub fn view(&self) -> View<'_>
+        ensures state { result ≡ self.now.state }
+        ensures whole { IsWhole self.now.state }
+    {
+        self.daemon.view()
     }
 
     /// The steps of the worker that follow a reply.

@@ -102,8 +102,8 @@ unfoldable pub setting_rule : Restrictions → Subject → List ℕ → List ℕ
 setting_rule policy subject key value = setting_rule_in setting_lines policy subject key value
 
 -- what is forbidden at a place
-abbrev pub at : ℕ → Option ℕ → Option Forbidden
-at place rule = option_map (λ r. record { rule = r; place = place }) rule
+abbrev pub forbidden_at : ℕ → Option ℕ → Option Forbidden
+forbidden_at place rule = option_map (λ r. record { rule = r; place = place }) rule
 
 -- the one of the lower rule, or else the first
 abbrev pub earlier : Option Forbidden → Option Forbidden → Option Forbidden
@@ -119,16 +119,18 @@ lowest (f ∷ fs) = earlier f (lowest fs)
 -- what settings break, each at its place
 unfoldable pub broken_settings : Restrictions → Subject → Settings → List (Option Forbidden)
 broken_settings policy subject config =
-    map (λ (s : ℕ × (List ℕ × List ℕ)). at s.0 (setting_rule policy subject s.1.0 s.1.1)) (enumerate_from 0 config)
+    map (λ (s : ℕ × (List ℕ × List ℕ)). forbidden_at s.0 (setting_rule policy subject s.1.0 s.1.1))
+    (enumerate_from 0 config)
 
 -- a demanded key that is not set, after all settings
 unfoldable pub missing_setting : Restrictions → Subject → Settings → Option Forbidden
-missing_setting policy subject config = at (length config) (missing_rule_in setting_lines policy subject config)
+missing_setting policy subject config =
+    forbidden_at (length config) (missing_rule_in setting_lines policy subject config)
 
 -- what devices break, each at its place
 unfoldable pub broken_devices : Restrictions → NamedDevices → List (Option Forbidden)
 broken_devices policy devices =
-    map (λ (d : ℕ × Settings). at d.0 (device_rule policy d.1)) (enumerate_from 0 (values_of devices))
+    map (λ (d : ℕ × Settings). forbidden_at d.0 (device_rule policy d.1)) (enumerate_from 0 (values_of devices))
 
 -- the first thing that a policy forbids: of the lowest rule, and of those the first
 unfoldable pub first_forbidden : Restrictions → Subject → Settings → NamedDevices → Option Forbidden

@@ -3,7 +3,7 @@ ghost use Rattle.std.specs.Option.{option_copied};
 ghost use Rattle.restrictions.specs.Policies.{seen};
 ghost use Rattle.restrictions.specs.Forbids.{first_forbidden as forbidden_first, snapshots_forbidden};
 ghost use Rattle.restrictions.specs.Forbids.{broken_settings, missing_setting, broken_devices, lowest, earlier};
-ghost use Rattle.restrictions.specs.Forbids.{setting_rule, setting_rule_in, missing_rule_in, is_in_force, at};
+ghost use Rattle.restrictions.specs.Forbids.{setting_rule, setting_rule_in, missing_rule_in, is_in_force, forbidden_at};
 ghost use Rattle.restrictions.specs.Forbids.{device_rule, device_rule_in, network_rule, is_outside, is_listed};
 
 use crate::policy::Policy;
@@ -72,7 +72,7 @@ fn lowest_setting(policy: &Policy, subject: Subject, config: &Config) -> Option<
             config.key_at(place),
             config.value_at(place),
         );
-        lowest = earlier(lowest, at(place, rule));
+        lowest = earlier(lowest, forbidden_at(place, rule));
     }
     lowest
 }
@@ -81,7 +81,7 @@ fn lowest_setting(policy: &Policy, subject: Subject, config: &Config) -> Option<
 fn missing_setting(policy: &Policy, subject: Subject, config: &Config) -> Option<Forbidden>
     ensures { result ≡ missing_setting (seen policy.now) subject config.now }
 {
-    at(
+    forbidden_at(
         config.len(),
         missing_rule_in(SETTINGS, policy, subject, config),
     )
@@ -93,13 +93,13 @@ fn lowest_device(policy: &Policy, devices: &Devices) -> Option<Forbidden>
     let mut lowest = None;
     for place in 0..devices.len() {
         let rule = device_rule(policy, devices.device_at(place));
-        lowest = earlier(lowest, at(place, rule));
+        lowest = earlier(lowest, forbidden_at(place, rule));
     }
     lowest
 }
 
-fn at(place: usize, rule: Option<u8>) -> Option<Forbidden>
-    ensures { result ≡ at place rule }
+fn forbidden_at(place: usize, rule: Option<u8>) -> Option<Forbidden>
+    ensures { result ≡ forbidden_at place rule }
 {
     match rule {
         Some(rule) => Some(Forbidden { rule, place }),

@@ -57,7 +57,7 @@ pub fn policy_of<'a>(project: &'a Config) -> Policy<'a>
 }
 
 impl Policy<'_> {
-    /// The word of a restriction.
+    /// What a restriction is set to, or its default where the project does not set it.
     pub fn word(&self, restriction: Restriction) -> Word
         ensures { result ≡ word_in (seen self.now) restriction }
     {
@@ -93,7 +93,7 @@ fn word_of(project: &Config, key: &str, default: Word) -> Word
     ensures { result ≡ word_of project.now key.now default }
 {
     match project.get(key) {
-        Some(text) => Word::named(text).unwrap_or(default),
+        Some(text) => Word::from_text(text).unwrap_or(default),
         None => default,
     }
 }

@@ -236,16 +236,16 @@ pub const DEVICES: &[DeviceLine] = &[
 ];
 
 impl Word {
-    /// Whether it is this word.
+    /// Whether both are the same word.
     pub fn is(self, other: Word) -> bool
         ensures { result ≡ is_word self other }
     {
         self as u8 == other as u8
     }
 
-    /// The word of this text.
+    /// Parses a word as projects write it, such as `block`; `None` for any other text.
     #[tactic(auto, unfolding(crate::specs::Words::word_named))]
-    pub fn named(text: &str) -> Option<Word>
+    pub fn from_text(text: &str) -> Option<Word>
         ensures { result ≡ word_named text.now }
     {
         match text {

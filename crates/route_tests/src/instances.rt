@@ -61,7 +61,7 @@ const SOURCES: &[(&str, &str)] = &[
     (r#"{"type":"image","fingerprint":null,"alias":5}"#, "alias"),
 ];
 
-/// Values of fields behind the source, with whether they have the form of the field.
+/// Values of fields after the source, with whether they have the form of the field.
 const VALUES: &[(&str, &str, bool)] = &[
     ("profiles", "null", true),
     ("profiles", "[]", true),

@@ -21,7 +21,7 @@ use Rattle.row_codec.specs.declared.damage.Damaged.TheVariants as damaged
 use Rattle.row_parts.specs.declared.unreadable.Unreadable.{Unreadable}
 use Rattle.row_codec.specs.Spelling.{two_names, three_names, entry_of, project_bytes, profile_bytes, network_bytes, pool_bytes, volume_bytes, instance_bytes, snapshot_bytes}
 use Rattle.row_codec.specs.Rows.{IsGood, IsRow, Spells}
-use Rattle.row_codec.specs.Reading.{Gives, placed, mapped, two_names_in, three_names_in, project_in, profile_in, network_in, pool_in, volume_in, instance_in, snapshot_in, project_of, profile_of, network_of, pool_of, volume_of, instance_of, snapshot_of, row_at, row_of}
+use Rattle.row_codec.specs.Reading.{Gives, placed, mapped, two_names_in, three_names_in, project_in, profile_in, network_in, pool_in, volume_in, instance_in, snapshot_in, read_project, read_profile, read_network, read_pool, read_volume, read_instance, read_snapshot, row_at, row_of}
 use Rattle.row_codec.proofs.Fields.{IsBytes, went}
 use Rattle.row_codec.proofs.Names.{passed_then, two_took, two_again, three_took, three_again}
 use Rattle.row_codec.proofs.Bodies.{FitsProject, project_took, project_again, FitsProfile, profile_took, profile_again, FitsNetwork, network_took, network_again, FitsPool, pool_took, pool_again, FitsVolume, volume_took, volume_again, FitsInstance, instance_took, instance_again, FitsSnapshot, snapshot_took, snapshot_again}
@@ -44,8 +44,8 @@ project_fits r is = record {
   config = record { short = is.short.1; typed = is.typed.1 };
 }
 
-project_found : (e : Entry) (r : Project) → IsBytes e.body → e.kind ≡ 1 → project_of e.key e.body ≡ Ok r → Spells (row.Project r) e
-unfolding project_of
+project_found : (e : Entry) (r : Project) → IsBytes e.body → e.kind ≡ 1 → read_project e.key e.body ≡ Ok r → Spells (row.Project r) e
+unfolding read_project
 project_found e r all number h =
     let p = passed_then (good_name_of kind.Project e.key) (placed (length e.body) (project_in e.key e.body)) r damaged.Key h in
     let t = project_took e.key e.body r all (placed_ok (length e.body) (project_in e.key e.body) r p.1) in
@@ -54,8 +54,8 @@ project_found e r all number h =
       entry = entry_is e 1 r.name (project_bytes r) number (sym t.0) t.1;
     }
 
-project_spelled : (r : Project) → IsRow (row.Project r) → project_of (entry_of (row.Project r)).key (entry_of (row.Project r)).body ≡ Ok r
-unfolding project_of
+project_spelled : (r : Project) → IsRow (row.Project r) → read_project (entry_of (row.Project r)).key (entry_of (row.Project r)).body ≡ Ok r
+unfolding read_project
 project_spelled r is =
     let body : project_in r.name (project_bytes r) ≡ Ok r = ap (project_in r.name) (sym (append-nil (project_bytes r))) ∙ project_again r.name [] r (project_fits r is) in
     rw (is.keyed, body) refl
@@ -72,8 +72,8 @@ profile_fits r is = record {
   devices = record { short = is.short.2; typed = is.typed.2 };
 }
 
-profile_found : (e : Entry) (r : Profile) → IsBytes e.body → e.kind ≡ 2 → profile_of e.key e.body ≡ Ok r → Spells (row.Profile r) e
-unfolding profile_of
+profile_found : (e : Entry) (r : Profile) → IsBytes e.body → e.kind ≡ 2 → read_profile e.key e.body ≡ Ok r → Spells (row.Profile r) e
+unfolding read_profile
 profile_found e r all number h =
     let k = went (two_names_in kind.Project kind.Profile e.key) _ r h in
     let names = two_took kind.Project kind.Profile e.key k.got k.read_is in
@@ -83,8 +83,8 @@ profile_found e r all number h =
       entry = entry_is e 2 (two_names r.project r.name) (profile_bytes r) number (names.2 ∙ ap (λ (x : List ℕ). two_names x k.got.1) (sym t.0) ∙ ap (λ (x : List ℕ). two_names r.project x) (sym t.1)) t.2;
     }
 
-profile_spelled : (r : Profile) → IsRow (row.Profile r) → profile_of (entry_of (row.Profile r)).key (entry_of (row.Profile r)).body ≡ Ok r
-unfolding profile_of
+profile_spelled : (r : Profile) → IsRow (row.Profile r) → read_profile (entry_of (row.Profile r)).key (entry_of (row.Profile r)).body ≡ Ok r
+unfolding read_profile
 profile_spelled r is =
     let body : profile_in r.project r.name (profile_bytes r) ≡ Ok r = ap (profile_in r.project r.name) (sym (append-nil (profile_bytes r))) ∙ profile_again r.project r.name [] r (profile_fits r is) in
     rw (two_again kind.Project kind.Profile r.project r.name is.keyed.0 is.keyed.1, body) refl
@@ -100,8 +100,8 @@ network_fits r is = record {
   config = record { short = is.short.1; typed = is.typed.1 };
 }
 
-network_found : (e : Entry) (r : Network) → IsBytes e.body → e.kind ≡ 3 → network_of e.key e.body ≡ Ok r → Spells (row.Network r) e
-unfolding network_of
+network_found : (e : Entry) (r : Network) → IsBytes e.body → e.kind ≡ 3 → read_network e.key e.body ≡ Ok r → Spells (row.Network r) e
+unfolding read_network
 network_found e r all number h =
     let k = went (two_names_in kind.Project kind.Network e.key) _ r h in
     let names = two_took kind.Project kind.Network e.key k.got k.read_is in
@@ -111,8 +111,8 @@ network_found e r all number h =
       entry = entry_is e 3 (two_names r.project r.name) (network_bytes r) number (names.2 ∙ ap (λ (x : List ℕ). two_names x k.got.1) (sym t.0) ∙ ap (λ (x : List ℕ). two_names r.project x) (sym t.1)) t.2;
     }
 
-network_spelled : (r : Network) → IsRow (row.Network r) → network_of (entry_of (row.Network r)).key (entry_of (row.Network r)).body ≡ Ok r
-unfolding network_of
+network_spelled : (r : Network) → IsRow (row.Network r) → read_network (entry_of (row.Network r)).key (entry_of (row.Network r)).body ≡ Ok r
+unfolding read_network
 network_spelled r is =
     let body : network_in r.project r.name (network_bytes r) ≡ Ok r = ap (network_in r.project r.name) (sym (append-nil (network_bytes r))) ∙ network_again r.project r.name [] r (network_fits r is) in
     rw (two_again kind.Project kind.Network r.project r.name is.keyed.0 is.keyed.1, body) refl
@@ -128,8 +128,8 @@ pool_fits r is = record {
   config = record { short = is.short.1; typed = is.typed.1 };
 }
 
-pool_found : (e : Entry) (r : Pool) → IsBytes e.body → e.kind ≡ 4 → pool_of e.key e.body ≡ Ok r → Spells (row.Pool r) e
-unfolding pool_of
+pool_found : (e : Entry) (r : Pool) → IsBytes e.body → e.kind ≡ 4 → read_pool e.key e.body ≡ Ok r → Spells (row.Pool r) e
+unfolding read_pool
 pool_found e r all number h =
     let p = passed_then (good_name_of kind.Pool e.key) (placed (length e.body) (pool_in e.key e.body)) r damaged.Key h in
     let t = pool_took e.key e.body r all (placed_ok (length e.body) (pool_in e.key e.body) r p.1) in
@@ -138,8 +138,8 @@ pool_found e r all number h =
       entry = entry_is e 4 r.name (pool_bytes r) number (sym t.0) t.1;
     }
 
-pool_spelled : (r : Pool) → IsRow (row.Pool r) → pool_of (entry_of (row.Pool r)).key (entry_of (row.Pool r)).body ≡ Ok r
-unfolding pool_of
+pool_spelled : (r : Pool) → IsRow (row.Pool r) → read_pool (entry_of (row.Pool r)).key (entry_of (row.Pool r)).body ≡ Ok r
+unfolding read_pool
 pool_spelled r is =
     let body : pool_in r.name (pool_bytes r) ≡ Ok r = ap (pool_in r.name) (sym (append-nil (pool_bytes r))) ∙ pool_again r.name [] r (pool_fits r is) in
     rw (is.keyed, body) refl
@@ -156,8 +156,8 @@ volume_fits r is = record {
   created = is.timely;
 }
 
-volume_found : (e : Entry) (r : Volume) → IsBytes e.body → e.kind ≡ 5 → volume_of e.key e.body ≡ Ok r → Spells (row.Volume r) e
-unfolding volume_of
+volume_found : (e : Entry) (r : Volume) → IsBytes e.body → e.kind ≡ 5 → read_volume e.key e.body ≡ Ok r → Spells (row.Volume r) e
+unfolding read_volume
 volume_found e r all number h =
     let k = went (three_names_in kind.Project kind.Pool kind.Volume e.key) _ r h in
     let names = three_took kind.Project kind.Pool kind.Volume e.key k.got k.read_is in
@@ -167,8 +167,8 @@ volume_found e r all number h =
       entry = entry_is e 5 (three_names r.project r.pool r.name) (volume_bytes r) number (names.3 ∙ ap (λ (x : List ℕ). three_names x k.got.1 k.got.2) (sym t.0) ∙ ap (λ (x : List ℕ). three_names r.project x k.got.2) (sym t.1) ∙ ap (λ (x : List ℕ). three_names r.project r.pool x) (sym t.2)) t.3;
     }
 
-volume_spelled : (r : Volume) → IsRow (row.Volume r) → volume_of (entry_of (row.Volume r)).key (entry_of (row.Volume r)).body ≡ Ok r
-unfolding volume_of
+volume_spelled : (r : Volume) → IsRow (row.Volume r) → read_volume (entry_of (row.Volume r)).key (entry_of (row.Volume r)).body ≡ Ok r
+unfolding read_volume
 volume_spelled r is =
     let body : volume_in r.project r.pool r.name (volume_bytes r) ≡ Ok r = ap (volume_in r.project r.pool r.name) (sym (append-nil (volume_bytes r))) ∙ volume_again r.project r.pool r.name [] r (volume_fits r is) in
     rw (three_again kind.Project kind.Pool kind.Volume r.project r.pool r.name is.keyed.0 is.keyed.1 is.keyed.2, body) refl
@@ -188,8 +188,8 @@ instance_fits r is = record {
   devices = record { short = is.short.4; typed = is.typed.4 };
 }
 
-instance_found : (e : Entry) (r : Instance) → IsBytes e.body → e.kind ≡ 6 → instance_of e.key e.body ≡ Ok r → Spells (row.Instance r) e
-unfolding instance_of
+instance_found : (e : Entry) (r : Instance) → IsBytes e.body → e.kind ≡ 6 → read_instance e.key e.body ≡ Ok r → Spells (row.Instance r) e
+unfolding read_instance
 instance_found e r all number h =
     let k = went (two_names_in kind.Project kind.Instance e.key) _ r h in
     let names = two_took kind.Project kind.Instance e.key k.got k.read_is in
@@ -199,8 +199,8 @@ instance_found e r all number h =
       entry = entry_is e 6 (two_names r.project r.name) (instance_bytes r) number (names.2 ∙ ap (λ (x : List ℕ). two_names x k.got.1) (sym t.0) ∙ ap (λ (x : List ℕ). two_names r.project x) (sym t.1)) t.2;
     }
 
-instance_spelled : (r : Instance) → IsRow (row.Instance r) → instance_of (entry_of (row.Instance r)).key (entry_of (row.Instance r)).body ≡ Ok r
-unfolding instance_of
+instance_spelled : (r : Instance) → IsRow (row.Instance r) → read_instance (entry_of (row.Instance r)).key (entry_of (row.Instance r)).body ≡ Ok r
+unfolding read_instance
 instance_spelled r is =
     let body : instance_in r.project r.name (instance_bytes r) ≡ Ok r = ap (instance_in r.project r.name) (sym (append-nil (instance_bytes r))) ∙ instance_again r.project r.name [] r (instance_fits r is) in
     rw (two_again kind.Project kind.Instance r.project r.name is.keyed.0 is.keyed.1, body) refl
@@ -219,8 +219,8 @@ snapshot_fits r is = record {
   devices = record { short = is.short.2; typed = is.typed.2 };
 }
 
-snapshot_found : (e : Entry) (r : Snapshot) → IsBytes e.body → e.kind ≡ 7 → snapshot_of e.key e.body ≡ Ok r → Spells (row.Snapshot r) e
-unfolding snapshot_of
+snapshot_found : (e : Entry) (r : Snapshot) → IsBytes e.body → e.kind ≡ 7 → read_snapshot e.key e.body ≡ Ok r → Spells (row.Snapshot r) e
+unfolding read_snapshot
 snapshot_found e r all number h =
     let k = went (three_names_in kind.Project kind.Instance kind.Snapshot e.key) _ r h in
     let names = three_took kind.Project kind.Instance kind.Snapshot e.key k.got k.read_is in
@@ -230,8 +230,8 @@ snapshot_found e r all number h =
       entry = entry_is e 7 (three_names r.project r.instance r.name) (snapshot_bytes r) number (names.3 ∙ ap (λ (x : List ℕ). three_names x k.got.1 k.got.2) (sym t.0) ∙ ap (λ (x : List ℕ). three_names r.project x k.got.2) (sym t.1) ∙ ap (λ (x : List ℕ). three_names r.project r.instance x) (sym t.2)) t.3;
     }
 
-snapshot_spelled : (r : Snapshot) → IsRow (row.Snapshot r) → snapshot_of (entry_of (row.Snapshot r)).key (entry_of (row.Snapshot r)).body ≡ Ok r
-unfolding snapshot_of
+snapshot_spelled : (r : Snapshot) → IsRow (row.Snapshot r) → read_snapshot (entry_of (row.Snapshot r)).key (entry_of (row.Snapshot r)).body ≡ Ok r
+unfolding read_snapshot
 snapshot_spelled r is =
     let body : snapshot_in r.project r.instance r.name (snapshot_bytes r) ≡ Ok r = ap (snapshot_in r.project r.instance r.name) (sym (append-nil (snapshot_bytes r))) ∙ snapshot_again r.project r.instance r.name [] r (snapshot_fits r is) in
     rw (three_again kind.Project kind.Instance kind.Snapshot r.project r.instance r.name is.keyed.0 is.keyed.1 is.keyed.2, body) refl
@@ -263,13 +263,13 @@ either {A} e r number to of others found rest h = by (eqb e.kind number) refl h
 pub row_found : (e : Entry) (r : Row) → IsBytes e.body → row_of e ≡ Ok r → Spells r e
 unfolding row_at
 row_found e r all h =
-    either e r 1 row.Project (project_of e.key e.body) _ (λ x k h. project_found e x all k h)
-    (either e r 2 row.Profile (profile_of e.key e.body) _ (λ x k h. profile_found e x all k h)
-    (either e r 3 row.Network (network_of e.key e.body) _ (λ x k h. network_found e x all k h)
-    (either e r 4 row.Pool (pool_of e.key e.body) _ (λ x k h. pool_found e x all k h)
-    (either e r 5 row.Volume (volume_of e.key e.body) _ (λ x k h. volume_found e x all k h)
-    (either e r 6 row.Instance (instance_of e.key e.body) _ (λ x k h. instance_found e x all k h)
-    (either e r 7 row.Snapshot (snapshot_of e.key e.body) (Err damaged.Kind) (λ x k h. snapshot_found e x all k h) (λ h. absurd cc)))))))
+    either e r 1 row.Project (read_project e.key e.body) _ (λ x k h. project_found e x all k h)
+    (either e r 2 row.Profile (read_profile e.key e.body) _ (λ x k h. profile_found e x all k h)
+    (either e r 3 row.Network (read_network e.key e.body) _ (λ x k h. network_found e x all k h)
+    (either e r 4 row.Pool (read_pool e.key e.body) _ (λ x k h. pool_found e x all k h)
+    (either e r 5 row.Volume (read_volume e.key e.body) _ (λ x k h. volume_found e x all k h)
+    (either e r 6 row.Instance (read_instance e.key e.body) _ (λ x k h. instance_found e x all k h)
+    (either e r 7 row.Snapshot (read_snapshot e.key e.body) (Err damaged.Kind) (λ x k h. snapshot_found e x all k h) (λ h. absurd cc)))))))
     h
 
 -- ---- what a reader of entries returned

@@ -204,41 +204,41 @@ three_names_in first second third key =
 -- ---- entries, by their keys and bodies
 
 -- a project, whose name is the key
-unfoldable pub project_of : List ℕ → List ℕ → Result Project Damaged
-project_of key body = if good_name_of kind.Project key
+unfoldable pub read_project : List ℕ → List ℕ → Result Project Damaged
+read_project key body = if good_name_of kind.Project key
     then placed (length body) (project_in key body) else Err damaged.Key
 
 -- a profile, whose key is PROJECT/NAME
-unfoldable pub profile_of : List ℕ → List ℕ → Result Profile Damaged
-profile_of key body = do
+unfoldable pub read_profile : List ℕ → List ℕ → Result Profile Damaged
+read_profile key body = do
   names ← two_names_in kind.Project kind.Profile key
   placed (length body) (profile_in names.0 names.1 body)
 
 -- a network, whose key is PROJECT/NAME
-unfoldable pub network_of : List ℕ → List ℕ → Result Network Damaged
-network_of key body = do
+unfoldable pub read_network : List ℕ → List ℕ → Result Network Damaged
+read_network key body = do
   names ← two_names_in kind.Project kind.Network key
   placed (length body) (network_in names.0 names.1 body)
 
 -- a pool, whose name is the key
-unfoldable pub pool_of : List ℕ → List ℕ → Result Pool Damaged
-pool_of key body = if good_name_of kind.Pool key then placed (length body) (pool_in key body) else Err damaged.Key
+unfoldable pub read_pool : List ℕ → List ℕ → Result Pool Damaged
+read_pool key body = if good_name_of kind.Pool key then placed (length body) (pool_in key body) else Err damaged.Key
 
 -- a volume, whose key is PROJECT/POOL/NAME
-unfoldable pub volume_of : List ℕ → List ℕ → Result Volume Damaged
-volume_of key body = do
+unfoldable pub read_volume : List ℕ → List ℕ → Result Volume Damaged
+read_volume key body = do
   names ← three_names_in kind.Project kind.Pool kind.Volume key
   placed (length body) (volume_in names.0 names.1 names.2 body)
 
 -- an instance, whose key is PROJECT/NAME
-unfoldable pub instance_of : List ℕ → List ℕ → Result Instance Damaged
-instance_of key body = do
+unfoldable pub read_instance : List ℕ → List ℕ → Result Instance Damaged
+read_instance key body = do
   names ← two_names_in kind.Project kind.Instance key
   placed (length body) (instance_in names.0 names.1 body)
 
 -- a snapshot, whose key is PROJECT/INSTANCE/NAME
-unfoldable pub snapshot_of : List ℕ → List ℕ → Result Snapshot Damaged
-snapshot_of key body = do
+unfoldable pub read_snapshot : List ℕ → List ℕ → Result Snapshot Damaged
+read_snapshot key body = do
   names ← three_names_in kind.Project kind.Instance kind.Snapshot key
   placed (length body) (snapshot_in names.0 names.1 names.2 body)
 
@@ -250,13 +250,13 @@ mapped f (Err e) = Err e
 -- by the number of the kind, the key and the body
 unfoldable pub row_at : ℕ → List ℕ → List ℕ → Result Row Damaged
 row_at number key body =
-    if number == 1 then mapped row.Project (project_of key body)
-    else (if number == 2 then mapped row.Profile (profile_of key body)
-    else (if number == 3 then mapped row.Network (network_of key body)
-    else (if number == 4 then mapped row.Pool (pool_of key body)
-    else (if number == 5 then mapped row.Volume (volume_of key body)
-    else (if number == 6 then mapped row.Instance (instance_of key body)
-    else (if number == 7 then mapped row.Snapshot (snapshot_of key body)
+    if number == 1 then mapped row.Project (read_project key body)
+    else (if number == 2 then mapped row.Profile (read_profile key body)
+    else (if number == 3 then mapped row.Network (read_network key body)
+    else (if number == 4 then mapped row.Pool (read_pool key body)
+    else (if number == 5 then mapped row.Volume (read_volume key body)
+    else (if number == 6 then mapped row.Instance (read_instance key body)
+    else (if number == 7 then mapped row.Snapshot (read_snapshot key body)
     else Err damaged.Kind))))))
 
 -- the row that the entry spells, or the damage

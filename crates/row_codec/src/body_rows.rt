@@ -22,7 +22,7 @@ fn version_at(body: &[u8]) -> Result<&[u8], Unreadable>
 }
 
 /// Nothing is left over.
-fn ended(rest: &[u8]) -> Result<(), Unreadable>
+fn refuse_rest(rest: &[u8]) -> Result<(), Unreadable>
     ensures { IsRead (λ x. x) result (ended rest.now) }
 {
     if rest.is_empty() {
@@ -34,7 +34,7 @@ fn ended(rest: &[u8]) -> Result<(), Unreadable>
 
 /// What was read beside its texts, where it is all that the bytes have. Otherwise it is let go here, in one call, and
 /// not by each caller down to its last text.
-fn whole<A: Drop, B: Drop>(
+fn whole_body<A: Drop, B: Drop>(
     read: A,
     rest: &[u8],
     texts: Result<B, NoMemory>,
@@ -42,7 +42,7 @@ fn whole<A: Drop, B: Drop>(
     ensures ok { IfOk result (λ x. (x.0 ≡ read) × (texts ≡ Ok x.1) × (ended rest.now ≡ Ok tt)) }
     ensures err { IfErr result (λ why. Fails why (ended rest.now)) }
 {
-    ended(rest)?;
+    refuse_rest(rest)?;
     let texts = texts?;
     Ok((read, texts))
 }
@@ -96,7 +96,7 @@ pub(crate) fn project_in(alloc: Global, name: &str, body: &[u8]) -> Result<Proje
     let (description, rest) = str_at(rest)?;
     let (config, rest) = settings_at(alloc, rest)?;
     let texts = two_texts(alloc, name, description);
-    let (config, texts) = whole(config, rest, texts)?;
+    let (config, texts) = whole_body(config, rest, texts)?;
     Ok(Project {
         name: texts.0,
         description: texts.1,
@@ -119,7 +119,7 @@ pub(crate) fn profile_in(
     match devices_at(alloc, rest) {
         Ok((devices, rest)) => {
             let texts = three_texts(alloc, project, name, description);
-            let (lists, texts) = whole((config, devices), rest, texts)?;
+            let (lists, texts) = whole_body((config, devices), rest, texts)?;
             Ok(Profile {
                 project: texts.0,
                 name: texts.1,
@@ -148,7 +148,7 @@ pub(crate) fn network_in(
     let (description, rest) = str_at(rest)?;
     let (config, rest) = settings_at(alloc, rest)?;
     let texts = three_texts(alloc, project, name, description);
-    let (config, texts) = whole(config, rest, texts)?;
+    let (config, texts) = whole_body(config, rest, texts)?;
     Ok(Network {
         project: texts.0,
         name: texts.1,
@@ -166,7 +166,7 @@ pub(crate) fn pool_in(alloc: Global, name: &str, body: &[u8]) -> Result<Pool, Or
     let (description, rest) = str_at(rest)?;
     let (config, rest) = settings_at(alloc, rest)?;
     let texts = two_texts(alloc, name, description);
-    let (config, texts) = whole(config, rest, texts)?;
+    let (config, texts) = whole_body(config, rest, texts)?;
     Ok(Pool {
         name: texts.0,
         driver,
@@ -191,7 +191,7 @@ pub(crate) fn volume_in(
     match moment_at(rest) {
         Ok((created, rest)) => {
             let texts = four_texts(alloc, project, pool, name, description);
-            let (config, texts) = whole(config, rest, texts)?;
+            let (config, texts) = whole_body(config, rest, texts)?;
             Ok(Volume {
                 project: texts.0,
                 pool: texts.1,
@@ -225,7 +225,7 @@ pub(crate) fn instance_in(
     let (created, rest) = moment_at(rest)?;
     let (shape, rest) = shape_at(alloc, rest)?;
     let texts = four_texts(alloc, project, name, description, origin);
-    let (shape, texts) = whole(shape, rest, texts)?;
+    let (shape, texts) = whole_body(shape, rest, texts)?;
     Ok(Instance {
         project: texts.0,
         name: texts.1,
@@ -255,7 +255,7 @@ pub(crate) fn snapshot_in(
     let (expires, rest) = moment_at(rest)?;
     let (shape, rest) = shape_at(alloc, rest)?;
     let names = three_texts(alloc, project, instance, name);
-    let (shape, names) = whole(shape, rest, names)?;
+    let (shape, names) = whole_body(shape, rest, names)?;
     Ok(Snapshot {
         project: names.0,
         instance: names.1,

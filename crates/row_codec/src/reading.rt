@@ -2,8 +2,9 @@
 ghost use Rattle.std.specs.Prelude.{◌≡◌, length, IfOk, IfErr};
 ghost use Rattle.records.specs.declared.rows.Row.{Row};
 ghost use Rattle.row_codec.specs.Rows.{Spells};
-ghost use Rattle.row_codec.specs.Reading.{Gives, project_of, profile_of, network_of, pool_of, volume_of, instance_of};
-ghost use Rattle.row_codec.specs.Reading.{snapshot_of, row_at, row_of, damage_of};
+ghost use Rattle.row_codec.specs.Reading.{Gives, read_project, read_profile, read_network, read_pool, read_volume};
+ghost use Rattle.row_codec.specs.Reading.{read_instance};
+ghost use Rattle.row_codec.specs.Reading.{read_snapshot, row_at, row_of, damage_of};
 
 use crate::body_rows::{
     instance_in, network_in, pool_in, profile_in, project_in, snapshot_in, volume_in,
@@ -29,7 +30,7 @@ fn damage_of(body: &[u8], why: Or<Unreadable>) -> Or<Damaged>
 }
 
 /// What was read, or the damage of the body in which a part cannot be read.
-fn placed<T>(body: &[u8], read: Result<T, Or<Unreadable>>) -> Result<T, Or<Damaged>>
+fn or_damage_in<T>(body: &[u8], read: Result<T, Or<Unreadable>>) -> Result<T, Or<Damaged>>
     ensures ok { IfOk read (λ x. result ≡ Ok x) }
     ensures err { IfErr read (λ why. result ≡ Err (damage_of (length body.now) why)) }
 {
@@ -39,45 +40,45 @@ fn placed<T>(body: &[u8], read: Result<T, Or<Unreadable>>) -> Result<T, Or<Damag
     }
 }
 
-#[tactic(auto, unfolding(crate::specs::Reading::project_of))]
-fn project_of(alloc: Global, key: &str, body: &[u8]) -> Result<Project, Or<Damaged>>
-    ensures { Gives (λ x. x) result (project_of key.now body.now) }
+#[tactic(auto, unfolding(crate::specs::Reading::read_project))]
+fn read_project(alloc: Global, key: &str, body: &[u8]) -> Result<Project, Or<Damaged>>
+    ensures { Gives (λ x. x) result (read_project key.now body.now) }
 {
     if !good_name(ObjectKind::Project, key) {
         return Err(Or::Why(Damaged::Key));
     }
-    placed(body, project_in(alloc, key, body))
+    or_damage_in(body, project_in(alloc, key, body))
 }
 
-#[tactic(auto, unfolding(crate::specs::Reading::profile_of))]
-fn profile_of(alloc: Global, key: &str, body: &[u8]) -> Result<Profile, Or<Damaged>>
-    ensures { Gives (λ x. x) result (profile_of key.now body.now) }
+#[tactic(auto, unfolding(crate::specs::Reading::read_profile))]
+fn read_profile(alloc: Global, key: &str, body: &[u8]) -> Result<Profile, Or<Damaged>>
+    ensures { Gives (λ x. x) result (read_profile key.now body.now) }
 {
     let (project, name) = two_names_in(ObjectKind::Project, ObjectKind::Profile, key)?;
-    placed(body, profile_in(alloc, project, name, body))
+    or_damage_in(body, profile_in(alloc, project, name, body))
 }
 
-#[tactic(auto, unfolding(crate::specs::Reading::network_of))]
-fn network_of(alloc: Global, key: &str, body: &[u8]) -> Result<Network, Or<Damaged>>
-    ensures { Gives (λ x. x) result (network_of key.now body.now) }
+#[tactic(auto, unfolding(crate::specs::Reading::read_network))]
+fn read_network(alloc: Global, key: &str, body: &[u8]) -> Result<Network, Or<Damaged>>
+    ensures { Gives (λ x. x) result (read_network key.now body.now) }
 {
     let (project, name) = two_names_in(ObjectKind::Project, ObjectKind::Network, key)?;
-    placed(body, network_in(alloc, project, name, body))
+    or_damage_in(body, network_in(alloc, project, name, body))
 }
 
-#[tactic(auto, unfolding(crate::specs::Reading::pool_of))]
-fn pool_of(alloc: Global, key: &str, body: &[u8]) -> Result<Pool, Or<Damaged>>
-    ensures { Gives (λ x. x) result (pool_of key.now body.now) }
+#[tactic(auto, unfolding(crate::specs::Reading::read_pool))]
+fn read_pool(alloc: Global, key: &str, body: &[u8]) -> Result<Pool, Or<Damaged>>
+    ensures { Gives (λ x. x) result (read_pool key.now body.now) }
 {
     if !good_name(ObjectKind::Pool, key) {
         return Err(Or::Why(Damaged::Key));
     }
-    placed(body, pool_in(alloc, key, body))
+    or_damage_in(body, pool_in(alloc, key, body))
 }
 
-#[tactic(auto, unfolding(crate::specs::Reading::volume_of))]
-fn volume_of(alloc: Global, key: &str, body: &[u8]) -> Result<Volume, Or<Damaged>>
-    ensures { Gives (λ x. x) result (volume_of key.now body.now) }
+#[tactic(auto, unfolding(crate::specs::Reading::read_volume))]
+fn read_volume(alloc: Global, key: &str, body: &[u8]) -> Result<Volume, Or<Damaged>>
+    ensures { Gives (λ x. x) result (read_volume key.now body.now) }
 {
     let (project, pool, name) = three_names_in(
         ObjectKind::Project,
@@ -85,20 +86,20 @@ fn volume_of(alloc: Global, key: &str, body: &[u8]) -> Result<Volume, Or<Damaged
         ObjectKind::Volume,
         key,
     )?;
-    placed(body, volume_in(alloc, project, pool, name, body))
+    or_damage_in(body, volume_in(alloc, project, pool, name, body))
 }
 
-#[tactic(auto, unfolding(crate::specs::Reading::instance_of))]
-fn instance_of(alloc: Global, key: &str, body: &[u8]) -> Result<Instance, Or<Damaged>>
-    ensures { Gives (λ x. x) result (instance_of key.now body.now) }
+#[tactic(auto, unfolding(crate::specs::Reading::read_instance))]
+fn read_instance(alloc: Global, key: &str, body: &[u8]) -> Result<Instance, Or<Damaged>>
+    ensures { Gives (λ x. x) result (read_instance key.now body.now) }
 {
     let (project, name) = two_names_in(ObjectKind::Project, ObjectKind::Instance, key)?;
-    placed(body, instance_in(alloc, project, name, body))
+    or_damage_in(body, instance_in(alloc, project, name, body))
 }
 
-#[tactic(auto, unfolding(crate::specs::Reading::snapshot_of))]
-fn snapshot_of(alloc: Global, key: &str, body: &[u8]) -> Result<Snapshot, Or<Damaged>>
-    ensures { Gives (λ x. x) result (snapshot_of key.now body.now) }
+#[tactic(auto, unfolding(crate::specs::Reading::read_snapshot))]
+fn read_snapshot(alloc: Global, key: &str, body: &[u8]) -> Result<Snapshot, Or<Damaged>>
+    ensures { Gives (λ x. x) result (read_snapshot key.now body.now) }
 {
     let (project, instance, name) = three_names_in(
         ObjectKind::Project,
@@ -106,7 +107,7 @@ fn snapshot_of(alloc: Global, key: &str, body: &[u8]) -> Result<Snapshot, Or<Dam
         ObjectKind::Snapshot,
         key,
     )?;
-    placed(body, snapshot_in(alloc, project, instance, name, body))
+    or_damage_in(body, snapshot_in(alloc, project, instance, name, body))
 }
 
 #[tactic(auto, unfolding(crate::specs::Reading::row_at))]
@@ -114,13 +115,13 @@ fn row_at(alloc: Global, kind: u8, key: &str, body: &[u8]) -> Result<Row, Or<Dam
     ensures { Gives (λ x. x) result (row_at kind key.now body.now) }
 {
     match kind {
-        1 => Ok(Row::Project(project_of(alloc, key, body)?)),
-        2 => Ok(Row::Profile(profile_of(alloc, key, body)?)),
-        3 => Ok(Row::Network(network_of(alloc, key, body)?)),
-        4 => Ok(Row::Pool(pool_of(alloc, key, body)?)),
-        5 => Ok(Row::Volume(volume_of(alloc, key, body)?)),
-        6 => Ok(Row::Instance(instance_of(alloc, key, body)?)),
-        7 => Ok(Row::Snapshot(snapshot_of(alloc, key, body)?)),
+        1 => Ok(Row::Project(read_project(alloc, key, body)?)),
+        2 => Ok(Row::Profile(read_profile(alloc, key, body)?)),
+        3 => Ok(Row::Network(read_network(alloc, key, body)?)),
+        4 => Ok(Row::Pool(read_pool(alloc, key, body)?)),
+        5 => Ok(Row::Volume(read_volume(alloc, key, body)?)),
+        6 => Ok(Row::Instance(read_instance(alloc, key, body)?)),
+        7 => Ok(Row::Snapshot(read_snapshot(alloc, key, body)?)),
         _ => Err(Or::Why(Damaged::Kind)),
     }
 }

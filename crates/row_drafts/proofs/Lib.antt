@@ -6,5 +6,6 @@ mod Handed
 mod HeldAside
 mod Logs
 mod Orders
+mod Risen
 mod Rooms
 mod Settled

@@ -32,9 +32,9 @@ use std::marker::Model;
 /// and what there is memory for.
 #[derive(Drop)]
 pub struct Draft {
-    lists: Lists,
-    log: Vec<Undone>,
-    spares: Vec<InstancePower>,
+    pub(crate) lists: Lists,
+    pub(crate) log: Vec<Undone>,
+    pub(crate) spares: Vec<InstancePower>,
 }
 
 impl Model for Draft {
@@ -50,7 +50,7 @@ impl Model for Draft {
 }
 
 /// The status of a new instance.
-fn stopped(alloc: Global, row: &Instance) -> Result<InstancePower, NoMemory>
+pub(crate) fn stopped(alloc: Global, row: &Instance) -> Result<InstancePower, NoMemory>
     ensures { IfOk result (λ p. p ≡ stopped row.now) }
 {
     let project = row.project.copy(alloc)?;

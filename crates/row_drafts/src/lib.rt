@@ -6,6 +6,7 @@ mod background;
 mod calls;
 mod draft;
 mod edits;
+mod filling;
 mod keys;
 mod lists;
 mod placed;

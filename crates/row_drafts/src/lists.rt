@@ -52,14 +52,14 @@ pub(crate) enum Undone {
 /// taking memory.
 #[derive(Drop)]
 pub(crate) struct Lists {
-    projects: Vec<Project>,
-    profiles: Vec<Profile>,
-    networks: Vec<Network>,
-    pools: Vec<Pool>,
-    volumes: Vec<Volume>,
-    instances: Vec<Instance>,
-    snapshots: Vec<Snapshot>,
-    powers: Vec<InstancePower>,
+    pub(crate) projects: Vec<Project>,
+    pub(crate) profiles: Vec<Profile>,
+    pub(crate) networks: Vec<Network>,
+    pub(crate) pools: Vec<Pool>,
+    pub(crate) volumes: Vec<Volume>,
+    pub(crate) instances: Vec<Instance>,
+    pub(crate) snapshots: Vec<Snapshot>,
+    pub(crate) powers: Vec<InstancePower>,
     background: Background,
     closed: bool,
 }

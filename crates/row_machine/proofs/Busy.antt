@@ -18,7 +18,7 @@ use Rattle.row_machine.specs.machine.Task.{Task}
 use Rattle.row_machine.specs.machine.State.{State}
 use Rattle.row_machine.specs.machine.Rows.{default_name, texts_before}
 use Rattle.row_machine.specs.machine.NameRules.{is_there}
-use Rattle.row_machine.specs.opening.Opening.{default_project, homeless}
+use Rattle.row_machine.specs.opening.Opening.{default_project, home_missing}
 use Rattle.row_machine.specs.machine.Usage.{used}
 use Rattle.row_machine.specs.machine.Claims.{project_of_row}
 use Rattle.row_machine.specs.shown.Links.{target_of}
@@ -59,7 +59,7 @@ use Rattle.project_limits.specs.Admission.{first_over, networks_over}
 use Rattle.project_limits.specs.Countable.{first_uncounted, volume_uncounted}
 use Rattle.project_limits.specs.Instance.{cpu_in, memory_in, disk_in, instance_amounts, volume_amounts}
 use Rattle.project_limits.specs.Limits.{count_in, size_in, limits_of}
-use Rattle.row_codec.specs.Reading.{count_at, number_at, moment_at, code_at, text_at, items_at, list_at, filled_at, next_at, next_filled_at, setting_at, device_at, shape_at, project_in, profile_in, network_in, pool_in, volume_in, instance_in, snapshot_in, two_names_in, three_names_in, project_of, profile_of, network_of, pool_of, volume_of, instance_of, snapshot_of, row_at}
+use Rattle.row_codec.specs.Reading.{count_at, number_at, moment_at, code_at, text_at, items_at, list_at, filled_at, next_at, next_filled_at, setting_at, device_at, shape_at, project_in, profile_in, network_in, pool_in, volume_in, instance_in, snapshot_in, two_names_in, three_names_in, read_project, read_profile, read_network, read_pool, read_volume, read_instance, read_snapshot, row_at}
 use Rattle.row_codec.specs.Spelling.{text_bytes, number_bytes, list_bytes}
 use Rattle.row_machine.specs.machine.Accept.{accepted}
 use Rattle.row_machine.specs.machine.Claims.{judged_instances, judged_volumes, amounts_of_instance, share_of}
@@ -175,7 +175,7 @@ unfolding
     networks_over first_uncounted volume_uncounted cpu_in memory_in disk_in instance_amounts volume_amounts count_in
     size_in limits_of count_at number_at moment_at code_at text_at items_at list_at filled_at next_at next_filled_at
     setting_at device_at shape_at project_in profile_in network_in pool_in volume_in instance_in snapshot_in two_names_in
-    three_names_in project_of profile_of network_of pool_of volume_of instance_of snapshot_of row_at text_bytes
+    three_names_in read_project read_profile read_network read_pool read_volume read_instance read_snapshot row_at text_bytes
     number_bytes list_bytes accepted judged_instances judged_volumes amounts_of_instance share_of expanded_of busy_with
     holder_of first_user_of home_of instance_uncounted volume_uncounts counts_broken part_exceeds networks_exceed
     limits_broken project_missing what_is_missing name_broken names_broken since rows_break opening_of plan_of
@@ -220,7 +220,7 @@ unfolding
     networks_over first_uncounted volume_uncounted cpu_in memory_in disk_in instance_amounts volume_amounts count_in
     size_in limits_of count_at number_at moment_at code_at text_at items_at list_at filled_at next_at next_filled_at
     setting_at device_at shape_at project_in profile_in network_in pool_in volume_in instance_in snapshot_in two_names_in
-    three_names_in project_of profile_of network_of pool_of volume_of instance_of snapshot_of row_at text_bytes
+    three_names_in read_project read_profile read_network read_pool read_volume read_instance read_snapshot row_at text_bytes
     number_bytes list_bytes accepted judged_instances judged_volumes amounts_of_instance share_of expanded_of busy_with
     holder_of first_user_of home_of instance_uncounted volume_uncounts counts_broken part_exceeds networks_exceed
     limits_broken project_missing what_is_missing name_broken names_broken since rows_break opening_of plan_of
@@ -241,7 +241,7 @@ links = record {
         target = λ there. cc;
         source = λ of is. cc;
         claim_project = λ r is. subst (λ (x : Row). project_of_row x ≡ default_name) (some-is is) refl;
-        claim_home = λ r is. subst (λ (x : Row). homeless busy x ≡ None) (some-is is) refl;
+        claim_home = λ r is. subst (λ (x : Row). home_missing busy x ≡ None) (some-is is) refl;
         pool = λ r is. subst (λ (x : Row). (target_of x).kind ≡ kind.Volume → is_some (pool_named busy.pools (target_of x).pool) ≡ true) (some-is is) (λ volume. cc);
         instance = λ r is. subst (λ (x : Row). (target_of x).kind ≡ kind.Snapshot → instance_there busy default_name (target_of x)) (some-is is) (λ snapshot. cc);
         renamed = tt;
@@ -252,7 +252,7 @@ links = record {
         target = λ there. cc;
         source = λ of is. subst (λ (t : Target). is_there busy default_name t ≡ true) (some-is is) refl;
         claim_project = λ r is. subst (λ (x : Row). project_of_row x ≡ default_name) (some-is is) refl;
-        claim_home = λ r is. subst (λ (x : Row). homeless busy x ≡ None) (some-is is) refl;
+        claim_home = λ r is. subst (λ (x : Row). home_missing busy x ≡ None) (some-is is) refl;
         pool = λ r is. subst (λ (x : Row). (target_of x).kind ≡ kind.Volume → is_some (pool_named busy.pools (target_of x).pool) ≡ true) (some-is is) (λ volume. cc);
         instance = λ r is. subst (λ (x : Row). (target_of x).kind ≡ kind.Snapshot → instance_there busy default_name (target_of x)) (some-is is) (λ snapshot. cc);
         renamed = tt;
@@ -282,7 +282,7 @@ unfolding
     networks_over first_uncounted volume_uncounted cpu_in memory_in disk_in instance_amounts volume_amounts count_in
     size_in limits_of count_at number_at moment_at code_at text_at items_at list_at filled_at next_at next_filled_at
     setting_at device_at shape_at project_in profile_in network_in pool_in volume_in instance_in snapshot_in two_names_in
-    three_names_in project_of profile_of network_of pool_of volume_of instance_of snapshot_of row_at text_bytes
+    three_names_in read_project read_profile read_network read_pool read_volume read_instance read_snapshot row_at text_bytes
     number_bytes list_bytes accepted judged_instances judged_volumes amounts_of_instance share_of expanded_of busy_with
     holder_of first_user_of home_of instance_uncounted volume_uncounts counts_broken part_exceeds networks_exceed
     limits_broken project_missing what_is_missing name_broken names_broken since rows_break opening_of plan_of
@@ -304,7 +304,7 @@ unfolding
     networks_over first_uncounted volume_uncounted cpu_in memory_in disk_in instance_amounts volume_amounts count_in
     size_in limits_of count_at number_at moment_at code_at text_at items_at list_at filled_at next_at next_filled_at
     setting_at device_at shape_at project_in profile_in network_in pool_in volume_in instance_in snapshot_in two_names_in
-    three_names_in project_of profile_of network_of pool_of volume_of instance_of snapshot_of row_at text_bytes
+    three_names_in read_project read_profile read_network read_pool read_volume read_instance read_snapshot row_at text_bytes
     number_bytes list_bytes accepted judged_instances judged_volumes amounts_of_instance share_of expanded_of busy_with
     holder_of first_user_of home_of instance_uncounted volume_uncounts counts_broken part_exceeds networks_exceed
     limits_broken project_missing what_is_missing name_broken names_broken since rows_break opening_of plan_of
@@ -330,7 +330,7 @@ unfolding
     networks_over first_uncounted volume_uncounted cpu_in memory_in disk_in instance_amounts volume_amounts count_in
     size_in limits_of count_at number_at moment_at code_at text_at items_at list_at filled_at next_at next_filled_at
     setting_at device_at shape_at project_in profile_in network_in pool_in volume_in instance_in snapshot_in two_names_in
-    three_names_in project_of profile_of network_of pool_of volume_of instance_of snapshot_of row_at text_bytes
+    three_names_in read_project read_profile read_network read_pool read_volume read_instance read_snapshot row_at text_bytes
     number_bytes list_bytes accepted judged_instances judged_volumes amounts_of_instance share_of expanded_of busy_with
     holder_of first_user_of home_of instance_uncounted volume_uncounts counts_broken part_exceeds networks_exceed
     limits_broken project_missing what_is_missing name_broken names_broken since rows_break opening_of plan_of
@@ -369,7 +369,7 @@ unfolding
     networks_over first_uncounted volume_uncounted cpu_in memory_in disk_in instance_amounts volume_amounts count_in
     size_in limits_of count_at number_at moment_at code_at text_at items_at list_at filled_at next_at next_filled_at
     setting_at device_at shape_at project_in profile_in network_in pool_in volume_in instance_in snapshot_in two_names_in
-    three_names_in project_of profile_of network_of pool_of volume_of instance_of snapshot_of row_at text_bytes
+    three_names_in read_project read_profile read_network read_pool read_volume read_instance read_snapshot row_at text_bytes
     number_bytes list_bytes accepted judged_instances judged_volumes amounts_of_instance share_of expanded_of busy_with
     holder_of first_user_of home_of instance_uncounted volume_uncounts counts_broken part_exceeds networks_exceed
     limits_broken project_missing what_is_missing name_broken names_broken since rows_break opening_of plan_of
@@ -419,7 +419,7 @@ unfolding
     networks_over first_uncounted volume_uncounted cpu_in memory_in disk_in instance_amounts volume_amounts count_in
     size_in limits_of count_at number_at moment_at code_at text_at items_at list_at filled_at next_at next_filled_at
     setting_at device_at shape_at project_in profile_in network_in pool_in volume_in instance_in snapshot_in two_names_in
-    three_names_in project_of profile_of network_of pool_of volume_of instance_of snapshot_of row_at text_bytes
+    three_names_in read_project read_profile read_network read_pool read_volume read_instance read_snapshot row_at text_bytes
     number_bytes list_bytes accepted judged_instances judged_volumes amounts_of_instance share_of expanded_of busy_with
     holder_of first_user_of home_of instance_uncounted volume_uncounts counts_broken part_exceeds networks_exceed
     limits_broken project_missing what_is_missing name_broken names_broken since rows_break opening_of plan_of
@@ -446,7 +446,7 @@ unfolding
     networks_over first_uncounted volume_uncounted cpu_in memory_in disk_in instance_amounts volume_amounts count_in
     size_in limits_of count_at number_at moment_at code_at text_at items_at list_at filled_at next_at next_filled_at
     setting_at device_at shape_at project_in profile_in network_in pool_in volume_in instance_in snapshot_in two_names_in
-    three_names_in project_of profile_of network_of pool_of volume_of instance_of snapshot_of row_at text_bytes
+    three_names_in read_project read_profile read_network read_pool read_volume read_instance read_snapshot row_at text_bytes
     number_bytes list_bytes accepted judged_instances judged_volumes amounts_of_instance share_of expanded_of busy_with
     holder_of first_user_of home_of instance_uncounted volume_uncounts counts_broken part_exceeds networks_exceed
     limits_broken project_missing what_is_missing name_broken names_broken since rows_break opening_of plan_of
@@ -473,7 +473,7 @@ unfolding
     networks_over first_uncounted volume_uncounted cpu_in memory_in disk_in instance_amounts volume_amounts count_in
     size_in limits_of count_at number_at moment_at code_at text_at items_at list_at filled_at next_at next_filled_at
     setting_at device_at shape_at project_in profile_in network_in pool_in volume_in instance_in snapshot_in two_names_in
-    three_names_in project_of profile_of network_of pool_of volume_of instance_of snapshot_of row_at text_bytes
+    three_names_in read_project read_profile read_network read_pool read_volume read_instance read_snapshot row_at text_bytes
     number_bytes list_bytes accepted judged_instances judged_volumes amounts_of_instance share_of expanded_of busy_with
     holder_of first_user_of home_of instance_uncounted volume_uncounts counts_broken part_exceeds networks_exceed
     limits_broken project_missing what_is_missing name_broken names_broken since rows_break opening_of plan_of
@@ -514,7 +514,7 @@ unfolding
     networks_over first_uncounted volume_uncounted cpu_in memory_in disk_in instance_amounts volume_amounts count_in
     size_in limits_of count_at number_at moment_at code_at text_at items_at list_at filled_at next_at next_filled_at
     setting_at device_at shape_at project_in profile_in network_in pool_in volume_in instance_in snapshot_in two_names_in
-    three_names_in project_of profile_of network_of pool_of volume_of instance_of snapshot_of row_at text_bytes
+    three_names_in read_project read_profile read_network read_pool read_volume read_instance read_snapshot row_at text_bytes
     number_bytes list_bytes accepted judged_instances judged_volumes amounts_of_instance share_of expanded_of busy_with
     holder_of first_user_of home_of instance_uncounted volume_uncounts counts_broken part_exceeds networks_exceed
     limits_broken project_missing what_is_missing name_broken names_broken since rows_break opening_of plan_of
@@ -544,7 +544,7 @@ unfolding
     networks_over first_uncounted volume_uncounted cpu_in memory_in disk_in instance_amounts volume_amounts count_in
     size_in limits_of count_at number_at moment_at code_at text_at items_at list_at filled_at next_at next_filled_at
     setting_at device_at shape_at project_in profile_in network_in pool_in volume_in instance_in snapshot_in two_names_in
-    three_names_in project_of profile_of network_of pool_of volume_of instance_of snapshot_of row_at text_bytes
+    three_names_in read_project read_profile read_network read_pool read_volume read_instance read_snapshot row_at text_bytes
     number_bytes list_bytes accepted judged_instances judged_volumes amounts_of_instance share_of expanded_of busy_with
     holder_of first_user_of home_of instance_uncounted volume_uncounts counts_broken part_exceeds networks_exceed
     limits_broken project_missing what_is_missing name_broken names_broken since rows_break opening_of plan_of
@@ -582,7 +582,7 @@ unfolding
     networks_over first_uncounted volume_uncounted cpu_in memory_in disk_in instance_amounts volume_amounts count_in
     size_in limits_of count_at number_at moment_at code_at text_at items_at list_at filled_at next_at next_filled_at
     setting_at device_at shape_at project_in profile_in network_in pool_in volume_in instance_in snapshot_in two_names_in
-    three_names_in project_of profile_of network_of pool_of volume_of instance_of snapshot_of row_at text_bytes
+    three_names_in read_project read_profile read_network read_pool read_volume read_instance read_snapshot row_at text_bytes
     number_bytes list_bytes accepted judged_instances judged_volumes amounts_of_instance share_of expanded_of busy_with
     holder_of first_user_of home_of instance_uncounted volume_uncounts counts_broken part_exceeds networks_exceed
     limits_broken project_missing what_is_missing name_broken names_broken since rows_break opening_of plan_of
@@ -611,7 +611,7 @@ unfolding
     networks_over first_uncounted volume_uncounted cpu_in memory_in disk_in instance_amounts volume_amounts count_in
     size_in limits_of count_at number_at moment_at code_at text_at items_at list_at filled_at next_at next_filled_at
     setting_at device_at shape_at project_in profile_in network_in pool_in volume_in instance_in snapshot_in two_names_in
-    three_names_in project_of profile_of network_of pool_of volume_of instance_of snapshot_of row_at text_bytes
+    three_names_in read_project read_profile read_network read_pool read_volume read_instance read_snapshot row_at text_bytes
     number_bytes list_bytes accepted judged_instances judged_volumes amounts_of_instance share_of expanded_of busy_with
     holder_of first_user_of home_of instance_uncounted volume_uncounts counts_broken part_exceeds networks_exceed
     limits_broken project_missing what_is_missing name_broken names_broken since rows_break opening_of plan_of

@@ -25,7 +25,7 @@ use Rattle.project_limits.specs.Admission.{first_over, networks_over}
 use Rattle.project_limits.specs.Countable.{first_uncounted, volume_uncounted}
 use Rattle.project_limits.specs.Instance.{cpu_in, memory_in, disk_in, instance_amounts, volume_amounts}
 use Rattle.project_limits.specs.Limits.{count_in, size_in, limits_of}
-use Rattle.row_codec.specs.Reading.{count_at, number_at, moment_at, code_at, text_at, items_at, list_at, filled_at, next_at, next_filled_at, setting_at, device_at, shape_at, project_in, profile_in, network_in, pool_in, volume_in, instance_in, snapshot_in, two_names_in, three_names_in, project_of, profile_of, network_of, pool_of, volume_of, instance_of, snapshot_of, row_at}
+use Rattle.row_codec.specs.Reading.{count_at, number_at, moment_at, code_at, text_at, items_at, list_at, filled_at, next_at, next_filled_at, setting_at, device_at, shape_at, project_in, profile_in, network_in, pool_in, volume_in, instance_in, snapshot_in, two_names_in, three_names_in, read_project, read_profile, read_network, read_pool, read_volume, read_instance, read_snapshot, row_at}
 use Rattle.row_codec.specs.Spelling.{text_bytes, number_bytes, list_bytes}
 use Rattle.row_machine.specs.machine.Accept.{accepted}
 use Rattle.row_machine.specs.machine.Claims.{judged_instances, judged_volumes, amounts_of_instance, share_of}
@@ -54,12 +54,12 @@ use Rattle.row_machine.specs.examples.Worked.{AreWorked, a, s, snapshot_of_s}
 use Rattle.row_machine.specs.examples.Scenes.{default, state_after}
 use Rattle.row_machine.specs.machine.State.{State}
 use Rattle.row_machine.specs.machine.Plans.{snapshot_target}
-use Rattle.row_machine.specs.machine.Tasks.{deletion}
+use Rattle.row_machine.specs.machine.Tasks.{deletion_task}
 use Rattle.row_machine.specs.facts.Whole.{IsWhole}
 use Rattle.row_machine.proofs.Deeds.{deletes-instances}
 
 -- wherever such a deletion was entered, the facts do not hold
-not-whole : (before : Option State) (now : State) → option_map (λ x. entered x (deletion default (snapshot_target a s)) 0) before ≡ Some now → IsWhole now → ⊥
+not-whole : (before : Option State) (now : State) → option_map (λ x. entered x (deletion_task default (snapshot_target a s)) 0) before ≡ Some now → IsWhole now → ⊥
 not-whole None now is whole = cc
 not-whole (Some x) now is whole = deletes-instances x default (snapshot_target a s) 0 (λ same. cc) (subst IsWhole (some-is (sym is)) whole) where
   some-is : {x y : State} → Some x ≡ Some y → x ≡ y
@@ -77,7 +77,7 @@ unfolding
     networks_over first_uncounted volume_uncounted cpu_in memory_in disk_in instance_amounts volume_amounts count_in
     size_in limits_of count_at number_at moment_at code_at text_at items_at list_at filled_at next_at next_filled_at
     setting_at device_at shape_at project_in profile_in network_in pool_in volume_in instance_in snapshot_in two_names_in
-    three_names_in project_of profile_of network_of pool_of volume_of instance_of snapshot_of row_at text_bytes
+    three_names_in read_project read_profile read_network read_pool read_volume read_instance read_snapshot row_at text_bytes
     number_bytes list_bytes accepted judged_instances judged_volumes amounts_of_instance share_of expanded_of busy_with
     holder_of first_user_of home_of instance_uncounted volume_uncounts counts_broken part_exceeds networks_exceed
     limits_broken project_missing what_is_missing name_broken names_broken since rows_break opening_of plan_of

@@ -10,4 +10,4 @@ pub use Rattle.row_machine.specs.machine.Rows.{with_snapshot, with_standing, wit
 pub use Rattle.row_machine.specs.machine.Homes.{home_of, is_on}
 pub use Rattle.row_machine.specs.machine.Expansions.{expanded_of}
 pub use Rattle.row_machine.specs.machine.Refusals.{on_held, on_key_of, on_name, on_number, on_object, on_project}
-pub use Rattle.row_machine.specs.machine.Refusals.{plainly, untold}
+pub use Rattle.row_machine.specs.machine.Refusals.{plain_refusal, nothing_told}

@@ -65,7 +65,7 @@ moment_at bytes = do
   moment ← number_at bytes
   if nat_lt moment.0 moment_limit then Ok moment else stops_at bytes
 
--- what a byte stands for as a truth, if for anything
+-- the boolean that a byte stands for, if any
 abbrev pub truth_of : ℕ → Option Bool
 truth_of byte = if byte == 0 then Some false else (if byte == 1 then Some true else None)
 

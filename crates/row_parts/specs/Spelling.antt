@@ -21,7 +21,7 @@ number_bytes number = to_be_bytes w64 number
 unfoldable pub list_bytes : {X : Type 0} → (X → List ℕ) → List X → List ℕ
 list_bytes item items = to_be_bytes w32 (length items) ++ flat_map item items
 
--- a truth, as one byte
+-- a boolean, as one byte
 abbrev pub truth_byte : Bool → ℕ
 truth_byte false = 0
 truth_byte true = 1

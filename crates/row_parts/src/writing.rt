@@ -75,7 +75,7 @@ pub fn put_devices(out: &mut Vec<u8>, devices: &Devices) -> Result<(), NoMemory>
     Ok(())
 }
 
-/// A truth, as one byte.
+/// 1 for true and 0 for false.
 pub fn truth_byte(truth: bool) -> u8
     ensures { result ≡ truth_byte truth }
 {

@@ -8,18 +8,18 @@ use Rattle.std.proofs.lemmas.List.Elements.{All-weaker, filter_map-append}
 use Rattle.std.proofs.lemmas.List.Sums.{sum_by-le}
 use Rattle.size_values.specs.Amounts.{part}
 use Rattle.size_values.specs.declared.amounts.Part.{Part}
-use Rattle.row_machine.specs.machine.Usage.{Load, counted}
+use Rattle.row_machine.specs.machine.Usage.{Load, amount_for}
 use Rattle.row_readings.specs.Loads.{IsSmall, AreSmall}
 
-counted-small : (project : List ℕ) (k : Part) (load : Load) → IsSmall load → counted project k load ≤ 2 ^ 63
+counted-small : (project : List ℕ) (k : Part) (load : Load) → IsSmall load → amount_for project k load ≤ 2 ^ 63
 counted-small project k load small = at (bytes_eq load.project project) (small.parts k) where
   at : (t : Bool) → part k load.amounts < 2 ^ 63 → cond t (part k load.amounts) 0 ≤ 2 ^ 63
   at true low = omega arith
   at false low = omega arith
 
-pub sum-small : (project : List ℕ) (k : Part) (loads : List Load) → AreSmall loads → sum_by (counted project k) loads ≤ length loads * 2 ^ 63
+pub sum-small : (project : List ℕ) (k : Part) (loads : List Load) → AreSmall loads → sum_by (amount_for project k) loads ≤ length loads * 2 ^ 63
 sum-small project k loads small =
-    sum_by-le (counted project k) (2 ^ 63) loads (All-weaker IsSmall (λ load. counted project k load ≤ 2 ^ 63) (counted-small project k) loads small)
+    sum_by-le (amount_for project k) (2 ^ 63) loads (All-weaker IsSmall (λ load. amount_for project k load ≤ 2 ^ 63) (counted-small project k) loads small)
 
 -- one more element, of which something is read or nothing
 pub read-next : {X Y : Type 0} (f : X → Option Y) (front : List Y) (xs : List X) (i : ℕ) (x : X)

@@ -6,7 +6,7 @@ ghost use Rattle.size_values.specs.Amounts.{part};
 ghost use Rattle.size_values.specs.declared.amounts.Part.{Part};
 ghost use Rattle.row_machine.specs.machine.Claims.{amounts_of_instance, amounts_of, project_of_row, share_over};
 ghost use Rattle.row_machine.specs.machine.Claims.{share_of, of_live};
-ghost use Rattle.row_machine.specs.machine.Usage.{loads, instance_load, volume_load, claim_load, counted};
+ghost use Rattle.row_machine.specs.machine.Usage.{loads, instance_load, volume_load, claim_load, amount_for};
 ghost use Rattle.row_readings.specs.Loads.{AreSmall};
 
 use crate::claims::replaced_instance;
@@ -35,8 +35,8 @@ impl Model for Load {
 
 impl Load {
     /// What it adds to what this project uses.
-    fn counted(&self, project: &str) -> Amounts
-        ensures { (k : Part) → part k result ≡ counted project.now k self.now }
+    fn amounts_for(&self, project: &str) -> Amounts
+        ensures { (k : Part) → part k result ≡ amount_for project.now k self.now }
     {
         if self.project.view() == project {
             self.amounts
@@ -197,12 +197,12 @@ fn add_claim(
 /// What a project uses, of all that counts.
 pub fn usage_in(loads: &[Load], project: &str) -> Amounts
     requires { AreSmall loads.now }
-    ensures sums { (k : Part) → part k result ≡ sum_by (counted project.now k) loads.now }
+    ensures sums { (k : Part) → part k result ≡ sum_by (amount_for project.now k) loads.now }
     ensures few { (k : Part) → part k result < 2 ^ 126 }
 {
     let mut used = Amounts::zero();
     for load in loads {
-        used = used.plus(&load.counted(project));
+        used = used.plus(&load.amounts_for(project));
     }
     used
 }

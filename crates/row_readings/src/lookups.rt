@@ -100,7 +100,10 @@ pub fn power_of(view: &View<'_>, project: &str, name: &str) -> Option<Power>
     }
 }
 
-fn numbered<'x>(operations: &'x [Operation<Work>], number: u64) -> Option<&'x Operation<Work>>
+fn operation_numbered<'x>(
+    operations: &'x [Operation<Work>],
+    number: u64,
+) -> Option<&'x Operation<Work>>
     ensures { option_copied result ≡ find (has_number number) operations.now }
 {
     operations.iter().find(|o| o.number == number)
@@ -110,8 +113,8 @@ fn numbered<'x>(operations: &'x [Operation<Work>], number: u64) -> Option<&'x Op
 pub fn kept_at<'x>(view: &View<'x>, number: u64) -> Option<&'x Operation<Work>>
     ensures { option_copied result ≡ kept_at view.now.operations number }
 {
-    match numbered(view.live, number) {
+    match operation_numbered(view.live, number) {
         Some(operation) => Some(operation),
-        None => numbered(view.ended, number),
+        None => operation_numbered(view.ended, number),
     }
 }

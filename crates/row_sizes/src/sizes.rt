@@ -10,7 +10,7 @@ use records::{Instance, Network, Pool, Profile, Project, Row, Snapshot, Volume};
 use size_values::Text;
 
 /// The sum of both, or the greatest number.
-fn plus(a: u64, b: u64) -> u64
+fn add_capped(a: u64, b: u64) -> u64
     ensures { (m n : ℕ) → a ≡ capped m → b ≡ capped n → result ≡ capped (m + n) }
 {
     if a > u64::MAX - b { u64::MAX } else { a + b }
@@ -20,7 +20,7 @@ fn plus(a: u64, b: u64) -> u64
 fn text_size(text: &str) -> u64
     ensures { result ≡ capped (length (text_bytes text.now)) }
 {
-    plus(4, text.len() as u64)
+    add_capped(4, text.len() as u64)
 }
 
 /// A list of texts with its count before it.
@@ -29,7 +29,7 @@ fn texts_size(texts: &[Text]) -> u64
 {
     let mut size = 4;
     for text in texts {
-        size = plus(size, text_size(text.view()));
+        size = add_capped(size, text_size(text.view()));
     }
     size
 }
@@ -40,11 +40,11 @@ fn settings_size(config: &Config) -> u64
 {
     let mut size = 4;
     for place in 0..config.len() {
-        let setting = plus(
+        let setting = add_capped(
             text_size(config.key_at(place)),
             text_size(config.value_at(place)),
         );
-        size = plus(size, setting);
+        size = add_capped(size, setting);
     }
     size
 }
@@ -55,11 +55,11 @@ fn devices_size(devices: &Devices) -> u64
 {
     let mut size = 4;
     for place in 0..devices.len() {
-        let device = plus(
+        let device = add_capped(
             text_size(devices.name_at(place)),
             settings_size(devices.device_at(place)),
         );
-        size = plus(size, device);
+        size = add_capped(size, device);
     }
     size
 }
@@ -68,79 +68,79 @@ fn devices_size(devices: &Devices) -> u64
 pub fn project_size(row: &Project) -> u64
     ensures { result ≡ capped (length (project_bytes row.now)) }
 {
-    let parts = plus(
+    let parts = add_capped(
         text_size(row.description.view()),
         settings_size(&row.config),
     );
-    plus(1, parts)
+    add_capped(1, parts)
 }
 
 /// How many bytes the body of a profile has, or the greatest number where there are more.
 pub fn profile_size(row: &Profile) -> u64
     ensures { result ≡ capped (length (profile_bytes row.now)) }
 {
-    let lists = plus(settings_size(&row.config), devices_size(&row.devices));
-    let parts = plus(text_size(row.description.view()), lists);
-    plus(1, parts)
+    let lists = add_capped(settings_size(&row.config), devices_size(&row.devices));
+    let parts = add_capped(text_size(row.description.view()), lists);
+    add_capped(1, parts)
 }
 
 /// How many bytes the body of a network has, or the greatest number where there are more.
 pub fn network_size(row: &Network) -> u64
     ensures { result ≡ capped (length (network_bytes row.now)) }
 {
-    let parts = plus(
+    let parts = add_capped(
         text_size(row.description.view()),
         settings_size(&row.config),
     );
-    plus(1, parts)
+    add_capped(1, parts)
 }
 
 /// How many bytes the body of a storage pool has, or the greatest number where there are more.
 pub fn pool_size(row: &Pool) -> u64
     ensures { result ≡ capped (length (pool_bytes row.now)) }
 {
-    let parts = plus(
+    let parts = add_capped(
         text_size(row.description.view()),
         settings_size(&row.config),
     );
-    plus(2, parts)
+    add_capped(2, parts)
 }
 
 /// How many bytes the body of a storage volume has, or the greatest number where there are more.
 pub fn volume_size(row: &Volume) -> u64
     ensures { result ≡ capped (length (volume_bytes row.now)) }
 {
-    let parts = plus(
+    let parts = add_capped(
         text_size(row.description.view()),
         settings_size(&row.config),
     );
-    plus(9, parts)
+    add_capped(9, parts)
 }
 
 /// How many bytes the body of an instance has, or the greatest number where there are more.
 pub fn instance_size(row: &Instance) -> u64
     ensures { result ≡ capped (length (instance_bytes row.now)) }
 {
-    let texts = plus(
+    let texts = add_capped(
         text_size(row.description.view()),
         text_size(row.origin.view()),
     );
-    let lists = plus(
+    let lists = add_capped(
         texts_size(row.profiles.view()),
-        plus(settings_size(&row.config), devices_size(&row.devices)),
+        add_capped(settings_size(&row.config), devices_size(&row.devices)),
     );
-    plus(11, plus(texts, lists))
+    add_capped(11, add_capped(texts, lists))
 }
 
 /// How many bytes the body of a snapshot has, or the greatest number where there are more.
 pub fn snapshot_size(row: &Snapshot) -> u64
     ensures { result ≡ capped (length (snapshot_bytes row.now)) }
 {
-    let lists = plus(
+    let lists = add_capped(
         texts_size(row.profiles.view()),
-        plus(settings_size(&row.config), devices_size(&row.devices)),
+        add_capped(settings_size(&row.config), devices_size(&row.devices)),
     );
-    plus(17, lists)
+    add_capped(17, lists)
 }
 
 /// How many bytes the body of a row has, or the greatest number where there are more.

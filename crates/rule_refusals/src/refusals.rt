@@ -1,16 +1,16 @@
 //! Refusals: a rule with what it tells.
 ghost use Rattle.std.specs.Prelude.{◌≡◌, IfOk};
 ghost use Rattle.row_machine.specs.machine.Kinds.{kind_text};
-ghost use Rattle.row_machine.specs.machine.Refusals.{untold, on_name, on_number, on_object, on_held, on_project};
+ghost use Rattle.row_machine.specs.machine.Refusals.{nothing_told, on_name, on_number, on_object, on_held, on_project};
 ghost use Rattle.row_machine.specs.machine.Refusals.{on_key_of};
 
 use records::{Kept, Refusal, Rule};
 use size_values::{NoMemory, ObjectKind, Text};
 use std::alloc::Global;
 
-/// Nothing is told.
-pub fn untold(alloc: Global) -> Kept
-    ensures { result ≡ untold }
+/// The details of a refusal that tells its rule alone.
+pub fn nothing_told(alloc: Global) -> Kept
+    ensures { result ≡ nothing_told }
 {
     Kept {
         kind: Text::new(alloc),
@@ -40,7 +40,7 @@ fn kind_text(kind: ObjectKind) -> &'static str
     }
 }
 
-/// The rule and a name.
+/// A refusal by the rule that tells a name.
 pub fn on_name(alloc: Global, rule: Rule, name: &str) -> Result<Refusal, NoMemory>
     ensures { IfOk result (λ r. r ≡ on_name rule name.now) }
 {
@@ -58,16 +58,16 @@ pub fn on_name(alloc: Global, rule: Rule, name: &str) -> Result<Refusal, NoMemor
     Ok(Refusal { rule, kept })
 }
 
-/// The rule and a number.
+/// A refusal by the rule that tells a number.
 pub fn on_number(alloc: Global, rule: Rule, number: u64) -> Refusal
     ensures { result ≡ on_number rule number }
 {
-    let mut kept = untold(alloc);
+    let mut kept = nothing_told(alloc);
     kept.number = number;
     Refusal { rule, kept }
 }
 
-/// The rule, and an object by its kind and name.
+/// A refusal by the rule that tells an object by its kind and name.
 pub fn on_object(
     alloc: Global,
     rule: Rule,
@@ -91,7 +91,7 @@ pub fn on_object(
     Ok(Refusal { rule, kept })
 }
 
-/// The rule, and an object and an operation that holds it.
+/// A refusal by the rule that tells an object and the operation that holds it.
 pub fn on_held(
     alloc: Global,
     rule: Rule,
@@ -106,7 +106,7 @@ pub fn on_held(
     Ok(refusal)
 }
 
-/// The rule, and a project.
+/// A refusal by the rule that tells a project.
 pub fn on_project(alloc: Global, rule: Rule, project: &str) -> Result<Refusal, NoMemory>
     ensures { IfOk result (λ r. r ≡ on_project rule project.now) }
 {
@@ -124,7 +124,7 @@ pub fn on_project(alloc: Global, rule: Rule, project: &str) -> Result<Refusal, N
     Ok(Refusal { rule, kept })
 }
 
-/// The rule, and a key of an object of a project.
+/// A refusal by the rule that tells a key of an object, with the project.
 pub fn on_key_of(
     alloc: Global,
     rule: Rule,
@@ -150,7 +150,7 @@ pub fn on_key_of(
     Ok(Refusal { rule, kept })
 }
 
-/// The rule, a kind of objects and a number.
+/// A refusal by the rule that tells a kind of objects and a number.
 pub fn on_kind(
     alloc: Global,
     rule: Rule,
@@ -158,7 +158,7 @@ pub fn on_kind(
     number: u64,
 ) -> Result<Refusal, NoMemory>
     ensures { IfOk result (λ r. r
-        ≡ record { rule = rule; kept = record untold { kind = kind_text kind; number = number } }) }
+        ≡ record { rule = rule; kept = record nothing_told { kind = kind_text kind; number = number } }) }
 {
     let kind = Text::from_text(alloc, kind_text(kind))?;
     let kept = Kept {

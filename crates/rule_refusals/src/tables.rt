@@ -2,7 +2,7 @@
 ghost use Rattle.std.specs.Prelude.{◌≡◌, IfOk};
 ghost use Rattle.std.specs.Map.{keys_of};
 ghost use Rattle.std.specs.Result.{result_err};
-ghost use Rattle.row_machine.specs.machine.Refusals.{untold};
+ghost use Rattle.row_machine.specs.machine.Refusals.{nothing_told};
 ghost use Rattle.row_machine.specs.machine.SettingRules.{text_at, device_at, device_fault_number, faulty_key};
 ghost use Rattle.row_machine.specs.machine.SettingRules.{setting_refusal, tables_break};
 
@@ -83,7 +83,7 @@ fn on_setting(
     number: u64,
 ) -> Result<Refusal, NoMemory>
     ensures { IfOk result (λ r. r
-        ≡ record { rule = rule; kept = record untold { key = key.now; name = name.now; number = number } }) }
+        ≡ record { rule = rule; kept = record nothing_told { key = key.now; name = name.now; number = number } }) }
 {
     let key = Text::from_text(alloc, key)?;
     let name = Text::from_text(alloc, name)?;

@@ -1,5 +1,5 @@
-use crate::places::{Rows, both, config, device};
 use instance_tasks::instance_creation;
+use lent_rows::{Rows, both, config, device};
 use limit_rules::{counts_broken, limits_broken, usage_before};
 use name_rules::names_broken;
 use operations::{OpFault, Operation, Status};

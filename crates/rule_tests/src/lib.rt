@@ -1,4 +1,4 @@
-//! Tests of what makes parts of rows and links, of the readings over lent rows, and of the rules.
+//! Tests of what makes parts of rows and links, and of the rules.
 #![tactic(auto)]
 
 #[cfg(test)]
@@ -7,9 +7,5 @@ mod creations;
 mod links;
 #[cfg(test)]
 mod parts;
-#[cfg(test)]
-mod places;
-#[cfg(test)]
-mod readings;
 #[cfg(test)]
 mod tables;

@@ -1,5 +1,5 @@
-use crate::places::{both, config};
 use config_lists::{Changes, Device, Devices};
+use lent_rows::{both, config};
 use new_rows::{
     LARGEST_ROW, cap_of, largest_row_is_64_kib, new_config, new_description, new_devices,
     patched_config, patched_description, patched_devices,

@@ -1,5 +1,5 @@
-use crate::places::Rows;
 use config_lists::{Config, Devices};
+use lent_rows::Rows;
 use operations::{OpFault, Operation, Status};
 use records::{Instance, Kept, Profile, Refusal, Row, Rule, Snapshot, Target, Volume};
 use row_machine::Work;

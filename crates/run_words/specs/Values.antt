@@ -1,25 +1,14 @@
 -- What the values of options say.
-use Rattle.std.specs.Prelude.{ℕ, ◌-◌, ◌^◌, ◌==◌, Bool, ◌&&◌, if◌then◌else◌, List, length, Option, Some, None}
+use Rattle.std.specs.Prelude.{ℕ, ◌-◌, ◌^◌, ◌==◌, Bool, not, ◌&&◌, if◌then◌else◌, List, length, Option, Some, None}
 use Rattle.std.specs.Prelude.{option_map, is_some, nat_le, codes}
-use Rattle.std.specs.Char.{is_ascii_digit}
 use Rattle.std.specs.List.{filter_map, list_all, slice_split}
 use Rattle.std.specs.Str.{byte, bytes_eq}
-use Rattle.std.specs.Str.Parse.{digits_value}
 use Rattle.size_values.specs.Moments.{moment_limit}
+use Rattle.option_words.specs.Numbers.{number_said}
 use Rattle.run_words.specs.declared.words.Pace.{Pace}
 use Rattle.run_words.specs.declared.words.Pace.TheVariants.{All, Steps}
 
 -- ---- numbers
-
--- a text of digits alone, one to twenty of them
-abbrev pub is_numeral : List ℕ → Bool
-is_numeral text = nat_le 1 (length text) && nat_le (length text) 20 && list_all is_ascii_digit text
-
--- the number from least to most that a text says
-abbrev pub number_said : ℕ → ℕ → List ℕ → Option ℕ
-number_said least most text =
-    if is_numeral text && nat_le least (digits_value 10 text) && nat_le (digits_value 10 text) most
-    then Some (digits_value 10 text) else None
 
 -- the moment that a value of `--now` says: a number of seconds since 1970, before the year 10000
 abbrev pub moment_said : List ℕ → Option ℕ
@@ -29,16 +18,28 @@ moment_said value = number_said 0 (moment_limit - 1) value
 abbrev pub boot_said : List ℕ → Option ℕ
 boot_said value = number_said 0 (2 ^ 64 - 1) value
 
+-- the seed of a stream of requests
+abbrev pub seed_said : List ℕ → Option ℕ
+seed_said value = number_said 0 (2 ^ 64 - 1) value
+
+-- how many instances a stream of requests makes
+abbrev pub count_said : List ℕ → Option ℕ
+count_said value = number_said 0 10000 value
+
 -- the number of a call, where calls are numbered from 1
 abbrev pub call_number_said : List ℕ → Option ℕ
 call_number_said text = number_said 1 (2 ^ 64 - 1) text
 
--- ---- paces
+-- ---- paces and paths
 
 -- the pace that a value of `--steps` says: a number of steps up to 1,000,000, or all of them
 abbrev pub pace_said : List ℕ → Option Pace
 pace_said value =
     if bytes_eq value (codes "all") then Some All else option_map Steps (number_said 0 1000000 value)
+
+-- a path is any text but the empty one
+abbrev pub is_path : List ℕ → Bool
+is_path value = not (length value == 0)
 
 -- ---- lists of calls
 

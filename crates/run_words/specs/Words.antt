@@ -1,112 +1,190 @@
--- The words of the command line: the word `run`, and its options after it.
-use Rattle.std.specs.Prelude.{ℕ, ◌==◌, Bool, true, false, not, ◌&&◌, if◌then◌else◌, List, [], ◌∷◌, Option, Some}
-use Rattle.std.specs.Prelude.{None, is_some, codes}
-use Rattle.std.specs.List.{before_first, after_first, list_any}
-use Rattle.std.specs.Option.{option_and_then, option_flatten, unwrap_or}
+-- The words of the command line: a command of the program, with its numbers and options.
+use Rattle.std.specs.Prelude.{◌<◌, ◌≤◌, ℕ, Bool, true, not, ◌&&◌, if◌then◌else◌, List, [], ◌∷◌, ◌++◌, map, Option, Some, None}
+use Rattle.std.specs.Prelude.{is_some, IfSome, option_map, codes, false}
+use Rattle.std.specs.List.{list_all}
+use Rattle.std.specs.Option.{option_and_then, option_map_or, unwrap_or}
 use Rattle.std.specs.Str.{bytes_eq}
-use Rattle.config_lists.specs.Entries.{value_of}
-use Rattle.run_words.specs.Values.{are_call_numbers, boot_said, call_numbers_said, moment_said, pace_said}
+use Rattle.clap.specs.Simple.{new_shape}
+use Rattle.clap.specs.Words.{App, Row, Rule, Shape, first_of, subcommand_of}
+use Rattle.size_values.specs.Moments.{moment_limit}
+use Rattle.option_words.specs.Commands.{are_taken, command_of, option_of, place_of}
+use Rattle.run_words.specs.Values.{are_call_numbers, boot_said, call_numbers_said, count_said, is_path, moment_said}
+use Rattle.run_words.specs.Values.{pace_said, seed_said}
 use Rattle.run_words.specs.declared.setup.Setup.{Setup}
+use Rattle.run_words.specs.declared.words.CommandWords.{CommandWords}
+use Rattle.run_words.specs.declared.words.CommandWords.TheVariants.{Check, Drill, Make, Run}
 use Rattle.run_words.specs.declared.words.Pace.{Pace}
 use Rattle.run_words.specs.declared.words.Pace.TheVariants.{All}
 use Rattle.run_words.specs.declared.words.RunWords.{RunWords}
 
--- ---- options
+-- ---- the commands
 
--- an option that is given: its name, and its value, if it has one
-abbrev pub Given : Type 0
-Given = List ℕ × Option (List ℕ)
+-- an option: its name, and whether a value is one that it takes
+abbrev pub Taking : Type 0
+Taking = List ℕ × (List ℕ → Bool)
 
--- the byte that stands between a name and its value in one word
-abbrev pub is_equals_sign : ℕ → Bool
-is_equals_sign byte = byte == 61
-
--- an option in one word, `--name=VALUE`
-abbrev pub joined : List ℕ → Given
-joined word = (before_first is_equals_sign word, Some (after_first is_equals_sign word))
-
--- The options that words give, in their order: a word with an equals sign is an option, and another one is a name
--- with the next word as its value. The name at the end of the words has no value.
-abbrev pub options_in : List (List ℕ) → List Given
-options_in [] = []
-options_in (word ∷ []) = (if list_any is_equals_sign word then joined word else (word, None)) ∷ []
-options_in (word ∷ next ∷ more) =
-    if list_any is_equals_sign word then joined word ∷ options_in (next ∷ more) else (word, Some next) ∷ options_in more
-
--- whether an option of this name is given
-abbrev pub is_given : List Given → List ℕ → Bool
-is_given given name = is_some (value_of given name)
-
--- the value of the option of this name, if it is given and has one
-abbrev pub value_given : List Given → List ℕ → Option (List ℕ)
-value_given given name = option_flatten (value_of given name)
-
--- ---- the options of `run`
-
--- the options of `run`: the name of each, and whether it takes a value
-abbrev pub run_options : List (List ℕ × (List ℕ → Bool))
+-- the options of `run`
+abbrev pub run_options : List Taking
 run_options =
-    (codes "--steps", λ value. is_some (pace_said value))
-    ∷ (codes "--fail-host", are_call_numbers)
-    ∷ (codes "--fail-keeper", are_call_numbers)
-    ∷ (codes "--now", λ value. is_some (moment_said value))
-    ∷ (codes "--boot", λ value. is_some (boot_said value))
+    (codes "steps", λ value. is_some (pace_said value))
+    ∷ (codes "db", is_path)
+    ∷ (codes "fail-host", are_call_numbers)
+    ∷ (codes "fail-keeper", are_call_numbers)
+    ∷ (codes "now", λ value. is_some (moment_said value))
+    ∷ (codes "boot", λ value. is_some (boot_said value))
     ∷ []
 
--- whether an option is one of these, with a value that it takes
-abbrev pub is_taken : List (List ℕ × (List ℕ → Bool)) → Given → Bool
-is_taken options (name, None) = false
-is_taken options (name, Some value) = list_any (λ option. bytes_eq name option.0 && option.1 value) options
+-- the options of `drill` and of `check`
+abbrev pub store_options : List Taking
+store_options = (codes "db", is_path) ∷ []
 
--- whether all are options of `run`, with values that they take, and none is given twice
-abbrev pub are_options : List Given → Bool
-are_options [] = true
-are_options (option ∷ more) = is_taken run_options option && not (is_given more option.0) && are_options more
+-- the words behind `make` and behind `drill`
+abbrev pub stream_places : List Rule
+stream_places = place_of (codes "seed") ∷ place_of (codes "count") ∷ []
 
--- ---- all words
+-- options as `clap` reads them
+abbrev pub rules_of : List Taking → List Rule
+rules_of options = map (λ option. option_of option.0) options
 
--- whether the words are read: the word `run`, and options of it
-abbrev pub are_read : List (List ℕ) → Bool
-are_read [] = false
-are_read (word ∷ more) = bytes_eq word (codes "run") && are_options (options_in more)
+-- the four commands, as `clap` reads them
+abbrev pub run_command : Shape
+run_command = command_of (codes "run") (rules_of run_options)
 
--- the words after the command
-abbrev pub after_command : List (List ℕ) → List (List ℕ)
-after_command [] = []
-after_command (word ∷ more) = more
+abbrev pub make_command : Shape
+make_command = command_of (codes "make") stream_places
 
--- the value of the option of this name, in the words after the command
-abbrev pub value_in : List (List ℕ) → List ℕ → Option (List ℕ)
-value_in words name = value_given (options_in (after_command words)) name
+abbrev pub drill_command : Shape
+drill_command = command_of (codes "drill") (stream_places ++ rules_of store_options)
+
+abbrev pub check_command : Shape
+check_command = command_of (codes "check") (rules_of store_options)
+
+-- the program above them: one of them has to be named, and there is no help
+abbrev pub bare_program : Shape
+bare_program = record (new_shape (codes "incus_run")) {
+  no_binary_name = true;
+  disable_help_flag = true;
+  disable_help_subcommand = true;
+  subcommand_required = true;
+}
+
+-- the whole program
+unfoldable pub run_program : App
+run_program = record {
+  top = record bare_program { is_leaf = false };
+  subs = run_command ∷ make_command ∷ drill_command ∷ check_command ∷ [];
+}
+
+-- the command that the words name, and what they give to its places and options
+unfoldable pub parsed_command : List (List ℕ) → Option (List ℕ × List Row)
+parsed_command words = if are_taken run_program words then subcommand_of run_program words else None
+
+-- ---- what they say
+
+-- whether each value that is given is one that its option takes
+abbrev pub are_values : List Taking → List Row → Bool
+are_values options given = list_all (λ option. option_map_or option.1 (first_of option.0 given) true) options
+
+-- whether an option is given
+abbrev pub is_given : List ℕ → List Row → Bool
+is_given name given = is_some (first_of name given)
+
+-- what the options of `run` say of the run: the clock that is handed in is read, all steps are made, and the word that
+-- is handed in is that of the start, where they say nothing else
+abbrev pub run_words_in : List Row → RunWords
+run_words_in given = record {
+  now = option_and_then moment_said (first_of (codes "now") given);
+  pace = unwrap_or (option_and_then pace_said (first_of (codes "steps") given)) All;
+  boot = option_and_then boot_said (first_of (codes "boot") given);
+}
+
+-- `run`, where its options have values that they take, and no call of the keeper is to fail over a file
+abbrev pub run_command_words : List Row → Option CommandWords
+run_command_words given =
+    if are_values run_options given && not (is_given (codes "db") given && is_given (codes "fail-keeper") given)
+    then Some (Run (run_words_in given)) else None
+
+-- the seed of a stream of requests, and how many instances it makes
+abbrev pub stream_numbers : List Row → Option (ℕ × ℕ)
+stream_numbers given =
+    option_and_then (λ seed. option_map (λ count. (seed, count)) (option_and_then count_said
+    (first_of (codes "count") given))) (option_and_then seed_said (first_of (codes "seed") given))
+
+abbrev pub make_command_words : List Row → Option CommandWords
+make_command_words given = option_map (λ stream. Make stream.0 stream.1) (stream_numbers given)
+
+abbrev pub drill_command_words : List Row → Option CommandWords
+drill_command_words given =
+    if are_values store_options given then option_map (λ stream. Drill stream.0 stream.1) (stream_numbers given) else None
+
+abbrev pub check_command_words : List Row → Option CommandWords
+check_command_words given = if are_values store_options given then Some Check else None
+
+-- what a command says, by its name
+abbrev pub words_of_command : List ℕ → List Row → Option CommandWords
+words_of_command name given =
+    if bytes_eq name (codes "run") then run_command_words given
+    else if bytes_eq name (codes "make") then make_command_words given
+    else if bytes_eq name (codes "drill") then drill_command_words given
+    else if bytes_eq name (codes "check") then check_command_words given
+    else None
+
+-- what the words say, where they are read
+unfoldable pub words_of : List (List ℕ) → Option CommandWords
+words_of words = option_and_then (λ command. words_of_command command.0 command.1) (parsed_command words)
+
+-- ---- a run
+
+-- what is said of a run, where a run is asked for
+abbrev pub as_run : CommandWords → Option RunWords
+as_run (Run run) = Some run
+as_run other = None
+
+abbrev pub run_of : List (List ℕ) → Option RunWords
+run_of words = option_and_then as_run (words_of words)
+
+-- whether the words are read, and are those of a run
+abbrev pub is_run : List (List ℕ) → Bool
+is_run words = is_some (run_of words)
 
 -- the moment at which the clock of the run stands still, where the words say one
 abbrev pub now_of : List (List ℕ) → Option ℕ
-now_of words = option_and_then moment_said (value_in words (codes "--now"))
+now_of words = option_and_then (λ run. run.now) (run_of words)
 
 -- the word of the start, where the words say one
 abbrev pub boot_of : List (List ℕ) → Option ℕ
-boot_of words = option_and_then boot_said (value_in words (codes "--boot"))
+boot_of words = option_and_then (λ run. run.boot) (run_of words)
 
 -- the pace of the worker: the one that the words say, or else all of its steps
 abbrev pub pace_of : List (List ℕ) → Pace
-pace_of words = unwrap_or (option_and_then pace_said (value_in words (codes "--steps"))) All
+pace_of words = option_map_or (λ run. run.pace) (run_of words) All
 
--- what the words say, where they are read
-abbrev pub words_of : List (List ℕ) → Option RunWords
-words_of words =
-    if are_read words then Some (record { now = now_of words; pace = pace_of words; boot = boot_of words }) else None
+-- the moment of a run is before the year 10000, and a stream makes at most 10,000 instances
+abbrev pub AreInRange : CommandWords → Type 0
+AreInRange (Run run) = IfSome run.now (λ moment. moment < moment_limit)
+AreInRange (Make seed count) = count ≤ 10000
+AreInRange (Drill seed count) = count ≤ 10000
+AreInRange Check = Unit {0}
 
--- ---- what fails
+-- ---- what a run is over
 
 -- the numbers of the calls that the option of this name lists
-abbrev pub calls_given : List (List ℕ) → List ℕ → List ℕ
-calls_given words name = unwrap_or (option_and_then call_numbers_said (value_in words name)) []
+abbrev pub failing_calls : List Row → List ℕ → List ℕ
+failing_calls given name = unwrap_or (option_and_then call_numbers_said (first_of name given)) []
 
--- the calls that are to fail; none where the words are not read
+-- the file and the failing calls that options say
+abbrev pub setup_of_options : List Row → Setup
+setup_of_options given = record {
+  db = unwrap_or (first_of (codes "db") given) [];
+  fail_host = failing_calls given (codes "fail-host");
+  fail_keeper = failing_calls given (codes "fail-keeper");
+}
+
+-- no file, and no failing calls
+abbrev pub no_setup : Setup
+no_setup = record { db = []; fail_host = []; fail_keeper = [] }
+
+-- what the words say of the outside, and nothing where they are not read
 abbrev pub setup_of : List (List ℕ) → Setup
 setup_of words =
-    if are_read words then record {
-      fail_host = calls_given words (codes "--fail-host");
-      fail_keeper = calls_given words (codes "--fail-keeper");
-    }
-    else record { fail_host = []; fail_keeper = [] }
+    if is_some (words_of words) then setup_of_options (option_map_or (λ command. command.1) (parsed_command words) []) else no_setup

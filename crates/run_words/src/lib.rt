@@ -1,11 +1,15 @@
-//! The words of the command line: what they say of a run, and which calls of its host and of its
-//! keeper are to fail.
+//! The words of the command line: the four commands of the program, what their options say of a run, which file keeps
+//! the rows, and which calls of the host and of the keeper are to fail.
 #![tactic(auto)]
 
-mod options;
+mod guide;
+mod laws;
+mod program;
 mod setup;
 mod values;
 mod words;
 
+pub use guide::usage;
+pub use laws::examples;
 pub use setup::{Setup, setup_of};
-pub use words::{Pace, RunWords, read_words};
+pub use words::{CommandWords, Pace, RunWords, read_words};

@@ -1,72 +1,26 @@
-ghost use Rattle.std.specs.Prelude.{◌≡◌, ◌≤◌, ◌<◌, ◌^◌, true, [], length, IfOk, IfSome, IfNone};
+//! What the values of options say.
+ghost use Rattle.std.specs.Prelude.{◌≡◌, ◌≤◌, ◌<◌, [], length, IfOk, IfSome};
 ghost use Rattle.std.specs.Prelude.{is_some};
-ghost use Rattle.std.specs.Char.{is_ascii_digit};
 ghost use Rattle.std.specs.List.{filter_map, list_all};
 ghost use Rattle.std.specs.Option.{unwrap_or};
-ghost use Rattle.std.specs.Str.Parse.{digits_value};
 ghost use Rattle.size_values.specs.Moments.{moment_limit};
 ghost use Rattle.run_words.specs.Values.{are_call_numbers, boot_said, call_number_said};
-ghost use Rattle.run_words.specs.Values.{call_numbers_said};
-ghost use Rattle.run_words.specs.Values.{is_numeral, moment_said, number_said, pace_said, parts_of};
+ghost use Rattle.run_words.specs.Values.{call_numbers_said, count_said, is_path};
+ghost use Rattle.run_words.specs.Values.{moment_said, pace_said, parts_of, seed_said};
 
 use crate::words::Pace;
+use option_words::number_said;
 use size_values::{MOMENT_LIMIT, NoMemory, Seq};
 use std::alloc::Global;
-
-/// The greatest number of digits that a number may have: those of 2^64 - 1.
-const MOST_DIGITS: usize = 20;
 
 /// The greatest number of steps that a pace may say.
 const MOST_STEPS: u64 = 1_000_000;
 
+/// The greatest number of instances that a stream of requests may make.
+const MOST_INSTANCES: u64 = 10_000;
+
 /// The greatest number of calls that a list may name.
 const MOST_CALLS: usize = 64;
-
-fn are_digits(text: &[u8]) -> bool
-    ensures { result ≡ list_all is_ascii_digit text.now }
-{
-    text.iter().all(|b| b.is_ascii_digit())
-}
-
-/// Whether a text is digits alone, one to twenty of them.
-fn is_numeral(text: &str) -> bool
-    ensures { result ≡ is_numeral text.now }
-{
-    !text.is_empty() && text.len() <= MOST_DIGITS && are_digits(text.as_bytes())
-}
-
-/// The number that digits write, where 64 bits hold it.
-fn parsed(text: &str) -> Option<u64>
-    requires { is_numeral text.now ≡ true }
-    ensures some { IfSome result (λ number. number ≡ digits_value 10 text.now) }
-    ensures none { IfNone result (2 ^ 64 ≤ digits_value 10 text.now) }
-{
-    match text.parse::<u64>() {
-        Ok(number) => Some(number),
-        Err(_) => None,
-    }
-}
-
-/// The number from `least` to `most` that a text says. Counts in the settings of objects end below
-/// 2^63, and these numbers may be up to 2^64 - 1.
-fn number_said(least: u64, most: u64, text: &str) -> Option<u64>
-    ensures said { result ≡ number_said least most text.now }
-    ensures within { IfSome result (λ number. (least ≤ number) × (number ≤ most)) }
-{
-    if !is_numeral(text) {
-        return None;
-    }
-    match parsed(text) {
-        Some(number) => {
-            if least <= number && number <= most {
-                Some(number)
-            } else {
-                None
-            }
-        }
-        None => None,
-    }
-}
 
 /// The moment that a value of `--now` says.
 pub(crate) fn moment_said(value: &str) -> Option<u64>
@@ -94,6 +48,31 @@ pub(crate) fn pace_said(value: &str) -> Option<Pace>
         Some(steps) => Some(Pace::Steps(steps as u32)),
         None => None,
     }
+}
+
+/// The seed of a stream of requests.
+pub(crate) fn seed_said(value: &str) -> Option<u64>
+    ensures { result ≡ seed_said value.now }
+{
+    number_said(0, u64::MAX, value)
+}
+
+/// How many instances a stream of requests makes.
+pub(crate) fn count_said(value: &str) -> Option<u32>
+    ensures said { result ≡ count_said value.now }
+    ensures few { IfSome result (λ count. count ≤ 10000) }
+{
+    match number_said(0, MOST_INSTANCES, value) {
+        Some(count) => Some(count as u32),
+        None => None,
+    }
+}
+
+/// Whether a value may be the path of a file.
+pub(crate) fn is_path(value: &str) -> bool
+    ensures { result ≡ is_path value.now }
+{
+    !value.is_empty()
 }
 
 fn call_number_said(text: &str) -> Option<u64>

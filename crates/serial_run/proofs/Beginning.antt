@@ -1,31 +1,39 @@
 -- A run, from what it does once its words are read.
-use Rattle.std.proofs.Common.{◌≡◌, ℕ, List, Bool, true, false, Some, None, refl, ap, sym, ◌∙◌, subst, inl, inr}
-use Rattle.std.specs.Option.{unwrap_or}
+use Rattle.std.proofs.Common.{◌≡◌, ℕ, List, [], Bool, true, false, Some, None, refl, ap, sym, ◌∙◌, subst, inl, inr}
+use Rattle.std.specs.Option.{is_some, option_and_then, option_map_or, unwrap_or}
 use Rattle.http_front.specs.Clocks.{Readings, standing_still}
 use Rattle.record_keeper.specs.Store.{Store}
-use Rattle.core_rows.specs.Opening.{Refuses}
+use Rattle.row_machine.specs.opening.Opening.{damaged, broken}
+use Rattle.core_rows.specs.Opening.{OpensTo, Refuses}
 use Rattle.core_rows.specs.declared.opening.OpenFault.{OpenFault}
 use Rattle.core_rows.specs.declared.opening.OpenFault.TheVariants as fault
-use Rattle.serial_steps.specs.Steps.{Hosted}
+use Rattle.serial_steps.specs.Steps.{Hosted, Serial}
 use Rattle.run_words.specs.declared.words.RunWords.{RunWords}
-use Rattle.run_words.specs.Words.{are_read, boot_of, now_of, pace_of, words_of}
+use Rattle.run_words.specs.Words.{as_run, boot_of, is_run, now_of, pace_of, words_of}
+use Rattle.run_words.specs.declared.words.CommandWords.TheVariants.{Run}
+use Rattle.run_words.specs.declared.words.Pace.{Pace}
+use Rattle.run_words.specs.declared.words.Pace.TheVariants.{All}
 use Rattle.serial_run.specs.Runs.{HasCauseToRefuse, IsUnread, Opened, Refused, Runs, RunsOver, Unopened, boot_with}
-use Rattle.serial_run.specs.Runs.{clock_of, start_fault}
-use Rattle.serial_run.specs.Worlds.{Inlet, Outlet, Outside, outside}
-use Rattle.serial_run.proofs.Served.{session_still}
+use Rattle.serial_sessions.specs.Inputs.{status_of}
+use Rattle.serial_run.specs.Runs.{SessionFrom, begun, clock_of, start_fault}
+use Rattle.serial_sessions.specs.declared.session.SessionEnd.{SessionEnd}
+use Rattle.serial_sessions.specs.Worlds.{Inlet, Outlet, Outside, outside, world}
+use Rattle.serial_sessions.proofs.Served.{session_still}
 
 -- what was read is what the words say
 pub record AreSaid (words : List (List ℕ)) (said : RunWords) : Type 0 where
-  pub read : are_read words ≡ true
+  pub read : is_run words ≡ true
   pub now : said.now ≡ now_of words
   pub pace : said.pace ≡ pace_of words
   pub boot : said.boot ≡ boot_of words
 
-pub words_said : (words : List (List ℕ)) (said : RunWords) → Some said ≡ words_of words → AreSaid words said
-words_said words said is = by (are_read words) refl where
-  by : (read : Bool) → are_read words ≡ read → AreSaid words said
-  by true read = record { read = read; now = cc (is, read); pace = cc (is, read); boot = cc (is, read) }
-  by false read = absurd (cc (is, read))
+pub words_said : (words : List (List ℕ)) (said : RunWords) → words_of words ≡ Some (Run said) → AreSaid words said
+words_said words said is = record {
+  read = ap (λ o. is_some (option_and_then as_run o)) is;
+  now = sym (ap (λ o. option_and_then (λ (run : RunWords). run.now) (option_and_then as_run o)) is);
+  pace = sym (ap (λ o. option_map_or (λ (run : RunWords). run.pace) (option_and_then as_run o) All) is);
+  boot = sym (ap (λ o. option_and_then (λ (run : RunWords). run.boot) (option_and_then as_run o)) is);
+}
 
 -- a run with the boot word and the pace that were read
 pub as_said : (words : List (List ℕ)) (handed : ℕ) (said : RunWords) (boot : ℕ) (before after : Outside) (status : ℕ)
@@ -37,16 +45,17 @@ as_said words handed said boot before after status are is runs =
     (subst (λ pace. RunsOver boot pace before after status) are.pace runs)
 
 -- a refused opening is a cause for no session
-has_cause : (why : OpenFault) (words : List (List ℕ)) (keeper keeper' : Store) → are_read words ≡ true
+has_cause : (why : OpenFault) (words : List (List ℕ)) (keeper keeper' : Store) → is_run words ≡ true
     → Refuses why keeper keeper' → HasCauseToRefuse (start_fault why) words keeper keeper'
 has_cause fault.KeeperFailed words keeper keeper' read refuses = (read, refuses)
-has_cause fault.HasEntries words keeper keeper' read refuses = (read, refuses)
-has_cause fault.NoMemory words keeper keeper' read refuses = (read, refuses)
+has_cause (fault.Damaged kind key) words keeper keeper' read refuses = (read, (damaged kind key, refl, refuses))
+has_cause (fault.Broken rule kind key) words keeper keeper' read refuses = (read, (broken rule kind key, refl, refuses))
+has_cause fault.NoMemory words keeper keeper' read refuses = inr (read, refuses)
 
 -- rows that were not opened are a run without a session
 not_opened : (words : List (List ℕ)) (source source' : Inlet) (sink sink' : Outlet) (keeper keeper' : Store)
     (host host' : Hosted) (told told' run run' : Readings) (status : ℕ)
-    → are_read words ≡ true → told' ≡ told
+    → is_run words ≡ true → told' ≡ told
     → Unopened (outside source sink keeper host run) (outside source' sink' keeper' host' run') status
     → Refused words (outside source sink keeper host told) (outside source' sink' keeper' host' told') status
 not_opened words source source' sink sink' keeper keeper' host host' told told' run run' status read same un = record {
@@ -62,7 +71,7 @@ not_opened words source source' sink sink' keeper keeper' host host' told told' 
 -- a run whose words say a moment, over a clock that stands still at it
 pub runs_still : (words : List (List ℕ)) (handed : ℕ) (source source' : Inlet) (sink sink' : Outlet)
     (keeper keeper' : Store) (host host' : Hosted) (told run' : Readings) (moment status : ℕ)
-    → are_read words ≡ true → now_of words ≡ Some moment
+    → is_run words ≡ true → now_of words ≡ Some moment
     → RunsOver (boot_with words handed) (pace_of words) (outside source sink keeper host (standing_still moment))
     (outside source' sink' keeper' host' run') status
     → Runs words handed (outside source sink keeper host told) (outside source' sink' keeper' host' told) status
@@ -88,7 +97,7 @@ runs_still words handed source source' sink sink' keeper keeper' host host' told
 -- a run whose words say none, over the clock that is handed in
 pub runs_by : (words : List (List ℕ)) (handed : ℕ) (source source' : Inlet) (sink sink' : Outlet)
     (keeper keeper' : Store) (host host' : Hosted) (told told' : Readings) (status : ℕ)
-    → are_read words ≡ true → now_of words ≡ None
+    → is_run words ≡ true → now_of words ≡ None
     → RunsOver (boot_with words handed) (pace_of words) (outside source sink keeper host told)
     (outside source' sink' keeper' host' told') status
     → Runs words handed (outside source sink keeper host told) (outside source' sink' keeper' host' told') status
@@ -112,3 +121,20 @@ runs_by words handed source source' sink sink' keeper keeper' host host' told to
       host = un.host;
       clock = un.clock;
     })
+
+-- the rows that a keeper's entries open to, and a session from these on
+pub opened_run : (boot : ℕ) (pace : Pace) (before after : Outside) (keeper : Store) (s : Serial) (ends : SessionEnd) (status : ℕ)
+    → OpensTo s.state before.keeper keeper → s.hand ≡ None
+    → SessionFrom boot pace (world [] (record before { keeper = keeper }) s) after ends → status ≡ status_of ends
+    → Opened boot pace before after status
+opened_run boot pace before after keeper s ends status opens none follows is = record {
+  entries = opens.entries;
+  told = opens.told;
+  state = s.state;
+  opens = opens.opens;
+  ends = ends;
+  follows = subst (λ w. SessionFrom boot pace w after ends) same follows;
+  status_is = is;
+} where
+  same : world [] (record before { keeper = keeper }) s ≡ begun opens.entries s.state before
+  same = λ i. world [] (record before { keeper = opens.after i }) (record s { hand = none i })

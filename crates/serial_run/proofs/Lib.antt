@@ -1,5 +1,3 @@
 pub mod Beginning
-pub mod Served
+pub mod Others
 pub mod Tops
-pub mod Turning
-pub mod Whole

@@ -4,91 +4,56 @@ use Rattle.std.proofs.Common.{None, IfSome, refl, ap, sym, ◌∙◌, subst, ari
 use Rattle.std.proofs.lemmas.List.{length-take}
 use Rattle.std.proofs.lemmas.Bool.{false≢true}
 use Rattle.std.specs.Io.KnownBytes.{Appends, prepend_known}
+use Rattle.std.specs.Option.{is_some, option_and_then}
 use Rattle.size_values.specs.Causes.{Rose}
 use Rattle.size_values.specs.declared.entry.Entry.{Entry}
 use Rattle.http_heads.specs.Messages.{Splits, Ending, ended}
 use Rattle.http_heads.specs.declared.request.Request.{Request}
-use Rattle.core_rows.specs.Opening.{Refuses}
+use Rattle.row_machine.specs.machine.State.{State}
+use Rattle.row_machine.specs.opening.Opening.{Opening, opened, opening_of}
+use Rattle.core_rows.specs.Opening.{OpensToNone, Refuses, is_refused}
 use Rattle.core_rows.specs.declared.opening.OpenFault.TheVariants as fault
-use Rattle.record_keeper.specs.Store.{Store}
+use Rattle.record_keeper.specs.Store.{Store, after_calls}
 use Rattle.serial_steps.specs.Steps.{Serial}
-use Rattle.run_words.specs.Words.{are_read, now_of, pace_of}
+use Rattle.run_words.specs.Words.{as_run, is_run, now_of, pace_of, words_of}
 use Rattle.run_words.specs.declared.words.Pace.{Pace}
 use Rattle.rest_service.specs.Exchanges.{LeadTo, moments_of, printed_replies, keeper_failures_of, host_failures_of}
 use Rattle.rest_service.proofs.Along.{IsAlong}
 use Rattle.serial_run.specs.declared.running.StartFault.{StartFault}
 use Rattle.serial_run.specs.declared.running.StartFault.TheVariants as start
-use Rattle.serial_run.specs.declared.session.SessionEnd.{SessionEnd}
-use Rattle.serial_run.specs.declared.session.SessionEnd.TheVariants as end
-use Rattle.serial_run.specs.Most.{most_requests}
-use Rattle.serial_run.specs.Runs.{status_of, start_status, begun, boot_with, seen_with, IsUnread, Ran, Runs}
-use Rattle.serial_run.specs.Runs.{HasCauseToRefuse}
-use Rattle.serial_run.specs.Sessions.{Session, Stops, StopsBehindFinal, AllGoOn, OnlyFinalEnds}
-use Rattle.serial_run.specs.Texts.{through_last, has_last, answered, end_due, RunsText, is_fault}
-use Rattle.serial_run.specs.Worlds.{Outside, World, within, world}
+use Rattle.serial_sessions.specs.declared.session.SessionEnd.{SessionEnd}
+use Rattle.serial_sessions.specs.declared.session.SessionEnd.TheVariants as end
+use Rattle.serial_sessions.specs.Most.{most_requests}
+use Rattle.serial_sessions.specs.Inputs.{status_of}
+use Rattle.serial_run.specs.Runs.{start_status, begun, boot_with, seen_with, IsUnread, Ran, Runs}
+use Rattle.serial_run.specs.Runs.{HasCauseToRefuse, Opened}
+use Rattle.serial_sessions.specs.Sessions.{Session, Stops, StopsBehindFinal, AllGoOn, OnlyFinalEnds}
+use Rattle.serial_sessions.specs.Inputs.{answered, end_due}
+use Rattle.rest_answers.specs.Lasts.{has_last, through_last}
+use Rattle.serial_run.specs.Texts.{RunsText, is_fault}
+use Rattle.serial_sessions.specs.Worlds.{Outside, World, within, world}
 use Rattle.rest_answers.proofs.Linking.{appends_nothing, appends_twice}
-use Rattle.serial_run.proofs.Served.{Together, together}
-use Rattle.serial_run.proofs.Whole.{IsSettled, IsDue, session_due, text_at, not_full}
+use Rattle.serial_sessions.proofs.Served.{Together, together}
+use Rattle.serial_sessions.proofs.Quiet.{StopsQuietly, session_quietly}
+use Rattle.serial_sessions.proofs.Whole.{IsSettled, IsDue, session_due, text_at, not_full}
 
 -- ---- what a settled session did
 
--- what a settled stop wrote after the replies; the server is as before
-record StopsQuietly (ends : SessionEnd) (w w' : World) : Type 0 where
-  written : Appends w.sink.held w'.sink.held (text_at ends)
-  site : w'.site ≡ w.site
-
--- where nothing is written
-nothing_written : (w w' : World) → w'.sink ≡ w.sink → Appends w.sink.held w'.sink.held []
-nothing_written w w' same = subst (λ sink. Appends w.sink.held sink.held []) (sym same) (appends_nothing w.sink.held)
-
--- where a session does nothing more
-same_quietly : (ends : SessionEnd) (w w' : World) → w' ≡ w → text_at ends ≡ [] → StopsQuietly ends w w'
-same_quietly ends w w' same none = subst (λ v. StopsQuietly ends w v) (sym same) (record {
-  written = subst (Appends w.sink.held w.sink.held) (sym none) (appends_nothing w.sink.held);
-  site = refl;
-})
-
--- where it stops after requests that go on
-stops_quietly : (boot : ℕ) (ends : SessionEnd) (w w' : World) → Stops boot ends w w' → IsSettled ends
-    → StopsQuietly ends w w'
-stops_quietly boot end.Ended w w' stops settled = record { written = nothing_written w w' stops.2; site = stops.1 }
-stops_quietly boot end.Cut w w' stops settled = record { written = nothing_written w w' stops.3; site = stops.2 }
-stops_quietly boot (end.Malformed fault) w w' stops settled = record { written = stops.2.written; site = stops.1 }
-stops_quietly boot end.Spent w w' stops settled = same_quietly end.Spent w w' stops refl
-stops_quietly boot end.ReadFault w w' stops settled = absurd settled
-stops_quietly boot end.WriteFault w w' stops settled = absurd settled
-stops_quietly boot end.NoMemory w w' stops settled = absurd settled
-
--- where it stops after a final request
-behind_final : (ends : SessionEnd) (w w' : World) → StopsBehindFinal ends → w' ≡ w → StopsQuietly ends w w'
-behind_final end.Ended w w' is same = same_quietly end.Ended w w' same refl
-behind_final end.Spent w w' is same = same_quietly end.Spent w w' same refl
-behind_final end.Cut w w' is same = absurd is
-behind_final (end.Malformed fault) w w' is same = absurd is
-behind_final end.ReadFault w w' is same = absurd is
-behind_final end.WriteFault w w' is same = absurd is
-behind_final end.NoMemory w w' is same = absurd is
-
--- where it stops in either way
-session_quietly : (boot : ℕ) (pace : Pace) (w w' : World) (ends : SessionEnd) (s : Session boot pace w w' ends)
-    → IsSettled ends → StopsQuietly ends s.behind w'
-session_quietly boot pace w w' ends s settled = by s.stops where
-  by : (AllGoOn s.exchanges × Stops boot ends s.behind w')
-      ⊎ (OnlyFinalEnds s.exchanges × StopsBehindFinal ends × (w' ≡ s.behind)) → StopsQuietly ends s.behind w'
-  by (inl (going, stops)) = stops_quietly boot ends s.behind w' stops settled
-  by (inr (only, is, same)) = behind_final ends s.behind w' is same
-
 -- a settled session over a known text, from the first rows and their records on, does what the text asks
-session_text : (boot : ℕ) (pace : Pace) (before after : Outside) (held : List ℕ) (serial : Serial) (ends : SessionEnd)
-    (text : List ℕ) (messages : List Request) (ending : Ending)
-    → Session boot pace (begun before) (world held after serial) ends
+session_text : (boot : ℕ) (pace : Pace) (before after : Outside) (status : ℕ) (r : Opened boot pace before after status)
+    (ends : SessionEnd) (text : List ℕ) (messages : List Request) (ending : Ending)
+    → Session boot pace (begun r.entries r.state before) (world r.follows.held after r.follows.serial) ends
     → before.source.left ≡ Some text → Splits text messages ending → IsSettled ends
     → RunsText boot pace messages ending (status_of ends) before after
-session_text boot pace before after held serial ends text messages ending s known splits settled = record {
+session_text boot pace before after status r ends text messages ending s known splits settled = record {
+  entries = r.entries;
+  told = r.told;
+  state = r.state;
+  opens = r.opens;
   exchanges = s.exchanges;
-  serial = serial;
+  last = r.follows.serial;
   requests_are = due.requests_are;
-  leads = subst (LeadTo boot pace (begun before).site s.exchanges) (sym quiet.site) all.leads;
+  leads = subst (LeadTo boot pace (begun r.entries r.state before).site s.exchanges) (sym quiet.site) all.leads;
   moments = along.clock;
   early = along.early;
   status_is = sym (ap (λ e. e.status) due.end_is);
@@ -100,19 +65,19 @@ session_text boot pace before after held serial ends text messages ending s know
   keeper_failed = along.keeper_failed;
   host_failed = along.host_failed;
 } where
-  all : Together boot pace (begun before) s.exchanges s.behind
-  all = together boot pace (begun before) s.behind s.exchanges s.serves
+  all : Together boot pace (begun r.entries r.state before) s.exchanges s.behind
+  all = together boot pace (begun r.entries r.state before) s.behind s.exchanges s.serves
 
   due : IsDue messages ending ends s.exchanges
-  due = session_due boot pace (begun before) (world held after serial) ends text messages ending s
+  due = session_due boot pace (begun r.entries r.state before) (world r.follows.held after r.follows.serial) ends text messages ending s
       (ap (prepend_known []) known) splits settled
 
-  quiet : StopsQuietly ends s.behind (world held after serial)
-  quiet = session_quietly boot pace (begun before) (world held after serial) ends s settled
+  quiet : StopsQuietly ends s.behind (world r.follows.held after r.follows.serial)
+  quiet = session_quietly boot pace (begun r.entries r.state before) (world r.follows.held after r.follows.serial) ends s settled
 
-  along : IsAlong (begun before).site (moments_of s.exchanges) (keeper_failures_of s.exchanges)
-      (host_failures_of s.exchanges) (within after serial)
-  along = subst (IsAlong (begun before).site (moments_of s.exchanges) (keeper_failures_of s.exchanges)
+  along : IsAlong (begun r.entries r.state before).site (moments_of s.exchanges) (keeper_failures_of s.exchanges)
+      (host_failures_of s.exchanges) (within after r.follows.serial)
+  along = subst (IsAlong (begun r.entries r.state before).site (moments_of s.exchanges) (keeper_failures_of s.exchanges)
       (host_failures_of s.exchanges)) (sym quiet.site) all.along
 
 -- ---- what the exit status tells
@@ -166,7 +131,7 @@ session_tells boot pace w w' ends s = by s.stops where
 no_start : {P : Type 0} (why : StartFault) (n : ℕ) → start_status why ≡ n → n < 6 → P
 no_start start.Words n is small = let none : ⊥ = omega (arith, is, small) in absurd none
 no_start start.KeeperFailed n is small = let none : ⊥ = omega (arith, is, small) in absurd none
-no_start start.HasEntries n is small = let none : ⊥ = omega (arith, is, small) in absurd none
+no_start start.Unopened n is small = let none : ⊥ = omega (arith, is, small) in absurd none
 no_start start.NoMemory n is small = let none : ⊥ = omega (arith, is, small) in absurd none
 
 -- status 2: the source has ended
@@ -174,9 +139,9 @@ pub top_cut : (words : List (List ℕ)) (handed : ℕ) (before after : Outside) 
     → Runs words handed before after status → status ≡ 2 → after.source.ended ≡ true
 top_cut words handed before after status (inr refused) two =
     no_start refused.why 2 (sym refused.status_is ∙ two) (omega arith)
-top_cut words handed before after status (inl ran) two = by ran.opened.ends (session_tells (boot_with words handed) (pace_of words) (begun (seen_with words before)) (world ran.opened.follows.held (seen_with words after) ran.opened.follows.serial) ran.opened.ends ran.opened.follows.session) (sym ran.opened.status_is ∙ two) where
+top_cut words handed before after status (inl ran) two = by ran.opened.ends (session_tells (boot_with words handed) (pace_of words) (begun ran.opened.entries ran.opened.state (seen_with words before)) (world ran.opened.follows.held (seen_with words after) ran.opened.follows.serial) ran.opened.ends ran.opened.follows.session) (sym ran.opened.status_is ∙ two) where
   by : (ends : SessionEnd)
-      → Tells ends (begun (seen_with words before))
+      → Tells ends (begun ran.opened.entries ran.opened.state (seen_with words before))
       (world ran.opened.follows.held (seen_with words after) ran.opened.follows.serial) → status_of ends ≡ 2
       → after.source.ended ≡ true
   by end.Cut tells is = tells
@@ -192,9 +157,9 @@ pub top_read_fault : (words : List (List ℕ)) (handed : ℕ) (before after : Ou
     → Runs words handed before after status → status ≡ 4 → Rose before.source.failures after.source.failures
 top_read_fault words handed before after status (inr refused) four =
     no_start refused.why 4 (sym refused.status_is ∙ four) (omega arith)
-top_read_fault words handed before after status (inl ran) four = by ran.opened.ends (session_tells (boot_with words handed) (pace_of words) (begun (seen_with words before)) (world ran.opened.follows.held (seen_with words after) ran.opened.follows.serial) ran.opened.ends ran.opened.follows.session) (sym ran.opened.status_is ∙ four) where
+top_read_fault words handed before after status (inl ran) four = by ran.opened.ends (session_tells (boot_with words handed) (pace_of words) (begun ran.opened.entries ran.opened.state (seen_with words before)) (world ran.opened.follows.held (seen_with words after) ran.opened.follows.serial) ran.opened.ends ran.opened.follows.session) (sym ran.opened.status_is ∙ four) where
   by : (ends : SessionEnd)
-      → Tells ends (begun (seen_with words before))
+      → Tells ends (begun ran.opened.entries ran.opened.state (seen_with words before))
       (world ran.opened.follows.held (seen_with words after) ran.opened.follows.serial) → status_of ends ≡ 4
       → Rose before.source.failures after.source.failures
   by end.ReadFault tells is = tells
@@ -210,9 +175,9 @@ pub top_write_fault : (words : List (List ℕ)) (handed : ℕ) (before after : O
     → Runs words handed before after status → status ≡ 5 → Rose before.sink.failures after.sink.failures
 top_write_fault words handed before after status (inr refused) five =
     no_start refused.why 5 (sym refused.status_is ∙ five) (omega arith)
-top_write_fault words handed before after status (inl ran) five = by ran.opened.ends (session_tells (boot_with words handed) (pace_of words) (begun (seen_with words before)) (world ran.opened.follows.held (seen_with words after) ran.opened.follows.serial) ran.opened.ends ran.opened.follows.session) (sym ran.opened.status_is ∙ five) where
+top_write_fault words handed before after status (inl ran) five = by ran.opened.ends (session_tells (boot_with words handed) (pace_of words) (begun ran.opened.entries ran.opened.state (seen_with words before)) (world ran.opened.follows.held (seen_with words after) ran.opened.follows.serial) ran.opened.ends ran.opened.follows.session) (sym ran.opened.status_is ∙ five) where
   by : (ends : SessionEnd)
-      → Tells ends (begun (seen_with words before))
+      → Tells ends (begun ran.opened.entries ran.opened.state (seen_with words before))
       (world ran.opened.follows.held (seen_with words after) ran.opened.follows.serial) → status_of ends ≡ 5
       → Rose before.sink.failures after.sink.failures
   by end.WriteFault tells is = tells
@@ -245,16 +210,16 @@ eight≢nine e = omega (arith, e)
 eight≢ten : ◌≢◌ {A = ℕ} 8 10
 eight≢ten e = omega (arith, e)
 
-thirteen≢nine : ◌≢◌ {A = ℕ} 13 9
-thirteen≢nine e = omega (arith, e)
+seven≢nine : ◌≢◌ {A = ℕ} 7 9
+seven≢nine e = omega (arith, e)
 
-thirteen≢ten : ◌≢◌ {A = ℕ} 13 10
-thirteen≢ten e = omega (arith, e)
+seven≢ten : ◌≢◌ {A = ℕ} 7 10
+seven≢ten e = omega (arith, e)
 
 -- the keeper failed at the opening
-refuses_rose : (store store' : Store) → Refuses fault.KeeperFailed store store' → Rose store.failures store'.failures
+pub refuses_rose : (store store' : Store) → Refuses fault.KeeperFailed store store' → Rose store.failures store'.failures
 refuses_rose store store' (inl fails) = fails.rose
-refuses_rose store store' (inr fails) = fails.rose
+refuses_rose store store' (inr fails) = fails.1.rose
 
 -- status 6: the keeper failed
 pub top_keeper_fault : (words : List (List ℕ)) (handed : ℕ) (before after : Outside) (status : ℕ)
@@ -267,45 +232,75 @@ top_keeper_fault words handed before after status (inr refused) six =
           → Rose before.keeper.failures after.keeper.failures
       by start.KeeperFailed cause is = refuses_rose before.keeper after.keeper cause.1
       by start.Words cause is = let none : ⊥ = omega (arith, is) in absurd none
-      by start.HasEntries cause is = let none : ⊥ = omega (arith, is) in absurd none
+      by start.Unopened cause is = let none : ⊥ = omega (arith, is) in absurd none
       by start.NoMemory cause is = let none : ⊥ = omega (arith, is) in absurd none
 
 -- status 8: the words are not read
 pub top_words : (words : List (List ℕ)) (handed : ℕ) (before after : Outside) (status : ℕ)
-    → Runs words handed before after status → status ≡ 8 → are_read words ≡ false
+    → Runs words handed before after status → status ≡ 8 → words_of words ≡ None
 top_words words handed before after status (inl ran) eight =
     not_of_session ran.opened.ends 8 (sym ran.opened.status_is ∙ eight) (omega arith) eight≢nine eight≢ten
 top_words words handed before after status (inr refused) eight =
     by refused.why refused.cause (sym refused.status_is ∙ eight) where
       by : (why : StartFault) → HasCauseToRefuse why words before.keeper after.keeper → start_status why ≡ 8
-          → are_read words ≡ false
+          → words_of words ≡ None
       by start.Words cause is = cause.0
       by start.KeeperFailed cause is = let none : ⊥ = omega (arith, is) in absurd none
-      by start.HasEntries cause is = let none : ⊥ = omega (arith, is) in absurd none
+      by start.Unopened cause is = let none : ⊥ = omega (arith, is) in absurd none
       by start.NoMemory cause is = let none : ⊥ = omega (arith, is) in absurd none
 
--- and where they are not read, that is the status
-pub top_not_read : (words : List (List ℕ)) (handed : ℕ) (before after : Outside) (status : ℕ)
-    → Runs words handed before after status → are_read words ≡ false → status ≡ 8
-top_not_read words handed before after status (inl ran) other = absurd (false≢true (sym other ∙ ran.read))
-top_not_read words handed before after status (inr refused) other = by refused.why refused.cause refused.status_is where
-  by : (why : StartFault) → HasCauseToRefuse why words before.keeper after.keeper → status ≡ start_status why
-      → status ≡ 8
-  by start.Words cause is = is
-  by start.KeeperFailed cause is = absurd (false≢true (sym other ∙ cause.0))
-  by start.HasEntries cause is = absurd (false≢true (sym other ∙ cause.0))
-  by start.NoMemory cause is = absurd (false≢true (sym other ∙ cause.0))
+-- words that are not read are not those of a run
+pub not_read-no_run : (words : List (List ℕ)) → words_of words ≡ None → is_run words ≡ false
+not_read-no_run words none = ap (λ o. is_some (option_and_then as_run o)) none
 
--- status 13: the keeper has entries
-pub top_has_entries : (words : List (List ℕ)) (handed : ℕ) (before after : Outside) (status : ℕ)
-    → Runs words handed before after status → status ≡ 13 → IfSome before.keeper.told (λ entries. entries ≢ [])
-top_has_entries words handed before after status (inl ran) thirteen =
-    not_of_session ran.opened.ends 13 (sym ran.opened.status_is ∙ thirteen) (omega arith) thirteen≢nine thirteen≢ten
-top_has_entries words handed before after status (inr refused) thirteen =
-    by refused.why refused.cause (sym refused.status_is ∙ thirteen) where
-      by : (why : StartFault) → HasCauseToRefuse why words before.keeper after.keeper → start_status why ≡ 13
-          → IfSome before.keeper.told (λ entries. entries ≢ [])
-      by start.HasEntries cause is = cause.1.0
+-- and where they are not read, that is the status, or memory was refused
+pub top_not_read : (words : List (List ℕ)) (handed : ℕ) (before after : Outside) (status : ℕ)
+    → Runs words handed before after status → words_of words ≡ None → (status ≡ 8) ⊎ (status ≡ 9)
+top_not_read words handed before after status (inl ran) none =
+    absurd (false≢true (sym (not_read-no_run words none) ∙ ran.read))
+top_not_read words handed before after status (inr refused) none = by refused.why refused.cause refused.status_is where
+  by : (why : StartFault) → HasCauseToRefuse why words before.keeper after.keeper → status ≡ start_status why
+      → (status ≡ 8) ⊎ (status ≡ 9)
+  by start.Words cause is = inl is
+  by start.KeeperFailed cause is = absurd (false≢true (sym (not_read-no_run words none) ∙ cause.0))
+  by start.Unopened cause is = absurd (false≢true (sym (not_read-no_run words none) ∙ cause.0))
+  by start.NoMemory cause is = inr is
+
+-- ---- entries that open to no rows
+
+-- the same entries open alike
+tells_same : (told : Option (List Entry)) (entries : List Entry) (opening : Opening) → IfSome told (λ es. es ≡ entries)
+    → opening_of entries ≡ opening → IfSome told (λ es. opening_of es ≡ opening)
+tells_same None entries opening are is = tt
+tells_same (Some es) entries opening are is = ap opening_of are ∙ is
+
+-- what the entries of a keeper open to, where it tells them, is what they were found to open to
+pub tells_opening : (opening : Opening) (keeper keeper' : Store) → OpensToNone opening keeper keeper'
+    → IfSome keeper.told (λ es. opening_of es ≡ opening)
+tells_opening opening keeper keeper' h = tells_same keeper.told h.entries opening h.told h.opens
+
+pub tells_refused : (told : Option (List Entry)) (opening : Opening) → is_refused opening ≡ true
+    → IfSome told (λ es. opening_of es ≡ opening) → IfSome told (λ es. is_refused (opening_of es) ≡ true)
+tells_refused None opening refused is = tt
+tells_refused (Some es) opening refused is = ap is_refused is ∙ refused
+
+-- status 7: the words were read, the load did not fail, and an entry is damaged or the rows break a rule
+pub top_unopened : (words : List (List ℕ)) (handed : ℕ) (before after : Outside) (status : ℕ)
+    → Runs words handed before after status → status ≡ 7
+    → (is_run words ≡ true) × (after.keeper ≡ after_calls 1 before.keeper)
+    × IfSome before.keeper.told (λ entries. is_refused (opening_of entries) ≡ true)
+top_unopened words handed before after status (inl ran) seven =
+    not_of_session ran.opened.ends 7 (sym ran.opened.status_is ∙ seven) (omega arith) seven≢nine seven≢ten
+top_unopened words handed before after status (inr refused) seven =
+    by refused.why refused.cause (sym refused.status_is ∙ seven) where
+      by : (why : StartFault) → HasCauseToRefuse why words before.keeper after.keeper → start_status why ≡ 7
+          → (is_run words ≡ true) × (after.keeper ≡ after_calls 1 before.keeper)
+          × IfSome before.keeper.told (λ entries. is_refused (opening_of entries) ≡ true)
+      by start.Unopened cause is = (
+        cause.0,
+        cause.1.2.after,
+        tells_refused before.keeper.told cause.1.0 cause.1.1 (tells_opening cause.1.0 before.keeper after.keeper cause.1.2),
+      )
       by start.Words cause is = let none : ⊥ = omega (arith, is) in absurd none
       by start.KeeperFailed cause is = let none : ⊥ = omega (arith, is) in absurd none
       by start.NoMemory cause is = let none : ⊥ = omega (arith, is) in absurd none
@@ -316,7 +311,7 @@ top_has_entries words handed before after status (inr refused) thirteen =
 start_fault_is : (why : StartFault) → is_fault (start_status why) ≡ true
 start_fault_is start.Words = refl
 start_fault_is start.KeeperFailed = refl
-start_fault_is start.HasEntries = refl
+start_fault_is start.Unopened = refl
 start_fault_is start.NoMemory = refl
 
 -- a run with a session ends with a fault, or does what its text asks
@@ -331,14 +326,14 @@ ran_text words handed before after status r text messages ending known splits = 
     ⊎ RunsText (boot_with words handed) (pace_of words) messages ending n (seen_with words before)
     (seen_with words after)) (sym r.opened.status_is) (by r.opened.ends r.opened.follows.session) where
       does : (ends : SessionEnd)
-          → Session (boot_with words handed) (pace_of words) (begun (seen_with words before))
+          → Session (boot_with words handed) (pace_of words) (begun r.opened.entries r.opened.state (seen_with words before))
           (world r.opened.follows.held (seen_with words after) r.opened.follows.serial) ends → IsSettled ends
           → RunsText (boot_with words handed) (pace_of words) messages ending (status_of ends) (seen_with words before)
           (seen_with words after)
-      does ends s settled = session_text (boot_with words handed) (pace_of words) (seen_with words before) (seen_with words after) r.opened.follows.held r.opened.follows.serial ends text messages ending s known splits settled
+      does ends s settled = session_text (boot_with words handed) (pace_of words) (seen_with words before) (seen_with words after) status r.opened ends text messages ending s known splits settled
 
       by : (ends : SessionEnd)
-          → Session (boot_with words handed) (pace_of words) (begun (seen_with words before))
+          → Session (boot_with words handed) (pace_of words) (begun r.opened.entries r.opened.state (seen_with words before))
           (world r.opened.follows.held (seen_with words after) r.opened.follows.serial) ends
           → (is_fault (status_of ends) ≡ true)
           ⊎ RunsText (boot_with words handed) (pace_of words) messages ending (status_of ends) (seen_with words before)
@@ -392,13 +387,13 @@ ran_complete : (words : List (List ℕ)) (handed : ℕ) (before after : Outside)
 ran_complete words handed before after status r text messages known splits few reads writes =
     subst (λ n. (n ≡ 0) ⊎ (n ≡ 9)) (sym r.opened.status_is) (by r.opened.ends r.opened.follows.session) where
       settled : (ends : SessionEnd)
-          → Session (boot_with words handed) (pace_of words) (begun (seen_with words before))
+          → Session (boot_with words handed) (pace_of words) (begun r.opened.entries r.opened.state (seen_with words before))
           (world r.opened.follows.held (seen_with words after) r.opened.follows.serial) ends → IsSettled ends
           → (status_of ends ≡ 0) ⊎ (status_of ends ≡ 9)
-      settled ends s is = inl ((session_text (boot_with words handed) (pace_of words) (seen_with words before) (seen_with words after) r.opened.follows.held r.opened.follows.serial ends text messages ended s known splits is).status_is ∙ due_whole messages few)
+      settled ends s is = inl ((session_text (boot_with words handed) (pace_of words) (seen_with words before) (seen_with words after) status r.opened ends text messages ended s known splits is).status_is ∙ due_whole messages few)
 
       by : (ends : SessionEnd)
-          → Session (boot_with words handed) (pace_of words) (begun (seen_with words before))
+          → Session (boot_with words handed) (pace_of words) (begun r.opened.entries r.opened.state (seen_with words before))
           (world r.opened.follows.held (seen_with words after) r.opened.follows.serial) ends
           → (status_of ends ≡ 0) ⊎ (status_of ends ≡ 9)
       by end.Ended s = inl refl
@@ -407,47 +402,58 @@ ran_complete words handed before after status r text messages known splits few r
       by end.Spent s = settled end.Spent s tt
       by end.NoMemory s = inr refl
       by end.ReadFault s = absurd (reads
-          (session_tells (boot_with words handed) (pace_of words) (begun (seen_with words before))
+          (session_tells (boot_with words handed) (pace_of words) (begun r.opened.entries r.opened.state (seen_with words before))
           (world r.opened.follows.held (seen_with words after) r.opened.follows.serial) end.ReadFault s))
       by end.WriteFault s = absurd (writes
-          (session_tells (boot_with words handed) (pace_of words) (begun (seen_with words before))
+          (session_tells (boot_with words handed) (pace_of words) (begun r.opened.entries r.opened.state (seen_with words before))
           (world r.opened.follows.held (seen_with words after) r.opened.follows.serial) end.WriteFault s))
 
 -- the same of any run
 pub top_complete : (words : List (List ℕ)) (handed : ℕ) (before after : Outside) (status : ℕ)
     (known : Option (List ℕ)) → Runs words handed before after status → before.source.left ≡ known
     → IfSome known (λ text. (messages : List Request) → Splits text messages ended → length messages < most_requests
-    → are_read words ≡ true → before.keeper.told ≡ Some []
+    → (entries : List Entry) (s : State) → is_run words ≡ true → before.keeper.told ≡ Some entries
+    → opening_of entries ≡ opened s
     → ¬ (Rose before.source.failures after.source.failures) → ¬ (Rose before.sink.failures after.sink.failures)
     → ¬ (Rose before.keeper.failures after.keeper.failures) → (status ≡ 0) ⊎ (status ≡ 9))
 top_complete words handed before after status None done is = tt
-top_complete words handed before after status (Some text) (inl ran) is = λ messages splits few read none reads writes keeps. ran_complete words handed before after status ran text messages is splits few reads writes
-top_complete words handed before after status (Some text) (inr refused) is = λ messages splits few read none reads writes keeps. by refused.why refused.cause refused.status_is read none keeps where
-  by : (why : StartFault) → HasCauseToRefuse why words before.keeper after.keeper → status ≡ start_status why
-      → are_read words ≡ true → before.keeper.told ≡ Some [] → ¬ (Rose before.keeper.failures after.keeper.failures)
-      → (status ≡ 0) ⊎ (status ≡ 9)
-  by start.Words cause is read none keeps = absurd (false≢true (sym cause.0 ∙ read))
-  by start.KeeperFailed cause is read none keeps = absurd (keeps (refuses_rose before.keeper after.keeper cause.1))
-  by start.HasEntries cause is read none keeps =
-      let some : [] ≢ [] = subst (λ known. IfSome known (λ entries. entries ≢ [])) none cause.1.0 in absurd (some refl)
-  by start.NoMemory cause is read none keeps = inr is
+top_complete words handed before after status (Some text) (inl ran) is =
+    λ messages splits few entries s read told opens reads writes keeps.
+    ran_complete words handed before after status ran text messages is splits few reads writes
+top_complete words handed before after status (Some text) (inr refused) is =
+    λ messages splits few entries s read told opens reads writes keeps.
+    by refused.why refused.cause refused.status_is read entries s told opens keeps where
+      by : (why : StartFault) → HasCauseToRefuse why words before.keeper after.keeper → status ≡ start_status why
+          → is_run words ≡ true → (entries : List Entry) (s : State) → before.keeper.told ≡ Some entries
+          → opening_of entries ≡ opened s → ¬ (Rose before.keeper.failures after.keeper.failures)
+          → (status ≡ 0) ⊎ (status ≡ 9)
+      by start.Words cause is read entries s told opens keeps = absurd (false≢true (sym (not_read-no_run words cause.0) ∙ read))
+      by start.KeeperFailed cause is read entries s told opens keeps =
+          absurd (keeps (refuses_rose before.keeper after.keeper cause.1))
+      by start.Unopened cause is read entries s told opens keeps =
+          let found : opening_of entries ≡ cause.1.0 = subst (λ known. IfSome known (λ es. opening_of es ≡ cause.1.0)) told
+              (tells_opening cause.1.0 before.keeper after.keeper cause.1.2) in
+          absurd (false≢true (ap is_refused (sym opens ∙ found) ∙ cause.1.1))
+      by start.NoMemory cause is read entries s told opens keeps = inr is
 
--- a run over a keeper that has entries ends with the status that says so, or is refused memory, and writes nothing
-pub top_entries : (words : List (List ℕ)) (handed : ℕ) (before after : Outside) (status : ℕ)
+-- a run over entries that open to no rows ends with the status that says so, or is refused memory, and writes nothing
+pub top_refused : (words : List (List ℕ)) (handed : ℕ) (before after : Outside) (status : ℕ)
     (known : Option (List Entry)) → Runs words handed before after status → before.keeper.told ≡ known
-    → IfSome known (λ entries. entries ≢ [] → are_read words ≡ true
+    → IfSome known (λ entries. is_refused (opening_of entries) ≡ true → is_run words ≡ true
     → ¬ (Rose before.keeper.failures after.keeper.failures)
-    → (after.sink.held ≡ before.sink.held) × ((status ≡ 13) ⊎ (status ≡ 9)))
-top_entries words handed before after status None done is = tt
-top_entries words handed before after status (Some entries) (inl ran) is =
-    λ some read keeps. absurd (some (subst (λ known. IfSome known (λ es. es ≡ [])) is ran.opened.empty))
-top_entries words handed before after status (Some entries) (inr refused) is = λ some read keeps.
+    → (after.sink.held ≡ before.sink.held) × ((status ≡ 7) ⊎ (status ≡ 9)))
+top_refused words handed before after status None done is = tt
+top_refused words handed before after status (Some entries) (inl ran) is = λ none read keeps.
+    let are : entries ≡ ran.opened.entries =
+        subst (λ known. IfSome known (λ es. es ≡ ran.opened.entries)) is ran.opened.told in
+    absurd (false≢true (sym (ap is_refused (ap opening_of are ∙ ran.opened.opens)) ∙ none))
+top_refused words handed before after status (Some entries) (inr refused) is = λ none read keeps.
     (ap (λ sink. sink.held) refused.sink, by refused.why refused.cause refused.status_is read keeps) where
       by : (why : StartFault) → HasCauseToRefuse why words before.keeper after.keeper → status ≡ start_status why
-          → are_read words ≡ true → ¬ (Rose before.keeper.failures after.keeper.failures) → (status ≡ 13) ⊎ (status ≡ 9)
-      by start.Words cause is read keeps = absurd (false≢true (sym cause.0 ∙ read))
+          → is_run words ≡ true → ¬ (Rose before.keeper.failures after.keeper.failures) → (status ≡ 7) ⊎ (status ≡ 9)
+      by start.Words cause is read keeps = absurd (false≢true (sym (not_read-no_run words cause.0) ∙ read))
       by start.KeeperFailed cause is read keeps = absurd (keeps (refuses_rose before.keeper after.keeper cause.1))
-      by start.HasEntries cause is read keeps = inl is
+      by start.Unopened cause is read keeps = inl is
       by start.NoMemory cause is read keeps = inr is
 
 -- where the words say a moment, the clock that is handed in is not read

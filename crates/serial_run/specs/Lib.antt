@@ -1,5 +1,3 @@
-pub mod Most
+pub mod Does
 pub mod Runs
-pub mod Sessions
 pub mod Texts
-pub mod Worlds

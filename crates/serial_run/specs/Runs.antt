@@ -2,20 +2,22 @@
 use Rattle.std.specs.Prelude.{◌≡◌, ◌≤◌, ◌⊎◌, ℕ, List, [], length, true, false, Option, Some, None, IfSome, unwrap_or}
 use Rattle.http_front.specs.Clocks.{Readings, standing_still}
 use Rattle.http_front.specs.Held.{most_held}
+use Rattle.size_values.specs.declared.entry.Entry.{Entry}
 use Rattle.record_keeper.specs.Store.{Store}
-use Rattle.core_rows.specs.Opening.{Refuses, opened_store}
+use Rattle.row_machine.specs.machine.State.{State}
+use Rattle.row_machine.specs.opening.Opening.{Opening, opened, opening_of}
+use Rattle.core_rows.specs.Opening.{AreTold, OpensTo, OpensToNone, Refuses, is_refused, opened_store}
 use Rattle.core_rows.specs.declared.opening.OpenFault.{OpenFault}
 use Rattle.core_rows.specs.declared.opening.OpenFault.TheVariants as fault
-use Rattle.serial_steps.specs.Steps.{Serial}
-use Rattle.run_words.specs.Words.{are_read, boot_of, now_of, pace_of}
+use Rattle.serial_steps.specs.Steps.{Serial, serial}
+use Rattle.run_words.specs.Words.{boot_of, is_run, now_of, pace_of, words_of}
 use Rattle.run_words.specs.declared.words.Pace.{Pace}
-use Rattle.rest_service.specs.Answers.{first_serial}
 use Rattle.serial_run.specs.declared.running.StartFault.{StartFault}
 use Rattle.serial_run.specs.declared.running.StartFault.TheVariants as start
-use Rattle.serial_run.specs.declared.session.SessionEnd.{SessionEnd}
-use Rattle.serial_run.specs.declared.session.SessionEnd.TheVariants as end
-use Rattle.serial_run.specs.Sessions.{Session}
-use Rattle.serial_run.specs.Worlds.{Outside, World, world}
+use Rattle.serial_sessions.specs.declared.session.SessionEnd.{SessionEnd}
+use Rattle.serial_sessions.specs.declared.session.SessionEnd.TheVariants as end
+use Rattle.serial_sessions.specs.Sessions.{Session}
+use Rattle.serial_sessions.specs.Worlds.{Outside, World, world}
 
 -- the readings of the clock of a run: one that stands still at the moment that the words say, or the one that is
 -- handed in
@@ -32,27 +34,18 @@ abbrev pub IsUnread : Option ℕ → Readings → Readings → Type 0
 IsUnread (Some moment) told told' = told' ≡ told
 IsUnread None told told' = Unit {0}
 
--- the exit status of a session's end
-abbrev pub status_of : SessionEnd → ℕ
-status_of end.Ended = 0
-status_of end.Cut = 2
-status_of (end.Malformed fault) = 3
-status_of end.ReadFault = 4
-status_of end.WriteFault = 5
-status_of end.NoMemory = 9
-status_of end.Spent = 10
-
 -- the exit status of a run that has no session
 abbrev pub start_status : StartFault → ℕ
 start_status start.KeeperFailed = 6
+start_status start.Unopened = 7
 start_status start.Words = 8
 start_status start.NoMemory = 9
-start_status start.HasEntries = 13
 
 -- a refused opening as a reason for no session
 abbrev pub start_fault : OpenFault → StartFault
 start_fault fault.KeeperFailed = start.KeeperFailed
-start_fault fault.HasEntries = start.HasEntries
+start_fault (fault.Damaged kind key) = start.Unopened
+start_fault (fault.Broken rule kind key) = start.Unopened
 start_fault fault.NoMemory = start.NoMemory
 
 -- the boot word of a run: the one that the words say, or the one that is handed in
@@ -67,33 +60,41 @@ pub record SessionFrom (boot : ℕ) (pace : Pace) (w : World) (after : Outside) 
   pub serial : Serial
   pub session : Session boot pace w (world held after serial) ends
 
--- what a session sees at its begin of an outside whose keeper had no entries: the first rows, which are its entries now
-abbrev pub begun : Outside → World
-begun before = world [] (record before { keeper = opened_store before.keeper }) first_serial
+-- what a session sees at its begin of an outside whose keeper had these entries, which open to this state: its rows, whose
+-- records the entries are now, and no call in hand
+abbrev pub begun : List Entry → State → Outside → World
+begun entries s before = world [] (record before { keeper = opened_store entries s before.keeper }) (serial s None)
 
--- the rows of a keeper without entries were opened, and there was one session, from an empty buffer on
+-- the entries of the keeper were opened, and there was one session, from an empty buffer on
 pub record Opened (boot : ℕ) (pace : Pace) (before after : Outside) (status : ℕ) : Type 0 where
-  pub empty : IfSome before.keeper.told (λ entries. entries ≡ [])
+  pub entries : List Entry
+  pub told : AreTold entries before.keeper
+  pub state : State
+  pub opens : opening_of entries ≡ opened state
   pub ends : SessionEnd
-  pub follows : SessionFrom boot pace (begun before) after ends
+  pub follows : SessionFrom boot pace (begun entries state before) after ends
   pub status_is : status ≡ status_of ends
 
 -- The words were read, and there was one session over the clock of the run, with its boot word, at the pace that the
 -- words say.
 pub record Ran (words : List (List ℕ)) (handed : ℕ) (before after : Outside) (status : ℕ) : Type 0 where
-  pub read : are_read words ≡ true
+  pub read : is_run words ≡ true
   pub opened : Opened (boot_with words handed) (pace_of words) (seen_with words before) (seen_with words after) status
   pub unread : IsUnread (now_of words) before.clock after.clock
 
--- Why there was no session. Words that are not read leave the keeper as it was, and a refused opening does what it may
--- do to it.
+-- an entry is damaged or the rows break a rule, and the keeper is as it was but for one load
+abbrev pub IsUnopened : Store → Store → Type 0
+IsUnopened keeper keeper' = (opening : Opening) × (is_refused opening ≡ true) × OpensToNone opening keeper keeper'
+
+-- Why there was no session. Words that are not read leave the keeper as it was, as does out of memory while they are read, and a
+-- refused opening does what it may do to it.
 abbrev pub HasCauseToRefuse : StartFault → List (List ℕ) → Store → Store → Type 0
-HasCauseToRefuse start.Words words keeper keeper' = (are_read words ≡ false) × (keeper' ≡ keeper)
-HasCauseToRefuse start.KeeperFailed words keeper keeper' = (are_read words ≡ true)
+HasCauseToRefuse start.Words words keeper keeper' = (words_of words ≡ None) × (keeper' ≡ keeper)
+HasCauseToRefuse start.KeeperFailed words keeper keeper' = (is_run words ≡ true)
     × Refuses fault.KeeperFailed keeper keeper'
-HasCauseToRefuse start.HasEntries words keeper keeper' = (are_read words ≡ true)
-    × Refuses fault.HasEntries keeper keeper'
-HasCauseToRefuse start.NoMemory words keeper keeper' = (are_read words ≡ true) × Refuses fault.NoMemory keeper keeper'
+HasCauseToRefuse start.Unopened words keeper keeper' = (is_run words ≡ true) × IsUnopened keeper keeper'
+HasCauseToRefuse start.NoMemory words keeper keeper' = (keeper' ≡ keeper)
+    ⊎ ((is_run words ≡ true) × Refuses fault.NoMemory keeper keeper')
 
 -- The run had no session. No call of the source, of the sink, of the host or of the clock was made.
 pub record Refused (words : List (List ℕ)) (before after : Outside) (status : ℕ) : Type 0 where
@@ -122,3 +123,8 @@ pub record Unopened (before after : Outside) (status : ℕ) : Type 0 where
 -- once the words are read, the rows were opened and there was a session, or they were not
 abbrev pub RunsOver : ℕ → Pace → Outside → Outside → ℕ → Type 0
 RunsOver boot pace before after status = Opened boot pace before after status ⊎ Unopened before after status
+
+-- why the entries of a keeper open to no rows; none where they open
+abbrev pub Explains : Option OpenFault → Store → Store → Type 0
+Explains None keeper keeper' = (s : State) × OpensTo s keeper keeper'
+Explains (Some why) keeper keeper' = Refuses why keeper keeper'

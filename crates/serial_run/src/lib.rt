@@ -1,10 +1,7 @@
-//! A session without threads.
+//! All that the program does: its words are read, the rows are opened, and one session follows.
 #![tactic(auto)]
 
 mod running;
-mod serving;
-mod session;
-mod turn;
 
-pub use running::{StartFault, run_main};
-pub use session::{MOST_REQUESTS, SessionEnd, Turn, sessions_end_after_a_million_requests};
+pub use rest_service::OpenFault;
+pub use running::{StartFault, opening_fault, run_main};

@@ -1,34 +1,45 @@
-ghost use Rattle.std.specs.Prelude.{◌≡◌, ◌≢◌, ◌<◌, ◌⊎◌, ◌↔◌, List, [], true, false, length, Some};
+ghost use Rattle.std.specs.Prelude.{◌≡◌, ◌<◌, ◌⊎◌, ℕ, List, [], true, length, None, Some, is_some};
 ghost use Rattle.std.specs.Prelude.{IfSome, map};
 ghost use Rattle.std.specs.Prelude.{string_bytes};
 ghost use Rattle.size_values.specs.Causes.{Rose};
+ghost use Rattle.size_values.specs.declared.entry.Entry.{Entry as EntryValue};
+ghost use Rattle.size_values.specs.Moments.{moment_limit};
 ghost use Rattle.http_heads.specs.Messages.{Ending, ended, Splits};
 ghost use Rattle.http_heads.specs.declared.request.Request.{Request};
-ghost use Rattle.run_words.specs.Words.{are_read, now_of, pace_of};
+ghost use Rattle.record_keeper.specs.Store.{after_calls};
+ghost use Rattle.row_machine.specs.machine.State.{State};
+ghost use Rattle.row_machine.specs.opening.Opening.{opened, opening_of};
+ghost use Rattle.core_rows.specs.Opening.{is_refused};
+ghost use Rattle.run_words.specs.Words.{AreInRange, is_run, now_of, pace_of, words_of};
+ghost use Rattle.run_words.specs.declared.words.CommandWords.TheVariants as command_of;
 ghost use Rattle.serial_steps.specs.Steps.{hosted};
-ghost use Rattle.serial_run.specs.Most.{most_requests};
-ghost use Rattle.serial_run.specs.Runs.{Runs, RunsOver, SessionFrom, boot_with, seen_with};
-ghost use Rattle.serial_run.specs.Runs.{start_fault, start_status, status_of};
+ghost use Rattle.serial_sessions.specs.Most.{most_requests};
+ghost use Rattle.serial_run.specs.Does.{Does};
+ghost use Rattle.serial_run.specs.Runs.{Explains, Runs, RunsOver, SessionFrom, boot_with, seen_with};
+ghost use Rattle.serial_sessions.specs.Inputs.{status_of};
+ghost use Rattle.serial_run.specs.Runs.{start_fault, start_status};
 ghost use Rattle.serial_run.specs.Texts.{RunsText, is_fault};
-ghost use Rattle.serial_run.specs.Worlds.{inlet, outlet, outside, world};
+ghost use Rattle.serial_sessions.specs.Worlds.{inlet, outlet, outside, world};
 
-use crate::serving::serve;
-use crate::session::SessionEnd;
+use core_rows::load_rows;
 use host_model::Host;
 use http_front::{Buffer, Clock, Sink, Source, StillClock};
 use record_keeper::Keeper;
 use rest_service::{OpenFault, Service};
-use run_words::{Pace, read_words};
+use run_words::{CommandWords, Pace, RunWords, read_words};
+use serial_commands::{check, drill, make};
+use serial_sessions::{SessionEnd, serve};
+use size_values::NoMemory;
 use std::alloc::Global;
 
 /// Why a run has no session.
 #[derive(Clone, Copy, Debug, PartialEq, Eq)]
 pub enum StartFault {
-    /// The words of the command line are not read.
+    /// The words of the command line are not those of a run.
     Words,
     KeeperFailed,
-    /// The keeper has entries already; rows of an earlier run are not read yet.
-    HasEntries,
+    /// The keeper's entries open to no rows: one is damaged, or the rows break a rule.
+    Unopened,
     NoMemory,
 }
 
@@ -39,26 +50,9 @@ impl StartFault {
     {
         match self {
             StartFault::KeeperFailed => 6,
+            StartFault::Unopened => 7,
             StartFault::Words => 8,
             StartFault::NoMemory => 9,
-            StartFault::HasEntries => 13,
-        }
-    }
-}
-
-impl SessionEnd {
-    /// The exit status.
-    pub fn status(self) -> u8
-        ensures { result ≡ status_of self }
-    {
-        match self {
-            SessionEnd::Ended => 0,
-            SessionEnd::Cut => 2,
-            SessionEnd::Malformed(_) => 3,
-            SessionEnd::ReadFault => 4,
-            SessionEnd::WriteFault => 5,
-            SessionEnd::NoMemory => 9,
-            SessionEnd::Spent => 10,
         }
     }
 }
@@ -69,7 +63,8 @@ impl StartFault {
     {
         match fault {
             OpenFault::KeeperFailed => StartFault::KeeperFailed,
-            OpenFault::HasEntries => StartFault::HasEntries,
+            OpenFault::Damaged { .. } => StartFault::Unopened,
+            OpenFault::Broken { .. } => StartFault::Unopened,
             OpenFault::NoMemory => StartFault::NoMemory,
         }
     }
@@ -153,10 +148,10 @@ fn run_over<S: Source, K: Sink, R: Keeper, H: Host, C: Clock>(
     }
 }
 
-/// A run of the program.
-fn run<S: Source, K: Sink, R: Keeper, H: Host, C: Clock>(
+/// A run, as its options say.
+fn run_said<S: Source, K: Sink, R: Keeper, H: Host, C: Clock>(
     alloc: Global,
-    words: &[String],
+    said: RunWords,
     source: &mut S,
     sink: &mut K,
     keeper: R,
@@ -164,15 +159,13 @@ fn run<S: Source, K: Sink, R: Keeper, H: Host, C: Clock>(
     clock: &mut C,
     boot: u64,
 ) -> (u8, R)
-    ensures { Runs (map (λ w. string_bytes w) words.now) boot
+    requires early { IfSome said.now (λ moment. moment < moment_limit) }
+    ensures { (words : List (List ℕ)) → words_of words ≡ Some (command_of.Run said) → Runs words boot
         (outside (inlet S.left S.ended S.failures source.old) (outlet K.held K.failures sink.old)
         (R.store keeper) (hosted H.told H.failures host.old) (C.readings clock.old))
         (outside (inlet S.left S.ended S.failures source.new) (outlet K.held K.failures sink.new)
         (R.store result.1) (hosted H.told H.failures host.new) (C.readings clock.new)) result.0 }
 {
-    let Some(said) = read_words(words) else {
-        return (StartFault::Words.status(), keeper);
-    };
     let boot = said.boot.unwrap_or(boot);
     match said.now {
         Some(moment) => {
@@ -185,10 +178,71 @@ fn run<S: Source, K: Sink, R: Keeper, H: Host, C: Clock>(
     }
 }
 
-/// All that the program does: one session over the source and the sink, with the words of the
-/// command line: `run`, and its options. The worker of the server makes the calls of background
-/// operations on the host. The boot word is that of the ids of operations, where the words say
-/// none. It gives the exit status, and the keeper back.
+/// Carries out a command.
+fn carry_out<S: Source, K: Sink, R: Keeper, H: Host, C: Clock>(
+    alloc: Global,
+    command: CommandWords,
+    source: &mut S,
+    sink: &mut K,
+    mut keeper: R,
+    host: &mut H,
+    clock: &mut C,
+    boot: u64,
+) -> (u8, R)
+    requires range { AreInRange command }
+    ensures { (words : List (List ℕ)) → words_of words ≡ Some command → Does words boot
+        (outside (inlet S.left S.ended S.failures source.old) (outlet K.held K.failures sink.old)
+        (R.store keeper) (hosted H.told H.failures host.old) (C.readings clock.old))
+        (outside (inlet S.left S.ended S.failures source.new) (outlet K.held K.failures sink.new)
+        (R.store result.1) (hosted H.told H.failures host.new) (C.readings clock.new)) result.0 }
+{
+    match command {
+        CommandWords::Run(said) => {
+            run_said(alloc, said, source, sink, keeper, host, clock, boot)
+        }
+        CommandWords::Make { seed, count } => (make(alloc, sink, seed, count), keeper),
+        CommandWords::Drill { seed, count } => {
+            let status = drill(alloc, sink, &mut keeper, host, clock, boot, seed, count);
+            (status, keeper)
+        }
+        CommandWords::Check => {
+            let status = check(alloc, sink, &mut keeper);
+            (status, keeper)
+        }
+    }
+}
+
+/// What the words ask for.
+fn run<S: Source, K: Sink, R: Keeper, H: Host, C: Clock>(
+    alloc: Global,
+    words: &[String],
+    source: &mut S,
+    sink: &mut K,
+    keeper: R,
+    host: &mut H,
+    clock: &mut C,
+    boot: u64,
+) -> (u8, R)
+    ensures { Does (map (λ w. string_bytes w) words.now) boot
+        (outside (inlet S.left S.ended S.failures source.old) (outlet K.held K.failures sink.old)
+        (R.store keeper) (hosted H.told H.failures host.old) (C.readings clock.old))
+        (outside (inlet S.left S.ended S.failures source.new) (outlet K.held K.failures sink.new)
+        (R.store result.1) (hosted H.told H.failures host.new) (C.readings clock.new)) result.0 }
+{
+    match read_words(alloc, words) {
+        Ok(Some(command)) => {
+            carry_out(alloc, command, source, sink, keeper, host, clock, boot)
+        }
+        Ok(None) => (StartFault::Words.status(), keeper),
+        Err(NoMemory) => (StartFault::NoMemory.status(), keeper),
+    }
+}
+
+/// All that the program does, by the words of the command line. `run` is one session over the source
+/// and the sink, in which the worker of the server makes the calls of background operations on the
+/// host. `make` writes requests that a number stands for, `drill` answers them in memory and tells
+/// what they came to, and `check` tells what the keeper has. The boot word is that of the ids of
+/// operations, where the words say none. It gives the exit status, and the keeper back.
 pub fn run_main<S: Source, K: Sink, R: Keeper, H: Host, C: Clock>(
     alloc: Global,
     words: &[String],
@@ -199,16 +253,16 @@ pub fn run_main<S: Source, K: Sink, R: Keeper, H: Host, C: Clock>(
     clock: &mut C,
     boot: u64,
 ) -> (u8, R)
-    // There was a session, or there was none.
-    ensures done { Runs (map (λ w. string_bytes w) words.now) boot
+    // There was a session, or there was none; or another command was carried out.
+    ensures done { Does (map (λ w. string_bytes w) words.now) boot
         (outside (inlet S.left S.ended S.failures source.old) (outlet K.held K.failures sink.old)
         (R.store keeper) (hosted H.told H.failures host.old) (C.readings clock.old))
         (outside (inlet S.left S.ended S.failures source.new) (outlet K.held K.failures sink.new)
         (R.store result.1) (hosted H.told H.failures host.new) (C.readings clock.new)) result.0 }
 
-    // Over a source that tells its bytes: a fault, or what these bytes ask.
+    // A run over a source that tells its bytes: a fault, or what these bytes ask.
     ensures text { IfSome (S.left source.old) (λ text. (messages : List Request) (ending : Ending)
-        → Splits text messages ending →
+        → Splits text messages ending → is_run (map (λ w. string_bytes w) words.now) ≡ true →
         (is_fault result.0 ≡ true) ⊎ RunsText (boot_with (map (λ w. string_bytes w) words.now) boot)
         (pace_of (map (λ w. string_bytes w) words.now)) messages ending result.0
         (seen_with (map (λ w. string_bytes w) words.now)
@@ -218,12 +272,14 @@ pub fn run_main<S: Source, K: Sink, R: Keeper, H: Host, C: Clock>(
         (outside (inlet S.left S.ended S.failures source.new) (outlet K.held K.failures sink.new)
         (R.store result.1) (hosted H.told H.failures host.new) (C.readings clock.new)))) }
 
-    // Whole messages and no fault: all of them are answered, or memory was refused. A call of the
-    // host that fails makes an operation fail, and no request.
+    // Whole messages, entries that open to rows and no fault: all messages are answered, or memory
+    // was refused. A call of the host that fails makes an operation fail, and no request.
     ensures complete { IfSome (S.left source.old)
         (λ text. (messages : List Request) → Splits text messages ended
         → length messages < most_requests →
-        are_read (map (λ w. string_bytes w) words.now) ≡ true → (R.store keeper).told ≡ Some [] →
+        (entries : List EntryValue) (s : State)
+        → is_run (map (λ w. string_bytes w) words.now) ≡ true
+        → (R.store keeper).told ≡ Some entries → opening_of entries ≡ opened s →
         ¬ (Rose (S.failures source.old) (S.failures source.new))
         → ¬ (Rose (K.failures sink.old) (K.failures sink.new))
         → ¬ (Rose (R.store keeper).failures (R.store result.1).failures) →
@@ -234,15 +290,34 @@ pub fn run_main<S: Source, K: Sink, R: Keeper, H: Host, C: Clock>(
     ensures write_fault { result.0 ≡ 5 → Rose (K.failures sink.old) (K.failures sink.new) }
     ensures keeper_fault { result.0 ≡ 6
         → Rose (R.store keeper).failures (R.store result.1).failures }
-    ensures words { (result.0 ≡ 8) ↔ (are_read (map (λ w. string_bytes w) words.now) ≡ false) }
+    ensures words { result.0 ≡ 8 → words_of (map (λ w. string_bytes w) words.now) ≡ None }
+    ensures not_read { words_of (map (λ w. string_bytes w) words.now) ≡ None
+        → (result.0 ≡ 8) ⊎ (result.0 ≡ 9) }
     // Where the words say a moment, the clock that is handed in is not read.
     ensures still { IfSome (now_of (map (λ w. string_bytes w) words.now))
         (λ _. C.readings clock.new ≡ C.readings clock.old) }
-    ensures has_entries { result.0 ≡ 13 → IfSome (R.store keeper).told (λ entries. entries ≢ []) }
-    ensures entries { IfSome (R.store keeper).told (λ entries. entries ≢ []
-        → are_read (map (λ w. string_bytes w) words.now) ≡ true →
+    // Entries that open to no rows: nothing is written, and the keeper is as it was but for a load.
+    ensures unopened { result.0 ≡ 7 → (is_some (words_of (map (λ w. string_bytes w) words.now)) ≡ true)
+        × (R.store result.1 ≡ after_calls 1 (R.store keeper))
+        × IfSome (R.store keeper).told (λ entries. is_refused (opening_of entries) ≡ true) }
+    ensures refused { IfSome (R.store keeper).told (λ entries.
+        is_refused (opening_of entries) ≡ true → is_run (map (λ w. string_bytes w) words.now) ≡ true →
         ¬ (Rose (R.store keeper).failures (R.store result.1).failures)
-        → (K.held sink.new ≡ K.held sink.old) × ((result.0 ≡ 13) ⊎ (result.0 ≡ 9))) }
+        → (K.held sink.new ≡ K.held sink.old) × ((result.0 ≡ 7) ⊎ (result.0 ≡ 9))) }
 {
     run(alloc, words, source, sink, keeper, host, clock, boot)
+}
+
+/// Why the entries of a keeper open to no rows, for a person to read after a run that ended with
+/// status 7; none where they open.
+pub fn opening_fault<R: Keeper>(alloc: Global, keeper: &mut R) -> Option<OpenFault>
+    ensures { Explains result (R.store keeper.old) (R.store keeper.new) }
+{
+    match load_rows(alloc, keeper) {
+        Ok(estate) => {
+            drop(estate);
+            None
+        }
+        Err(fault) => Some(fault),
+    }
 }

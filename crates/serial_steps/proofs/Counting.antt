@@ -13,7 +13,7 @@ use Rattle.http_front.specs.Clocks.{Reads}
 use Rattle.record_keeper.specs.Store.{Store}
 use Rattle.row_machine.specs.machine.State.{State}
 use Rattle.row_machine.specs.machine.Step.{Outcome, well, keeper_failed, no_memory}
-use Rattle.core_rows.specs.Stores.{IsCaused, KeepsRecords}
+use Rattle.work_reports.specs.Stores.{IsCaused, KeepsRecords}
 use Rattle.serial_steps.specs.Steps.{Hosted, Site, Step, took, reported, Steps, StepsWhile, HasCause}
 use Rattle.serial_steps.specs.Counts.{moment_of, moments_in, report_of, reports_in, failed_calls, host_failure, host_failures_in, failed_commits, keeper_failure, keeper_failures_in, roots_by, Makes, ComesTo, StepsComeTo}
 

@@ -8,7 +8,8 @@ use Rattle.row_machine.specs.machine.State.{State}
 use Rattle.row_machine.specs.facts.Whole.{IsWhole}
 use Rattle.machine_laws.specs.Waits.{IsAlone}
 use Rattle.serial_steps.specs.Steps.{Site, Step, Steps, StepsWhile, Finishes, WaitsFor, most_steps, number_in}
-use Rattle.serial_steps.proofs.Lessening.{steps_of, few-left, none-left}
+use Rattle.machine_laws.proofs.WaitsEnding.{steps_of, none-left}
+use Rattle.serial_steps.proofs.Lessening.{few-left}
 use Rattle.serial_steps.proofs.Stepping.{step-lessens}
 
 -- so far so many steps were made, each where the state before it was such

@@ -23,7 +23,7 @@ use Rattle.core_turns.specs.Turns.{IsTurn, Turns, turned}
 use Rattle.machine_laws.specs.Waits.{Round, Served, served, event_of, hand_of, IsAlone}
 use Rattle.machine_laws.proofs.WaitsSteps.{served-does}
 use Rattle.serial_steps.specs.Steps.{Site, site, serial, Hosted, Step, took, reported, Steps, HasCause, job_of, number_in}
-use Rattle.serial_steps.proofs.Lessening.{Lessens, lessens, steps, steps_of}
+use Rattle.machine_laws.proofs.WaitsEnding.{Lessens, lessens, steps, steps_of}
 use Rattle.serial_steps.proofs.Requests.{same-alone, request-alone}
 use Rattle.serial_steps.proofs.Turning.{IsStep, turned-step}
 

@@ -11,7 +11,7 @@ use Rattle.host_model.specs.declared.root.HostRoot.{HostRoot}
 use Rattle.host_model.specs.Reports.{roots_after}
 use Rattle.http_front.specs.Clocks.{Reads}
 use Rattle.row_machine.specs.machine.Step.{Outcome, well, keeper_failed, no_memory}
-use Rattle.core_rows.specs.Stores.{KeepsRecords}
+use Rattle.work_reports.specs.Stores.{KeepsRecords}
 use Rattle.serial_steps.specs.Steps.{Site, Step, took, reported, StepsTo}
 
 -- ---- of one step

@@ -16,7 +16,7 @@ use Rattle.row_machine.specs.declared.events.Answer.TheVariants as answer
 use Rattle.row_machine.specs.declared.events.Event.TheVariants as event
 use Rattle.row_machine.specs.machine.State.{State}
 use Rattle.row_machine.specs.machine.Step.{Outcome, well}
-use Rattle.core_rows.specs.Stores.{IsCaused, KeepsRecords}
+use Rattle.work_reports.specs.Stores.{IsCaused, KeepsRecords}
 use Rattle.core_turns.specs.Turns.{Turns}
 
 -- the rows and operations of a serial server, and the call that its worker has in hand, with the number of its

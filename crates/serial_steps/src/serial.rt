@@ -14,6 +14,7 @@ use http_front::Clock;
 use record_keeper::Keeper;
 use records::Command;
 use row_machine::Answer;
+use row_readings::View;
 use std::alloc::Global;
 use std::marker::Model;
 use std::mem;
@@ -76,6 +77,14 @@ impl SerialDaemon {
     {
         facts_hold(&self.daemon);
         self.daemon.ask(alloc, keeper, command, moment)
+    }
+
+    /// The rows and operations, to be read.
+    pub fn view(&self) -> View<'_>
+        ensures state { result ≡ self.now.state }
+        ensures whole { IsWhole self.now.state }
+    {
+        self.daemon.view()
     }
 
     /// Whether the operation of this number is live.

@@ -13,7 +13,7 @@ use Rattle.records.specs.declared.commands.Command.{Command}
 use Rattle.records.specs.declared.refusals.Refusal.{Refusal}
 use Rattle.records.specs.declared.replies.Reply.{Reply}
 use Rattle.records.specs.declared.replies.Reply.TheVariants as reply
-use Rattle.core_rows.specs.Planned.{reply_for}
+use Rattle.judged_changes.specs.Judged.{reply_for}
 use Rattle.gate_trails.specs.Gates.{Between, Seen, Walk}
 use Rattle.gate_trails.specs.Trails.{Item}
 use Rattle.gate_trails.proofs.Trailing.{between-append, between-none}

@@ -12,7 +12,7 @@ truths =
     (codes "true", true) ∷ (codes "1", true) ∷ (codes "yes", true) ∷ (codes "on", true)
     ∷ (codes "false", false) ∷ (codes "0", false) ∷ (codes "no", false) ∷ (codes "off", false) ∷ []
 
--- the truth that a text names in any ASCII case, if it names one
+-- the boolean that a text names in any ASCII case, if it names one
 abbrev pub truth_named : List ℕ → Option Bool
 truth_named text = option_map (λ row. row.1) (find (λ row. str_eq_ignore_ascii_case row.0 text) truths)
 

@@ -58,7 +58,7 @@ fn cidr_in(text: &[u8]) -> Result<(u32, u8), ValueFault>
         return Err(ValueFault::Empty);
     }
     let quad = read_quad(text)?;
-    let bits = number_behind(text, quad.end, b'/', 8, 30)?;
+    let bits = number_after(text, quad.end, b'/', 8, 30)?;
     if bits.end < text.len() {
         return Err(ValueFault::BadByte(bits.end as u64));
     }
@@ -71,17 +71,17 @@ fn read_quad(text: &[u8]) -> Result<Quad, Stray>
     ensures err { IfErr result (λ stray. IsAstray text.now stray.place) }
 {
     let first = number_from(text, 0, 0, 255).ok_or(Stray { place: 0 })?;
-    let second = number_behind(text, first.end, b'.', 0, 255)?;
-    let third = number_behind(text, second.end, b'.', 0, 255)?;
-    let fourth = number_behind(text, third.end, b'.', 0, 255)?;
+    let second = number_after(text, first.end, b'.', 0, 255)?;
+    let third = number_after(text, second.end, b'.', 0, 255)?;
+    let fourth = number_after(text, third.end, b'.', 0, 255)?;
     Ok(Quad {
         end: fourth.end,
-        address: address(first.value, second.value, third.value, fourth.value),
+        address: quad_value(first.value, second.value, third.value, fourth.value),
     })
 }
 
 /// The address of four numbers, if all are fit.
-fn address(
+fn quad_value(
     first: Option<u8>,
     second: Option<u8>,
     third: Option<u8>,
@@ -93,7 +93,7 @@ fn address(
 }
 
 /// The number that follows the separator at the place, or the place at which the text leaves that form.
-fn number_behind(
+fn number_after(
     text: &[u8],
     at: usize,
     separator: u8,

@@ -17,11 +17,16 @@ pub fn count_in(text: &[u8], least: u64, most: u64) -> Result<u64, ValueFault>
     ensures count { result ≡ count_of text.now least most }
     ensures within { IfOk result (λ n. (least ≤ n) × (n ≤ most)) }
 {
-    counted(text, Number::at_front(text), least, most)
+    count_from_number(text, Number::at_front(text), least, most)
 }
 
 /// The same of the bytes of a text and of the number at their front.
-pub fn counted(text: &[u8], number: Number, least: u64, most: u64) -> Result<u64, ValueFault>
+pub fn count_from_number(
+    text: &[u8],
+    number: Number,
+    least: u64,
+    most: u64,
+) -> Result<u64, ValueFault>
     requires { number ≡ number_at text.now }
     ensures count { result ≡ count_of text.now least most }
     ensures within { IfOk result (λ n. (least ≤ n) × (n ≤ most)) }

@@ -3,7 +3,7 @@ ghost use Rattle.size_values.specs.Cpu.{cpu_of, set_of};
 ghost use Rattle.size_values.specs.Number.{number_at};
 ghost use Rattle.size_values.specs.Set.{BeginsSet, ContinuesSet, BreaksSet};
 
-use crate::count::counted;
+use crate::count::count_from_number;
 use crate::fault::{Stray, ValueFault};
 use crate::number::Number;
 
@@ -47,7 +47,7 @@ fn cpu_in(text: &[u8]) -> Result<Cpu, ValueFault>
     if number.len < text.len() {
         return set_in(text, number);
     }
-    let count = counted(text, number, 1, MOST)?;
+    let count = count_from_number(text, number, 1, MOST)?;
     Ok(Cpu::Count(count as u32))
 }
 
@@ -56,7 +56,7 @@ fn set_in(text: &[u8], number: Number) -> Result<Cpu, ValueFault>
     requires { number ≡ number_at text.now }
     ensures { result ≡ set_of text.now }
 {
-    let mut front = SetFront::first(number)?;
+    let mut front = SetFront::from_first(number)?;
     while front.end < text.len() {
         front = front.next(text)?;
     }
@@ -71,7 +71,7 @@ fn set_in(text: &[u8], number: Number) -> Result<Cpu, ValueFault>
 
 impl SetFront {
     /// The first number of a set.
-    fn first(number: Number) -> Result<SetFront, Stray>
+    fn from_first(number: Number) -> Result<SetFront, Stray>
         ensures ok { IfOk result (BeginsSet number) }
         ensures err { IfErr result (λ stray. (number.len ≡ 0) × (stray.place ≡ 0)) }
     {

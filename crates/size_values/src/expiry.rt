@@ -67,14 +67,14 @@ fn expiry_in(text: &[u8]) -> Result<Expiry, ValueFault>
         expiry: Expiry::NONE.with_part(first),
     };
     while front.end < text.len() {
-        let part = part_behind_space(text, front.end)?;
+        let part = part_after_space(text, front.end)?;
         front = front.with_part(part);
     }
     front.expiry.ok_or(ValueFault::OutOfRange)
 }
 
 /// The part that follows a space at the place, or the place at which the text leaves that form.
-fn part_behind_space(text: &[u8], at: usize) -> Result<Part, Stray>
+fn part_after_space(text: &[u8], at: usize) -> Result<Part, Stray>
     requires { at < length text.now }
     ensures ok { IfOk result (FollowsSpace text.now at) }
     ensures err { IfErr result (λ stray. MissesSpace text.now at stray.place) }
@@ -110,7 +110,7 @@ fn part_at(text: &[u8], at: usize) -> Result<Part, Stray>
 }
 
 impl Unit {
-    /// The unit of a letter.
+    /// `M` and `m` differ: minutes and months.
     fn of(letter: u8) -> Option<Unit>
         ensures some { IfSome result (λ unit. letter_of unit ≡ letter) }
         ensures none { IfNone result (is_unit letter ≡ false) }
@@ -157,7 +157,7 @@ impl Expiry {
         if !part.number.is_within(1, MOST) || self.amount(part.unit) != 0 {
             return None;
         }
-        Some(self.with(part.unit, part.number.value as u32))
+        Some(self.with_amount(part.unit, part.number.value as u32))
     }
 
     fn amount(&self, unit: Unit) -> u32
@@ -173,7 +173,7 @@ impl Expiry {
         }
     }
 
-    fn with(self, unit: Unit, amount: u32) -> Expiry
+    fn with_amount(self, unit: Unit, amount: u32) -> Expiry
         ensures { result ≡ with_amount unit amount self }
     {
         let mut expiry = self;

@@ -46,12 +46,14 @@ impl Number {
         }
     }
 
+    /// Whether there are more than twenty digits, or the number is 2^63 or more.
     pub fn is_too_large(&self) -> bool
         ensures { result ≡ (nat_lt 20 self.now.len || nat_le (2 ^ 63) self.now.value) }
     {
         self.len > MOST_DIGITS || self.value >= TOO_LARGE
     }
 
+    /// Whether the number is from `least` to `most`.
     pub fn is_within(&self, least: u64, most: u64) -> bool
         ensures { result ≡ (nat_le least self.now.value && nat_le self.now.value most) }
     {

@@ -36,6 +36,7 @@ impl<T> Seq<T> {
         Seq { items }
     }
 
+    /// How many items there are.
     pub fn len(&self) -> usize
         ensures { result ≡ length self.now }
     {
@@ -57,6 +58,7 @@ impl<T> Seq<T> {
         &self.items[place]
     }
 
+    /// The items as a slice.
     pub fn view(&self) -> &[T]
         ensures { result.now ≡ self.now }
     {

@@ -51,7 +51,7 @@ pub fn size_in(text: &[u8]) -> Result<u64, ValueFault>
     if letters < suffix.len() {
         return Err(ValueFault::BadByte((number.len + letters) as u64));
     }
-    let Some(factor) = factor(suffix) else {
+    let Some(factor) = factor_of(suffix) else {
         return Err(ValueFault::UnknownSuffix(number.len as u64));
     };
     let size = number.times(factor);
@@ -71,7 +71,7 @@ fn letters_len(text: &[u8]) -> usize
 }
 
 /// The bytes that one of the suffix stands for, where it is listed.
-fn factor(suffix: &[u8]) -> Option<u64>
+fn factor_of(suffix: &[u8]) -> Option<u64>
     ensures { result ≡ factor_of suffix.now }
 {
     factor_in(&SUFFIXES, suffix)

@@ -54,6 +54,7 @@ impl Text {
         Text::from_text(alloc, self.view())
     }
 
+    /// The text as a `str`.
     pub fn view(&self) -> &str
         ensures value { result.now ≡ self.now }
         ensures utf8 { IsUtf8 self.now }

@@ -17,7 +17,7 @@ const TRUTHS: [(&str, bool); 8] = [
     ("off", false),
 ];
 
-/// Reads a truth: `true`, `1`, `yes` or `on`, and `false`, `0`, `no` or `off`, in any ASCII case, as the Incus
+/// Parses a boolean: `true`, `1`, `yes` or `on`, and `false`, `0`, `no` or `off`, in any ASCII case, as the Incus
 /// documentation lists them for options of type bool.
 pub fn read_truth(text: &str) -> Result<bool, ValueFault>
     ensures { result ≡ truth_of text.now }
@@ -25,11 +25,10 @@ pub fn read_truth(text: &str) -> Result<bool, ValueFault>
     if text.is_empty() {
         return Err(ValueFault::Empty);
     }
-    truth(text).ok_or(ValueFault::OutOfRange)
+    truth_named(text).ok_or(ValueFault::OutOfRange)
 }
 
-/// The truth that the text names, if it names one.
-fn truth(text: &str) -> Option<bool>
+fn truth_named(text: &str) -> Option<bool>
     ensures { result ≡ truth_named text.now }
 {
     truth_in(&TRUTHS, text)

@@ -12,7 +12,7 @@ use Rattle.row_machine.specs.machine.Rows.{default_name}
 use Rattle.row_machine.specs.machine.Homes.{is_on}
 use Rattle.row_machine.specs.machine.Expansions.{expanded_of}
 use Rattle.row_machine.specs.machine.Kinds.{kind_text}
-use Rattle.row_machine.specs.machine.Refusals.{untold}
+use Rattle.row_machine.specs.machine.Refusals.{nothing_told}
 use Rattle.row_machine.specs.machine.Asked.{is_parting}
 use Rattle.row_machine.specs.machine.StandingRules.{asks_for_features, is_deletion, protects_itself}
 
@@ -32,5 +32,5 @@ instance_protected s c name = is_deletion c.what && protects_itself s c.project 
 abbrev pub on_user : Target → List ℕ → Refusal
 on_user of link = record {
   rule = rule.B4;
-  kept = record untold { key = link; kind = kind_text of.kind; name = of.name };
+  kept = record nothing_told { key = link; kind = kind_text of.kind; name = of.name };
 }

@@ -3,7 +3,7 @@ ghost use Rattle.std.specs.Prelude.{◌≡◌, false, find};
 ghost use Rattle.std.specs.Option.{option_copied, option_map_or};
 ghost use Rattle.size_values.specs.Causes.{Says};
 ghost use Rattle.row_machine.specs.machine.Holders.{busy_with, is_about, keeps_busy};
-ghost use Rattle.row_machine.specs.machine.StandingRules.{busy, instance_busy};
+ghost use Rattle.row_machine.specs.machine.StandingRules.{named_instance_busy, instance_busy};
 
 use crate::asked::instance_changed;
 use operations::Operation;
@@ -58,10 +58,15 @@ fn busy_with<'x>(
     live.iter().find(|o| keeps_busy(project, instance, &o.work))
 }
 
-/// An instance is busy.
+/// B1: a live operation keeps the instance of this name busy.
 #[tactic(auto, unfolding(row_machine::specs::machine::Holders::busy_with))]
-fn busy(alloc: Global, view: &View<'_>, project: &str, name: &str) -> Result<(), Or<Refusal>>
-    ensures { Says result (busy view.now project.now name.now) }
+fn named_instance_busy(
+    alloc: Global,
+    view: &View<'_>,
+    project: &str,
+    name: &str,
+) -> Result<(), Or<Refusal>>
+    ensures { Says result (named_instance_busy view.now project.now name.now) }
 {
     let Some(operation) = busy_with(view.live, project, name) else {
         return Ok(());
@@ -81,7 +86,7 @@ pub(crate) fn instance_busy(
     ensures { Says result (instance_busy view.now command.now) }
 {
     match instance_changed(&command.what) {
-        Some(name) => busy(alloc, view, command.project.view(), name.view()),
+        Some(name) => named_instance_busy(alloc, view, command.project.view(), name.view()),
         None => Ok(()),
     }
 }

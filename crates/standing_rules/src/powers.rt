@@ -34,7 +34,6 @@ fn power_text(power: Power) -> &'static str
     }
 }
 
-/// The deed of a creation.
 fn creation_deed(of: &Target) -> Option<Asked<'_>>
     ensures { (body : BodyValue) → option_map deed_of result ≡ deed_asked (what_of.Create of.now body) }
 {
@@ -53,7 +52,6 @@ fn creation_deed(of: &Target) -> Option<Asked<'_>>
     }
 }
 
-/// The deed of a rename.
 fn rename_deed(of: &Target) -> Option<Asked<'_>>
     ensures { (to : List ℕ) → option_map deed_of result ≡ deed_asked (what_of.Move of.now to) }
 {
@@ -72,7 +70,6 @@ fn rename_deed(of: &Target) -> Option<Asked<'_>>
     }
 }
 
-/// The deed of a deletion.
 fn deletion_deed(of: &Target) -> Option<Asked<'_>>
     ensures { option_map deed_of result ≡ deed_asked (what_of.Delete of.now) }
 {

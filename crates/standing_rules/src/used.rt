@@ -5,7 +5,7 @@ ghost use Rattle.row_machine.specs.machine.StandingRules.{object_used, used_by_f
 ghost use Rattle.standing_rules.specs.Protected.{on_user};
 
 use crate::asked::{is_parting, object_changed};
-use crate::users::unused;
+use crate::users::refuse_first_user;
 use records::{Command, Refusal, Rule, Target};
 use row_readings::{View, home_of};
 use rule_refusals::on_object;
@@ -31,7 +31,7 @@ fn used_by_first(
     ensures { Says result (used_by_first view.now command.now of.now) }
 {
     let home = home_of(view.projects, command.project.view(), of.kind);
-    match unused(alloc, view, home, of) {
+    match refuse_first_user(alloc, view, home, of) {
         Ok(()) => Ok(()),
         Err(Or::NoMemory) => Err(Or::NoMemory),
         Err(Or::Why(link)) => Err(Or::Why(on_user(alloc, of, link)?)),

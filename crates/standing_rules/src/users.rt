@@ -310,7 +310,7 @@ fn unnamed_by_all(
 
 /// The first user of an object of this home. Kinds but profiles, networks, pools and volumes have no users.
 #[tactic(auto, unfolding(row_machine::specs::machine::Holders::first_user_of))]
-pub(crate) fn unused(
+pub(crate) fn refuse_first_user(
     alloc: Global,
     view: &View<'_>,
     home: &str,

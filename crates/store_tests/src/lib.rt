@@ -1,7 +1,7 @@
-//! Tests of the keeper in memory, and of the rows over a keeper: how they are opened, read and told. They call public functions alone.
+//! Tests of the rows over a keeper: how they are opened, read and told. They call public functions alone.
 #![tactic(auto)]
 
 #[cfg(test)]
-mod keepers;
+mod kept_rows;
 #[cfg(test)]
 mod openings;

@@ -5,7 +5,7 @@ ghost use Rattle.size_values.specs.Causes.{Says};
 ghost use Rattle.operations.specs.Kept.{kept_at, cancel_answer};
 ghost use Rattle.operations.specs.Statuses.{cancel_of};
 ghost use Rattle.records.specs.declared.refusals.Rule.TheVariants as rule;
-ghost use Rattle.row_machine.specs.machine.Refusals.{untold};
+ghost use Rattle.row_machine.specs.machine.Refusals.{nothing_told};
 ghost use Rattle.row_machine.specs.machine.TableRules.{status_text, cancel_refusal, entry_broken, cancel_broken};
 
 use operations::{CancelFault, LIVE_LIMIT, NUMBER_LIMIT, Status};
@@ -61,7 +61,7 @@ fn cancel_fault(may_cancel: bool, status: Status) -> Option<CancelFault>
 /// The rule, an operation and its status.
 fn on_ended(alloc: Global, number: u64, status: Status) -> Result<Refusal, NoMemory>
     ensures { IfOk result (λ r. r
-        ≡ record { rule = rule.O1; kept = record untold { key = status_text status; number = number } }) }
+        ≡ record { rule = rule.O1; kept = record nothing_told { key = status_text status; number = number } }) }
 {
     let key = Text::from_text(alloc, status_text(status))?;
     let kept = Kept {

@@ -149,7 +149,7 @@ fn kind_of(row: &Row) -> ObjectKind
     }
 }
 
-/// A row is too large.
+/// C2: the row has more bytes than any kept row may have.
 fn too_large(alloc: Global, row: &Row) -> Result<(), Or<Refusal>>
     ensures { Says result (too_large row.now) }
 {

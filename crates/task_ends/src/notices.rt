@@ -76,7 +76,7 @@ fn object_told(alloc: Global, work: &Work) -> Result<Target, NoMemory>
 }
 
 /// Adds the lifecycle event of an action on an object.
-fn tell(
+fn push_life_notice(
     alloc: Global,
     moment: u64,
     project: &str,
@@ -102,9 +102,9 @@ fn notices_of(
 {
     let (action, other) = deed_lives(deed);
     let mut notices = Seq::new(alloc);
-    tell(alloc, moment, project, of, action, &mut notices)?;
+    push_life_notice(alloc, moment, project, of, action, &mut notices)?;
     if let Some(action) = other {
-        tell(alloc, moment, project, of, action, &mut notices)?;
+        push_life_notice(alloc, moment, project, of, action, &mut notices)?;
     }
     Ok(notices)
 }

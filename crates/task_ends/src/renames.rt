@@ -13,7 +13,7 @@ use size_values::{NoMemory, Seq, Text};
 use std::alloc::Global;
 
 /// A snapshot as one of another instance.
-fn under(row: Snapshot, project: Text, instance: Text) -> Snapshot
+fn moved_to_instance(row: Snapshot, project: Text, instance: Text) -> Snapshot
     ensures { result ≡ record row { project = project; instance = instance } }
 {
     Snapshot {
@@ -36,7 +36,7 @@ fn snapshot_moved(alloc: Global, row: &Snapshot, to: &Instance) -> Result<RowCha
     let project = to.project.copy(alloc)?;
     let instance = to.name.copy(alloc)?;
     let copy = row.copy(alloc)?;
-    Ok(RowChange::Put(Row::Snapshot(under(copy, project, instance))))
+    Ok(RowChange::Put(Row::Snapshot(moved_to_instance(copy, project, instance))))
 }
 
 fn put_instance(alloc: Global, row: &Instance, changes: &mut Seq<RowChange>) -> Result<(), NoMemory>

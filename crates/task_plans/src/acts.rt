@@ -3,12 +3,12 @@ ghost use Rattle.std.specs.Prelude.{◌≡◌, IfOk, OnOk, ◌++◌, ◌∷◌, 
 ghost use Rattle.host_model.specs.declared.call.HostCall.TheVariants as call;
 ghost use Rattle.row_machine.specs.machine.Expansions.{expanded_of};
 ghost use Rattle.row_machine.specs.machine.HostCalls.{spec_of, act_calls};
-ghost use Rattle.row_machine.specs.machine.Tasks.{acting};
+ghost use Rattle.row_machine.specs.machine.Tasks.{act_task};
 
 use crate::calls::{one_call, spec_of};
-use crate::works::{about, plain_task};
+use crate::works::{plain_task, project_and_target};
 use host_model::{HostCall, Place};
-use instance_tasks::{both, place_of, push_clear};
+use instance_tasks::{place_of, push_clear, zip_or_drop};
 use records::{Instance, Target};
 use row_machine::Work;
 use row_readings::View;
@@ -27,7 +27,7 @@ fn push_start(
         ≡ calls.old
         ++ call.Start at.now (spec_of (expanded_of view.now.projects view.now.profiles row.now)) ∷ []) }
 {
-    let (at, spec) = both(at.copy(alloc), spec_of(alloc, view, row))?;
+    let (at, spec) = zip_or_drop(at.copy(alloc), spec_of(alloc, view, row))?;
     calls.push(HostCall::Start { at, spec })
 }
 
@@ -114,7 +114,7 @@ fn calls_at(
 }
 
 /// The state of an instance is changed.
-pub(crate) fn acting(
+pub(crate) fn act_task(
     alloc: Global,
     view: &View<'_>,
     project: &Text,
@@ -122,12 +122,12 @@ pub(crate) fn acting(
     action: Action,
     row: &Instance,
 ) -> Result<Work, NoMemory>
-    ensures { IfOk result (λ w. w ≡ acting view.now project.now of.now action row.now) }
+    ensures { IfOk result (λ w. w ≡ act_task view.now project.now of.now action row.now) }
 {
     let at = place_of(alloc, project, &of.name)?;
     let calls = calls_at(alloc, view, action, &at, row);
     drop(at);
-    let (about, calls) = both(about(alloc, project, of), calls)?;
+    let (about, calls) = zip_or_drop(project_and_target(alloc, project, of), calls)?;
     let deed = Deed::Act {
         action,
         ephemeral: row.ephemeral,

@@ -2,14 +2,14 @@
 ghost use Rattle.std.specs.Prelude.{◌≡◌, IfOk};
 ghost use Rattle.row_machine.specs.machine.NewRows.{put_instance};
 ghost use Rattle.row_machine.specs.machine.Plans.{if_there, row_of, plan_put, plan_move, plan_restore};
-ghost use Rattle.row_machine.specs.machine.Tasks.{update, renaming, restoring};
+ghost use Rattle.row_machine.specs.machine.Tasks.{update_task, rename_task, restore_task};
 ghost use Rattle.task_plans.specs.Begun.{task_in};
 
 use crate::calls::{apply_calls, rename_calls, restore_calls};
 use crate::finds::instance_at;
 use crate::rows::{put_instance, renamed_instance, restored_instance};
-use crate::works::{replaced, replacement};
-use instance_tasks::both;
+use crate::works::{replacing_task, target_and_replaced};
+use instance_tasks::zip_or_drop;
 use records::{Body, Instance, Snapshot, Target};
 use row_machine::Work;
 use row_readings::{View, snapshot_named};
@@ -17,7 +17,7 @@ use size_values::{Deed, NoMemory, Text};
 use std::alloc::Global;
 
 /// The host is told what the changed instance has.
-fn update(
+fn update_task(
     alloc: Global,
     view: &View<'_>,
     project: &Text,
@@ -25,45 +25,45 @@ fn update(
     body: &Body,
     old: &Instance,
 ) -> Result<Work, NoMemory>
-    ensures { IfOk result (λ w. w ≡ update view.now project.now of.now (put_instance old.now body.now)) }
+    ensures { IfOk result (λ w. w ≡ update_task view.now project.now of.now (put_instance old.now body.now)) }
 {
     let row = put_instance(alloc, old, body)?;
     let calls = apply_calls(alloc, view, project, &of.name, &row);
-    let made = both(Ok(row), calls);
-    let (about, made) = both(replaced(alloc, project, of), made)?;
-    Ok(replacement(Deed::Update, about, made.0, made.1))
+    let made = zip_or_drop(Ok(row), calls);
+    let (about, made) = zip_or_drop(target_and_replaced(alloc, project, of), made)?;
+    Ok(replacing_task(Deed::Update, about, made.0, made.1))
 }
 
 /// An instance gets another name.
-fn renaming(
+fn rename_task(
     alloc: Global,
     project: &Text,
     of: &Target,
     to: &Text,
     old: &Instance,
 ) -> Result<Work, NoMemory>
-    ensures { IfOk result (λ w. w ≡ renaming project.now of.now to.now old.now) }
+    ensures { IfOk result (λ w. w ≡ rename_task project.now of.now to.now old.now) }
 {
     let calls = rename_calls(alloc, project, &of.name, to);
-    let made = both(renamed_instance(alloc, old, to), calls);
-    let (about, made) = both(replaced(alloc, project, of), made)?;
-    Ok(replacement(Deed::Rename, about, made.0, made.1))
+    let made = zip_or_drop(renamed_instance(alloc, old, to), calls);
+    let (about, made) = zip_or_drop(target_and_replaced(alloc, project, of), made)?;
+    Ok(replacing_task(Deed::Rename, about, made.0, made.1))
 }
 
 /// An instance is taken back to its snapshot.
-fn restoring(
+fn restore_task(
     alloc: Global,
     project: &Text,
     of: &Target,
     old: &Instance,
     snapshot: &Snapshot,
 ) -> Result<Work, NoMemory>
-    ensures { IfOk result (λ w. w ≡ restoring project.now of.now old.now snapshot.now) }
+    ensures { IfOk result (λ w. w ≡ restore_task project.now of.now old.now snapshot.now) }
 {
     let calls = restore_calls(alloc, project, &of.name, &snapshot.name);
-    let made = both(restored_instance(alloc, old, snapshot), calls);
-    let (about, made) = both(replaced(alloc, project, of), made)?;
-    Ok(replacement(Deed::Restore, about, made.0, made.1))
+    let made = zip_or_drop(restored_instance(alloc, old, snapshot), calls);
+    let (about, made) = zip_or_drop(target_and_replaced(alloc, project, of), made)?;
+    Ok(replacing_task(Deed::Restore, about, made.0, made.1))
 }
 
 /// What a PUT begins: of an instance an update, of other objects nothing.
@@ -80,7 +80,7 @@ pub(crate) fn plan_put(
     let Some(old) = instance_at(view, project, of) else {
         return Ok(None);
     };
-    let work = update(alloc, view, project, of, body, old)?;
+    let work = update_task(alloc, view, project, of, body, old)?;
     Ok(Some(work))
 }
 
@@ -98,7 +98,7 @@ pub(crate) fn plan_move(
     let Some(old) = instance_at(view, project, of) else {
         return Ok(None);
     };
-    let work = renaming(alloc, project, of, to, old)?;
+    let work = rename_task(alloc, project, of, to, old)?;
     Ok(Some(work))
 }
 
@@ -117,6 +117,6 @@ pub(crate) fn plan_restore(
     let Some(snapshot) = found else {
         return Ok(None);
     };
-    let work = restoring(alloc, project, of, old, snapshot)?;
+    let work = restore_task(alloc, project, of, old, snapshot)?;
     Ok(Some(work))
 }

@@ -1,13 +1,13 @@
 //! What deletions begin: those of instances and of snapshots.
 ghost use Rattle.std.specs.Prelude.{◌≡◌, IfOk};
 ghost use Rattle.row_machine.specs.machine.Plans.{if_there, row_of, plan_delete};
-ghost use Rattle.row_machine.specs.machine.Tasks.{deletion, snapshot_deletion};
+ghost use Rattle.row_machine.specs.machine.Tasks.{deletion_task, snapshot_deletion};
 ghost use Rattle.task_plans.specs.Begun.{task_in};
 
 use crate::calls::{clear_calls, unsnap_calls};
 use crate::finds::{instance_at, snapshot_at};
-use crate::works::{about, plain_task};
-use instance_tasks::both;
+use crate::works::{plain_task, project_and_target};
+use instance_tasks::zip_or_drop;
 use records::Target;
 use row_machine::Work;
 use row_readings::View;
@@ -15,11 +15,11 @@ use size_values::{Deed, NoMemory, Text};
 use std::alloc::Global;
 
 /// An instance is deleted.
-fn deletion(alloc: Global, project: &Text, of: &Target) -> Result<Work, NoMemory>
-    ensures { IfOk result (λ w. w ≡ deletion project.now of.now) }
+fn deletion_task(alloc: Global, project: &Text, of: &Target) -> Result<Work, NoMemory>
+    ensures { IfOk result (λ w. w ≡ deletion_task project.now of.now) }
 {
     let calls = clear_calls(alloc, project, &of.name);
-    let (about, calls) = both(about(alloc, project, of), calls)?;
+    let (about, calls) = zip_or_drop(project_and_target(alloc, project, of), calls)?;
     Ok(plain_task(Deed::Delete, about, calls))
 }
 
@@ -28,7 +28,7 @@ fn snapshot_deletion(alloc: Global, project: &Text, of: &Target) -> Result<Work,
     ensures { IfOk result (λ w. w ≡ snapshot_deletion project.now of.now) }
 {
     let calls = unsnap_calls(alloc, project, of);
-    let (about, calls) = both(about(alloc, project, of), calls)?;
+    let (about, calls) = zip_or_drop(project_and_target(alloc, project, of), calls)?;
     Ok(plain_task(Deed::Unsnap, about, calls))
 }
 
@@ -43,7 +43,7 @@ pub(crate) fn plan_delete(
         (if_there (plan_delete view.now project.now of.now) (row_of view.now project.now of.now))) }
 {
     if instance_at(view, project, of).is_some() {
-        let work = deletion(alloc, project, of)?;
+        let work = deletion_task(alloc, project, of)?;
         return Ok(Some(work));
     }
     if snapshot_at(view, project, of).is_some() {

@@ -2,10 +2,10 @@
 ghost use Rattle.std.specs.Prelude.{◌≡◌, IfOk};
 ghost use Rattle.row_machine.specs.machine.Plans.{plan_of, if_there, starts, plan_restore};
 ghost use Rattle.row_machine.specs.machine.Rows.{instance_named};
-ghost use Rattle.row_machine.specs.machine.Tasks.{acting};
+ghost use Rattle.row_machine.specs.machine.Tasks.{act_task};
 ghost use Rattle.task_plans.specs.Begun.{task_in};
 
-use crate::acts::acting;
+use crate::acts::act_task;
 use crate::changes::{plan_move, plan_put, plan_restore};
 use crate::creations::plan_create;
 use crate::deletions::plan_delete;
@@ -24,13 +24,13 @@ fn plan_act(
     action: Action,
 ) -> Result<Option<Work>, NoMemory>
     ensures { IfOk result (λ w. w ≡ task_in
-        (if_there (λ i. starts (acting view.now project.now of.now action i))
+        (if_there (λ i. starts (act_task view.now project.now of.now action i))
         (instance_named view.now.instances project.now of.now.name))) }
 {
     let Some(row) = instance_named(view.instances, project.view(), of.name.view()) else {
         return Ok(None);
     };
-    let work = acting(alloc, view, project, of, action, row)?;
+    let work = act_task(alloc, view, project, of, action, row)?;
     Ok(Some(work))
 }
 

@@ -11,7 +11,7 @@ ghost use Rattle.row_machine.specs.machine.Tasks.{plain_task, volume_copy};
 ghost use Rattle.task_plans.specs.Begun.{task_in};
 
 use host_model::{HostCall, Place};
-use instance_tasks::{both, copy_calls};
+use instance_tasks::{copy_calls, zip_or_drop};
 use new_rows::{new_description, patched_config};
 use records::{Body, Origin, Row, Target, Volume};
 use row_machine::Work;
@@ -23,8 +23,8 @@ use std::alloc::Global;
 fn volume_place(alloc: Global, project: &str, pool: &Text, name: &Text) -> Result<Place, NoMemory>
     ensures { IfOk result (λ p. p ≡ volume_place project.now pool.now name.now) }
 {
-    let names = both(pool.copy(alloc), name.copy(alloc));
-    let (project, names) = both(Text::from_text(alloc, project), names)?;
+    let names = zip_or_drop(pool.copy(alloc), name.copy(alloc));
+    let (project, names) = zip_or_drop(Text::from_text(alloc, project), names)?;
     Ok(Place {
         volume: true,
         project,
@@ -37,8 +37,8 @@ fn volume_place(alloc: Global, project: &str, pool: &Text, name: &Text) -> Resul
 fn volume_source(alloc: Global, of: &Target, from: &Text, pool: &Text) -> Result<Target, NoMemory>
     ensures { IfOk result (λ t. t ≡ volume_source of.now from.now pool.now) }
 {
-    let names = both(pool.copy(alloc), from.copy(alloc));
-    let (instance, names) = both(of.instance.copy(alloc), names)?;
+    let names = zip_or_drop(pool.copy(alloc), from.copy(alloc));
+    let (instance, names) = zip_or_drop(of.instance.copy(alloc), names)?;
     Ok(Target {
         kind: of.kind,
         pool: names.0,
@@ -58,13 +58,13 @@ fn copied_volume(
 ) -> Result<Volume, NoMemory>
     ensures { IfOk result (λ r. r ≡ copied_volume project.now of.now body.now moment source.now) }
 {
-    let names = both(of.pool.copy(alloc), of.name.copy(alloc));
-    let names = both(Text::from_text(alloc, project), names);
-    let content = both(
+    let names = zip_or_drop(of.pool.copy(alloc), of.name.copy(alloc));
+    let names = zip_or_drop(Text::from_text(alloc, project), names);
+    let content = zip_or_drop(
         new_description(alloc, body),
         patched_config(&source.config, body),
     );
-    let (names, content) = both(names, content)?;
+    let (names, content) = zip_or_drop(names, content)?;
     let of = names.1;
     Ok(Volume {
         project: names.0,
@@ -77,7 +77,7 @@ fn copied_volume(
 }
 
 /// Where the copy will stand, and the calls that make it.
-fn copying(
+fn place_and_calls(
     alloc: Global,
     project: &str,
     of: &Target,
@@ -91,10 +91,10 @@ fn copying(
         )) }
 {
     let at = volume_place(alloc, project, &of.pool, &of.name);
-    let (at, from) = both(at, volume_place(alloc, project, pool, from))?;
+    let (at, from) = zip_or_drop(at, volume_place(alloc, project, pool, from))?;
     let calls = copy_calls(alloc, &from, "", &at);
     drop(from);
-    both(Ok(at), calls)
+    zip_or_drop(Ok(at), calls)
 }
 
 /// The operation that makes a copy, which its undoing takes away.
@@ -138,11 +138,11 @@ fn volume_copy(
     ensures { IfOk result (λ w. w
         ≡ volume_copy project.now of.now body.now moment (volume_source of.now from.now pool.now) source.now) }
 {
-    let about = both(Text::from_text(alloc, project), of.copy(alloc));
-    let about = both(about, volume_source(alloc, of, from, pool));
+    let about = zip_or_drop(Text::from_text(alloc, project), of.copy(alloc));
+    let about = zip_or_drop(about, volume_source(alloc, of, from, pool));
     let row = copied_volume(alloc, project, of, body, moment, source);
-    let made = both(row, copying(alloc, project, of, from, pool));
-    let (about, made) = both(about, made)?;
+    let made = zip_or_drop(row, place_and_calls(alloc, project, of, from, pool));
+    let (about, made) = zip_or_drop(about, made)?;
     Ok(copy_task(about.0, about.1, made.0, made.1))
 }
 

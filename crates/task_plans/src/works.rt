@@ -4,17 +4,21 @@ ghost use Rattle.records.specs.declared.rows.Row.TheVariants as row_of;
 ghost use Rattle.row_machine.specs.machine.Tasks.{plain_task};
 
 use host_model::HostCall;
-use instance_tasks::both;
+use instance_tasks::zip_or_drop;
 use records::{Instance, Row, Target};
 use row_machine::Work;
 use size_values::{Deed, NoMemory, Seq, Text};
 use std::alloc::Global;
 
 /// What an operation is about: its project and its object.
-pub(crate) fn about(alloc: Global, project: &Text, of: &Target) -> Result<(Text, Target), NoMemory>
+pub(crate) fn project_and_target(
+    alloc: Global,
+    project: &Text,
+    of: &Target,
+) -> Result<(Text, Target), NoMemory>
     ensures { IfOk result (λ a. a ≡ (project.now, of.now)) }
 {
-    both(project.copy(alloc), of.copy(alloc))
+    zip_or_drop(project.copy(alloc), of.copy(alloc))
 }
 
 /// An operation that claims nothing.
@@ -35,19 +39,19 @@ pub(crate) fn plain_task(deed: Deed, about: (Text, Target), calls: Seq<HostCall>
 }
 
 /// What an operation is about that replaces an instance, and the project and name of that instance.
-pub(crate) fn replaced(
+pub(crate) fn target_and_replaced(
     alloc: Global,
     project: &Text,
     of: &Target,
 ) -> Result<((Text, Target), (Text, Text)), NoMemory>
     ensures { IfOk result (λ r. r ≡ ((project.now, of.now), (project.now, of.now.name))) }
 {
-    let name = both(project.copy(alloc), of.name.copy(alloc));
-    both(about(alloc, project, of), name)
+    let name = zip_or_drop(project.copy(alloc), of.name.copy(alloc));
+    zip_or_drop(project_and_target(alloc, project, of), name)
 }
 
 /// An operation whose claimed row replaces an instance.
-pub(crate) fn replacement(
+pub(crate) fn replacing_task(
     deed: Deed,
     replaced: ((Text, Target), (Text, Text)),
     row: Instance,

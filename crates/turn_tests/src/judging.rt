@@ -1,8 +1,8 @@
 //! What has to stand after each turn.
 
 use crate::server::Server;
-use crate::sums::{Sums, claim_sums, project_named, sums_of};
 use operations::Operation;
+use plain_sums::{Sums, claim_sums, project_named, sums_of};
 use records::{LimitKeyName, Project, Reply, UsageLine};
 use reservations::Hold;
 use rest_routes::Router;

@@ -13,5 +13,3 @@ mod judging;
 mod random_runs;
 #[cfg(test)]
 mod server;
-#[cfg(test)]
-mod sums;

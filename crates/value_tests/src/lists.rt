@@ -58,7 +58,7 @@ fn texts_keep_their_bytes(rt: HostRuntime) {
 }
 
 /// Adds an item to a vector, once there is room for it.
-fn push(items: &mut Vec<u8>, item: u8) -> bool {
+fn push_with_room(items: &mut Vec<u8>, item: u8) -> bool {
     if items.reserve(1).is_err() {
         return false;
     }
@@ -69,9 +69,9 @@ fn push(items: &mut Vec<u8>, item: u8) -> bool {
 /// Whether items that are put into a vector with room stand there in their order.
 fn is_pushed_in_order(alloc: Global) -> bool {
     let mut items: Vec<u8> = Vec::new(alloc);
-    let is = push(&mut items, 7)
-        && push(&mut items, 3)
-        && push(&mut items, 9)
+    let is = push_with_room(&mut items, 7)
+        && push_with_room(&mut items, 3)
+        && push_with_room(&mut items, 9)
         && items.as_slice() == [7, 3, 9].as_slice();
     drop(items);
     is
@@ -120,7 +120,7 @@ fn lists_keep_their_order(rt: HostRuntime) {
 }
 
 /// An entry of kind 1, with the key `lab` and the body `{}`.
-fn lab(alloc: Global) -> Result<Entry, NoMemory> {
+fn lab_entry(alloc: Global) -> Result<Entry, NoMemory> {
     let key = Text::from_text(alloc, "lab")?;
     let body = Seq::of_bytes(alloc, b"{}")?;
     Ok(Entry { kind: 1, key, body })
@@ -145,7 +145,7 @@ fn is_lab_copied(alloc: Global, entry: &Entry) -> bool {
 }
 
 fn is_entry_copied(alloc: Global) -> bool {
-    let Ok(entry) = lab(alloc) else {
+    let Ok(entry) = lab_entry(alloc) else {
         return false;
     };
     let is = is_lab(&entry) && is_lab_copied(alloc, &entry);

@@ -1,5 +1,7 @@
-//! Tests of the crate `run_words`, over its public calls. There is nothing else here.
+//! Tests of the crates `run_words` and `serve_words`, over their public calls. There is nothing else here.
 #![tactic(auto)]
 
+#[cfg(test)]
+mod serving;
 #[cfg(test)]
 mod tables;

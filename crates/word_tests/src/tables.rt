@@ -1,5 +1,5 @@
 //! Lists of words, each with what it says.
-use run_words::{Pace, RunWords, read_words, setup_of};
+use run_words::{CommandWords, Pace, RunWords, read_words, setup_of};
 use size_values::NoMemory;
 use std::alloc::Global;
 
@@ -10,7 +10,7 @@ const PLAIN: RunWords = RunWords {
     boot: None,
 };
 
-/// Lists of words that list no calls, and what they say of the run.
+/// Lists of words of `run` that name no file and list no calls, and what they say of the run.
 const SAID: &[(&[&str], RunWords)] = &[
     (&["run"], PLAIN),
     (
@@ -38,13 +38,6 @@ const SAID: &[(&[&str], RunWords)] = &[
         &["run", "--now=253402300799"],
         RunWords {
             now: Some(253_402_300_799),
-            ..PLAIN
-        },
-    ),
-    (
-        &["run", "--now=00000000000000000005"],
-        RunWords {
-            now: Some(5),
             ..PLAIN
         },
     ),
@@ -143,6 +136,75 @@ const SAID: &[(&[&str], RunWords)] = &[
             ..PLAIN
         },
     ),
+    (
+        &["run", "--steps=all", "--boot", "9", "--now", "5"],
+        RunWords {
+            now: Some(5),
+            boot: Some(9),
+            ..PLAIN
+        },
+    ),
+];
+
+/// The greatest number of 64 bits.
+const GREATEST: u64 = u64::MAX;
+
+/// Lists of words of the other commands, what they say, and the file that they name.
+const OTHERS: &[(&[&str], CommandWords, &str)] = &[
+    (
+        &["make", "7", "40"],
+        CommandWords::Make { seed: 7, count: 40 },
+        "",
+    ),
+    (
+        &["make", "0", "0"],
+        CommandWords::Make { seed: 0, count: 0 },
+        "",
+    ),
+    (
+        &["make", "18446744073709551615", "10000"],
+        CommandWords::Make {
+            seed: GREATEST,
+            count: 10_000,
+        },
+        "",
+    ),
+    (
+        &["drill", "7", "40"],
+        CommandWords::Drill { seed: 7, count: 40 },
+        "",
+    ),
+    (
+        &["drill", "7", "40", "--db", "rows"],
+        CommandWords::Drill { seed: 7, count: 40 },
+        "rows",
+    ),
+    (
+        &["drill", "7", "--db=rows", "40"],
+        CommandWords::Drill { seed: 7, count: 40 },
+        "rows",
+    ),
+    (
+        &["drill", "--db", "rows", "7", "40"],
+        CommandWords::Drill { seed: 7, count: 40 },
+        "rows",
+    ),
+    (&["check"], CommandWords::Check, ""),
+    (&["check", "--db", "rows"], CommandWords::Check, "rows"),
+    (&["check", "--db=rows"], CommandWords::Check, "rows"),
+];
+
+/// Values of `--db` that `run` takes. One that begins with `-` stands behind `=`.
+const PATHS: &[(&[&str], &str)] = &[
+    (&["run", "--db", "rows"], "rows"),
+    (&["run", "--db=rows"], "rows"),
+    (&["run", "--db", "run"], "run"),
+    (&["run", "--db", "a b/c=d"], "a b/c=d"),
+    (&["run", "--db=a=b"], "a=b"),
+    (&["run", "--db=-x"], "-x"),
+    (&["run", "--db=--steps"], "--steps"),
+    (&["run", "--db=-"], "-"),
+    (&["run", "--db=é"], "é"),
 ];
 
 /// The numbers from 1 to 64.
@@ -180,7 +242,7 @@ const LISTED: &[(&[&str], &[u64], &[u64])] = &[
     ),
     // The order of a list stays, and a number may come twice.
     (&["run", "--fail-host=3,1,3"], &[3, 1, 3], &[]),
-    (&["run", "--fail-keeper=007,1"], &[], &[7, 1]),
+    (&["run", "--fail-keeper=7,1"], &[], &[7, 1]),
     // The least and the greatest number, and the longest list.
     (&["run", "--fail-host=1"], &[1], &[]),
     (
@@ -198,18 +260,82 @@ const NOT_READ: &[&[&str]] = &[
     &[""],
     &["runs"],
     &["Run"],
+    // Help and version.
+    &["help"],
+    &["help", "run"],
     &["--help"],
-    &["make", "7", "40"],
-    &["drill", "7", "40"],
-    &["check"],
+    &["-h"],
+    &["--version"],
+    &["-V"],
+    &["run", "help"],
+    &["run", "--help"],
+    &["run", "--help=5"],
+    &["run", "-h"],
+    &["run", "--version"],
+    &["run", "-V"],
+    &["make", "--help"],
+    &["check", "-h"],
+    // A second command, or a word too many.
     &["run", "run"],
+    &["run", "check"],
+    &["check", "check"],
+    &["check", "run"],
+    &["make", "7", "40", "9"],
+    &["make", "7", "40", "check"],
+    &["drill", "7", "40", "--db", "rows", "9"],
+    // A number is missing, or is none in its range.
+    &["make"],
+    &["make", "7"],
+    &["drill"],
+    &["drill", "7", "--db", "rows"],
+    &["make", "", "40"],
+    &["make", "7", ""],
+    &["make", "x", "40"],
+    &["make", "7", "10001"],
+    &["make", "18446744073709551616", "40"],
+    &["make", "-7", "40"],
+    &["make", "+7", "40"],
+    &["make", "07", "40"],
+    &["make", "7", "040"],
+    &["drill", "7", "10001"],
+    &["drill", "00", "40"],
+    // The command does not have the option.
+    &["make", "7", "40", "--db", "rows"],
+    &["make", "--steps=3", "7", "40"],
+    &["drill", "7", "40", "--now=5"],
+    &["check", "--steps", "3"],
+    &["check", "--fail-host=2"],
+    // A sign that no option follows, or nothing but a dash.
+    &["--"],
+    &["-"],
+    &["--", "run"],
+    &["run", "--"],
+    &["run", "-"],
+    &["run", "--db", "-"],
+    &["run", "--db", "--"],
+    &["make", "--", "7", "40"],
+    &["make", "-", "40"],
+    &["drill", "7", "40", "--"],
+    // A short option, or a value that begins with a dash and stands alone.
+    &["run", "-s", "5"],
+    &["run", "-now", "5"],
+    &["run", "--db", "-x"],
+    &["run", "--db", "--steps"],
+    &["run", "--now", "-5"],
+    // No file, and calls of the keeper that fail beside a file.
+    &["run", "--db"],
+    &["run", "--db="],
+    &["run", "--db", ""],
+    &["check", "--db="],
+    &["drill", "7", "40", "--db"],
+    &["run", "--db=rows", "--fail-keeper=4"],
+    &["run", "--fail-keeper", "4", "--db", "rows"],
+    &["run", "--db=rows", "--db=rows"],
+    &["check", "--db", "rows", "--db", "rows"],
     &["run", ""],
     &["run", "5"],
-    &["run", "--help"],
-    &["run", "--version"],
-    &["run", "--db", "rows"],
-    &["run", "--db=rows"],
     &["run", "--boots", "5"],
+    &["run", "--bo", "5"],
     // The option stands before the command.
     &["--now=5", "run"],
     &["--fail-host", "2", "run"],
@@ -257,9 +383,13 @@ const NOT_READ: &[&[&str]] = &[
     &["run", "--boot", "99999999999999999999"],
     &["run", "--fail-host=18446744073709551616"],
     &["run", "--fail-keeper", "1,18446744073709551616"],
-    // Its value has more than twenty digits, or is no number.
-    &["run", "--now=000000000000000000005"],
+    // Its value has a zero in front, or is no number.
+    &["run", "--now=00"],
+    &["run", "--now=05"],
     &["run", "--boot=000000000000000000005"],
+    &["run", "--steps", "007"],
+    &["run", "--fail-host=02"],
+    &["run", "--fail-keeper=7,01"],
     &["run", "--now=+5"],
     &["run", "--now=-5"],
     &["run", "--now= 5"],
@@ -299,6 +429,11 @@ const NOT_READ: &[&[&str]] = &[
     &["run", "=5"],
 ];
 
+/// What words say of a run.
+const fn a_run(says: RunWords) -> Option<CommandWords> {
+    Some(CommandWords::Run(says))
+}
+
 fn owned(alloc: Global, words: &[&str]) -> Result<Vec<String>, NoMemory> {
     let mut owned = Vec::new(alloc);
     for word in words {
@@ -307,28 +442,39 @@ fn owned(alloc: Global, words: &[&str]) -> Result<Vec<String>, NoMemory> {
     Ok(owned)
 }
 
-/// Whether the calls that fail are these of the host and these of the keeper.
-fn are_listed(alloc: Global, words: &[String], host: &[u64], keeper: &[u64]) -> bool {
+/// Whether the file is this one, and the calls that fail are these of the host and these of the keeper.
+fn are_listed(alloc: Global, words: &[String], db: &str, host: &[u64], keeper: &[u64]) -> bool {
     let Ok(setup) = setup_of(alloc, words) else {
         return false;
     };
-    let are = setup.fail_host.view() == host && setup.fail_keeper.view() == keeper;
+    let are = setup.db.view() == db
+        && setup.fail_host.view() == host
+        && setup.fail_keeper.view() == keeper;
     drop(setup);
     are
 }
 
-/// Whether words say this of the run, and list these calls.
+/// Whether words are read so, or not at all.
+fn are_read(alloc: Global, words: &[String], says: Option<CommandWords>) -> bool {
+    match read_words(alloc, words) {
+        Ok(said) => said == says,
+        Err(NoMemory) => false,
+    }
+}
+
+/// Whether words say this, name this file, and list these calls.
 fn is_said(
     alloc: Global,
     words: &[&str],
-    says: Option<RunWords>,
+    says: Option<CommandWords>,
+    db: &str,
     host: &[u64],
     keeper: &[u64],
 ) -> bool {
     let Ok(words) = owned(alloc, words) else {
         return false;
     };
-    let is = read_words(&words) == says && are_listed(alloc, &words, host, keeper);
+    let is = are_read(alloc, &words, says) && are_listed(alloc, &words, db, host, keeper);
     drop(words);
     is
 }
@@ -337,7 +483,27 @@ fn is_said(
 fn words_say_how_to_run(rt: HostRuntime) {
     for (words, says) in SAID {
         assert!(rt;
-            is_said(rt.alloc(), words, Some(*says), &[], &[]),
+            is_said(rt.alloc(), words, a_run(*says), "", &[], &[]),
+            "{words:?}"
+        );
+    }
+}
+
+#[test]
+fn words_name_other_commands(rt: HostRuntime) {
+    for (words, says, db) in OTHERS {
+        assert!(rt;
+            is_said(rt.alloc(), words, Some(*says), db, &[], &[]),
+            "{words:?}"
+        );
+    }
+}
+
+#[test]
+fn words_name_a_file(rt: HostRuntime) {
+    for (words, db) in PATHS {
+        assert!(rt;
+            is_said(rt.alloc(), words, a_run(PLAIN), db, &[], &[]),
             "{words:?}"
         );
     }
@@ -347,7 +513,7 @@ fn words_say_how_to_run(rt: HostRuntime) {
 fn words_list_the_calls_that_fail(rt: HostRuntime) {
     for (words, host, keeper) in LISTED {
         assert!(rt;
-            is_said(rt.alloc(), words, Some(PLAIN), host, keeper),
+            is_said(rt.alloc(), words, a_run(PLAIN), "", host, keeper),
             "{words:?}"
         );
     }
@@ -356,6 +522,6 @@ fn words_list_the_calls_that_fail(rt: HostRuntime) {
 #[test]
 fn other_words_are_not_read(rt: HostRuntime) {
     for words in NOT_READ {
-        assert!(rt; is_said(rt.alloc(), words, None, &[], &[]), "{words:?}");
+        assert!(rt; is_said(rt.alloc(), words, None, "", &[], &[]), "{words:?}");
     }
 }

@@ -21,7 +21,7 @@ use Rattle.row_machine.specs.declared.events.Fetched.TheVariants as fetched
 use Rattle.row_machine.specs.machine.Task.{Task}
 use Rattle.row_machine.specs.machine.State.{State}
 use Rattle.row_machine.specs.machine.Accept.{After}
-use Rattle.row_machine.specs.machine.Refusals.{plainly}
+use Rattle.row_machine.specs.machine.Refusals.{plain_refusal}
 use Rattle.row_machine.specs.machine.Step.{well, keeper_failed, step}
 use Rattle.row_machine.specs.machine.Runs.{run}
 use Rattle.row_machine.specs.examples.Scenes.{Events, default, named, no_body, make_pool, put_default, make_instance}
@@ -81,7 +81,7 @@ starting =
 -- A change at once is refused and changes nothing; an operation fails at its last report, and no row is put. A start
 -- commits nothing, so that the store cannot fail there.
 pub record StoreFails (rise : Rise) : Type 0 where
-  pub at_once : last_refusal (ask_in_vain new_project rise) ≡ Some (plainly rule.K1)
+  pub at_once : last_refusal (ask_in_vain new_project rise) ≡ Some (plain_refusal rule.K1)
   pub nothing_changed : state_after (ask_in_vain new_project rise) ≡ Some begin
   pub at_an_end : last_answer (half_made ++ done_in_vain 1 rise) ≡ Some (answer.Ended 1)
   pub status : status_after (half_made ++ done_in_vain 1 rise) 1 ≡ Some status.Failure

@@ -20,9 +20,9 @@ use Rattle.row_machine.specs.declared.events.Answer.{Answer}
 use Rattle.row_machine.specs.declared.events.Answer.TheVariants as answer
 use Rattle.row_machine.specs.machine.Task.{Task}
 use Rattle.row_machine.specs.machine.State.{State}
-use Rattle.row_machine.specs.machine.Refusals.{untold, on_project, on_key_of, on_object}
+use Rattle.row_machine.specs.machine.Refusals.{nothing_told, on_project, on_key_of, on_object}
 use Rattle.row_machine.specs.machine.Plans.{snapshot_target}
-use Rattle.row_machine.specs.machine.Tasks.{deletion}
+use Rattle.row_machine.specs.machine.Tasks.{deletion_task}
 use Rattle.row_machine.specs.machine.Work.{entered}
 use Rattle.row_machine.specs.machine.Runs.{run}
 use Rattle.row_machine.specs.facts.Whole.{IsWhole}
@@ -133,8 +133,10 @@ setting_of key value = (key, value) ∷ []
 
 -- a refusal by a limit of `lab`
 abbrev pub over_limit : Rule → List ℕ → ℕ → ℕ → ℕ → Refusal
-over_limit why key used asked limit =
-    record { rule = why; kept = record untold { asked = asked; key = key; limit = limit; project = lab; used = used } }
+over_limit why key used asked limit = record {
+  rule = why;
+  kept = record nothing_told { asked = asked; key = key; limit = limit; project = lab; used = used };
+}
 
 -- two instances may be there: one is made, one is claimed by an operation that waits
 abbrev pub two_of_two : Events
@@ -266,7 +268,7 @@ enlarged = put_profile default small (memory (codes "1GiB")) []
 -- while an operation claims a row with the profile, it is held; then it changes, and what it counts for with it
 pub record ProfilesAreHeld : Type 0 where
   pub held : last_refusal (small_is_held ++ enlarged)
-      ≡ Some (record { rule = rule.B6; kept = record untold { name = small; number = 1 } })
+      ≡ Some (record { rule = rule.B6; kept = record nothing_told { name = small; number = 1 } })
   pub free : last_answer (small_is_held ++ work_twice 1 ++ enlarged) ≡ Some (answer.Reply reply.Empty)
   pub used : option_map (λ u. u.memory) (usage_after (small_is_held ++ work_twice 1 ++ enlarged) default)
       ≡ Some 1073741824
@@ -300,7 +302,7 @@ delete_instance project name = ask project (what.Delete (named kind.Instance nam
 -- an ephemeral instance that stops goes with its snapshots; while it runs it is not deleted
 pub record EphemeralGoes : Type 0 where
   pub running : last_refusal (running_e ++ delete_instance default e)
-      ≡ Some (record { rule = rule.B2; kept = record untold { key = codes "Running"; name = e } })
+      ≡ Some (record { rule = rule.B2; kept = record nothing_told { key = codes "Running"; name = e } })
   pub instances : option_map (λ s. s.instances) (state_after stopped_e) ≡ Some []
   pub snapshots : option_map (λ s. s.snapshots) (state_after stopped_e) ≡ Some []
   pub used : usage_after stopped_e default ≡ Some nothing
@@ -424,7 +426,7 @@ pub record CancelUndoes : Type 0 where
   pub undone : status_after (crossing ++ done 1 ++ done 1) 1 ≡ Some status.Cancelled
   pub no_row : option_map (λ s. s.instances) (state_after (crossing ++ done 1 ++ done 1)) ≡ Some []
   pub ended : last_refusal (crossing ++ done 1 ++ done 1 ++ cancel 1)
-      ≡ Some (record { rule = rule.O1; kept = record untold { key = codes "Cancelled"; number = 1 } })
+      ≡ Some (record { rule = rule.O1; kept = record nothing_told { key = codes "Cancelled"; number = 1 } })
 
 -- ---- a deletion whose target is a snapshot
 
@@ -442,7 +444,8 @@ snapshot_of_s =
 
 -- and a deletion is entered whose target is the snapshot `s` of `a`; no command makes such a one
 abbrev pub astray : Option State
-astray = option_map (λ before. entered before (deletion default (snapshot_target a s)) 0) (state_after snapshot_of_s)
+astray =
+    option_map (λ before. entered before (deletion_task default (snapshot_target a s)) 0) (state_after snapshot_of_s)
 
 -- the state after that deletion
 abbrev pub gone_astray : Option State

@@ -10,7 +10,7 @@ use Rattle.row_machine.specs.declared.events.Answer.TheVariants as answer
 use Rattle.row_machine.specs.machine.Task.{Task}
 use Rattle.row_machine.specs.machine.State.{State}
 use Rattle.row_machine.specs.machine.Accept.{After}
-use Rattle.row_machine.specs.machine.Tasks.{deletion}
+use Rattle.row_machine.specs.machine.Tasks.{deletion_task}
 use Rattle.row_machine.specs.machine.Work.{entered}
 use Rattle.row_machine.specs.shown.Notices.{success_notices}
 use Rattle.row_machine.specs.machine.Step.{Outcome, step}
@@ -59,7 +59,7 @@ NewIsWhole = IsWhole (with_rows first_rows)
 -- an operation that deletes what is no instance leaves no state in which all facts hold
 abbrev pub DeletesInstances : Type 0
 DeletesInstances = (s : State) (project : List ℕ) (of : Target) (moment : ℕ) →
-    of.kind ≢ kind.Instance → IsWhole (entered s (deletion project of) moment) → ⊥
+    of.kind ≢ kind.Instance → IsWhole (entered s (deletion_task project of) moment) → ⊥
 
 -- a notice of another moment
 abbrev pub at_moment : ℕ → Untold → Untold

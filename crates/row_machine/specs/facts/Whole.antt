@@ -36,7 +36,7 @@ use Rattle.row_machine.specs.machine.Kinds.{cap_of}
 use Rattle.row_machine.specs.opening.Records.{rows_of}
 use Rattle.row_machine.specs.machine.Work.{project_of_task}
 use Rattle.row_machine.specs.shown.Notices.{kept_notices}
-use Rattle.row_machine.specs.opening.Opening.{has_all_features, missettled, misdeviced, homeless}
+use Rattle.row_machine.specs.opening.Opening.{has_all_features, settings_invalid, devices_invalid, home_missing}
 
 -- ---- words
 
@@ -102,7 +102,7 @@ pub record IsPlaced (s : State) (task : Task) : Type 0 where
   pub target : has_target task.deed ≡ true → instance_there s task.project task.target
   pub source : (of : Target) → task.source ≡ Some of → is_there s task.project of ≡ true
   pub claim_project : (r : Row) → task.claim ≡ Some r → project_of_row r ≡ task.project
-  pub claim_home : (r : Row) → task.claim ≡ Some r → homeless s r ≡ None
+  pub claim_home : (r : Row) → task.claim ≡ Some r → home_missing s r ≡ None
   pub pool : (r : Row) → task.claim ≡ Some r → (target_of r).kind ≡ kind.Volume
       → is_some (pool_named s.pools (target_of r).pool) ≡ true
   pub instance : (r : Row) → task.claim ≡ Some r → (target_of r).kind ≡ kind.Snapshot
@@ -111,7 +111,7 @@ pub record IsPlaced (s : State) (task : Task) : Type 0 where
 
 -- all that rows, claims and operations name exists
 pub record AreLinked (s : State) : Type 0 where
-  pub homes : Each (λ r. homeless s r ≡ None) (rows_of s)
+  pub homes : Each (λ r. home_missing s r ≡ None) (rows_of s)
   pub volumes : Each (λ v. is_some (pool_named s.pools v.pool) ≡ true) s.volumes
   pub snapshots : Each (λ r. is_some (instance_named s.instances r.project r.instance) ≡ true) s.snapshots
   pub snapshot_profiles : Each (λ r. are_profiles r.profiles ≡ true) (s.snapshots ++ of_live claimed_snapshot s)
@@ -131,8 +131,8 @@ pub record HasDefaults (s : State) : Type 0 where
 
 -- the tables accept each row but snapshots, and each claimed row; each instance has exactly one root disk
 pub record AreSettled (s : State) : Type 0 where
-  pub settings : Each (λ r. missettled s r ≡ None) (rows_of s ++ claims_of s)
-  pub devices : Each (λ r. misdeviced s r ≡ None) (rows_of s ++ claims_of s)
+  pub settings : Each (λ r. settings_invalid s r ≡ None) (rows_of s ++ claims_of s)
+  pub devices : Each (λ r. devices_invalid s r ≡ None) (rows_of s ++ claims_of s)
   pub roots : Each (λ i. root_missing s i ≡ None) (judged_instances s)
 
 -- ---- 5: operations

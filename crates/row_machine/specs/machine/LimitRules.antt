@@ -5,7 +5,7 @@ use Rattle.row_machine.specs.Words.{first, first_of, amount_above, Part, LimitKe
 use Rattle.row_machine.specs.Words.{Memory, Processes, Disk, Networks, Over, SumKey, over, limit_on, parts}
 use Rattle.row_machine.specs.Words.{first_uncounted, volume_uncounted, limits_of, Rule, Refusal, Rule as rule}
 use Rattle.row_machine.specs.Words.{SumKey as sum, key_of_part, Project, Volume, Instance}
-use Rattle.row_machine.specs.Estate.{Task, State, expanded_of, untold, on_key_of}
+use Rattle.row_machine.specs.Estate.{Task, State, expanded_of, nothing_told, on_key_of}
 use Rattle.row_machine.specs.Readings.{claimed_instance, claimed_volume, used, networks_of}
 
 -- the rule by which a limit refuses, and its key
@@ -36,17 +36,17 @@ sum_text sum.Memory = limit_text Memory
 sum_text sum.Processes = limit_text Processes
 sum_text sum.Disk = limit_text Disk
 
-abbrev pub uncounted : Project → List ℕ → Option SumKey → Option Refusal
-uncounted p name key = option_map (λ k. on_key_of rule.L0 (sum_text k) name p.name) key
+abbrev pub object_uncounted : Project → List ℕ → Option SumKey → Option Refusal
+object_uncounted p name key = option_map (λ k. on_key_of rule.L0 (sum_text k) name p.name) key
 
 unfoldable pub instance_uncounted : State → Project → Instance → Option Refusal
 instance_uncounted s p i =
-    uncounted p i.name (first_uncounted (limits_of p.config) i.kind expanded.config expanded.devices) where
+    object_uncounted p i.name (first_uncounted (limits_of p.config) i.kind expanded.config expanded.devices) where
       expanded : Expanded
       expanded = expanded_of s.projects s.profiles i
 
 unfoldable pub volume_uncounts : Project → Volume → Option Refusal
-volume_uncounts p v = uncounted p v.name (volume_uncounted (limits_of p.config) v.config)
+volume_uncounts p v = object_uncounted p v.name (volume_uncounted (limits_of p.config) v.config)
 
 abbrev pub claim_uncounted : State → Project → Task → Option Refusal
 claim_uncounted s p task = first
@@ -69,20 +69,27 @@ counts_broken s = first_of (project_uncounted s) s.projects
 abbrev pub over_refusal : Project → Over → Refusal
 over_refusal p o = record {
   rule = limit_rule o.key;
-  kept = record untold { asked = o.asked; key = limit_text o.key; limit = o.limit; project = p.name; used = o.used };
+  kept = record nothing_told {
+    asked = o.asked;
+    key = limit_text o.key;
+    limit = o.limit;
+    project = p.name;
+    used = o.used;
+  };
 }
 
 -- Of one number: what is used before, and what the change asks for above it, together exceed the limit.
-abbrev pub exceeds : Project → LimitKey → Option ℕ → ℕ → ℕ → Option Refusal
-exceeds p key limit before after = option_map (over_refusal p) (over key limit before (amount_above after before))
+abbrev pub limit_exceeded : Project → LimitKey → Option ℕ → ℕ → ℕ → Option Refusal
+limit_exceeded p key limit before after =
+    option_map (over_refusal p) (over key limit before (amount_above after before))
 
 unfoldable pub part_exceeds : State → State → Part → Project → Option Refusal
 part_exceeds s after k p =
-    exceeds p (key_of_part k) (limit_on k (limits_of p.config)) (used s p.name k) (used after p.name k)
+    limit_exceeded p (key_of_part k) (limit_on k (limits_of p.config)) (used s p.name k) (used after p.name k)
 
 unfoldable pub networks_exceed : State → State → Project → Option Refusal
 networks_exceed s after p =
-    exceeds p Networks (limits_of p.config).networks (networks_of s p.name) (networks_of after p.name)
+    limit_exceeded p Networks (limits_of p.config).networks (networks_of s p.name) (networks_of after p.name)
 
 -- L1 to L8: the first limit that is exceeded, and the first project at which it is. The limits are those after the
 -- change.

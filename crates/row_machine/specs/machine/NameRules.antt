@@ -82,12 +82,12 @@ what_is_missing s project (what.Wait op timeout) = operation_missing s op
 what_is_missing s project other = option_and_then (object_missing s project) (object_of other)
 
 -- N3: the new name is malformed.
-abbrev pub malformed : Target → Option Refusal
-malformed of = if good_name_of of.kind of.name then None else Some (on_object rule.N3 of.kind of.name)
+abbrev pub name_malformed : Target → Option Refusal
+name_malformed of = if good_name_of of.kind of.name then None else Some (on_object rule.N3 of.kind of.name)
 
 -- N4: an object has the new name.
-abbrev pub taken : State → List ℕ → Target → Option Refusal
-taken s project of = if is_there s project of then Some (on_object rule.N4 of.kind of.name) else None
+abbrev pub name_taken : State → List ℕ → Target → Option Refusal
+name_taken s project of = if is_there s project of then Some (on_object rule.N4 of.kind of.name) else None
 
 abbrev pub same_target : Target → Target → Bool
 same_target a b =
@@ -99,11 +99,11 @@ claims_object home of task =
     option_map_or (λ new. bytes_eq (project_of_row new) home && same_target (target_of new) of) task.claim false
 
 -- N5: a live operation claims the new name.
-abbrev pub held : State → List ℕ → Target → Option Refusal
-held s project of =
+abbrev pub name_held : State → List ℕ → Target → Option Refusal
+name_held s project of =
     option_map (λ o. on_held rule.N5 of.kind of.name o.number)
     (find (λ o. claims_object (home_of s.projects project of.kind) of o.work) s.operations.live)
 
 -- what is wrong with a new name
 unfoldable pub name_broken : State → List ℕ → Target → Option Refusal
-name_broken s project of = first (malformed of ∷ taken s project of ∷ held s project of ∷ [])
+name_broken s project of = first (name_malformed of ∷ name_taken s project of ∷ name_held s project of ∷ [])

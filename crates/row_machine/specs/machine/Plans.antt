@@ -8,8 +8,9 @@ use Rattle.row_machine.specs.Estate.{Task, State, default_name, project_named, p
 use Rattle.row_machine.specs.Estate.{volume_named, instance_named, snapshot_named, home_of, is_on}
 use Rattle.row_machine.specs.Readings.{removal, rows_put, with_name}
 use Rattle.row_machine.specs.machine.NameRules.{volume_source}
-use Rattle.row_machine.specs.machine.Tasks.{creation, copy, volume_copy, snapshot_creation, update, restoring, renaming}
-use Rattle.row_machine.specs.machine.Tasks.{deletion, snapshot_deletion, acting}
+use Rattle.row_machine.specs.machine.Tasks.{creation_task, copy, volume_copy, snapshot_creation, update_task}
+use Rattle.row_machine.specs.machine.Tasks.{restore_task, rename_task}
+use Rattle.row_machine.specs.machine.Tasks.{deletion_task, snapshot_deletion, act_task}
 use Rattle.row_machine.specs.machine.NewRows as new
 
 pub data Plan : Type 0 where
@@ -77,7 +78,7 @@ copy_from s project of body moment from snapshot = if_there by_instance (instanc
 abbrev pub instance_creation : State → List ℕ → Target → Body → ℕ → Origin → Plan
 instance_creation s project of body moment (origin.Copy from snapshot pool) =
     copy_from s project of body moment from snapshot
-instance_creation s project of body moment other = starts (creation project of body moment)
+instance_creation s project of body moment other = starts (creation_task project of body moment)
 
 -- a new volume: a copy in the background, or at once
 abbrev pub volume_creation : State → List ℕ → Target → Body → ℕ → Origin → Plan
@@ -128,7 +129,7 @@ plan_put s project of body (row.Profile r) = changes (put_all (row.Profile (new.
 plan_put s project of body (row.Network r) = changes (put_all (row.Network (new.put_network r body) ∷ []))
 plan_put s project of body (row.Pool r) = changes (put_all (row.Pool (new.put_pool r body) ∷ []))
 plan_put s project of body (row.Volume r) = changes (put_all (row.Volume (new.put_volume r body) ∷ []))
-plan_put s project of body (row.Instance i) = starts (update s project of (new.put_instance i body))
+plan_put s project of body (row.Instance i) = starts (update_task s project of (new.put_instance i body))
 plan_put s project of body (row.Snapshot r) = nothing
 
 -- PATCH: at once, of an instance too
@@ -148,19 +149,19 @@ plan_move s project of to (row.Profile r) = changes (moved_row (row.Profile r) (
 plan_move s project of to (row.Network r) = changes (moved_row (row.Network r) (row.Network (record r { name = to })))
 plan_move s project of to (row.Pool r) = nothing
 plan_move s project of to (row.Volume r) = changes (moved_row (row.Volume r) (row.Volume (record r { name = to })))
-plan_move s project of to (row.Instance i) = starts (renaming project of to i)
+plan_move s project of to (row.Instance i) = starts (rename_task project of to i)
 plan_move s project of to (row.Snapshot r) = nothing
 
 -- DELETE: of an instance or a snapshot a background operation
 abbrev pub plan_delete : State → List ℕ → Target → Row → Plan
 plan_delete s project of (row.Project r) = changes (project_deletion s r)
-plan_delete s project of (row.Instance i) = starts (deletion project of)
+plan_delete s project of (row.Instance i) = starts (deletion_task project of)
 plan_delete s project of (row.Snapshot r) = starts (snapshot_deletion project of)
 plan_delete s project of other = changes (removal other ∷ [])
 
 abbrev pub plan_restore : State → List ℕ → Target → List ℕ → Instance → Plan
 plan_restore s project of snapshot i =
-    if_there (λ r. starts (restoring project of i r)) (snapshot_named s.snapshots project of.name snapshot)
+    if_there (λ r. starts (restore_task project of i r)) (snapshot_named s.snapshots project of.name snapshot)
 
 -- What a command makes of the state, where no rule is broken. Reads, cancels and waits change no row and begin nothing.
 unfoldable pub plan_of : State → Command → ℕ → Plan
@@ -172,7 +173,7 @@ plan_of s c moment = plan c.what where
   plan (what.Move of to) = if_there (plan_move s c.project of to) (row_of s c.project of)
   plan (what.Delete of) = if_there (plan_delete s c.project of) (row_of s c.project of)
   plan (what.Act of action) =
-      if_there (λ i. starts (acting s c.project of action i)) (instance_named s.instances c.project of.name)
+      if_there (λ i. starts (act_task s c.project of action i)) (instance_named s.instances c.project of.name)
   plan (what.Restore of snapshot) =
       if_there (plan_restore s c.project of snapshot) (instance_named s.instances c.project of.name)
   plan other = nothing

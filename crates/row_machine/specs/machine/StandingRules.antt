@@ -6,18 +6,18 @@ use Rattle.row_machine.specs.Words.{Stopped, Frozen, Error, Deed, ObjectKind, Se
 use Rattle.row_machine.specs.Words.{Target, Command, What, Deed as deed, ObjectKind as kind, Rule as rule, What as what}
 use Rattle.row_machine.specs.Words.{Project}
 use Rattle.row_machine.specs.Estate.{State, default_name, project_named, instance_named, is_standing, home_of, is_on}
-use Rattle.row_machine.specs.Estate.{expanded_of, kind_text, untold, on_name, on_object, is_of_kind}
+use Rattle.row_machine.specs.Estate.{expanded_of, kind_text, nothing_told, on_name, on_object, is_of_kind}
 use Rattle.row_machine.specs.Readings.{power_line, busy_with, holder_of, first_user_of, instance_changed, is_parting}
 use Rattle.row_machine.specs.machine.NewRows.{put_project, patched_project}
 
-abbrev pub busy : State → List ℕ → List ℕ → Option Refusal
-busy s project name =
-    option_map (λ o. record { rule = rule.B1; kept = record untold { name = name; number = o.number } })
+abbrev pub named_instance_busy : State → List ℕ → List ℕ → Option Refusal
+named_instance_busy s project name =
+    option_map (λ o. record { rule = rule.B1; kept = record nothing_told { name = name; number = o.number } })
     (busy_with s project name)
 
 -- B1: the instance that a command would change or copy from is busy.
 unfoldable pub instance_busy : State → Command → Option Refusal
-instance_busy s c = option_and_then (busy s c.project) (instance_changed c.what)
+instance_busy s c = option_and_then (named_instance_busy s c.project) (instance_changed c.what)
 
 abbrev pub power_text : Power → List ℕ
 power_text power = (power_line power).text
@@ -40,7 +40,7 @@ deed_asked other = None
 abbrev pub in_wrong_state : Deed → List ℕ → Power → Option Refusal
 in_wrong_state does name power =
     if is_allowed does power then None
-    else Some (record { rule = rule.B2; kept = record untold { key = power_text power; name = name } })
+    else Some (record { rule = rule.B2; kept = record nothing_told { key = power_text power; name = name } })
 
 -- B2: the status of the instance does not allow what a command asks for.
 unfoldable pub wrong_state : State → Command → Option Refusal
@@ -113,7 +113,7 @@ used_by_first s c of =
     option_map used_by (first_user_of s (home_of s.projects c.project of.kind) of) where
       used_by : List ℕ → Refusal
       used_by link =
-          record { rule = rule.B4; kept = record untold { key = link; kind = kind_text of.kind; name = of.name } }
+          record { rule = rule.B4; kept = record nothing_told { key = link; kind = kind_text of.kind; name = of.name } }
 
 -- B4: the object that a command renames or deletes has a user.
 unfoldable pub object_used : State → Command → Option Refusal
@@ -141,7 +141,7 @@ project_occupied s c =
 abbrev pub held_profile : State → Command → Target → Option Refusal
 held_profile s c of =
     if is_of_kind kind.Profile of
-    then option_map (λ o. record { rule = rule.B6; kept = record untold { name = of.name; number = o.number } })
+    then option_map (λ o. record { rule = rule.B6; kept = record nothing_told { name = of.name; number = o.number } })
     (holder_of s (home_of s.projects c.project kind.Profile) of.name)
     else None
 

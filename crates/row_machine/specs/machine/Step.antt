@@ -4,7 +4,7 @@ use Rattle.row_machine.specs.Words.{ℕ, true, List, [], Option, Some, None, fin
 use Rattle.row_machine.specs.Words.{OpFault, Status, Cancelling, is_pending, live_at, Command, Filter, Refusal}
 use Rattle.row_machine.specs.Words.{Report as report, Rule as rule, Reply as reply, Operation, OpFault as fault}
 use Rattle.row_machine.specs.Words.{RowChange, Event, Event as event, Answer, Answer as answer}
-use Rattle.row_machine.specs.Estate.{Task, State, plainly}
+use Rattle.row_machine.specs.Estate.{Task, State, plain_refusal}
 use Rattle.row_machine.specs.Doings.{Plan, changes, plan_of, telling, success_notices, since, with_task, moved}
 use Rattle.row_machine.specs.Doings.{handing_out, one_more_done, undone, succeeded, failed, cancelled, success_changes}
 use Rattle.row_machine.specs.machine.Rules.{broken}
@@ -18,7 +18,7 @@ pub data Outcome : Type 0 where
 
 -- the store is asked for changes at once alone
 abbrev pub unavailable : State → Plan → Option After
-unavailable s (changes cs) = Some (and_then (answer.Reply (reply.Refused (plainly rule.K1))) s)
+unavailable s (changes cs) = Some (and_then (answer.Reply (reply.Refused (plain_refusal rule.K1))) s)
 unavailable s other = None
 
 abbrev pub asked : State → Command → ℕ → Outcome → Option Refusal → Option After

@@ -22,8 +22,8 @@ plain_task does project of calls = record {
 }
 
 -- an instance is made, from nothing or from an image
-abbrev pub creation : List ℕ → Target → Body → ℕ → Task
-creation project of body moment = record (plain_task deed.Create project of []) {
+abbrev pub creation_task : List ℕ → Target → Body → ℕ → Task
+creation_task project of body moment = record (plain_task deed.Create project of []) {
   calls = create_calls at (new.image_of body.origin);
   claim = Some (row.Instance (new.made_instance project of.name body moment));
   undo = Some (call.Clear at);
@@ -73,31 +73,31 @@ snapshot_creation project of moment i = record (plain_task deed.Snap project of 
   at = place_of project of.instance
 
 -- the instance as it stands is replaced by the claimed row
-abbrev pub replacement : Deed → List ℕ → Target → Instance → List HostCall → Task
-replacement does project of i calls =
+abbrev pub replacing_task : Deed → List ℕ → Target → Instance → List HostCall → Task
+replacing_task does project of i calls =
     record (plain_task does project of calls) { claim = Some (row.Instance i); replaces = Some (project, of.name) }
 
 -- the host is told what the changed instance has
-abbrev pub update : State → List ℕ → Target → Instance → Task
-update s project of i =
-    replacement deed.Update project of i
+abbrev pub update_task : State → List ℕ → Target → Instance → Task
+update_task s project of i =
+    replacing_task deed.Update project of i
     (call.Apply (place_of project of.name) (spec_of (expanded_of s.projects s.profiles i)) ∷ [])
 
 -- an instance is taken back to its snapshot
-abbrev pub restoring : List ℕ → Target → Instance → Snapshot → Task
-restoring project of i r =
-    replacement deed.Restore project of (new.restored_instance i r)
+abbrev pub restore_task : List ℕ → Target → Instance → Snapshot → Task
+restore_task project of i r =
+    replacing_task deed.Restore project of (new.restored_instance i r)
     (call.Restore (place_of project of.name) r.name ∷ [])
 
 -- an instance gets another name
-abbrev pub renaming : List ℕ → Target → List ℕ → Instance → Task
-renaming project of to i =
-    replacement deed.Rename project of (record i { name = to })
+abbrev pub rename_task : List ℕ → Target → List ℕ → Instance → Task
+rename_task project of to i =
+    replacing_task deed.Rename project of (record i { name = to })
     (call.Rename (place_of project of.name) (place_of project to) ∷ [])
 
 -- an instance is deleted
-abbrev pub deletion : List ℕ → Target → Task
-deletion project of = plain_task deed.Delete project of (call.Clear (place_of project of.name) ∷ [])
+abbrev pub deletion_task : List ℕ → Target → Task
+deletion_task project of = plain_task deed.Delete project of (call.Clear (place_of project of.name) ∷ [])
 
 -- a snapshot is deleted
 abbrev pub snapshot_deletion : List ℕ → Target → Task
@@ -105,7 +105,7 @@ snapshot_deletion project of =
     plain_task deed.Unsnap project of (call.Unsnap (place_of project of.instance) of.name ∷ [])
 
 -- the state of an instance is changed
-abbrev pub acting : State → List ℕ → Target → Action → Instance → Task
-acting s project of action i =
+abbrev pub act_task : State → List ℕ → Target → Action → Instance → Task
+act_task s project of action i =
     plain_task (deed.Act action i.ephemeral) project of
     (act_calls action i.ephemeral (place_of project of.name) (spec_of (expanded_of s.projects s.profiles i)))

@@ -23,11 +23,11 @@ claim_load s task = option_map (λ new. record { project = project_of_row new; a
 unfoldable pub loads : State → List Load
 loads s = map (instance_load s) s.instances ++ map volume_load s.volumes ++ of_live (claim_load s) s
 
-abbrev pub counted : List ℕ → Part → Load → ℕ
-counted project k load = if bytes_eq load.project project then part k load.amounts else 0
+abbrev pub amount_for : List ℕ → Part → Load → ℕ
+amount_for project k load = if bytes_eq load.project project then part k load.amounts else 0
 
 abbrev pub used : State → List ℕ → Part → ℕ
-used s project k = sum_by (counted project k) (loads s)
+used s project k = sum_by (amount_for project k) (loads s)
 
 unfoldable pub usage_of : State → List ℕ → Amounts
 usage_of s project = record {

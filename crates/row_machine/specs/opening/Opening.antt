@@ -76,71 +76,71 @@ abbrev pub if_so : Bool → Rule → Option Rule
 if_so breaks rule = if breaks then Some rule else None
 
 -- a row's project is missing, or is not its own home for rows of this kind
-abbrev pub homeless : State → Row → Option Rule
-homeless s r = if_so (is_homeless (target_of r).kind) rule.N1 where
-  is_homeless : ObjectKind → Bool
-  is_homeless kind.Project = false
-  is_homeless kind.Pool = false
-  is_homeless kind =
+abbrev pub home_missing : State → Row → Option Rule
+home_missing s r = if_so (lacks_home (target_of r).kind) rule.N1 where
+  lacks_home : ObjectKind → Bool
+  lacks_home kind.Project = false
+  lacks_home kind.Pool = false
+  lacks_home kind =
       is_none (project_named s.projects (project_of_row r))
       || not (bytes_eq (home_of s.projects (project_of_row r) kind) (project_of_row r))
 
 -- a volume's pool or a snapshot's instance is missing
-abbrev pub orphaned : State → Row → Option Rule
-orphaned s (row.Volume v) = if_so (is_none (pool_named s.pools v.pool)) rule.N2
-orphaned s (row.Snapshot r) = if_so (is_none (instance_named s.instances r.project r.instance)) rule.N2
-orphaned s other = None
+abbrev pub parent_row_missing : State → Row → Option Rule
+parent_row_missing s (row.Volume v) = if_so (is_none (pool_named s.pools v.pool)) rule.N2
+parent_row_missing s (row.Snapshot r) = if_so (is_none (instance_named s.instances r.project r.instance)) rule.N2
+parent_row_missing s other = None
 
 -- an instance or a snapshot names too many profiles, or one twice
-abbrev pub overnamed : State → Row → Option Rule
-overnamed s (row.Instance i) = if_so (not (are_profiles i.profiles)) rule.N3
-overnamed s (row.Snapshot r) = if_so (not (are_profiles r.profiles)) rule.N3
-overnamed s other = None
+abbrev pub profiles_malformed : State → Row → Option Rule
+profiles_malformed s (row.Instance i) = if_so (not (are_profiles i.profiles)) rule.N3
+profiles_malformed s (row.Snapshot r) = if_so (not (are_profiles r.profiles)) rule.N3
+profiles_malformed s other = None
 
 -- whether a project has every feature
 abbrev pub has_all_features : Project → Bool
 has_all_features p = list_all (is_on p.config) feature_keys
 
 -- the project `default` lacks a feature, or a project with profiles of its own has no profile `default`
-abbrev pub undefaulted : State → Row → Option Rule
-undefaulted s (row.Project p) =
+abbrev pub defaults_missing : State → Row → Option Rule
+defaults_missing s (row.Project p) =
     if_so
     ((bytes_eq p.name default_name && not (has_all_features p))
     || (is_on p.config (codes "features.profiles") && is_none (profile_named s.profiles p.name default_name)))
     rule.B3
-undefaulted s other = None
+defaults_missing s other = None
 
 -- the rule of a refusal
 abbrev pub rule_of : Option Refusal → Option Rule
 rule_of refusal = option_map (λ r. r.rule) refusal
 
 -- a setting is refused by the tables
-abbrev pub missettled : State → Row → Option Rule
-missettled s (row.Project r) = rule_of (tables_break r.config (project_fault r.config) [])
-missettled s (row.Profile r) = rule_of (tables_break r.config (instance_fault r.config scope.Any) [])
-missettled s (row.Network r) = rule_of (tables_break r.config (network_fault r.config) [])
-missettled s (row.Pool r) = rule_of (tables_break r.config (pool_fault r.config) [])
-missettled s (row.Volume r) = rule_of (tables_break r.config (volume_fault r.config) [])
-missettled s (row.Instance i) = rule_of (tables_break i.config (instance_fault i.config (scope_of i.kind)) [])
-missettled s (row.Snapshot r) = None
+abbrev pub settings_invalid : State → Row → Option Rule
+settings_invalid s (row.Project r) = rule_of (tables_break r.config (project_fault r.config) [])
+settings_invalid s (row.Profile r) = rule_of (tables_break r.config (instance_fault r.config scope.Any) [])
+settings_invalid s (row.Network r) = rule_of (tables_break r.config (network_fault r.config) [])
+settings_invalid s (row.Pool r) = rule_of (tables_break r.config (pool_fault r.config) [])
+settings_invalid s (row.Volume r) = rule_of (tables_break r.config (volume_fault r.config) [])
+settings_invalid s (row.Instance i) = rule_of (tables_break i.config (instance_fault i.config (scope_of i.kind)) [])
+settings_invalid s (row.Snapshot r) = None
 
 -- a device is refused by the tables
-abbrev pub misdeviced : State → Row → Option Rule
-misdeviced s (row.Profile r) = rule_of (tables_break [] None r.devices)
-misdeviced s (row.Instance i) = rule_of (tables_break [] None i.devices)
-misdeviced s other = None
+abbrev pub devices_invalid : State → Row → Option Rule
+devices_invalid s (row.Profile r) = rule_of (tables_break [] None r.devices)
+devices_invalid s (row.Instance i) = rule_of (tables_break [] None i.devices)
+devices_invalid s other = None
 
 -- an instance has not exactly one root disk
-abbrev pub rootless : State → Row → Option Rule
-rootless s (row.Instance i) = rule_of (root_missing s i)
-rootless s other = None
+abbrev pub root_disk_missing : State → Row → Option Rule
+root_disk_missing s (row.Instance i) = rule_of (root_missing s i)
+root_disk_missing s other = None
 
 -- what a profile or an instance names is missing
-abbrev pub unlinked : State → Row → Option Rule
-unlinked s (row.Profile r) = rule_of (devices_miss s r.project r.devices)
-unlinked s (row.Instance i) =
+abbrev pub named_row_missing : State → Row → Option Rule
+named_row_missing s (row.Profile r) = rule_of (devices_miss s r.project r.devices)
+named_row_missing s (row.Instance i) =
     rule_of (first (profile_missing s i ∷ devices_miss s i.project (expanded_of s.projects s.profiles i).devices ∷ []))
-unlinked s other = None
+named_row_missing s other = None
 
 -- the policy of its project forbids a profile or an instance something
 abbrev pub forbidden : ℕ → State → Row → Option Rule
@@ -160,14 +160,14 @@ uncountable s other = None
 -- the rules in their order
 abbrev pub row_rules : List (State → Row → Option Rule)
 row_rules =
-    homeless
-    ∷ orphaned
-    ∷ overnamed
-    ∷ undefaulted
-    ∷ missettled
-    ∷ misdeviced
-    ∷ rootless
-    ∷ unlinked
+    home_missing
+    ∷ parent_row_missing
+    ∷ profiles_malformed
+    ∷ defaults_missing
+    ∷ settings_invalid
+    ∷ devices_invalid
+    ∷ root_disk_missing
+    ∷ named_row_missing
     ∷ forbidden 1
     ∷ forbidden 2
     ∷ forbidden 3

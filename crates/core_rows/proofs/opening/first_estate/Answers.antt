@@ -6,7 +6,7 @@ use Rattle.row_machine.proofs.Beginning.{new-whole}
 use Rattle.row_machine.specs.machine.State.{State}
 use Rattle.row_drafts.specs.Background.{Backing}
 use Rattle.machine_laws.proofs.NamesApplied.{applied-operations}
-use Rattle.core_rows.specs.Kept.{IsSilent}
+use Rattle.work_reports.specs.Waiting.{IsSilent}
 use Rattle.core_rows.specs.Opening.{first_state}
 use Rattle.core_rows.proofs.opening.first_estate.Goals as goal
 

@@ -10,4 +10,4 @@ pub returns-clause-ok : goal.returns-clause-ok
 returns-clause-ok c =
     let there = c.in_ok-root_at.ensures ∙ ap (root_at c.args.at.now) c.deref.ensures.value in
     let made = c.with_applied-root.ensures ∙ ap (λ (spec : Spec). with_spec spec c.in_ok-root_at.field-0) c.in_ok-applied.ensures ∙ ap (with_spec c.args.spec.now) there in
-    subst (λ (root : HostRoot). OnOk c.put.result (c.put.new.roots.items ≡ with_root root c.args.roots.now.items)) made c.put.ensures.ok
+    subst (λ (root : HostRoot). OnOk c.put_root.result (c.put_root.new.roots.items ≡ with_root root c.args.roots.now.items)) made c.put_root.ensures.ok

@@ -8,4 +8,4 @@ use Rattle.host_model.proofs.effects.set_power.Goals as goal
 pub returns-clause-ok : goal.returns-clause-ok
 returns-clause-ok c =
     let there = c.in_ok-root.ensures ∙ ap (root_at c.args.at.now) c.deref.ensures.value in
-    subst (λ (root : HostRoot). OnOk c.put.result (c.put.new.roots.items ≡ with_root (with_power c.args.power root) c.args.roots.now.items)) there c.put.ensures.ok
+    subst (λ (root : HostRoot). OnOk c.put_root.result (c.put_root.new.roots.items ≡ with_root (with_power c.args.power root) c.args.roots.now.items)) there c.put_root.ensures.ok

@@ -10,4 +10,4 @@ returns-then-not-has c = λ n less.
 
 pub returns : goal.returns
 unfolding forbids_profile
-returns c = λ n less. none-if (bytes_eq c.args.profile.now.project c.args.project.now.name) (c.lowest.ensures c.args.profile.now.name n less)
+returns c = λ n less. none-if (bytes_eq c.args.profile.now.project c.args.project.now.name) (c.lowest_rule.ensures c.args.profile.now.name n less)

@@ -11,6 +11,6 @@ returns c =
     let description = length (text_bytes r.description) in
     let config = length (settings_bytes r.config) in
     let size = λ (t : List ℕ). capped (length (text_bytes t)) in
-    let parts = c.plus-parts.ensures description config (c.text_size.ensures ∙ ap size c.view.ensures.value) c.settings_size.ensures in
-    c.plus.ensures 2 (description + config) (capped-fits 2 (omega arith)) parts
+    let parts = c.add_capped-parts.ensures description config (c.text_size.ensures ∙ ap size c.view.ensures.value) c.settings_size.ensures in
+    c.add_capped.ensures 2 (description + config) (capped-fits 2 (omega arith)) parts
     ∙ ap capped (sym (pool-length r))

@@ -12,7 +12,7 @@ returns c =
     let config = length (settings_bytes r.config) in
     let devices = length (devices_bytes r.devices) in
     let size = λ (t : List ℕ). capped (length (text_bytes t)) in
-    let lists = c.plus-lists.ensures config devices c.settings_size.ensures c.devices_size.ensures in
-    let parts = c.plus-parts.ensures description (config + devices) (c.text_size.ensures ∙ ap size c.view.ensures.value) lists in
-    c.plus.ensures 1 (description + (config + devices)) (capped-fits 1 (omega arith)) parts
+    let lists = c.add_capped-lists.ensures config devices c.settings_size.ensures c.devices_size.ensures in
+    let parts = c.add_capped-parts.ensures description (config + devices) (c.text_size.ensures ∙ ap size c.view.ensures.value) lists in
+    c.add_capped.ensures 1 (description + (config + devices)) (capped-fits 1 (omega arith)) parts
     ∙ ap capped (sym (profile-length r))

@@ -11,7 +11,7 @@ returns c =
     let profiles = length (texts_bytes r.profiles) in
     let config = length (settings_bytes r.config) in
     let devices = length (devices_bytes r.devices) in
-    let pair = c.plus.ensures config devices c.settings_size.ensures c.devices_size.ensures in
-    let lists = c.plus-lists.ensures profiles (config + devices) (c.texts_size.ensures ∙ ap (λ (t : List (List ℕ)). capped (length (texts_bytes t))) c.view.ensures) pair in
-    c.plus-2.ensures 17 (profiles + (config + devices)) (capped-fits 17 (omega arith)) lists
+    let pair = c.add_capped.ensures config devices c.settings_size.ensures c.devices_size.ensures in
+    let lists = c.add_capped-lists.ensures profiles (config + devices) (c.texts_size.ensures ∙ ap (λ (t : List (List ℕ)). capped (length (texts_bytes t))) c.view.ensures) pair in
+    c.add_capped-2.ensures 17 (profiles + (config + devices)) (capped-fits 17 (omega arith)) lists
     ∙ ap capped (sym (snapshot-length r))

@@ -6,5 +6,5 @@ use Rattle.row_sizes.proofs.sizes.text_size.Goals as goal
 
 pub returns : goal.returns
 returns c =
-    c.plus.ensures 4 (length c.args.text.now) (capped-fits 4 (omega arith)) (capped-fits (length c.args.text.now) (omega arith))
+    c.add_capped.ensures 4 (length c.args.text.now) (capped-fits 4 (omega arith)) (capped-fits (length c.args.text.now) (omega arith))
     ∙ ap capped (sym (text-length c.args.text.now))

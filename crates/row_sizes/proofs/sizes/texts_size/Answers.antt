@@ -13,11 +13,11 @@ loop-text-preserved c =
     let texts = c.args.texts.now in
     let place = c.loop-text.text-index in
     let text = c.text-item.result in
-    sum-more text_bytes texts place text c.loop-text.size c.text_size.result c.plus-size.result
+    sum-more text_bytes texts place text c.loop-text.size c.text_size.result c.add_capped-size.result
     (take_more texts place text c.loop-text-test.true ∙ ap (λ (y : List ℕ). take place texts ++ y ∷ []) (sym c.text-item.is))
     c.loop-text.invariant
     (c.text_size.ensures ∙ ap (λ (t : List ℕ). capped (length (text_bytes t))) c.view.ensures.value)
-    c.plus-size.ensures
+    c.add_capped-size.ensures
 
 pub returns : goal.returns
 returns c = sum-all text_bytes c.args.texts.now c.loop-text.text-index c.loop-text.size (omega arith) c.loop-text.invariant

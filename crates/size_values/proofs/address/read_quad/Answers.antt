@@ -26,4 +26,4 @@ pub returns-clause-ok : goal.returns-clause-ok
 returns-clause-ok c =
     let first = rw c.in_ok-first.ensures.ok_part at c.number_from.ensures.some in
     quad-read c.args.text.now c.in_ok-first.first first c.in_ok-second.second c.in_ok-second.ensures.ok c.in_ok-third.third c.in_ok-third.ensures.ok
-    c.in_ok-fourth.fourth c.in_ok-fourth.ensures.ok c.address.result c.address.ensures
+    c.in_ok-fourth.fourth c.in_ok-fourth.ensures.ok c.quad_value.result c.quad_value.ensures

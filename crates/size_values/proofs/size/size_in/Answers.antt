@@ -18,16 +18,16 @@ returns-then-letters-suffix c =
 pub returns-in_default : goal.returns-in_default
 returns-in_default c =
     size-unknown c.args.text.now c.at_front-number.result c.at_front-number.ensures.number (sym c.is_empty.ensures ∙ c.if-is_empty.false)
-    c.if-number-eq0.false _ refl c.letters_len-letters.result c.letters_len-letters.ensures c.if-letters-suffix.false (sym c.factor.ensures ∙ c.in_default.is)
+    c.if-number-eq0.false _ refl c.letters_len-letters.result c.letters_len-letters.ensures c.if-letters-suffix.false (sym c.factor_of.ensures ∙ c.in_default.is)
 
 pub returns-then-is_too_large : goal.returns-then-is_too_large
 returns-then-is_too_large c =
     size-large c.args.text.now c.at_front-number.result c.at_front-number.ensures.number (sym c.is_empty.ensures ∙ c.if-is_empty.false)
     c.if-number-eq0.false _ refl c.letters_len-letters.result c.letters_len-letters.ensures c.if-letters-suffix.false
-    c.in-Some.factor (sym c.factor.ensures ∙ c.in-Some.is) c.times-size.result c.times-size.ensures (sym c.is_too_large.ensures ∙ c.if-is_too_large.true)
+    c.in-Some.factor (sym c.factor_of.ensures ∙ c.in-Some.is) c.times-size.result c.times-size.ensures (sym c.is_too_large.ensures ∙ c.if-is_too_large.true)
 
 pub returns : goal.returns
 returns c =
     size-value c.args.text.now c.at_front-number.result c.at_front-number.ensures.number (sym c.is_empty.ensures ∙ c.if-is_empty.false)
     c.if-number-eq0.false _ refl c.letters_len-letters.result c.letters_len-letters.ensures c.if-letters-suffix.false
-    c.in-Some.factor (sym c.factor.ensures ∙ c.in-Some.is) c.times-size.result c.times-size.ensures (sym c.is_too_large.ensures ∙ c.if-is_too_large.false)
+    c.in-Some.factor (sym c.factor_of.ensures ∙ c.in-Some.is) c.times-size.result c.times-size.ensures (sym c.is_too_large.ensures ∙ c.if-is_too_large.false)

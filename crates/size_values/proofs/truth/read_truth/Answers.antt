@@ -9,5 +9,5 @@ returns-then-is_empty c = truth-empty c.args.text.now (sym c.is_empty.ensures �
 
 pub returns : goal.returns
 returns c =
-    c.ok_or.ensures.value ∙ ap (λ t. ok_or t OutOfRange) c.truth.ensures
+    c.ok_or.ensures.value ∙ ap (λ t. ok_or t OutOfRange) c.truth_named.ensures
     ∙ truth-named c.args.text.now (sym c.is_empty.ensures ∙ c.if-is_empty.false)

@@ -5,8 +5,8 @@ use Rattle.row_machine.specs.machine.Rules.{names_broken, standing_broken}
 use Rattle.row_machine.specs.machine.TableRules.{cancel_broken}
 use Rattle.core_rows.specs.Kept.{Kept}
 use Rattle.core_rows.specs.Planned.{Follows}
-use Rattle.core_rows.specs.Waiting.{told_by}
-use Rattle.core_rows.proofs.Failing.{live-holds}
+use Rattle.work_reports.specs.Waiting.{told_by}
+use Rattle.work_reports.proofs.Failing.{live-holds}
 use Rattle.core_rows.proofs.Silent.{none-wait}
 use Rattle.core_rows.proofs.Stops.{can-stop, stops-live, stopped-is, cancel-refused, cancel-follows}
 use Rattle.core_rows.proofs.estate.Estate.cancel_operation.Goals as goal

@@ -9,8 +9,11 @@ use Rattle.row_machine.specs.machine.State.{State}
 use Rattle.row_drafts.specs.Background.{Backing}
 use Rattle.machine_laws.proofs.NamesApplied.{applied-operations}
 use Rattle.row_drafts.specs.Steps.{before_changes}
-use Rattle.core_rows.specs.Kept.{Kept, HasEntry, IsSilent}
-use Rattle.core_rows.proofs.Silent.{applied-silent, still-quiet, only-one, none-wait}
+use Rattle.work_reports.specs.Entries.{HasEntry}
+use Rattle.work_reports.specs.Waiting.{IsSilent}
+use Rattle.core_rows.specs.Kept.{Kept}
+use Rattle.work_reports.proofs.Silent.{applied-silent}
+use Rattle.core_rows.proofs.Silent.{still-quiet, only-one, none-wait}
 use Rattle.core_rows.proofs.Changed.{accepted-from, refused-from, uncommitted-from, unready-from}
 use Rattle.core_rows.proofs.Following.{follows-made}
 use Rattle.core_rows.proofs.Judging.{entries-ready}

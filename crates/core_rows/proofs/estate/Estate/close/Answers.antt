@@ -3,7 +3,8 @@ use Rattle.row_drafts.specs.Background.{Backing}
 use Rattle.row_machine.specs.machine.State.{State}
 use Rattle.row_machine.specs.facts.Whole.{IsWhole}
 use Rattle.machine_laws.proofs.ChangeKinds.{closing-keeps}
-use Rattle.core_rows.specs.Kept.{Kept, IsSilent}
+use Rattle.work_reports.specs.Waiting.{IsSilent}
+use Rattle.core_rows.specs.Kept.{Kept}
 use Rattle.core_rows.proofs.Silent.{still-quiet, closed-silent}
 use Rattle.core_rows.proofs.estate.Estate.close.Goals as goal
 

@@ -1,8 +1,8 @@
 use Rattle.std.proofs.Common.{map, ap, subst, ◌∙◌, arith}
 use Rattle.row_machine.specs.machine.State.{State}
-use Rattle.core_rows.specs.Jobs.{IsReported}
+use Rattle.work_reports.specs.Jobs.{IsReported}
 use Rattle.core_rows.specs.Kept.{Kept}
-use Rattle.core_rows.specs.Waiting.{told_by}
+use Rattle.work_reports.specs.Waiting.{told_by}
 use Rattle.core_rows.proofs.Silent.{none-wait}
 use Rattle.core_rows.proofs.estate.Estate.done_job.Goals as goal
 

@@ -10,9 +10,10 @@ use Rattle.row_drafts.specs.Steps.{before_changes}
 use Rattle.row_readings.proofs.Small.{low-share_of}
 use Rattle.machine_laws.proofs.WholeKept.{whole-entered}
 use Rattle.core_rows.specs.Asked.{IsAsked}
-use Rattle.core_rows.specs.Kept.{Kept, IsSilent}
+use Rattle.work_reports.specs.Waiting.{IsSilent}
+use Rattle.core_rows.specs.Kept.{Kept}
 use Rattle.core_rows.specs.Planned.{IsToStart}
-use Rattle.core_rows.specs.Waiting.{told_by}
+use Rattle.work_reports.specs.Waiting.{told_by}
 use Rattle.core_rows.proofs.Silent.{still-quiet, only-one, none-wait}
 use Rattle.core_rows.proofs.Started.{judged-claim, start-refused, start-accepted, start-made, entered-from, number-left, entered-silent}
 use Rattle.core_rows.proofs.estate.Estate.start.Goals as goal

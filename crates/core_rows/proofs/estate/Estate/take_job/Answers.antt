@@ -1,10 +1,10 @@
 use Rattle.std.proofs.Common.{◌∙◌, ◌++◌, map, Some, ap, subst, refl, arith}
 use Rattle.row_machine.specs.machine.State.{State}
-use Rattle.core_rows.specs.Jobs.{IsTaken}
+use Rattle.work_reports.specs.Jobs.{IsTaken}
 use Rattle.core_rows.specs.Kept.{Kept}
-use Rattle.core_rows.specs.Turns.{shown_at}
-use Rattle.core_rows.specs.Waiting.{told_by}
-use Rattle.core_rows.proofs.Begun.{begun-whole, begun-silent, begun-taken}
+use Rattle.work_reports.specs.Turns.{shown_at}
+use Rattle.work_reports.specs.Waiting.{told_by}
+use Rattle.work_reports.proofs.Begun.{begun-whole, begun-silent, begun-taken}
 use Rattle.core_rows.proofs.estate.Estate.take_job.Goals as goal
 
 pub invariant_of-self : goal.invariant_of-self

@@ -3,7 +3,7 @@ use Rattle.std.specs.List.{sum_by}
 use Rattle.size_values.specs.Amounts.{part}
 use Rattle.size_values.specs.declared.amounts.Part.{Part}
 use Rattle.size_values.specs.declared.amounts.Part.TheVariants as part_of
-use Rattle.row_machine.specs.machine.Usage.{counted, used, usage_of}
+use Rattle.row_machine.specs.machine.Usage.{amount_for, used, usage_of}
 use Rattle.row_readings.proofs.view.View.usage.Goals as goal
 
 pub returns : goal.returns
@@ -11,7 +11,7 @@ unfolding usage_of
 returns c =
     let sums : (k : Part) → part k c.usage_in-used.result ≡ used c.args.self.now c.args.project.now k =
     λ k. c.usage_in-used.ensures.sums k
-    ∙ ap (λ all. sum_by (counted c.args.project.now k) all) (c.deref.ensures.value ∙ c.in_ok-all.ensures.loads)
+    ∙ ap (λ all. sum_by (amount_for c.args.project.now k) all) (c.deref.ensures.value ∙ c.in_ok-all.ensures.loads)
     in
     λ i. record {
       instances = sums part_of.Instances i;

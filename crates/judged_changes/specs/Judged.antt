@@ -1,0 +1,45 @@
+-- What changes of rows and new operations break, and the reply that tells it.
+use Rattle.std.specs.Prelude.{List, [], ◌∷◌, Option, option_map}
+use Rattle.std.specs.Option.{option_to_list}
+use Rattle.plain_lists.specs.Firsts.{first}
+use Rattle.size_values.specs.declared.memory.Or.{Or}
+use Rattle.size_values.specs.declared.memory.Or.TheVariants as or
+use Rattle.operations.specs.declared.faults.EnterFault.{EnterFault}
+use Rattle.records.specs.declared.commands.Command.{Command}
+use Rattle.records.specs.declared.refusals.Refusal.{Refusal}
+use Rattle.records.specs.declared.replies.Reply.{Reply}
+use Rattle.records.specs.declared.replies.Reply.TheVariants as reply
+use Rattle.records.specs.declared.rows.Row.{Row}
+use Rattle.row_machine.specs.machine.State.{State}
+use Rattle.row_machine.specs.machine.SettingRules.{settings_broken}
+use Rattle.row_machine.specs.machine.PolicyRules.{policy_broken, snapshot_blocked}
+use Rattle.row_machine.specs.machine.LimitRules.{counts_broken, limits_broken}
+use Rattle.row_machine.specs.machine.TableRules.{enter_refusal, tables_broken}
+
+-- the first rule that changes break which put these rows, judged over the state after them
+unfoldable pub changes_judged : State → State → List Row → Option Refusal
+changes_judged s later rows = first
+    (settings_broken later rows
+    ∷ policy_broken later
+    ∷ counts_broken later
+    ∷ limits_broken s later
+    ∷ tables_broken later rows
+    ∷ [])
+
+-- the first rule that an operation breaks which claims this row, judged over the state with its claim, by why it could not be entered
+-- in the state before it
+unfoldable pub claim_judged_by : State → Command → State → Option EnterFault → Option Row → Option Refusal
+claim_judged_by s c later fault claim = first
+    (settings_broken later (option_to_list claim)
+    ∷ policy_broken later
+    ∷ snapshot_blocked later c
+    ∷ counts_broken later
+    ∷ limits_broken s later
+    ∷ option_map enter_refusal fault
+    ∷ tables_broken later (option_to_list claim)
+    ∷ [])
+
+-- the reply that tells a refusal, or that memory was refused
+abbrev pub reply_for : Or Refusal → Reply
+reply_for or.NoMemory = reply.NoMemory
+reply_for (or.Why refusal) = reply.Refused refusal

@@ -1,0 +1,242 @@
+//! The parts of a beginning: what the entry of an operation needs is made ahead, and it is judged by the state with its claim.
+ghost use Rattle.std.specs.Prelude.{◌≡◌, ◌-◌, ◌^◌, ◌<◌, ◌≤◌, ◌∷◌, ◌++◌, [], vec_len, vec_capacity, IfOk, OnOk, option_and_then, option_map};
+ghost use Rattle.std.specs.Option.{option_copied};
+ghost use Rattle.size_values.specs.Causes.{Says};
+ghost use Rattle.limit_rules.specs.Counting.{counts_in};
+ghost use Rattle.operations.specs.Kept.{enter_fault, kept_at};
+ghost use Rattle.operations.specs.declared.operation.Operation.{Operation as OperationValue};
+ghost use Rattle.records.specs.declared.notices.Told.TheVariants as told_of;
+ghost use Rattle.records.specs.declared.replies.Reply.TheVariants as reply;
+ghost use Rattle.row_drafts.specs.Background.{pending_of, holding};
+ghost use Rattle.size_values.specs.Amounts.{part};
+ghost use Rattle.size_values.specs.declared.amounts.Part.{Part};
+ghost use Rattle.row_drafts.specs.Drafted.{CanClaim};
+ghost use Rattle.row_machine.specs.machine.Claims.{share_of};
+ghost use Rattle.row_machine.specs.machine.State.{State};
+ghost use Rattle.row_machine.specs.machine.TableRules.{enter_refusal};
+ghost use Rattle.row_machine.specs.machine.Task.{Task};
+ghost use Rattle.row_machine.specs.machine.Work.{project_of_task};
+ghost use Rattle.row_machine.specs.shown.Notices.{view_of};
+ghost use Rattle.judged_changes.specs.Judged.{claim_judged_by};
+ghost use Rattle.work_reports.specs.declared.waiting.Waiting.TheVariants as waiting_of;
+
+use instance_states::may_cancel;
+use limit_rules::{Usage, counts_broken, limits_broken, usage_before};
+use operations::{EnterFault, LIVE_LIMIT, NUMBER_LIMIT, OpFault, Status};
+use plain_lists::push_reserved;
+use policy_rules::{policy_broken, snapshot_blocked};
+use records::{Command, OpView, Refusal, Reply, Row, Rule, Told, Untold};
+use row_drafts::Draft;
+use row_machine::Work;
+use row_readings::{View, kept_at, project_of_row, share_of};
+use rule_refusals::on_number;
+use setting_rules::claim_settings_broken;
+use size_values::{Amounts, NoMemory, Or, Text};
+use std::alloc::Global;
+use table_rules::claim_tables_broken;
+use work_reports::Waiting;
+
+/// What the entry of an operation needs besides its work: what counts for limits before it, why it cannot be entered, its share
+/// with the project that it counts for, how it is shown, and the notice of it.
+#[derive(Drop)]
+pub struct Beginning {
+    pub before: Usage,
+    pub fault: Option<EnterFault>,
+    pub share: Amounts,
+    pub project: Text,
+    pub shown: OpView,
+    pub notice: Untold,
+}
+
+/// Why no operation can be entered.
+fn enter_fault(view: &View<'_>) -> Option<EnterFault>
+    ensures { result ≡ enter_fault view.now.operations }
+{
+    if view.live.len() == LIVE_LIMIT {
+        return Some(EnterFault::Full);
+    }
+    if view.next == NUMBER_LIMIT {
+        return Some(EnterFault::Spent);
+    }
+    None
+}
+
+/// The refusal of an operation that cannot be entered.
+fn refuse_entry(alloc: Global, fault: Option<EnterFault>) -> Result<(), Or<Refusal>>
+    ensures { Says result (option_map enter_refusal fault) }
+{
+    match fault {
+        Some(EnterFault::Full) => Err(Or::Why(on_number(alloc, Rule::O4, LIVE_LIMIT as u64))),
+        Some(EnterFault::Spent) => Err(Or::Why(on_number(alloc, Rule::O5, NUMBER_LIMIT))),
+        None => Ok(()),
+    }
+}
+
+/// The project whose limits an operation counts for.
+fn counted_project(alloc: Global, work: &Work) -> Result<Text, NoMemory>
+    ensures { IfOk result (λ p. p ≡ project_of_task work.now) }
+{
+    match &work.claim {
+        Some(row) => Text::from_text(alloc, project_of_row(row)),
+        None => work.project.copy(alloc),
+    }
+}
+
+/// How an operation is shown that waits for its first call.
+fn shown(alloc: Global, number: u64, work: &Work, moment: u64) -> Result<OpView, NoMemory>
+    ensures { IfOk result (λ v. v ≡ view_of (pending_of number work.now moment)) }
+{
+    let project = work.project.copy(alloc)?;
+    let target = work.target.copy(alloc)?;
+    Ok(OpView {
+        number,
+        status: Status::Pending,
+        may_cancel: may_cancel(work.deed),
+        created: moment,
+        updated: moment,
+        fault: OpFault::None,
+        project,
+        target,
+    })
+}
+
+/// The notice of an operation that waits for its first call.
+fn notice(alloc: Global, number: u64, work: &Work, moment: u64) -> Result<Untold, NoMemory>
+    ensures { IfOk result (λ n. n ≡ record { moment = moment; project = work.now.project; told = told_of.Op (view_of (pending_of number work.now moment)) }) }
+{
+    let project = work.project.copy(alloc)?;
+    let shown = shown(alloc, number, work, moment)?;
+    Ok(Untold {
+        moment,
+        project,
+        told: Told::Op(shown),
+    })
+}
+
+/// What is told of an operation that waits for its first call: how it is shown, and the notice of it.
+fn told(alloc: Global, number: u64, work: &Work, moment: u64) -> Result<(OpView, Untold), NoMemory>
+    ensures shown { IfOk result (λ t. t.0 ≡ view_of (pending_of number work.now moment)) }
+    ensures notice { IfOk result
+        (λ t. t.1 ≡ record { moment = moment; project = work.now.project; told = told_of.Op (view_of (pending_of number work.now moment)) }) }
+{
+    let shown = shown(alloc, number, work, moment)?;
+    let notice = notice(alloc, number, work, moment)?;
+    Ok((shown, notice))
+}
+
+/// What the entry of an operation needs, read off the rows before it.
+fn beginning_of(
+    alloc: Global,
+    view: &View<'_>,
+    work: &Work,
+    moment: u64,
+) -> Result<Beginning, NoMemory>
+    ensures before { IfOk result (λ e. e.before ≡ counts_in view.now) }
+    ensures fault { IfOk result (λ e. e.fault ≡ enter_fault view.now.operations) }
+    ensures share { IfOk result (λ e. e.share ≡ share_of view.now work.now) }
+    ensures project { IfOk result (λ e. e.project ≡ project_of_task work.now) }
+    ensures shown { IfOk result (λ e. e.shown ≡ view_of (pending_of view.now.operations.next work.now moment)) }
+    ensures notice { IfOk result (λ e. e.notice ≡ record {
+      moment = moment;
+      project = work.now.project;
+      told = told_of.Op (view_of (pending_of view.now.operations.next work.now moment));
+    }) }
+{
+    let fault = enter_fault(view);
+    let share = share_of(alloc, view, work)?;
+    let before = usage_before(alloc, view)?;
+    let project = counted_project(alloc, work)?;
+    let (shown, notice) = told(alloc, view.next, work, moment)?;
+    Ok(Beginning {
+        before,
+        fault,
+        share,
+        project,
+        shown,
+        notice,
+    })
+}
+
+/// Takes all memory that the entry of an operation needs, and makes what it needs.
+pub fn make_beginning(
+    alloc: Global,
+    draft: &mut Draft,
+    work: &Work,
+    moment: u64,
+) -> Result<Beginning, NoMemory>
+    requires settled { draft.old.log ≡ [] }
+    ensures before { IfOk result (λ e. e.before ≡ counts_in draft.old.state) }
+    ensures fault { IfOk result (λ e. e.fault ≡ enter_fault draft.old.state.operations) }
+    ensures share { IfOk result (λ e. e.share ≡ share_of draft.old.state work.now) }
+    ensures project { IfOk result (λ e. e.project ≡ project_of_task work.now) }
+    ensures shown { IfOk result (λ e. e.shown ≡ view_of (pending_of draft.old.state.operations.next work.now moment)) }
+    ensures notice { IfOk result (λ e. e.notice ≡ record {
+      moment = moment;
+      project = work.now.project;
+      told = told_of.Op (view_of (pending_of draft.old.state.operations.next work.now moment));
+    }) }
+    ensures ready { OnOk result (CanClaim draft.new) }
+    ensures state { draft.new.state ≡ draft.old.state }
+    ensures log { draft.new.log ≡ [] }
+    ensures greatest { draft.new.backing.greatest ≡ draft.old.backing.greatest }
+{
+    draft.reserve_operation()?;
+    beginning_of(alloc, &draft.view(), work, moment)
+}
+
+/// The row that the kept operation of a number claims.
+fn claim_of<'x>(view: &View<'x>, number: u64) -> Option<&'x Row>
+    ensures { option_copied result ≡ option_and_then (λ (o : OperationValue Task). o.work.claim) (kept_at view.now.operations number) }
+{
+    match kept_at(view, number) {
+        Some(operation) => match &operation.work.claim {
+            Some(row) => Some(row),
+            None => None,
+        },
+        None => None,
+    }
+}
+
+/// The first rule that an operation breaks which was entered last, judged over the state with its claim.
+#[tactic(auto, unfolding(crate::specs::Judged::claim_judged_by))]
+pub fn judge_claim(
+    alloc: Global,
+    beginning: &Beginning,
+    after: &View<'_>,
+    command: &Command,
+    number: u64,
+) -> Result<(), Or<Refusal>>
+    ensures { (s : State) → beginning.now.before ≡ counts_in s →
+        Says result (claim_judged_by s command.now after.now beginning.now.fault
+        (option_and_then (λ (o : OperationValue Task). o.work.claim) (kept_at after.now.operations number))) }
+{
+    let claim = claim_of(after, number);
+    claim_settings_broken(alloc, after, claim)?;
+    policy_broken(alloc, after)?;
+    snapshot_blocked(alloc, after, command)?;
+    counts_broken(alloc, after)?;
+    limits_broken(alloc, &beginning.before, after)?;
+    refuse_entry(alloc, beginning.fault)?;
+    claim_tables_broken(alloc, after, claim)
+}
+
+/// The operation that was entered last holds its share from now on, and its notice is left to be told. It takes no memory.
+pub fn settle_beginning(draft: &mut Draft, untold: &mut Vec<Waiting>, beginning: Beginning) -> Reply
+    requires hold_room { 1 ≤ draft.old.backing.hold_room }
+    requires limit { draft.old.state.operations.next - 1 < 2 ^ 40 }
+    requires above { draft.old.backing.greatest < draft.old.state.operations.next - 1 }
+    requires small { (k : Part) → part k beginning.share < 2 ^ 80 }
+    requires room { vec_len untold.old < vec_capacity untold.old }
+    ensures state { draft.new.state ≡ holding beginning.project beginning.share draft.old.state }
+    ensures log { draft.new.log ≡ [] }
+    ensures greatest { draft.new.backing.greatest ≡ draft.old.state.operations.next - 1 }
+    ensures untold { untold.new.items ≡ untold.old.items ++ waiting_of.Whole beginning.notice ∷ [] }
+    ensures capacity { vec_capacity untold.old ≤ vec_capacity untold.new }
+    ensures reply { result ≡ reply.Started beginning.shown }
+{
+    drop(beginning.before);
+    draft.hold(beginning.project, beginning.share);
+    draft.settle();
+    push_reserved(untold, Waiting::Whole(beginning.notice));
+    Reply::Started(beginning.shown)
+}

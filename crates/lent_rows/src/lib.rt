@@ -1,0 +1,6 @@
+//! Rows of a server that tests own and lend, and what is put into them.
+#![tactic(auto)]
+
+mod rows;
+
+pub use rows::{Rows, both, config, device, texts};

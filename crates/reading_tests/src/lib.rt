@@ -1,0 +1,5 @@
+//! Tests of the readings over lent rows.
+#![tactic(auto)]
+
+#[cfg(test)]
+mod readings;

@@ -1,0 +1,340 @@
+use config_lists::Devices;
+use expansion::Expanded;
+use lent_rows::{Rows, both, config, device, texts};
+use operations::{OpFault, Operation, Status};
+use records::{Instance, Profile, Row, Target, Volume};
+use row_machine::Work;
+use row_readings::{
+    View, claimed_instance, claimed_snapshot, claimed_volume, instance_named, network_home,
+    network_named, pool_named, profile_home, profile_named, project_named, project_of_row,
+    snapshot_named, volume_home, volume_named,
+};
+use size_values::{Amounts, Deed, Kind, NoMemory, ObjectKind, Seq, Text};
+use std::alloc::Global;
+
+/// A setting or a device that the instance has: its own before those of its profiles, and later profiles before earlier
+/// ones. The device is empty for a setting of the instance itself; its settings are counted.
+const EXPANDED: [(&str, usize, &str, &str); 4] = [
+    ("", 0, "limits.cpu", "2"),
+    ("", 0, "limits.memory", "2GiB"),
+    ("root", 3, "pool", "p0"),
+    ("eth0", 1, "type", "none"),
+];
+
+/// What a project uses: with the update or without it, how many instances, processors, and GiB of memory and disk.
+const USED: [(bool, &str, u128, u128, u128, u128); 4] = [
+    (false, "lab", 1, 2, 2, 3),
+    (false, "default", 0, 0, 0, 0),
+    (true, "lab", 1, 4, 2, 3),
+    (true, "default", 0, 0, 0, 0),
+];
+
+/// Adds a profile of the project `default` with one device.
+fn add_profile(
+    alloc: Global,
+    profiles: &mut Vec<Profile>,
+    name: &str,
+    settings: &[(&str, &str)],
+    device_name: &str,
+    device_settings: &[(&str, &str)],
+) -> Result<(), NoMemory> {
+    let parts = both(
+        config(alloc, settings),
+        device(alloc, device_name, device_settings),
+    );
+    let ((project, name), (config, devices)) = both(texts(alloc, "default", name), parts)?;
+    profiles.push(Profile {
+        project,
+        name,
+        description: Text::new(alloc),
+        config,
+        devices,
+    })?;
+    Ok(())
+}
+
+/// Adds profiles of the project `default`: one with a root disk of 1 GiB, one with a root disk without size, and one
+/// with a network device.
+fn add_profiles(alloc: Global, profiles: &mut Vec<Profile>) -> Result<(), NoMemory> {
+    let sized = [
+        ("type", "disk"),
+        ("path", "/"),
+        ("pool", "p0"),
+        ("size", "1GiB"),
+    ];
+    let bare = [("type", "disk"), ("path", "/"), ("pool", "p0")];
+    let nic = [("type", "nic"), ("network", "n")];
+    let settings = [("limits.cpu", "1"), ("limits.memory", "1GiB")];
+    add_profile(alloc, profiles, "base", &settings, "root", &sized)?;
+    add_profile(
+        alloc,
+        profiles,
+        "more",
+        &[("limits.cpu", "2")],
+        "root",
+        &bare,
+    )?;
+    add_profile(alloc, profiles, "net", &[], "eth0", &nic)
+}
+
+/// The names of four profiles, of which the last is missing.
+fn profile_names(alloc: Global) -> Result<Seq<Text>, NoMemory> {
+    let mut names = Seq::new(alloc);
+    for name in ["base", "more", "net", "gone"] {
+        names.push(Text::from_text(alloc, name)?)?;
+    }
+    Ok(names)
+}
+
+fn without_network(alloc: Global) -> Result<Devices, NoMemory> {
+    device(alloc, "eth0", &[("type", "none")])
+}
+
+/// An instance of the project `lab` with the profiles, and without the device `eth0`.
+fn instance(alloc: Global, settings: &[(&str, &str)]) -> Result<Instance, NoMemory> {
+    let parts = both(config(alloc, settings), without_network(alloc));
+    let parts = both(profile_names(alloc), parts);
+    let ((project, name), (profiles, (config, devices))) = both(texts(alloc, "lab", "a"), parts)?;
+    Ok(Instance {
+        project,
+        name,
+        kind: Kind::Container,
+        ephemeral: false,
+        description: Text::new(alloc),
+        origin: Text::new(alloc),
+        created: 0,
+        profiles,
+        config,
+        devices,
+    })
+}
+
+/// Adds an instance of 2 processors and 2 GiB of memory.
+fn add_instance(alloc: Global, instances: &mut Vec<Instance>) -> Result<(), NoMemory> {
+    instances.push(instance(alloc, &[("limits.memory", "2GiB")])?)?;
+    Ok(())
+}
+
+/// Adds a volume of 3 GiB.
+fn add_volume(alloc: Global, volumes: &mut Vec<Volume>) -> Result<(), NoMemory> {
+    let sized = both(
+        Text::from_text(alloc, "p0"),
+        config(alloc, &[("size", "3GiB")]),
+    );
+    let ((project, name), (pool, config)) = both(texts(alloc, "lab", "v"), sized)?;
+    volumes.push(Volume {
+        project,
+        pool,
+        name,
+        description: Text::new(alloc),
+        config,
+        created: 0,
+    })?;
+    Ok(())
+}
+
+/// The instance `a`.
+fn target(alloc: Global) -> Result<Target, NoMemory> {
+    let name = Text::from_text(alloc, "a")?;
+    Ok(Target {
+        kind: ObjectKind::Instance,
+        pool: Text::new(alloc),
+        instance: Text::new(alloc),
+        name,
+    })
+}
+
+/// The update of the instance to 4 processors and 1 GiB of memory.
+fn update(alloc: Global) -> Result<Work, NoMemory> {
+    let about = both(Text::from_text(alloc, "lab"), target(alloc));
+    let about = both(about, texts(alloc, "lab", "a"));
+    let row = instance(alloc, &[("limits.cpu", "4"), ("limits.memory", "1GiB")]);
+    let (((project, target), replaces), row) = both(about, row)?;
+    Ok(Work {
+        deed: Deed::Update,
+        project,
+        target,
+        claim: Some(Row::Instance(row)),
+        replaces: Some(replaces),
+        source: None,
+        calls: Seq::new(alloc),
+        undo: None,
+        done: 0,
+    })
+}
+
+/// An operation while it runs.
+fn running(work: Work) -> Operation<Work> {
+    Operation {
+        number: 1,
+        created: 0,
+        updated: 0,
+        status: Status::Running,
+        may_cancel: false,
+        fault: OpFault::None,
+        work,
+    }
+}
+
+fn add_update(alloc: Global, live: &mut Vec<Operation<Work>>) -> Result<(), NoMemory> {
+    live.push(running(update(alloc)?))?;
+    Ok(())
+}
+
+/// Adds the profiles, and the instance and the volume of the project `lab`, and maybe the update.
+fn fill(alloc: Global, rows: &mut Rows, updated: bool) -> Result<(), NoMemory> {
+    add_profiles(alloc, &mut rows.profiles)?;
+    add_instance(alloc, &mut rows.instances)?;
+    add_volume(alloc, &mut rows.volumes)?;
+    if updated {
+        add_update(alloc, &mut rows.live)?;
+    }
+    Ok(())
+}
+
+/// Whether a device has as many settings, this one among them, or the instance itself has the setting.
+fn has(expanded: &Expanded, device: &str, len: usize, key: &str, value: &str) -> bool {
+    if device.is_empty() {
+        return expanded.config.has(key, value);
+    }
+    match expanded.devices.get(device) {
+        Some(found) => found.len() == len && found.has(key, value),
+        None => false,
+    }
+}
+
+/// The same of the first instance.
+fn first_has(
+    alloc: Global,
+    view: &View<'_>,
+    device: &str,
+    len: usize,
+    key: &str,
+    value: &str,
+) -> bool {
+    let Some(row) = view.instances.first() else {
+        return false;
+    };
+    match view.expansion(alloc, row) {
+        Ok(expanded) => {
+            let right = has(&expanded, device, len, key, value);
+            drop(expanded);
+            right
+        }
+        Err(_) => false,
+    }
+}
+
+fn expands(alloc: Global, device: &str, len: usize, key: &str, value: &str) -> bool {
+    let mut rows = Rows::empty(alloc);
+    let filled = fill(alloc, &mut rows, false);
+    let right = filled.is_ok() && first_has(alloc, &rows.view(), device, len, key, value);
+    drop(rows);
+    right
+}
+
+#[test]
+fn the_own_settings_go_before_the_profiles(rt: HostRuntime) {
+    for (device, len, key, value) in EXPANDED {
+        assert!(rt;
+            expands(rt.alloc(), device, len, key, value),
+            "{device} {key}"
+        );
+    }
+}
+
+/// Amounts of containers, processors, and GiB of memory and disk.
+fn amounts(containers: u128, cpu: u128, memory: u128, disk: u128) -> Amounts {
+    Amounts {
+        instances: containers,
+        containers,
+        machines: 0,
+        cpu,
+        memory,
+        processes: 0,
+        disk,
+    }
+}
+
+/// Whether a project uses these amounts.
+fn uses(alloc: Global, view: &View<'_>, project: &str, used: &Amounts) -> bool {
+    view.usage(alloc, project) == Ok(*used)
+}
+
+fn lab_uses(alloc: Global, updated: bool, project: &str, used: &Amounts) -> bool {
+    let mut rows = Rows::empty(alloc);
+    let filled = fill(alloc, &mut rows, updated);
+    let right = filled.is_ok() && uses(alloc, &rows.view(), project, used);
+    drop(rows);
+    right
+}
+
+/// The update holds two processors above the two that the instance has, and no memory.
+#[test]
+fn an_update_holds_what_it_adds(rt: HostRuntime) {
+    for (updated, project, containers, cpu, memory, disk) in USED {
+        let used = amounts(containers, cpu, memory << 30, disk << 30);
+        assert!(rt;
+            lab_uses(rt.alloc(), updated, project, &used),
+            "{project} {cpu}"
+        );
+    }
+}
+
+/// Whether each row is found by its names, and none by other ones.
+fn finds_rows(view: &View<'_>) -> bool {
+    profile_named(view.profiles, "default", "more").is_some()
+        && profile_named(view.profiles, "lab", "more").is_none()
+        && volume_named(view.volumes, "lab", "p0", "v").is_some()
+        && volume_named(view.volumes, "lab", "p1", "v").is_none()
+        && instance_named(view.instances, "lab", "a").is_some()
+        && instance_named(view.instances, "lab", "b").is_none()
+        && project_named(view.projects, "lab").is_none()
+        && network_named(view.networks, "default", "n").is_none()
+        && pool_named(view.pools, "p0").is_none()
+        && snapshot_named(view.snapshots, "lab", "a", "s").is_none()
+}
+
+/// Whether a project that is missing has its profiles, networks and volumes in the project `default`.
+fn finds_homes(view: &View<'_>) -> bool {
+    profile_home(view.projects, "lab") == "default"
+        && network_home(view.projects, "lab") == "default"
+        && volume_home(view.projects, "lab") == "default"
+}
+
+/// Whether an operation claims an instance of the project `lab`, and nothing else.
+fn claims_instance(work: &Work) -> bool {
+    let project = match &work.claim {
+        Some(row) => project_of_row(row),
+        None => "",
+    };
+    project == "lab"
+        && claimed_instance(work).is_some()
+        && claimed_volume(work).is_none()
+        && claimed_snapshot(work).is_none()
+}
+
+fn first_claims(view: &View<'_>) -> bool {
+    match view.live.first() {
+        Some(operation) => claims_instance(&operation.work),
+        None => false,
+    }
+}
+
+fn is_found(view: &View<'_>) -> bool {
+    finds_rows(view) && finds_homes(view) && first_claims(view)
+}
+
+/// Whether the rows and the claim of the lab are found.
+fn lab_is_found(alloc: Global) -> bool {
+    let mut rows = Rows::empty(alloc);
+    let filled = fill(alloc, &mut rows, true);
+    let found = filled.is_ok() && is_found(&rows.view());
+    drop(rows);
+    found
+}
+
+#[test]
+fn rows_and_claims_are_found(rt: HostRuntime) {
+    assert!(rt; lab_is_found(rt.alloc()));
+}

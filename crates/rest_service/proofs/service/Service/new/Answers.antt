@@ -1,0 +1,7 @@
+use Rattle.std.proofs.Common.{ap}
+use Rattle.core_rows.proofs.Opened.{opened-idle}
+use Rattle.rest_service.proofs.service.Service.new.Goals as goal
+
+pub of-requires : goal.of-requires
+of-requires g c =
+    ap (λ k. k.live) (opened-idle c.in_ok-daemon.ensures.entries c.in_ok-daemon.result c.in_ok-daemon.ensures.opens)

@@ -1,0 +1,52 @@
+-- What the program does by its words: a run, or another command.
+use Rattle.std.specs.Prelude.{◌≡◌, ◌⊎◌, ℕ, List, Some}
+use Rattle.http_heads.specs.Messages.{Splits, ended}
+use Rattle.http_heads.specs.declared.request.Request.{Request}
+use Rattle.run_words.specs.Words.{words_of}
+use Rattle.run_words.specs.declared.words.CommandWords.{CommandWords}
+use Rattle.run_words.specs.declared.words.CommandWords.TheVariants.{Check, Drill, Make, Run}
+use Rattle.serial_commands.specs.Commands.{Checks, Drills, DrillsText, Tells}
+use Rattle.serial_sessions.specs.Worlds.{Outside}
+use Rattle.workload.specs.Stream.{stream_of}
+use Rattle.serial_run.specs.Runs.{Runs}
+
+-- requests were written, and nothing else of the outside was called
+pub record Makes (seed count : ℕ) (before after : Outside) (status : ℕ) : Type 0 where
+  pub tells : Tells status (stream_of seed count) before.sink after.sink
+  pub source : after.source ≡ before.source
+  pub keeper : after.keeper ≡ before.keeper
+  pub host : after.host ≡ before.host
+  pub clock : after.clock ≡ before.clock
+
+-- what the keeper has was told
+pub record ChecksOnly (before after : Outside) (status : ℕ) : Type 0 where
+  pub checks : Checks status before.sink after.sink before.keeper after.keeper
+  pub source : after.source ≡ before.source
+  pub host : after.host ≡ before.host
+  pub clock : after.clock ≡ before.clock
+
+-- made requests were answered, with the boot word that is handed in, and what they came to was told
+pub record DrillsOnly (handed seed count : ℕ) (before after : Outside) (status : ℕ) : Type 0 where
+  pub drills : Drills handed (stream_of seed count) status before.keeper before.host before.clock before.sink
+      after.keeper after.host after.clock after.sink
+  pub text : (messages : List Request) → Splits (stream_of seed count) messages ended → (status ≡ 0) ⊎ (status ≡ 5)
+      → DrillsText handed messages status before.keeper before.host before.clock before.sink
+      after.keeper after.host after.clock after.sink
+  pub source : after.source ≡ before.source
+
+-- a command that is no run did this
+abbrev pub DoesOther : CommandWords → ℕ → Outside → Outside → ℕ → Type 0
+DoesOther (Run run) handed before after status = ⊥
+DoesOther (Make seed count) handed before after status = Makes seed count before after status
+DoesOther (Drill seed count) handed before after status = DrillsOnly handed seed count before after status
+DoesOther Check handed before after status = ChecksOnly before after status
+
+-- the words name another command than `run`, and it was carried out
+pub record Carried (words : List (List ℕ)) (handed : ℕ) (before after : Outside) (status : ℕ) : Type 0 where
+  pub command : CommandWords
+  pub said : words_of words ≡ Some command
+  pub does : DoesOther command handed before after status
+
+-- what the words ask for was done: a run, or another command; or they were not read
+abbrev pub Does : List (List ℕ) → ℕ → Outside → Outside → ℕ → Type 0
+Does words handed before after status = Runs words handed before after status ⊎ Carried words handed before after status

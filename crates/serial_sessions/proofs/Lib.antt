@@ -1,0 +1,4 @@
+pub mod Quiet
+pub mod Served
+pub mod Turning
+pub mod Whole

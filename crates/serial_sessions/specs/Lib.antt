@@ -1,0 +1,4 @@
+pub mod Inputs
+pub mod Most
+pub mod Sessions
+pub mod Worlds

@@ -1,0 +1,13 @@
+use Rattle.std.proofs.Common.{◌≡◌, ◌+◌, ◌≤◌, vec_len}
+use Rattle.serving.specs.Serves.{StartsWorkers}
+use Rattle.serving.proofs.workers.start_workers.Given as goal
+
+-- as many workers were started as there were rounds
+abbrev pub invariant-loop-i : goal.invariant-loop-i
+invariant-loop-i g l = record {
+  started : StartsWorkers (g.P.Spawner.counts l.fn.spawner) (g.P.Spawner.counts l.spawner) (vec_len l.fn.tasks) (vec_len l.tasks);
+  all : vec_len l.tasks ≡ vec_len l.fn.tasks + l._i;
+  later : g.P.Spawner.failures l.fn.spawner ≤ g.P.Spawner.failures l.spawner;
+  seats : g.B.Jobs.seats l.fn.jobs ≤ g.B.Jobs.seats l.jobs + l._i;
+  ready : g.P.Spawner.ready l.spawner;
+}

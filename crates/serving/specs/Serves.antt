@@ -1,0 +1,62 @@
+-- What a server does with the links that its doors give, and with its workers.
+use Rattle.std.specs.Prelude.{◌≡◌, ℕ, ◌+◌, ◌^◌, ◌≤◌, ◌⊎◌, Bool, true, false, List, ◌++◌, length, Option, option_map, Result, Ok, Err}
+use Rattle.spawners.specs.Counts.{Counts}
+use Rattle.doors.specs.Accepts.{Seen}
+
+-- there is room in the counts for n more jobs
+pub record HasRoom (c : Counts) (n : ℕ) : Type 0 where
+  pub links : c.links + n ≤ 2 ^ 62
+  pub others : c.others + n ≤ 2 ^ 62
+  pub out : c.out + n ≤ 2 ^ 62
+
+-- A number of workers were started, and as many tasks more are held.
+pub record StartsWorkers (old new : Counts) (tasks tasks' : ℕ) : Type 0 where
+  pub links : new.links ≡ old.links
+  pub others : new.others + tasks ≡ old.others + tasks'
+  pub out : new.out + tasks ≡ old.out + tasks'
+  pub more : tasks ≤ tasks'
+
+-- A link job was begun for each link that was given, and the tasks that are out of them are held.
+pub record BeginsLinks (old new : Counts) (tasks tasks' given given' : ℕ) : Type 0 where
+  pub links : new.links + given ≡ old.links + given'
+  pub others : new.others ≡ old.others
+  pub out : new.out + tasks ≡ old.out + tasks'
+  pub more : tasks ≤ tasks'
+  pub few : tasks' + given ≤ tasks + given'
+
+-- where the links to come are told, the first of them were given, and no others
+pub record GivesFirst {T : Type 0} (given given' : ℕ) (old new : Option (List T)) : Type 0 where
+  pub links : List T
+  pub count : given' ≡ given + length links
+  pub first : old ≡ option_map (λ rest. links ++ rest) new
+
+-- one link was given, or none is left, or the accept failed
+abbrev pub AcceptsOne : {E : Type 0} → Seen → Seen → Result Bool E → Type 0
+AcceptsOne old new (Ok true) = new.given ≡ old.given + 1
+AcceptsOne old new (Ok false) = (new.given ≡ old.given) × (new.none_left ≡ true)
+AcceptsOne old new (Err e) = new.given ≡ old.given
+
+-- the doors gave so many links, or said that none is left
+abbrev pub IsEnough : ℕ → ℕ → Seen → Type 0
+IsEnough given count new = (new.given ≡ given + count) ⊎ (new.none_left ≡ true)
+
+-- The doors gave as many links as were asked for, or said that none is left. A link job was begun for each of them, another
+-- job for each worker, and every task was taken in.
+pub record IsServed (connections workers : ℕ) (seen : Seen) (c : Counts) : Type 0 where
+  pub enough : IsEnough 0 connections seen
+  pub links : c.links ≡ seen.given
+  pub others : c.others ≡ workers
+  pub out : c.out ≡ 0
+
+-- so many tasks were taken in, and nothing was begun
+pub record TakesIn (n : ℕ) (old new : Counts) : Type 0 where
+  pub links : new.links ≡ old.links
+  pub others : new.others ≡ old.others
+  pub out : new.out + n ≡ old.out
+
+-- Of a server that had begun nothing: a link job for each link that was given, a worker for each of those that are held,
+-- and all tasks that are out are held.
+pub record BeginsAll (c : Counts) (link_tasks worker_tasks given : ℕ) : Type 0 where
+  pub links : c.links ≡ given
+  pub others : c.others ≡ worker_tasks
+  pub out : c.out ≡ link_tasks + worker_tasks

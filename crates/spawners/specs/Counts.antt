@@ -1,0 +1,47 @@
+-- What a spawner begins, and what of it is still out.
+use Rattle.std.specs.Prelude.{◌≡◌, ℕ, ◌+◌, ◌-◌, ◌^◌, ◌<◌, Bool, true, false, Result, Ok, Err}
+use Rattle.size_values.specs.Calls.{Calls}
+
+-- How many link jobs and how many others were begun, and how many tasks were given and not taken in again.
+pub record Counts : Type 0 where
+  pub links : ℕ
+  pub others : ℕ
+  pub out : ℕ
+
+-- nothing was begun
+abbrev pub none_begun : Counts
+none_begun = record { links = 0; others = 0; out = 0 }
+
+-- one more job was begun: a link job, or another one
+abbrev pub begun : Bool → Counts → Counts
+begun true c = record c { links = c.links + 1 }
+begun false c = record c { others = c.others + 1 }
+
+-- one more task is out
+abbrev pub with_task : Counts → Counts
+with_task c = record c { out = c.out + 1 }
+
+-- one task was taken in
+abbrev pub without_task : Counts → Counts
+without_task c = record c { out = c.out - 1 }
+
+-- each number has room in 64 bits for very many more
+pub record AreSmall (c : Counts) : Type 0 where
+  pub links : c.links < 2 ^ 63
+  pub others : c.others < 2 ^ 63
+  pub out : c.out < 2 ^ 63
+
+-- A start begins the job and gives its task. One that is refused begins nothing.
+abbrev pub Starts : {T E : Type 0} → Bool → Counts → Counts → Result T E → Type 0
+Starts link old new (Ok task) = new ≡ with_task (begun link old)
+Starts link old new (Err e) = new ≡ old
+
+-- A job is begun in any case: its task is given, or it was run at once.
+abbrev pub Runs : {T O : Type 0} → Bool → Counts → Counts → Result T O → Type 0
+Runs link old new (Ok task) = new ≡ with_task (begun link old)
+Runs link old new (Err out) = new ≡ begun link old
+
+-- A spawner without threads: its starts, of which the listed ones are refused, and what it began.
+pub record KeptJobs : Type 0 where
+  pub calls : Calls
+  pub counts : Counts

@@ -1,0 +1,53 @@
+-- What is told of a state: how many rows of each kind there are, and the books. Each line ends with LF, and its words
+-- are joined by one space.
+use Rattle.std.specs.Prelude.{ℕ, List, ◌++◌, length, codes, decimal}
+use Rattle.size_values.specs.Amounts.{part}
+use Rattle.size_values.specs.declared.amounts.Part.{Part}
+use Rattle.size_values.specs.declared.amounts.Part.TheVariants.{Instances, Containers, Machines, Cpu, Memory, Processes}
+use Rattle.size_values.specs.declared.amounts.Part.TheVariants.{Disk}
+use Rattle.reservations.specs.Holdings.{all_part}
+use Rattle.row_machine.specs.machine.State.{State}
+
+-- how many rows of a kind there are
+abbrev pub count_line : List ℕ → ℕ → List ℕ
+count_line kind count = kind ++ codes " " ++ decimal count ++ codes "\n"
+
+-- a number behind a space
+abbrev pub number_behind : ℕ → List ℕ
+number_behind number = codes " " ++ decimal number
+
+-- the seven parts of an amount, in the order in which limits are judged
+abbrev pub amounts_line : List ℕ → (Part → ℕ) → List ℕ
+amounts_line name amount =
+    name
+    ++ number_behind (amount Instances)
+    ++ number_behind (amount Containers)
+    ++ number_behind (amount Machines)
+    ++ number_behind (amount Cpu)
+    ++ number_behind (amount Memory)
+    ++ number_behind (amount Processes)
+    ++ number_behind (amount Disk)
+    ++ codes "\n"
+
+-- how many rows of each kind there are
+unfoldable pub counts_of : State → List ℕ
+counts_of s =
+    count_line (codes "projects") (length s.projects)
+    ++ count_line (codes "profiles") (length s.profiles)
+    ++ count_line (codes "networks") (length s.networks)
+    ++ count_line (codes "pools") (length s.pools)
+    ++ count_line (codes "volumes") (length s.volumes)
+    ++ count_line (codes "instances") (length s.instances)
+    ++ count_line (codes "snapshots") (length s.snapshots)
+
+-- the sums over all projects of what operations were granted, of what became their objects', of what went back, and of
+-- what is still held
+unfoldable pub books_of : State → List ℕ
+books_of s =
+    amounts_line (codes "granted") (λ k. part k s.books.granted)
+    ++ amounts_line (codes "converted") (λ k. part k s.books.converted)
+    ++ amounts_line (codes "returned") (λ k. part k s.books.returned)
+    ++ amounts_line (codes "held") (λ k. all_part k s.held)
+
+abbrev pub report_of : State → List ℕ
+report_of s = counts_of s ++ books_of s

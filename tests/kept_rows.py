@@ -1,0 +1,285 @@
+#!/usr/bin/env python3
+"""Kills incus_run over a file of rows at random moments, and compares what it then opens with what it had answered.
+
+    tests/kept_rows.py [--program FILE] [--kills N] [--rows N] [--seed N] [--run-alone] [--figures]
+
+The program is crates/incus_run/out/incus_run without `--program` (`bin/incus_run --prove` makes it).
+
+1. N times (100): the program is started over one file, is sent one change after the other, each after the reply to the one before, and
+   is killed by SIGKILL at a random moment. It is then opened again: every change that was answered has to be there, the one that was
+   under way is there whole or not at all, and nothing else has changed. The stock SQLite finds the file sound.
+2. `drill 7 N` (10,000) over a new file, and then `check`, which has to print the same counts.
+3. With `--figures`: the time of the opening of 65,536 rows, creations a second over a file and in memory, and bytes of the file a row.
+
+With `--run-alone` the commands `drill` and `check` are not used. It ends with status 1 where something is otherwise.
+"""
+import argparse
+import json
+import random
+import shutil
+import signal
+import sqlite3
+import subprocess
+import sys
+import tempfile
+import threading
+import time
+from pathlib import Path
+
+TOP = Path(__file__).resolve().parent.parent
+WORDS = ["--now", "0", "--boot", "0"]
+
+
+def request(method, target, body=None):
+    text = b"" if body is None else json.dumps(body).encode()
+    length = f"Content-Length: {len(text)}\r\n" if body is not None else ""
+    return f"{method} {target} HTTP/1.1\r\nHost: localhost\r\n{length}\r\n".encode() + text
+
+
+def operation_path(number):
+    return f"/1.0/operations/00000000-0000-8000-8000-{number:012x}"
+
+
+class Gone(Exception):
+    """The program ended before its reply was whole."""
+
+
+class Run:
+    """The program over a file, asked one request at a time."""
+
+    def __init__(self, program, file):
+        self.process = subprocess.Popen(
+            [program, "run", *WORDS, "--db", str(file)], stdin=subprocess.PIPE, stdout=subprocess.PIPE,
+            stderr=subprocess.PIPE)
+        self.operations = 0
+
+    def ask(self, method, target, body=None):
+        try:
+            self.process.stdin.write(request(method, target, body))
+            self.process.stdin.flush()
+        except BrokenPipeError as error:
+            raise Gone from error
+        head = b""
+        while not head.endswith(b"\r\n\r\n"):
+            byte = self.process.stdout.readline()
+            if not byte:
+                raise Gone
+            head += byte
+        length = next(int(line.split(b":")[1]) for line in head.split(b"\r\n") if line.startswith(b"Content-Length"))
+        text = self.process.stdout.read(length)
+        if len(text) < length:
+            raise Gone
+        return int(head.split()[1]), json.loads(text)
+
+    def done(self, method, target, body=None):
+        """Asks for a change, which has to be accepted, and waits for its operation if it has one."""
+        status, reply = self.ask(method, target, body)
+        if status == 202:
+            self.operations += 1
+            status, reply = self.ask("GET", operation_path(self.operations) + "/wait")
+            if reply["metadata"]["status"] != "Success":
+                sys.exit(f"{method} {target}: {reply}")
+        elif status not in (200, 201):
+            sys.exit(f"{method} {target}: {reply}")
+
+    def end(self):
+        self.process.stdin.close()
+        self.process.stdout.read()
+        said = self.process.stderr.read().decode()
+        status = self.process.wait()
+        if status != 0:
+            sys.exit(f"the program ended with status {status}: {said}")
+
+    def kill(self):
+        self.process.send_signal(signal.SIGKILL)
+
+    def reap(self):
+        self.process.wait()
+        for pipe in (self.process.stdin, self.process.stdout, self.process.stderr):
+            try:
+                pipe.close()
+            except BrokenPipeError:
+                pass
+
+
+class Rows:
+    """The descriptions of the instances and of the volumes that there are to be, by their names."""
+
+    LISTS = {"instance": "/1.0/instances", "volume": "/1.0/storage-pools/tank/volumes/custom"}
+
+    def __init__(self, chance):
+        self.chance = chance
+        self.there = {kind: {} for kind in self.LISTS}
+        self.made = 0
+
+    def next_change(self):
+        """A change that can be made: its kind, its name, its request, and the description that it leaves, or None."""
+        kind = self.chance.choice(list(self.there))
+        names = list(self.there[kind])
+        path, deed = self.LISTS[kind], self.chance.random()
+        self.made += 1
+        description = f"change {self.made} " + "x" * self.chance.choice((0, 50, 3000))
+        if len(names) < 5 or deed < 0.5 and len(names) < 60:
+            name = f"{kind[0]}{self.made}"
+            body = {"name": name, "description": description}
+            if kind == "instance":
+                body["source"] = {"type": "none"}
+            return kind, name, ("POST", path, body), description
+        name = self.chance.choice(names)
+        if deed < 0.75:
+            return kind, name, ("PATCH", f"{path}/{name}", {"description": description}), description
+        return kind, name, ("DELETE", f"{path}/{name}"), None
+
+    def put(self, kind, name, description):
+        if description is None:
+            del self.there[kind][name]
+        else:
+            self.there[kind][name] = description
+
+    @classmethod
+    def found_by(cls, run):
+        found = {}
+        for kind, path in cls.LISTS.items():
+            status, reply = run.ask("GET", f"{path}?recursion=1")
+            if status != 200:
+                sys.exit(f"the list of each {kind}: {reply}")
+            found[kind] = {row["name"]: row["description"] for row in reply["metadata"]}
+        return found
+
+
+def kill_after(run, seconds):
+    timer = threading.Timer(seconds, run.kill)
+    timer.start()
+    return timer
+
+
+def change_until_killed(run, rows, seconds):
+    """Makes changes until the program is killed; it gives the one that was under way."""
+    timer = kill_after(run, seconds)
+    change = None
+    try:
+        while True:
+            change = rows.next_change()
+            kind, name, asked, description = change
+            run.done(*asked)
+            rows.put(kind, name, description)
+    except Gone:
+        return change
+    finally:
+        timer.join()
+        run.reap()
+
+
+def is_sound(file):
+    """Whether the stock SQLite finds a copy of the file and its log sound."""
+    with tempfile.TemporaryDirectory() as folder:
+        copy = Path(folder, file.name)
+        for name in (file, Path(f"{file}-wal")):
+            if name.exists():
+                shutil.copy(name, Path(folder, name.name))
+        with sqlite3.connect(copy) as database:
+            found = database.execute("PRAGMA integrity_check").fetchall()
+        database.close()
+    return found == [("ok",)]
+
+
+def check(program, file):
+    ran = subprocess.run([program, "check", "--db", str(file)], capture_output=True, check=False)
+    if ran.returncode != 0:
+        sys.exit(f"check ended with status {ran.returncode}: {ran.stderr.decode()}")
+    return ran.stdout.decode()
+
+
+def try_kills(program, folder, arguments):
+    file, chance = Path(folder, "killed.db"), random.Random(arguments.seed)
+    run = Run(program, file)
+    run.done("POST", "/1.0/storage-pools", {"name": "tank", "driver": "dir"})
+    run.done("PATCH", "/1.0/profiles/default", {"devices": {"root": {"path": "/", "pool": "tank", "type": "disk"}}})
+    run.end()
+    rows, answered, whole = Rows(chance), 0, 0
+    for at in range(arguments.kills):
+        made = rows.made
+        kind, name, _, description = change_until_killed(Run(program, file), rows, chance.uniform(0.05, 0.6))
+        answered += rows.made - made - 1
+        if not is_sound(file):
+            sys.exit(f"after {at + 1} kills SQLite finds the file damaged")
+        if not arguments.run_alone:
+            check(program, file)
+        again = Run(program, file)
+        found = Rows.found_by(again)
+        again.end()
+        if found != rows.there:
+            rows.put(kind, name, description) if description is not None or name in rows.there[kind] else None
+            whole += 1
+        if found != rows.there:
+            sys.exit(f"after {at + 1} kills there are other rows than were answered:\n{found}\n{rows.there}")
+    print(f"{arguments.kills} kills: {answered} changes were answered, and all of them were there; of those under way {whole} were made")
+
+
+def try_drill(program, folder, arguments):
+    file = Path(folder, "drill.db")
+    began = time.monotonic()
+    ran = subprocess.run([program, "drill", "7", str(arguments.rows), "--db", str(file)], capture_output=True, check=False)
+    took = time.monotonic() - began
+    if ran.returncode != 0:
+        sys.exit(f"drill ended with status {ran.returncode}: {ran.stderr.decode()}")
+    kinds = ("projects", "profiles", "networks", "pools", "volumes", "instances", "snapshots")
+    counts = [line for line in ran.stdout.decode().splitlines() if line.split()[0] in kinds]
+    found = [line for line in check(program, file).splitlines() if line.split()[0] in kinds]
+    if found != counts or len(counts) != len(kinds):
+        sys.exit(f"drill and check differ:\n{counts}\n{found}")
+    print(f"drill of {arguments.rows} in {took:.1f} s, and check prints the same: {', '.join(counts)}")
+
+
+def stream(*words):
+    return subprocess.run([sys.executable, TOP / "bench/stream.py", *map(str, words)], capture_output=True, check=True).stdout
+
+
+def timed(program, words, text):
+    began = time.monotonic()
+    ran = subprocess.run([program, "run", *WORDS, *words], input=text, capture_output=True, check=False)
+    took = time.monotonic() - began
+    if ran.returncode != 0:
+        sys.exit(f"{words}: status {ran.returncode}: {ran.stderr.decode()}")
+    return took, ran.stdout
+
+
+def size_of(file):
+    return sum(name.stat().st_size for name in (file, Path(f"{file}-wal")) if name.exists())
+
+
+def show_figures(program, folder):
+    file = Path(folder, "many.db")
+    text = stream("pools", 1, 1) + stream("volumes", stream("name", "s", 1).decode().strip(), 1, 65_000)
+    took, said = timed(program, ["--db", str(file)], text)
+    made = said.count(b'"status_code":200')
+    print(f"{made} rows made in {took:.1f} s over a file: {made / took:.0f} a second, {size_of(file) / made:.0f} bytes a row")
+    took, _ = timed(program, ["--db", str(file)], b"")
+    print(f"opening of {made} rows: {took:.2f} s")
+    text = stream("tenant", "lab") + stream("made", "lab", 1, 1000, 1)
+    for place, words in (("in memory", []), ("over a file", ["--db", str(Path(folder, "made.db"))])):
+        took, said = timed(program, words, text)
+        print(f"1000 instances {place}: {1000 / took:.0f} creations a second")
+
+
+def main():
+    parser = argparse.ArgumentParser()
+    parser.add_argument("--program", default=TOP / "crates/incus_run/out/incus_run")
+    parser.add_argument("--kills", type=int, default=100)
+    parser.add_argument("--rows", type=int, default=10_000)
+    parser.add_argument("--seed", type=int, default=7)
+    parser.add_argument("--run-alone", action="store_true")
+    parser.add_argument("--figures", action="store_true")
+    arguments = parser.parse_args()
+    program = Path(arguments.program).resolve()
+    if not program.exists():
+        sys.exit(f"there is no program {program}: bin/incus_run --prove makes it")
+    with tempfile.TemporaryDirectory() as folder:
+        try_kills(program, folder, arguments)
+        if not arguments.run_alone:
+            try_drill(program, folder, arguments)
+        if arguments.figures:
+            show_figures(program, folder)
+
+
+main()
