@@ -12,6 +12,7 @@ pub trait Gate {
 
     // How many turns and how many rests were made at this gate.
     ghost turned: { Self → ℕ };
+
     ghost rested: { Self → ℕ };
 
     /// One event.

@@ -15,7 +15,8 @@ use std::sync::{Arc, Wait};
 use std::time::Clock;
 use turnstile::Turnstile;
 
-const CREATION: &str = "POST /1.0/projects HTTP/1.1\r\nHost: localhost\r\nContent-Length: 14\r\n\r\n{\"name\":\"lab\"}";
+const CREATION: &str =
+    "POST /1.0/projects HTTP/1.1\r\nHost: localhost\r\nContent-Length: 14\r\n\r\n{\"name\":\"lab\"}";
 
 const MADE: &str =
     "HTTP/1.1 200 OK\r\nContent-Type: application/json\r\nContent-Length: 66\r\n\r\n{\"metadata\":{},\"status\":\"Success\",\"status_code\":200,\"type\":\"sync\"}";
@@ -51,8 +52,9 @@ fn meet<L: Ledger, T: Wait + Clock + Copy>(rt: T, alloc: Global, blank: Blank) -
     requires parts { (blank.parts ≡ L.parts) × (blank.parts ≡ 2) }
 {
     let machine = new_machine(alloc)?;
-    let (turnstile, mut passes) =
-        Turnstile::<DaemonMachine<MapKeeper>, L>::new(alloc, machine, 2, blank).ok()?;
+    let (turnstile, mut passes) = Turnstile::<DaemonMachine<MapKeeper>, L>::new(
+        alloc, machine, 2, blank,
+    ).ok()?;
     let shared = Arc::new(alloc, turnstile).ok()?;
     let mut first = LockedGate::new(rt, Arc::try_clone(&shared).ok()?, passes.pop()?);
     let mut second = LockedGate::new(rt, shared, passes.pop()?);

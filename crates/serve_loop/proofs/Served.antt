@@ -224,29 +224,29 @@ link_text boot w w' ends text messages ending s is splits = by ends s.stops wher
   by end.Ended (inl (same, final)) =
       inr (text_at_final boot w s.behind w' s.exchanges text messages ending s.serves final is splits)
   by end.Ended (inr stops) = inr (
-    text_at_end boot w s.behind w' s.exchanges text messages ending ended whole going is splits stops.1.gate
-    stops.1.clock
-    (λ rest known. (at_known (λ bytes. ReadsNext bytes (input w') w'.held got.End) (input s.behind) stops.0.next rest
-    known).0)
-    (same_sink s.behind w' stops.2)
-  )
+      text_at_end boot w s.behind w' s.exchanges text messages ending ended whole going is splits stops.1.gate
+      stops.1.clock
+      (λ rest known. (at_known (λ bytes. ReadsNext bytes (input w') w'.held got.End) (input s.behind) stops.0.next rest
+      known).0)
+      (same_sink s.behind w' stops.2)
+      )
   by end.Cut (inl (same, final)) = cc
   by end.Cut (inr stops) = inr (
-    text_at_end boot w s.behind w' s.exchanges text messages ending (cut stops.0) whole going is splits
-    stops.2.gate stops.2.clock
-    (λ rest known. let said : ReadsNext rest (input w') w'.held (got.Cut stops.0) =
-    at_known (λ bytes. ReadsNext bytes (input w') w'.held (got.Cut stops.0)) (input s.behind) stops.1.next rest known in
-    (said.0, said.3))
-    (same_sink s.behind w' stops.3)
-  )
+      text_at_end boot w s.behind w' s.exchanges text messages ending (cut stops.0) whole going is splits
+      stops.2.gate stops.2.clock
+      (λ rest known. let said : ReadsNext rest (input w') w'.held (got.Cut stops.0) =
+      at_known (λ bytes. ReadsNext bytes (input w') w'.held (got.Cut stops.0)) (input s.behind) stops.1.next rest known in
+      (said.0, said.3))
+      (same_sink s.behind w' stops.3)
+      )
   by (end.Malformed fault) (inl (same, final)) = cc
   by (end.Malformed fault) (inr stops) = inr (
-    text_at_end boot w s.behind w' s.exchanges text messages ending (malformed fault) whole going is splits
-    stops.1.gate stops.1.clock
-    (λ rest known. (at_known (λ bytes. ReadsNext bytes (input w') w'.held (got.Malformed fault)) (input s.behind)
-    stops.0.next rest known).0)
-    stops.2.written
-  )
+      text_at_end boot w s.behind w' s.exchanges text messages ending (malformed fault) whole going is splits
+      stops.1.gate stops.1.clock
+      (λ rest known. (at_known (λ bytes. ReadsNext bytes (input w') w'.held (got.Malformed fault)) (input s.behind)
+      stops.0.next rest known).0)
+      stops.2.written
+      )
   by end.ReadFault stops = inl tt
   by end.WriteFault stops = inl tt
   by end.NoMemory stops = inl tt

@@ -102,9 +102,7 @@ fn serve_next<G: Gate, S: Source, K: Sink, C: Clock>(
         }
         Got::End => Turn::Stop(LinkEnd::Ended),
         Got::Cut(_) => Turn::Stop(LinkEnd::Cut),
-        Got::Malformed(fault) => {
-            Turn::Stop(end_after(write_refusal(alloc, sink, fault), fault))
-        }
+        Got::Malformed(fault) => { Turn::Stop(end_after(write_refusal(alloc, sink, fault), fault)) }
         Got::ReadFault => Turn::Stop(LinkEnd::ReadFault),
         Got::NoMemory => Turn::Stop(LinkEnd::NoMemory),
     }

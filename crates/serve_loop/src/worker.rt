@@ -93,12 +93,7 @@ fn rest<G: Gate>(gate: &mut G)
 }
 
 /// What a worker does at its post. It gives what it has to do then.
-fn go_on<G: Gate, H: Host, C: Clock>(
-    gate: &mut G,
-    host: &mut H,
-    clock: &mut C,
-    post: Post,
-) -> Post
+fn go_on<G: Gate, H: Host, C: Clock>(gate: &mut G, host: &mut H, clock: &mut C, post: Post) -> Post
     ensures { Walk WorkBy
         (seen G.told G.turned G.rested gate.old) (seen G.told G.turned G.rested gate.new)
         (standing post (hosted H.told H.failures host.old) (C.readings clock.old))
@@ -118,12 +113,7 @@ fn go_on<G: Gate, H: Host, C: Clock>(
 /// Works until the server is closed and nothing waits: it asks for calls, makes them on the host,
 /// and reports what became of each. It rests after each answer that no call waits. The clock is
 /// read once for each call that is asked for and for each report.
-pub fn work<T: Wait, G: Gate, H: Host, C: Clock>(
-    rt: &T,
-    gate: &mut G,
-    host: &mut H,
-    clock: &mut C,
-)
+pub fn work<T: Wait, G: Gate, H: Host, C: Clock>(rt: &T, gate: &mut G, host: &mut H, clock: &mut C)
     // It begins with no call in hand, and returns only after a call that it asked for was answered
     // by the close.
     ensures { Walk WorkBy

@@ -17,7 +17,7 @@ returns-in-Request g c = rw c.turn_after.ensures (
       ended = c.in-Request.ensures.ended;
     })
     c.reply_to-reply.ensures c.answer_for-answered.ensures c.write_answer-written.ensures
-)
+    )
 
 pub returns-in-Malformed : goal.returns-in-Malformed
 returns-in-Malformed g c = rw c.end_after.ensures (
@@ -31,52 +31,65 @@ returns-in-Malformed g c = rw c.end_after.ensures (
       ended = c.in-Malformed.ensures.ended;
     })
     (record { gate = refl; clock = refl }) c.write_refusal.ensures
-)
+    )
 
 pub returns-in-End : goal.returns-in-End
 returns-in-End g c = (
-    record {
-      next = c.in-End.ensures.next;
-      held = c.in-End.ensures.held;
-      ahead = unread (inlet g.S.Source.left g.S.Source.ended g.S.Source.failures) _ _ _ c.in-End.ensures.ahead;
-      few = c.in-End.ensures.few;
-      later = c.in-End.ensures.later;
-      fault = c.in-End.ensures.fault;
-      ended = c.in-End.ensures.ended;
-    }, record { gate = refl; clock = refl }, refl)
+  record {
+    next = c.in-End.ensures.next;
+    held = c.in-End.ensures.held;
+    ahead = unread (inlet g.S.Source.left g.S.Source.ended g.S.Source.failures) _ _ _ c.in-End.ensures.ahead;
+    few = c.in-End.ensures.few;
+    later = c.in-End.ensures.later;
+    fault = c.in-End.ensures.fault;
+    ended = c.in-End.ensures.ended;
+  },
+  record { gate = refl; clock = refl },
+  refl,
+)
 
 pub returns-in-Cut : goal.returns-in-Cut
-returns-in-Cut g c = (_, 
-    record {
-      next = c.in-Cut.ensures.next;
-      held = c.in-Cut.ensures.held;
-      ahead = unread (inlet g.S.Source.left g.S.Source.ended g.S.Source.failures) _ _ _ c.in-Cut.ensures.ahead;
-      few = c.in-Cut.ensures.few;
-      later = c.in-Cut.ensures.later;
-      fault = c.in-Cut.ensures.fault;
-      ended = c.in-Cut.ensures.ended;
-    }, record { gate = refl; clock = refl }, refl)
+returns-in-Cut g c = (
+  _,
+  record {
+    next = c.in-Cut.ensures.next;
+    held = c.in-Cut.ensures.held;
+    ahead = unread (inlet g.S.Source.left g.S.Source.ended g.S.Source.failures) _ _ _ c.in-Cut.ensures.ahead;
+    few = c.in-Cut.ensures.few;
+    later = c.in-Cut.ensures.later;
+    fault = c.in-Cut.ensures.fault;
+    ended = c.in-Cut.ensures.ended;
+  },
+  record { gate = refl; clock = refl },
+  refl,
+)
 
 pub returns-in-ReadFault : goal.returns-in-ReadFault
 returns-in-ReadFault g c = (
-    record {
-      next = c.in-ReadFault.ensures.next;
-      held = c.in-ReadFault.ensures.held;
-      ahead = unread (inlet g.S.Source.left g.S.Source.ended g.S.Source.failures) _ _ _ c.in-ReadFault.ensures.ahead;
-      few = c.in-ReadFault.ensures.few;
-      later = c.in-ReadFault.ensures.later;
-      fault = c.in-ReadFault.ensures.fault;
-      ended = c.in-ReadFault.ensures.ended;
-    }, record { gate = refl; clock = refl }, refl)
+  record {
+    next = c.in-ReadFault.ensures.next;
+    held = c.in-ReadFault.ensures.held;
+    ahead = unread (inlet g.S.Source.left g.S.Source.ended g.S.Source.failures) _ _ _ c.in-ReadFault.ensures.ahead;
+    few = c.in-ReadFault.ensures.few;
+    later = c.in-ReadFault.ensures.later;
+    fault = c.in-ReadFault.ensures.fault;
+    ended = c.in-ReadFault.ensures.ended;
+  },
+  record { gate = refl; clock = refl },
+  refl,
+)
 
 pub returns-in-NoMemory : goal.returns-in-NoMemory
 returns-in-NoMemory g c = inr (inl (
-    record {
-      next = c.in-NoMemory.ensures.next;
-      held = c.in-NoMemory.ensures.held;
-      ahead = unread (inlet g.S.Source.left g.S.Source.ended g.S.Source.failures) _ _ _ c.in-NoMemory.ensures.ahead;
-      few = c.in-NoMemory.ensures.few;
-      later = c.in-NoMemory.ensures.later;
-      fault = c.in-NoMemory.ensures.fault;
-      ended = c.in-NoMemory.ensures.ended;
-    }, record { gate = refl; clock = refl }, refl))
+  record {
+    next = c.in-NoMemory.ensures.next;
+    held = c.in-NoMemory.ensures.held;
+    ahead = unread (inlet g.S.Source.left g.S.Source.ended g.S.Source.failures) _ _ _ c.in-NoMemory.ensures.ahead;
+    few = c.in-NoMemory.ensures.few;
+    later = c.in-NoMemory.ensures.later;
+    fault = c.in-NoMemory.ensures.fault;
+    ended = c.in-NoMemory.ensures.ended;
+  },
+  record { gate = refl; clock = refl },
+  refl,
+))
