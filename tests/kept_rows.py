@@ -250,7 +250,7 @@ def size_of(file):
 
 def show_figures(program, folder):
     file = Path(folder, "many.db")
-    text = stream("pools", 1, 1) + stream("volumes", stream("name", "s", 1).decode().strip(), 1, 65_000)
+    text = stream("pools", 1, 1) + stream("volumes", stream("name", "s", 1).decode().strip(), 1, 65_536)
     took, said = timed(program, ["--db", str(file)], text)
     made = said.count(b'"status_code":200')
     print(f"{made} rows made in {took:.1f} s over a file: {made / took:.0f} a second, {size_of(file) / made:.0f} bytes a row")
