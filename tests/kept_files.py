@@ -9,6 +9,7 @@ the program made, SQLite has to find the two tables, sound, and the program has 
 It ends with status 1 where something is otherwise.
 """
 import os
+import shutil
 import sqlite3
 import subprocess
 import sys
@@ -151,6 +152,7 @@ def main():
         sys.exit(f"there is no program {program}: bin/incus_run --prove makes it")
     with tempfile.TemporaryDirectory() as top:
         os.chmod(top, 0o755)
+        program = Path(shutil.copy(program, top))
         for at, (case, make, sentence) in enumerate(REFUSED):
             try_refused(program, Path(top, str(at)), case, make, sentence)
         try_kept(program, Path(top, "kept"))

@@ -190,6 +190,12 @@ def check(program, file):
     return ran.stdout.decode()
 
 
+def differences(found, there):
+    """What differs, as the kind, the name, and the first words of the description that was found and of the one that was answered."""
+    both = ((kind, name, found[kind].get(name), there[kind].get(name)) for kind in there for name in found[kind] | there[kind])
+    return [(kind, name, was and was[:20], due and due[:20]) for kind, name, was, due in both if was != due]
+
+
 def try_kills(program, folder, arguments):
     file, chance = Path(folder, "killed.db"), random.Random(arguments.seed)
     run = Run(program, file)
@@ -212,7 +218,7 @@ def try_kills(program, folder, arguments):
             rows.put(kind, name, description) if description is not None or name in rows.there[kind] else None
             whole += 1
         if found != rows.there:
-            sys.exit(f"after {at + 1} kills there are other rows than were answered:\n{found}\n{rows.there}")
+            sys.exit(f"after {at + 1} kills there are other rows than were answered: {differences(found, rows.there)}")
     print(f"{arguments.kills} kills: {answered} changes were answered, and all of them were there; of those under way {whole} were made")
 
 
@@ -250,7 +256,7 @@ def size_of(file):
 
 def show_figures(program, folder):
     file = Path(folder, "many.db")
-    text = stream("pools", 1, 1) + stream("volumes", stream("name", "s", 1).decode().strip(), 1, 65_000)
+    text = stream("pools", 1, 1) + stream("volumes", stream("name", "s", 1).decode().strip(), 1, 65_536)
     took, said = timed(program, ["--db", str(file)], text)
     made = said.count(b'"status_code":200')
     print(f"{made} rows made in {took:.1f} s over a file: {made / took:.0f} a second, {size_of(file) / made:.0f} bytes a row")
