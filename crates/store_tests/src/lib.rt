@@ -2,6 +2,4 @@
 #![tactic(auto)]
 
 #[cfg(test)]
-mod kept_rows;
-#[cfg(test)]
 mod openings;
