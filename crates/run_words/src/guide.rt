@@ -11,7 +11,7 @@ pub fn usage() -> &'static str {
      check [--db PATH]\n\
      \x20   tells what is kept\n\
      \n\
-     Options stand behind the command, each at most once, as --name VALUE or --name=VALUE. A number has no sign and\n\
+     Options stand after the command, each at most once, as --name VALUE or --name=VALUE. A number has no sign and\n\
      no zero in front: --steps 0 to 1000000, --now 0 to 253402300799, --boot and SEED 0 to 18446744073709551615,\n\
      COUNT 0 to 10000. A LIST is 1 to 64 numbers of calls from 1 on, joined by commas. PATH is not empty, and\n\
      --fail-keeper does not stand with --db.\n"

@@ -259,7 +259,7 @@ fn command_words_in(given: &Option<ArgMatches<'_>>) -> Option<CommandWords>
     }
 }
 
-/// What the words say, where they are read: a command with its numbers, and its options behind it in any order, each at
+/// What the words say, where they are read: a command with its numbers, and its options after it in any order, each at
 /// most once, as `--name VALUE` or `--name=VALUE`. `run` has `--steps`, `--db`, `--fail-host`, `--fail-keeper`, `--now`
 /// and `--boot`, of which `--db` and `--fail-keeper` do not stand together; `make SEED COUNT` has none; `drill SEED
 /// COUNT` and `check` have `--db`.

@@ -2,4 +2,6 @@
 #![tactic(auto)]
 
 #[cfg(test)]
+mod kept_rows;
+#[cfg(test)]
 mod openings;
