@@ -13,11 +13,11 @@ use Rattle.records.specs.declared.refusals.Refusal.{Refusal}
 use Rattle.records.specs.declared.replies.Reply.{Reply}
 use Rattle.row_machine.specs.declared.events.Answer.{Answer}
 use Rattle.row_machine.specs.machine.State.{State}
-use Rattle.row_machine.specs.machine.Step.{Outcome, well, keeper_failed, no_memory}
-use Rattle.work_reports.specs.Stores.{IsCaused, KeepsRecords}
+use Rattle.row_machine.specs.machine.Step.{Outcome}
+use Rattle.work_reports.specs.Stores.{KeepsRecords}
 use Rattle.serial_steps.specs.Steps.{Site, Step, StepsTo, StepsWhile}
 use Rattle.serial_steps.specs.Counts.{ComesTo, failed_commits, moments_in, keeper_failures_in, host_failures_in}
-use Rattle.serial_steps.proofs.Counting.{all-come_to}
+use Rattle.serial_steps.proofs.Counting.{all-come_to, caused-later, caused-rose}
 use Rattle.run_words.specs.declared.words.Pace.{Pace}
 use Rattle.run_words.specs.declared.words.Pace.TheVariants as pace
 use Rattle.rest_routes.specs.Commands.{command_of}
@@ -48,20 +48,6 @@ reads_twice a b c (x ∷ xs) ys first then = (first.0, reads_twice (after_next a
 early_at : (at : Option ℕ) → IfSome at (λ m. m < moment_limit) → All (λ m. m < moment_limit) (option_to_list at)
 early_at None early = All-nil (λ m. m < moment_limit)
 early_at (Some m) early = All-cons (λ m. m < moment_limit) m [] early (All-nil (λ m. m < moment_limit))
-
--- ---- the keeper's count
-
--- it does not fall
-caused_later : (o : Outcome) (before now : ℕ) → IsCaused o before now → before ≤ now
-caused_later well before now caused = omega (arith, caused)
-caused_later (keeper_failed rise) before now caused = caused.2
-caused_later no_memory before now caused = omega (arith, caused)
-
--- it rose where the keeper failed
-caused_rose : (o : Outcome) (before now : ℕ) → IsCaused o before now → RoseBy (failed_commits o) before now
-caused_rose well before now caused = omega (arith, caused)
-caused_rose (keeper_failed rise) before now caused = omega (arith, rise.rose, caused.0, caused.1)
-caused_rose no_memory before now caused = omega (arith, caused)
 
 -- ---- the parts of a way
 
@@ -101,8 +87,8 @@ along_carries {w} {w'} {asked} {moment} {outcome} {a} h = record {
   clock = h.clock.read;
   early = early_at moment h.clock.early;
   kept = h.kept;
-  keeper_failed = caused_rose outcome w.store.failures w'.store.failures h.caused;
-  keeper_later = caused_later outcome w.store.failures w'.store.failures h.caused;
+  keeper_failed = caused-rose outcome w.store.failures w'.store.failures h.caused;
+  keeper_later = caused-later outcome w.store.failures w'.store.failures h.caused;
   host_failed = rose_not w.host.failures w'.host.failures (ap (λ x. x.failures) h.host);
   host_later = falls_not w.host.failures w'.host.failures (ap (λ x. x.failures) h.host);
 } where

@@ -1,11 +1,10 @@
 -- One request comes to its reply, from what its parts ensure.
-use Rattle.std.proofs.Common.{◌≡◌, ◌≤◌, ◌<◌, ℕ, Bool, List, [], ◌∷◌, length, Some, None, Result, Ok, Err, refl, ap, sym}
+use Rattle.std.proofs.Common.{◌≡◌, ◌≤◌, ◌<◌, ℕ, List, [], ◌∷◌, length, Some, None, Result, Ok, Err, refl, sym}
 use Rattle.std.proofs.Common.{subst}
 use Rattle.size_values.specs.Moments.{moment_limit}
 use Rattle.size_values.specs.declared.memory.Or.{Or}
 use Rattle.size_values.specs.declared.memory.Or.TheVariants as or
 use Rattle.http_front.specs.Clocks.{Reads}
-use Rattle.http_front.specs.Replies.{reply_text}
 use Rattle.records.specs.declared.commands.Command.{Command}
 use Rattle.records.specs.declared.refusals.Refusal.{Refusal}
 use Rattle.records.specs.declared.replies.Reply.{Reply}
@@ -21,9 +20,9 @@ use Rattle.judged_changes.specs.Judged.{reply_for}
 use Rattle.core_turns.specs.Turns.{IsTurn}
 use Rattle.serial_steps.specs.Steps.{Site, Step, WaitsFor, most_steps}
 use Rattle.rest_paths.specs.Answers.{IsDue}
-use Rattle.rest_replies.specs.Replies.{NoMemoryIsKnown, printed_of}
-use Rattle.rest_service.specs.Answers.{Reaches, Shows, no_memory_text}
-use Rattle.rest_service.specs.Exchanges.{Carries, carried_out, printed, showing}
+use Rattle.rest_answers.specs.Asked.{showing}
+use Rattle.rest_service.specs.Answers.{Reaches, Shows}
+use Rattle.rest_service.specs.Exchanges.{Carries, carried_out}
 
 -- a command was asked at the next moment of the clock, and was answered so
 pub record Asks (w : Site) (c : Command) (moment : ℕ) (a : Answer) (w' : Site) : Type 0 where
@@ -137,12 +136,3 @@ pub unrouted : (w : Site) (asked : Result Command Refusal) (why : Or Refusal) �
 unrouted w asked or.NoMemory due = memory_replies w asked
 unrouted w asked (or.Why refusal) due =
     subst (λ x. Reaches w x (reply.Refused refusal) w) (sym due) (refusal_replies w refusal)
-
--- ---- texts
-
--- the reply that takes no memory is the one that tells that there is none
-pub no_memory_printed : (boot : ℕ) (last : Bool) → NoMemoryIsKnown
-    → no_memory_text last ≡ printed reply.NoMemory boot last
-unfolding printed printed_of
-no_memory_printed boot last known = ap
-    (λ body. reply_text (record { code = 500; body = body; location = []; last = last })) (sym (known boot))

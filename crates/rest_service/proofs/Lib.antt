@@ -1,3 +1,2 @@
 pub mod Along
 mod Answering
-mod ForClients

@@ -1,17 +1,14 @@
 -- How a service opens and answers.
-use Rattle.std.specs.Prelude.{◌≡◌, ◌≢◌, ◌<◌, ℕ, List, [], ◌∷◌, Bool, Option, None, IfSome, Result, Ok, Err}
+use Rattle.std.specs.Prelude.{◌≡◌, ◌≢◌, ◌<◌, ℕ, List, [], ◌∷◌, Option, None, IfSome, Result, Ok, Err}
 use Rattle.size_values.specs.Moments.{moment_limit}
 use Rattle.record_keeper.specs.Store.{Store}
 use Rattle.http_heads.specs.declared.request.Request.{Request}
 use Rattle.http_front.specs.Clocks.{Readings, Reads}
-use Rattle.http_front.specs.Replies.{reply_text, no_memory_body}
 use Rattle.records.specs.declared.commands.Command.{Command}
 use Rattle.records.specs.declared.commands.What.TheVariants as what
 use Rattle.records.specs.declared.refusals.Refusal.{Refusal}
 use Rattle.records.specs.declared.replies.Reply.{Reply}
 use Rattle.records.specs.declared.replies.Reply.TheVariants as reply
-use Rattle.row_machine.specs.declared.events.Answer.{Answer}
-use Rattle.row_machine.specs.declared.events.Answer.TheVariants as answer
 use Rattle.row_machine.specs.declared.events.Event.TheVariants as event
 use Rattle.row_machine.specs.machine.Step.{Outcome}
 use Rattle.core_rows.specs.Asked.{answered}
@@ -20,11 +17,9 @@ use Rattle.core_rows.specs.declared.opening.OpenFault.{OpenFault}
 use Rattle.core_turns.specs.Turns.{IsTurn}
 use Rattle.rest_routes.specs.Commands.{command_of}
 use Rattle.serial_steps.specs.Steps.{Serial, Site}
-use Rattle.rest_service.specs.Exchanges.{IsAnswered, Held, printed}
-use Rattle.rest_service.specs.declared.answers.Answered.{Answered}
-use Rattle.rest_service.specs.declared.answers.Answered.TheVariants as written
-use Rattle.rest_service.specs.declared.asking.Asked.{Asked}
-use Rattle.rest_service.specs.declared.asking.Asked.TheVariants as asked
+use Rattle.rest_answers.specs.Texts.{HasText}
+use Rattle.rest_answers.specs.declared.answers.Answered.{Answered}
+use Rattle.rest_service.specs.Exchanges.{IsAnswered, Held}
 
 -- ---- opening
 
@@ -35,25 +30,6 @@ OpensService (Ok s) store store' = OpensTo s.state store store' × (s.hand ≡ N
 OpensService (Err why) store store' = Refuses why store store'
 
 -- ---- what a command is answered
-
--- The answers that a command can have: a reply, that it waits, or that memory was refused, which is no reply of its
--- own.
-abbrev pub IsForClient : Answer → Type 0
-IsForClient (answer.Reply r) = r ≢ reply.NoMemory
-IsForClient (answer.Hold op) = Unit {0}
-IsForClient answer.NoMemory = Unit {0}
-IsForClient other = ⊥
-
--- the same without a wait
-abbrev pub IsAtOnce : Answer → Type 0
-IsAtOnce (answer.Reply r) = r ≢ reply.NoMemory
-IsAtOnce answer.NoMemory = Unit {0}
-IsAtOnce other = ⊥
-
--- the answer that this is
-abbrev pub answer_of : Asked → Answer
-answer_of (asked.Reply r) = answered r
-answer_of (asked.Hold op) = answer.Hold op
 
 -- In a project an operation was asked for, at the next moment of a clock, and was answered by this reply. The call in
 -- hand is as before.
@@ -73,19 +49,6 @@ pub record Reaches (w : Site) (asks : Result Command Refusal) (r : Reply) (w' : 
   pub outcome : Outcome
   pub held : Option Held
   pub comes : IsAnswered w asks moment outcome held r w'
-
--- ---- what is to be written
-
--- the bytes of the reply that takes no memory
-abbrev pub no_memory_text : Bool → List ℕ
-no_memory_text last = reply_text (record { code = 500; body = no_memory_body; location = []; last = last })
-
--- What is to be written is the text of the reply, unless memory for it was refused. The reply that tells of memory
--- refused takes none, and is always written.
-abbrev pub HasText : Answered → Reply → ℕ → Bool → Type 0
-HasText (written.Printed bytes) r boot last = bytes ≡ printed r boot last
-HasText written.NoMemory r boot last = no_memory_text last ≡ printed r boot last
-HasText written.Unprinted r boot last = r ≢ reply.NoMemory
 
 -- One request was answered: it came to a reply, and what is to be written is that reply.
 pub record Answers (boot : ℕ) (w w' : Site) (request : Request) (result : Answered) : Type 0 where

@@ -1,20 +1,14 @@
 -- Requests one after the other, each with its reply, and the steps that the worker makes between them: while the answer
 -- of a wait is held back, and after each reply.
-use Rattle.std.specs.Prelude.{◌≡◌, ◌≤◌, ◌+◌, ◌++◌, ◌<◌, ℕ, List, [], ◌∷◌, length, Bool, true, Option, Some, None}
+use Rattle.std.specs.Prelude.{◌≡◌, ◌≤◌, ◌+◌, ◌++◌, ◌<◌, ℕ, List, [], ◌∷◌, length, Option, Some, None}
 use Rattle.std.specs.Prelude.{IfSome}
 use Rattle.std.specs.Prelude.{Result, Ok, Err}
 use Rattle.std.specs.List.{flat_map, sum_by}
 use Rattle.std.specs.Option.{option_to_list}
 use Rattle.size_values.specs.Moments.{moment_limit}
 use Rattle.http_heads.specs.declared.request.Request.{Request}
-use Rattle.http_heads.specs.declared.request.HeadFault.{HeadFault}
-use Rattle.http_heads.specs.declared.request.HeadFault.TheVariants as fault
 use Rattle.http_front.specs.Clocks.{Readings, Reads}
-use Rattle.http_front.specs.Replies.{reply_text}
 use Rattle.records.specs.declared.commands.Command.{Command}
-use Rattle.records.specs.declared.commands.What.TheVariants as what
-use Rattle.records.specs.declared.refusals.Rule.{Rule}
-use Rattle.records.specs.declared.refusals.Rule.TheVariants as rule
 use Rattle.records.specs.declared.refusals.Refusal.{Refusal}
 use Rattle.records.specs.declared.replies.Reply.{Reply}
 use Rattle.records.specs.declared.replies.Reply.TheVariants as reply
@@ -23,7 +17,6 @@ use Rattle.row_machine.specs.declared.events.Answer.{Answer}
 use Rattle.row_machine.specs.declared.events.Answer.TheVariants as answer
 use Rattle.row_machine.specs.declared.events.Event.TheVariants as event
 use Rattle.row_machine.specs.machine.State.{State}
-use Rattle.row_machine.specs.machine.Refusals.{plain_refusal}
 use Rattle.row_machine.specs.machine.Accept.{After, and_then}
 use Rattle.row_machine.specs.machine.Step.{Outcome, well, keeper_failed, no_memory}
 use Rattle.work_reports.specs.Stores.{IsCaused, KeepsRecords, Stores}
@@ -31,7 +24,8 @@ use Rattle.core_rows.specs.Asked.{answered, changes_of}
 use Rattle.core_turns.specs.Turns.{turned}
 use Rattle.serial_steps.specs.Steps.{Site, Step, StepsTo, Finishes, WaitsFor, most_steps}
 use Rattle.serial_steps.specs.Counts.{moments_in, failed_commits, keeper_failures_in, host_failures_in}
-use Rattle.rest_replies.specs.Replies.{printed_of}
+use Rattle.rest_answers.specs.Asked.{showing}
+use Rattle.rest_answers.specs.Texts.{printed}
 use Rattle.rest_routes.specs.Commands.{command_of}
 use Rattle.run_words.specs.declared.words.Pace.{Pace}
 use Rattle.run_words.specs.declared.words.Pace.TheVariants as pace
@@ -103,10 +97,6 @@ pub record Carries (w : Site) (asked : Result Command Refusal) (moment : Option 
   pub clock : AsksAt moment w.clock w'.clock
 
 -- ---- one request comes to its reply
-
--- in the project of a command, an operation is asked for
-abbrev pub showing : ℕ → Command → Command
-showing op c = record { project = c.project; what = what.GetOp op }
 
 -- The command was a wait for an operation that was live, so its answer was held back; steps were made until the
 -- operation had ended; and then it was asked for in the same project, and was answered by this reply.
@@ -189,22 +179,6 @@ host_failures_of exchanges = sum_by host_failures_at exchanges
 
 -- ---- their bytes
 
--- the bytes of a reply, which says where the connection ends after it
-unfoldable pub printed : Reply → ℕ → Bool → List ℕ
-printed r boot last = reply_text (printed_of r boot last)
-
 -- the bytes of the replies, in their order
 abbrev pub printed_replies : ℕ → List Exchange → List ℕ
 printed_replies boot exchanges = flat_map (λ e. printed e.reply boot e.request.last) exchanges
-
--- the rule that a malformed place breaks
-abbrev pub rule_of : HeadFault → Rule
-rule_of fault.H1 = rule.H1
-rule_of fault.H2 = rule.H2
-rule_of fault.H3 = rule.H3
-rule_of fault.H4 = rule.H4
-
--- The bytes that answer a malformed place, after which the connection ends. A refusal tells no id, so the boot word
--- does not matter.
-abbrev pub malformed_text : HeadFault → List ℕ
-malformed_text fault = printed (reply.Refused (plain_refusal (rule_of fault))) 0 true

@@ -1,52 +1,20 @@
 //! How a command comes to its reply.
 ghost use Rattle.std.specs.Prelude.{◌≡◌, true, Ok};
 ghost use Rattle.records.specs.Forms.{is_formed};
-ghost use Rattle.core_rows.specs.Asked.{answered};
 ghost use Rattle.rest_routes.specs.Commands.{command_of};
 ghost use Rattle.serial_steps.specs.Steps.{hosted, site};
-ghost use Rattle.rest_service.specs.Answers.{answer_of, IsAtOnce, IsForClient, Reaches, Shows};
+ghost use Rattle.rest_service.specs.Answers.{Reaches, Shows};
 
 use core_rows::refused_reply;
 use host_model::Host;
 use http_front::{Clock, Request};
 use record_keeper::Keeper;
 use records::{Command, Reply, What};
+use rest_answers::{Asked, asked_of, reply_of};
 use rest_routes::Router;
-use row_machine::Answer;
 use serial_steps::SerialDaemon;
 use size_values::Text;
 use std::alloc::Global;
-
-/// What a command is answered at first.
-#[derive(Drop)]
-enum Asked {
-    Reply(Reply),
-    /// It waits for this operation, which is live.
-    Hold(u64),
-}
-
-fn asked_of(answer: Answer) -> Asked
-    requires { IsForClient answer }
-    ensures { answer_of result ≡ answer }
-{
-    match answer {
-        Answer::Reply(reply) => Asked::Reply(reply),
-        Answer::Hold(number) => Asked::Hold(number),
-        Answer::NoMemory => Asked::Reply(Reply::NoMemory),
-        _ => unreachable!(),
-    }
-}
-
-fn reply_of(answer: Answer) -> Reply
-    requires { IsAtOnce answer }
-    ensures { answered result ≡ answer }
-{
-    match answer {
-        Answer::Reply(reply) => reply,
-        Answer::NoMemory => Reply::NoMemory,
-        _ => unreachable!(),
-    }
-}
 
 /// Asks for an operation in a project.
 fn show_operation<R: Keeper, C: Clock>(

@@ -2,10 +2,8 @@
 //! it keeps (REST API of the Incus documentation).
 #![tactic(auto)]
 
-mod answers;
 mod asking;
 mod service;
 
-pub use answers::{Answered, print_malformed};
 pub use core_rows::OpenFault;
 pub use service::Service;

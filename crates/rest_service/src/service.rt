@@ -4,13 +4,13 @@ ghost use Rattle.serial_steps.specs.Steps.{hosted, site, Step};
 ghost use Rattle.rest_service.specs.Answers.{Answers, OpensService};
 ghost use Rattle.rest_service.specs.Exchanges.{IsPaced};
 
-use crate::answers::{Answered, answer_for};
 use crate::asking::reply_to;
 use core_rows::OpenFault;
 use core_turns::Daemon;
 use host_model::Host;
 use http_front::{Clock, Request};
 use record_keeper::Keeper;
+use rest_answers::{Answered, answer_for};
 use rest_routes::Router;
 use row_readings::View;
 use run_words::Pace;

@@ -20,7 +20,8 @@ use Rattle.serial_sessions.specs.declared.session.SessionEnd.{SessionEnd}
 use Rattle.serial_sessions.specs.declared.session.SessionEnd.TheVariants as end
 use Rattle.serial_sessions.specs.Sessions.{Session}
 use Rattle.serial_sessions.specs.Worlds.{Outlet, World}
-use Rattle.serial_sessions.proofs.Served.{Together, together, appends_twice}
+use Rattle.rest_answers.proofs.Linking.{appends_twice}
+use Rattle.serial_sessions.proofs.Served.{Together, together}
 use Rattle.serial_sessions.proofs.Whole.{IsDue, session_due}
 use Rattle.serial_sessions.proofs.Quiet.{StopsQuietly, session_quietly}
 use Rattle.serial_commands.specs.Commands.{Answers, Drilled, Drills, DrillsOver, DrillsText, Tells, TellsDrill}

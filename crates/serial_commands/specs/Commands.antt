@@ -17,7 +17,8 @@ use Rattle.run_words.specs.declared.words.Pace.TheVariants as pace
 use Rattle.rest_service.specs.Exchanges.{Exchange, LeadTo, moments_of, printed_replies}
 use Rattle.rest_service.specs.Exchanges.{host_failures_of, keeper_failures_of}
 use Rattle.serial_sessions.specs.Inputs.{requests_of, answered}
-use Rattle.serial_sessions.specs.Sessions.{BreaksOff, Session, Takes}
+use Rattle.rest_answers.specs.Links.{BreaksOff, Takes}
+use Rattle.serial_sessions.specs.Sessions.{Session}
 use Rattle.serial_sessions.specs.Worlds.{Inlet, Outlet}
 use Rattle.serial_sessions.specs.declared.session.SessionEnd.{SessionEnd}
 use Rattle.serial_sessions.specs.declared.session.SessionEnd.TheVariants as end

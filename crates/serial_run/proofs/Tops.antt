@@ -28,10 +28,12 @@ use Rattle.serial_sessions.specs.Inputs.{status_of}
 use Rattle.serial_run.specs.Runs.{start_status, begun, boot_with, seen_with, IsUnread, Ran, Runs}
 use Rattle.serial_run.specs.Runs.{HasCauseToRefuse, Opened}
 use Rattle.serial_sessions.specs.Sessions.{Session, Stops, StopsBehindFinal, AllGoOn, OnlyFinalEnds}
-use Rattle.serial_sessions.specs.Inputs.{through_last, has_last, answered, end_due}
+use Rattle.serial_sessions.specs.Inputs.{answered, end_due}
+use Rattle.rest_answers.specs.Lasts.{has_last, through_last}
 use Rattle.serial_run.specs.Texts.{RunsText, is_fault}
 use Rattle.serial_sessions.specs.Worlds.{Outside, World, within, world}
-use Rattle.serial_sessions.proofs.Served.{Together, together, appends_nothing, appends_twice}
+use Rattle.rest_answers.proofs.Linking.{appends_nothing, appends_twice}
+use Rattle.serial_sessions.proofs.Served.{Together, together}
 use Rattle.serial_sessions.proofs.Quiet.{StopsQuietly, session_quietly}
 use Rattle.serial_sessions.proofs.Whole.{IsSettled, IsDue, session_due, text_at, not_full}
 

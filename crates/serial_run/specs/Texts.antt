@@ -16,7 +16,7 @@ use Rattle.row_machine.specs.opening.Records.{records_of}
 use Rattle.core_rows.specs.Opening.{AreTold, opened_store}
 use Rattle.serial_steps.specs.Steps.{Serial, serial}
 use Rattle.run_words.specs.declared.words.Pace.{Pace}
-use Rattle.rest_service.specs.Exchanges.{Exchange, LeadTo, malformed_text, moments_of, printed_replies}
+use Rattle.rest_service.specs.Exchanges.{Exchange, LeadTo, moments_of, printed_replies}
 use Rattle.rest_service.specs.Exchanges.{host_failures_of, keeper_failures_of}
 use Rattle.serial_sessions.specs.Most.{most_requests}
 use Rattle.serial_sessions.specs.Inputs.{requests_of, answered, end_due}

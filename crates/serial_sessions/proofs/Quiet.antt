@@ -6,7 +6,7 @@ use Rattle.serial_sessions.specs.declared.session.SessionEnd.{SessionEnd}
 use Rattle.serial_sessions.specs.declared.session.SessionEnd.TheVariants as end
 use Rattle.serial_sessions.specs.Sessions.{Session, Stops, StopsBehindFinal, AllGoOn, OnlyFinalEnds}
 use Rattle.serial_sessions.specs.Worlds.{World}
-use Rattle.serial_sessions.proofs.Served.{appends_nothing}
+use Rattle.rest_answers.proofs.Linking.{appends_nothing}
 use Rattle.serial_sessions.proofs.Whole.{IsSettled, text_at}
 
 -- what a settled stop wrote after the replies; the server is as before

@@ -1,9 +1,8 @@
 -- Requests that are served one after the other are served together.
 use Rattle.std.proofs.Common.{◌≡◌, ◌≢◌, ◌==◌, ◌<◌, ◌≤◌, ◌+◌, ◌++◌, ◌⊎◌, ℕ, List, [], ◌∷◌, length, Bool, true, false}
 use Rattle.std.proofs.Common.{Option, Some, None, IfSome, refl, ap, sym, ◌∙◌, subst, arith, inl, inr, eqb-true}
-use Rattle.std.proofs.Common.{append_assoc}
 use Rattle.std.proofs.lemmas.Bool.Decides.{nat_tests}
-use Rattle.std.proofs.lemmas.List.{append-nil, length-append}
+use Rattle.std.proofs.lemmas.List.{length-append}
 use Rattle.std.specs.Io.KnownBytes.{Appends}
 use Rattle.http_heads.specs.Messages.{Begins}
 use Rattle.http_front.specs.Clocks.{Readings, Reads, standing_still}
@@ -11,7 +10,9 @@ use Rattle.http_front.specs.Held.{most_held}
 use Rattle.http_front.specs.Reading.{ReadsNext}
 use Rattle.http_front.specs.declared.read.Got.TheVariants as got
 use Rattle.run_words.specs.declared.words.Pace.{Pace}
-use Rattle.rest_service.specs.Exchanges.{Exchange, LeadTo, moments_of, printed, printed_replies, keeper_failures_of}
+use Rattle.rest_answers.proofs.Linking.{appends_nothing, appends_twice}
+use Rattle.rest_answers.specs.Texts.{printed}
+use Rattle.rest_service.specs.Exchanges.{Exchange, LeadTo, moments_of, printed_replies, keeper_failures_of}
 use Rattle.rest_service.specs.Exchanges.{host_failures_of}
 use Rattle.rest_service.proofs.Along.{IsAlong, along_leads, along_more, along_none, along_reply, reads_twice}
 use Rattle.serial_sessions.specs.declared.session.SessionEnd.{SessionEnd}
@@ -21,21 +22,6 @@ use Rattle.serial_sessions.specs.Sessions.{Session, Serves, ServesAll, Stops, Co
 use Rattle.serial_sessions.specs.Sessions.{OnlyFinalEnds, end_behind}
 use Rattle.serial_sessions.specs.Inputs.{requests_of}
 use Rattle.serial_sessions.specs.Worlds.{World, input}
-
--- ---- what a sink takes
-
--- no more bytes are appended to those known so far
-pub appends_nothing : (known : Option (List ℕ)) → Appends known known []
-appends_nothing None = tt
-appends_nothing (Some xs) = sym (append-nil xs)
-
--- some bytes are appended, and then more
-pub appends_twice : (a b c : Option (List ℕ)) (bs cs : List ℕ) → Appends a b bs → Appends b c cs
-    → Appends a c (bs ++ cs)
-appends_twice None b c bs cs first then = tt
-appends_twice (Some x) None c bs cs first then = absurd first
-appends_twice (Some x) (Some y) None bs cs first then = absurd then
-appends_twice (Some x) (Some y) (Some z) bs cs first then = then ∙ ap (λ l. l ++ cs) first ∙ append_assoc x bs cs
 
 -- ---- clocks
 

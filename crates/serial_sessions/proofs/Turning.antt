@@ -1,42 +1,23 @@
 -- A turn, from what its parts ensure.
-use Rattle.std.proofs.Common.{◌≡◌, ◌≢◌, ◌⊎◌, ℕ, List, [], Bool, refl, ap, sym, subst, inl, inr}
+use Rattle.std.proofs.Common.{◌≡◌, ◌≢◌, ◌⊎◌, ℕ, List, [], refl, sym, subst, inl, inr}
 use Rattle.http_heads.specs.declared.request.HeadFault.{HeadFault}
 use Rattle.http_heads.specs.declared.request.Request.{Request}
 use Rattle.http_front.specs.declared.read.Got.TheVariants as got
-use Rattle.records.specs.declared.replies.Reply.{Reply}
-use Rattle.records.specs.declared.replies.Reply.TheVariants as reply
-use Rattle.rest_service.specs.Answers.{Answers, HasText}
+use Rattle.rest_answers.proofs.Printing.{takes_memory, text_is}
+use Rattle.rest_answers.specs.Links.{BreaksOff, Takes}
+use Rattle.rest_answers.specs.Texts.{IsUnprinted, printed, text_for}
+use Rattle.rest_answers.specs.declared.answers.Answered.{Answered}
+use Rattle.rest_service.specs.Answers.{Answers}
 use Rattle.serial_steps.specs.Steps.{Site, Step}
 use Rattle.run_words.specs.declared.words.Pace.{Pace}
-use Rattle.rest_service.specs.Exchanges.{Comes, Exchange, IsPaced, printed}
-use Rattle.rest_service.specs.declared.answers.Answered.{Answered}
-use Rattle.rest_service.specs.declared.answers.Answered.TheVariants as written
+use Rattle.rest_service.specs.Exchanges.{Comes, Exchange, IsPaced}
 use Rattle.serial_sessions.specs.declared.session.SessionEnd.{SessionEnd}
 use Rattle.serial_sessions.specs.declared.session.SessionEnd.TheVariants as end
 use Rattle.serial_sessions.specs.declared.session.Turn.{Turn}
 use Rattle.serial_sessions.specs.declared.session.Turn.TheVariants as turn
-use Rattle.serial_sessions.specs.Worlds.{Inlet, World}
-use Rattle.serial_sessions.specs.Sessions.{Asks, BreaksOff, CarriesOut, GoesOn, IsUnprinted, KeepsRows, RefusesPlace, Serves}
-use Rattle.serial_sessions.specs.Sessions.{Stops, Takes, Turns, WritesAnswer, text_for}
-
--- what is seen of a source that was not touched is the same
-pub unread : {S : Type 0} (see : S → Inlet) (a b : S) (P : Type 0) → (b ≡ a) ⊎ P → (see b ≡ see a) ⊎ P
-unread see a b P (inl same) = inl (ap see same)
-unread see a b P (inr other) = inr other
-
--- what is written for an answer is the text of its reply, unless memory for it was refused
-text_is : (a : Answered) (r : Reply) (boot : ℕ) (last : Bool) → HasText a r boot last → ¬ IsUnprinted a
-    → text_for a last ≡ printed r boot last
-text_is (written.Printed bytes) r boot last has printed = has
-text_is written.NoMemory r boot last has printed = has
-text_is written.Unprinted r boot last has printed = absurd (printed tt)
-
--- memory for a reply is refused only to one that takes memory
-takes_memory : (a : Answered) (r : Reply) (boot : ℕ) (last : Bool) → HasText a r boot last → IsUnprinted a
-    → r ≢ reply.NoMemory
-takes_memory (written.Printed bytes) r boot last has refused = absurd refused
-takes_memory written.NoMemory r boot last has refused = absurd refused
-takes_memory written.Unprinted r boot last has refused = has
+use Rattle.serial_sessions.specs.Worlds.{World}
+use Rattle.serial_sessions.specs.Sessions.{Asks, CarriesOut, GoesOn, KeepsRows, RefusesPlace, Serves, Stops, Turns}
+use Rattle.serial_sessions.specs.Sessions.{WritesAnswer}
 
 -- A turn that takes the next request and has it answered goes on after its reply and the steps of the pace, or ends
 -- after them, or stops at a failed write, or where memory for the reply was refused.

@@ -1,9 +1,10 @@
 -- What a session comes to, told of its whole input: the requests that are answered, and how it ends.
-use Rattle.std.specs.Prelude.{◌==◌, ℕ, List, [], ◌∷◌, Bool, length, map, take, if◌then◌else◌}
-use Rattle.std.specs.List.{list_any}
+use Rattle.std.specs.Prelude.{◌==◌, ℕ, List, [], length, map, take, if◌then◌else◌}
 use Rattle.http_heads.specs.Messages.{Ending, ended, cut, malformed}
 use Rattle.http_heads.specs.declared.request.Request.{Request}
-use Rattle.rest_service.specs.Exchanges.{Exchange, malformed_text}
+use Rattle.rest_answers.specs.Lasts.{has_last, through_last}
+use Rattle.rest_answers.specs.Texts.{malformed_text}
+use Rattle.rest_service.specs.Exchanges.{Exchange}
 use Rattle.serial_sessions.specs.declared.session.SessionEnd.{SessionEnd}
 use Rattle.serial_sessions.specs.declared.session.SessionEnd.TheVariants as end
 use Rattle.serial_sessions.specs.Most.{most_requests}
@@ -22,18 +23,9 @@ status_of end.Spent = 10
 abbrev pub requests_of : List Exchange → List Request
 requests_of exchanges = map (λ e. e.request) exchanges
 
--- the requests up to and with the first that is the last on its connection
-abbrev pub through_last : List Request → List Request
-through_last [] = []
-through_last (m ∷ more) = m ∷ (if m.last then [] else through_last more)
-
 -- the requests of a text that are answered: these, and at most as many as a session may answer
 abbrev pub answered : List Request → List Request
 answered messages = take most_requests (through_last messages)
-
--- one of the requests is the last on its connection
-abbrev pub has_last : List Request → Bool
-has_last messages = list_any (λ m. m.last) messages
 
 -- how a run ends: its exit status, and the text that is written after the replies
 pub record End : Type 0 where

@@ -1,53 +1,29 @@
 -- A session: it serves requests, and then it stops for one reason. The boot word is that of the ids of operations, and
 -- the pace says how many steps of the worker follow each reply.
-use Rattle.std.specs.Prelude.{◌≡◌, ◌≢◌, ◌<◌, ◌≤◌, ◌⊎◌, ℕ, List, [], ◌∷◌, Bool, true, false, length, take, IfSome}
+use Rattle.std.specs.Prelude.{◌≡◌, ◌≢◌, ◌<◌, ◌≤◌, ◌⊎◌, ℕ, List, [], ◌∷◌, Bool, true, false, length, take}
 use Rattle.std.specs.Prelude.{Result, Ok, Err, ◌+◌, ◌==◌, if◌then◌else◌}
-use Rattle.std.specs.Io.KnownBytes.{Appends}
-use Rattle.size_values.specs.Causes.{Rose}
 use Rattle.http_heads.specs.declared.request.HeadFault.{HeadFault}
-use Rattle.http_front.specs.Held.{most_held}
-use Rattle.http_front.specs.Reading.{IsUnfinished, KeepsHeld, OnEnd, OnReadFault, ReadsNext}
 use Rattle.http_front.specs.declared.read.Got.{Got}
 use Rattle.http_front.specs.declared.read.Got.TheVariants as got
 use Rattle.records.specs.declared.replies.Reply.TheVariants as reply
 use Rattle.serial_steps.specs.Steps.{Site, Step}
 use Rattle.run_words.specs.declared.words.Pace.{Pace}
-use Rattle.rest_service.specs.Exchanges.{Comes, Exchange, IsPaced, Leads, printed, malformed_text}
-use Rattle.rest_service.specs.Answers.{no_memory_text}
-use Rattle.rest_service.specs.declared.answers.Answered.{Answered}
-use Rattle.rest_service.specs.declared.answers.Answered.TheVariants as written
+use Rattle.rest_answers.specs.Links.{BreaksOff, Outlet, ReadsFrom, Takes}
+use Rattle.rest_answers.specs.Texts.{IsUnprinted, malformed_text, printed, text_for}
+use Rattle.rest_answers.specs.declared.answers.Answered.{Answered}
+use Rattle.rest_service.specs.Exchanges.{Comes, Exchange, IsPaced, Leads}
 use Rattle.serial_sessions.specs.declared.session.SessionEnd.{SessionEnd}
 use Rattle.serial_sessions.specs.declared.session.SessionEnd.TheVariants as end
 use Rattle.serial_sessions.specs.declared.session.Turn.{Turn}
 use Rattle.serial_sessions.specs.declared.session.Turn.TheVariants as turn
 use Rattle.serial_sessions.specs.Most.{most_requests}
-use Rattle.serial_sessions.specs.Worlds.{Outlet, World, input}
+use Rattle.serial_sessions.specs.Worlds.{World}
 
 -- ---- what one turn does to its parts
 
--- One call of `read_request` between two worlds answered this of the bytes to come and of the bytes held. The source
--- was read only where the bytes held began with no whole message and no malformed place, and afterwards at most one
--- head, one body and one piece is held.
-pub record Asks (w w' : World) (answer : Got) : Type 0 where
-  pub next : IfSome (input w) (λ bytes. ReadsNext bytes (input w') w'.held answer)
-  pub held : KeepsHeld w.held w'.held answer
-  pub ahead : (w'.source ≡ w.source) ⊎ IsUnfinished w.held
-  pub few : length w'.held ≤ most_held
-  pub later : w.source.failures ≤ w'.source.failures
-  pub fault : OnReadFault answer (Rose w.source.failures w'.source.failures)
-  pub ended : OnEnd answer (w'.source.ended ≡ true)
-
--- the sink took all of this text
-pub record Takes (sink sink' : Outlet) (text : List ℕ) : Type 0 where
-  pub written : Appends sink.held sink'.held text
-  pub later : sink.failures ≤ sink'.failures
-
--- a write of this text failed; the sink took so many bytes of its front
-pub record BreaksOff (sink sink' : Outlet) (text : List ℕ) : Type 0 where
-  pub count : ℕ
-  pub written : Appends sink.held sink'.held (take count text)
-  pub later : sink.failures ≤ sink'.failures
-  pub rose : Rose sink.failures sink'.failures
+-- One call of `read_request` between two worlds answered this of the bytes to come and of the bytes held.
+abbrev pub Asks : World → World → Got → Type 0
+Asks w w' answer = ReadsFrom w.held w.source answer w'.held w'.source
 
 -- the server is as before, and no call of the keeper, of the host or of the clock was made
 abbrev pub KeepsRows : World → World → Type 0
@@ -152,18 +128,6 @@ turn_after_reply false = turn.GoOn
 abbrev pub turn_after : {T E : Type 0} → Result T E → Bool → Turn
 turn_after (Ok u) last = turn_after_reply last
 turn_after (Err e) last = turn.Stop end.WriteFault
-
--- the bytes that are written for an answer
-abbrev pub text_for : Answered → Bool → List ℕ
-text_for (written.Printed bytes) last = bytes
-text_for written.NoMemory last = no_memory_text last
-text_for written.Unprinted last = []
-
--- memory for the reply was refused
-abbrev pub IsUnprinted : Answered → Type 0
-IsUnprinted (written.Printed bytes) = ⊥
-IsUnprinted written.NoMemory = ⊥
-IsUnprinted written.Unprinted = Unit {0}
 
 -- An answer was written whole and the turn goes on as its request says, or some first bytes of it and the write failed;
 -- or nothing was, since memory for it was refused.

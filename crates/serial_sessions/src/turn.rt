@@ -9,7 +9,8 @@ use http_front::{
     Buffer, Clock, Got, HeadFault, Sink, SinkFailed, Source, no_memory_reply, read_request,
 };
 use record_keeper::Keeper;
-use rest_service::{Answered, Service, print_malformed};
+use rest_answers::{Answered, print_malformed};
+use rest_service::Service;
 use run_words::Pace;
 use size_values::NoMemory;
 use std::alloc::Global;

@@ -19,12 +19,12 @@ use Rattle.serial_steps.specs.Counts.{moment_of, moments_in, report_of, reports_
 
 -- ---- counts and readings
 
-caused-later : (o : Outcome) (before now : ℕ) → IsCaused o before now → before ≤ now
+pub caused-later : (o : Outcome) (before now : ℕ) → IsCaused o before now → before ≤ now
 caused-later well before now caused = omega (arith, caused)
 caused-later (keeper_failed rise) before now caused = caused.2
 caused-later no_memory before now caused = omega (arith, caused)
 
-caused-rose : (o : Outcome) (before now : ℕ) → IsCaused o before now → RoseBy (failed_commits o) before now
+pub caused-rose : (o : Outcome) (before now : ℕ) → IsCaused o before now → RoseBy (failed_commits o) before now
 caused-rose well before now caused = omega (arith, caused)
 caused-rose (keeper_failed rise) before now caused = omega (arith, rise.rose, caused.0, caused.1)
 caused-rose no_memory before now caused = omega (arith, caused)
@@ -36,7 +36,7 @@ cause-rose (report.Failed rise) before now cause later = cause
 cause-rose report.NoMemory before now cause later = omega (arith, later)
 
 -- counts that rose one after the other rose by both
-rose-twice : (m n a b c : ℕ) → RoseBy m a b → RoseBy n b c → RoseBy (m + n) a c
+pub rose-twice : (m n a b c : ℕ) → RoseBy m a b → RoseBy n b c → RoseBy (m + n) a c
 rose-twice m n a b c first then = omega (arith, first, then)
 
 -- ---- of one step

@@ -62,7 +62,7 @@ take-steps {s} {s'} {told} {told'} {moment} {a} {hand} turn reads early is store
 -- ---- a call is made
 
 -- a failed call is one that the host counted
-has-cause : (r : Report) (before after : ℕ) → CarriesCounts r before after → HasCause r before after
+pub has-cause : (r : Report) (before after : ℕ) → CarriesCounts r before after → HasCause r before after
 has-cause report.Done before after counts = tt
 has-cause (report.Failed rise) before after counts = omega (arith, rise.rose, counts.0, counts.1)
 has-cause report.NoMemory before after counts = tt

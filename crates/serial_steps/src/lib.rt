@@ -8,3 +8,4 @@ mod worker;
 
 pub use laws::steps_come_to;
 pub use serial::{MOST_STEPS, SerialDaemon};
+pub use worker::{facts_hold, go_on};

@@ -13,7 +13,7 @@ use row_machine::Answer;
 use std::alloc::Global;
 
 /// The facts of the rows hold at all times: this does nothing.
-pub(crate) fn facts_hold(daemon: &Daemon)
+pub fn facts_hold(daemon: &Daemon)
     ensures { IsWhole daemon.now }
 {
     let _rows = daemon.view();
@@ -68,8 +68,9 @@ fn make_call<R: Keeper, H: Host, C: Clock>(
     job_of(answer)
 }
 
-/// One step with this call in hand, or with none. It gives the call that is in hand after it.
-pub(crate) fn go_on<R: Keeper, H: Host, C: Clock>(
+/// One step of a worker with this call in hand, or with none: it asks for a call, or makes the one that it has on the
+/// host and reports of it. What it gives is the call that is in hand after it, with the number of its operation.
+pub fn go_on<R: Keeper, H: Host, C: Clock>(
     alloc: Global,
     daemon: &mut Daemon,
     keeper: &mut R,

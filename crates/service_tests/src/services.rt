@@ -3,7 +3,8 @@
 use host_model::ModelHost;
 use http_front::{HeadFault, Request, StillClock};
 use record_keeper::MapKeeper;
-use rest_service::{Answered, Service, print_malformed};
+use rest_answers::{Answered, print_malformed};
+use rest_service::Service;
 use size_values::{NoMemory, Seq, Text};
 use std::alloc::Global;
 

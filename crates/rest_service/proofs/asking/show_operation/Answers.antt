@@ -1,4 +1,4 @@
-use Rattle.rest_service.proofs.ForClients.{at_once}
+use Rattle.rest_answers.proofs.ForClients.{at_once}
 use Rattle.rest_service.proofs.asking.show_operation.Goals as goal
 
 pub reply_of-requires : goal.reply_of-requires

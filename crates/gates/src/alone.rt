@@ -1,0 +1,107 @@
+ghost use Rattle.std.specs.Prelude.{◌≡◌, ◌+◌, None, Some};
+ghost use Rattle.core_turns.specs.Turns.{IsServed};
+ghost use Rattle.gate_trails.specs.Trails.{RestsTold, capped};
+ghost use Rattle.serial_steps.specs.Steps.{Step, Steps, hosted, serial, site};
+ghost use Rattle.gates.specs.Alone.{alone, told_at};
+
+use core_turns::Daemon;
+use gate_trails::Gate;
+use host_model::{Host, HostCall};
+use http_front::Clock;
+use record_keeper::Keeper;
+use row_machine::{Answer, Event};
+use serial_steps::{facts_hold, go_on};
+use std::alloc::Global;
+use std::marker::Model;
+use std::mem;
+
+/// A gate that owns its server and all that it works on: the keeper, the host and a clock. Nobody
+/// else has turns at it. Its one worker makes a step in each rest: it asks for a call where it has
+/// none in hand, and else makes the call that it has on the host and reports of it. Contracts see
+/// the server at its site, and how many turns and rests were made.
+#[derive(Drop)]
+pub struct AloneGate<R: Keeper, H: Host, C: Clock> {
+    alloc: Global,
+    daemon: Daemon,
+    keeper: R,
+    host: H,
+    clock: C,
+    hand: Option<(u64, HostCall)>,
+    made: u64,
+    rests: u64,
+}
+
+impl<R: Keeper, H: Host, C: Clock> Model for AloneGate<R, H, C> {
+    ghost use Rattle.serial_steps.specs.Steps.{hosted, serial, site};
+    ghost use Rattle.gates.specs.Alone.{Alone, alone};
+
+    ghost Value = { Alone };
+
+    ghost view = { λ g. alone (site (serial g.daemon g.hand) (R.store g.keeper)
+        (hosted H.told H.failures g.host) (C.readings g.clock)) g.made g.rests };
+}
+
+impl<R: Keeper, H: Host, C: Clock> AloneGate<R, H, C> {
+    /// The gate of this server, whose worker has no call in hand. No turn and no rest was made at
+    /// it yet.
+    pub fn new(alloc: Global, daemon: Daemon, keeper: R, host: H, clock: C) -> AloneGate<R, H, C>
+        ensures { result ≡ alone (site (serial daemon None) (R.store keeper)
+            (hosted H.told H.failures host) (C.readings clock)) 0 0 }
+    {
+        AloneGate {
+            alloc,
+            daemon,
+            keeper,
+            host,
+            clock,
+            hand: None,
+            made: 0,
+            rests: 0,
+        }
+    }
+}
+
+impl<R: Keeper, H: Host, C: Clock> Gate for AloneGate<R, H, C> {
+    ghost told = { λ g. Some (told_at g.site) };
+
+    ghost turned = { λ g. g.made };
+
+    ghost rested = { λ g. g.rests };
+
+    fn turn(&mut self, event: Event) -> Answer {
+        facts_hold(&self.daemon);
+        let answer = self.daemon.turn(self.alloc, &mut self.keeper, event);
+        self.made = self.made.saturating_add(1);
+        answer
+    }
+
+    fn rest(&mut self)
+        ensures told { RestsTold (Some (told_at self.old.site)) (Some (told_at self.new.site)) }
+        ensures turned { self.new.made ≡ self.old.made }
+        ensures rested { self.new.rests ≡ capped (self.old.rests + 1) }
+
+        // One step of its worker.
+        ensures step { (s : Step) × Steps self.old.site s self.new.site }
+    {
+        let hand = self.hand.take();
+        let next = go_on(
+            self.alloc,
+            &mut self.daemon,
+            &mut self.keeper,
+            &mut self.host,
+            &mut self.clock,
+            hand,
+        );
+        // One call lets the empty hand go; an assignment would do so for each kind of call.
+        drop(mem::replace(&mut self.hand, next));
+        self.rests = self.rests.saturating_add(1);
+    }
+
+    fn made(&self) -> u64 {
+        self.made
+    }
+
+    fn rests(&self) -> u64 {
+        self.rests
+    }
+}

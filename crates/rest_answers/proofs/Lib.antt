@@ -1,0 +1,4 @@
+pub mod ForClients
+pub mod Linking
+pub mod Printing
+pub mod Splitting

@@ -1,0 +1,5 @@
+pub mod Asked
+pub mod Lasts
+pub mod Links
+pub mod Texts
+pub mod Writing

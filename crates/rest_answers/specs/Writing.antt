@@ -1,0 +1,27 @@
+-- How the writing of a reply ended, and what the sink took of it.
+use Rattle.std.specs.Prelude.{◌≡◌, Bool, Result, Ok, Err}
+use Rattle.http_heads.specs.declared.request.HeadFault.{HeadFault}
+use Rattle.rest_answers.specs.Links.{BreaksOff, Outlet, Takes}
+use Rattle.rest_answers.specs.Texts.{IsUnprinted, malformed_text, text_for}
+use Rattle.rest_answers.specs.declared.answers.Answered.{Answered}
+use Rattle.rest_answers.specs.declared.writing.Written.{Written}
+use Rattle.rest_answers.specs.declared.writing.Written.TheVariants as ended
+
+-- how a write ended
+abbrev pub written_by : {T E : Type 0} → Result T E → Written
+written_by (Ok u) = ended.Whole
+written_by (Err e) = ended.WriteFault
+
+-- An answer was written whole, or some first bytes of it and the write failed; or nothing was, since memory for it was
+-- refused.
+abbrev pub WritesAnswer : Written → Answered → Bool → Outlet → Outlet → Type 0
+WritesAnswer ended.Whole a last sink sink' = ¬ IsUnprinted a × Takes sink sink' (text_for a last)
+WritesAnswer ended.WriteFault a last sink sink' = ¬ IsUnprinted a × BreaksOff sink sink' (text_for a last)
+WritesAnswer ended.NoMemory a last sink sink' = IsUnprinted a × (sink' ≡ sink)
+
+-- A malformed place was answered by its rule, or of that reply some first bytes were written, or memory was refused
+-- before it.
+abbrev pub RefusesPlace : HeadFault → Written → Outlet → Outlet → Type 0
+RefusesPlace fault ended.Whole sink sink' = Takes sink sink' (malformed_text fault)
+RefusesPlace fault ended.WriteFault sink sink' = BreaksOff sink sink' (malformed_text fault)
+RefusesPlace fault ended.NoMemory sink sink' = sink' ≡ sink

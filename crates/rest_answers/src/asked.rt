@@ -1,0 +1,40 @@
+//! What a command is answered.
+ghost use Rattle.std.specs.Prelude.{◌≡◌};
+ghost use Rattle.core_rows.specs.Asked.{answered};
+ghost use Rattle.rest_answers.specs.Asked.{answer_of, IsAtOnce, IsForClient};
+
+use records::Reply;
+use row_machine::Answer;
+
+/// What a command is answered at first.
+#[derive(Drop)]
+pub enum Asked {
+    Reply(Reply),
+    /// It waits for this operation, which is live.
+    Hold(u64),
+}
+
+/// What the answer of a command says.
+pub fn asked_of(answer: Answer) -> Asked
+    requires { IsForClient answer }
+    ensures { answer_of result ≡ answer }
+{
+    match answer {
+        Answer::Reply(reply) => Asked::Reply(reply),
+        Answer::Hold(number) => Asked::Hold(number),
+        Answer::NoMemory => Asked::Reply(Reply::NoMemory),
+        _ => unreachable!(),
+    }
+}
+
+/// The reply of a command whose answer is not held back.
+pub fn reply_of(answer: Answer) -> Reply
+    requires { IsAtOnce answer }
+    ensures { answered result ≡ answer }
+{
+    match answer {
+        Answer::Reply(reply) => reply,
+        Answer::NoMemory => Reply::NoMemory,
+        _ => unreachable!(),
+    }
+}

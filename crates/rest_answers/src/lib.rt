@@ -1,0 +1,11 @@
+//! How the answer of a command becomes the bytes of a reply (REST API of the Incus documentation),
+//! and what reading requests and writing replies does to the two ends of a connection.
+#![tactic(auto)]
+
+mod answers;
+mod asked;
+mod writing;
+
+pub use answers::{Answered, answer_for, print_malformed};
+pub use asked::{Asked, asked_of, reply_of};
+pub use writing::{Written, write_answer, write_refusal};

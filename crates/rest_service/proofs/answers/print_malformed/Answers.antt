@@ -1,4 +1,0 @@
-use Rattle.rest_service.proofs.answers.print_malformed.Goals as goal
-
-pub returns : goal.returns
-returns c = rw c.refusal_of.ensures at c.text_of-text.ensures

@@ -1,0 +1,5 @@
+mod Answering
+mod Linking
+mod Served
+mod Waiting
+mod Working

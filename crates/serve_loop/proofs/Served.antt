@@ -1,0 +1,270 @@
+-- A link over a text that is known whole.
+use Rattle.std.proofs.Common.{◌≡◌, ◌≢◌, ◌⊎◌, ◌++◌, ◌||◌, ℕ, List, [], ◌∷◌, length, Bool, true, false, Option, Some, None}
+use Rattle.std.proofs.Common.{IfSome, if◌then◌else◌, refl, ap, sym, ◌∙◌, subst, inl, inr, append_assoc}
+use Rattle.std.proofs.lemmas.List.{append-nil}
+use Rattle.std.specs.Io.KnownBytes.{Appends, prepend_known}
+use Rattle.http_heads.specs.Messages.{Begins, Splits, Ending, ended, cut, malformed, EndsAs}
+use Rattle.http_heads.specs.declared.request.HeadFault.{HeadFault}
+use Rattle.http_heads.specs.declared.request.Request.{Request}
+use Rattle.http_front.specs.Clocks.{Readings}
+use Rattle.http_front.specs.Reading.{ReadsNext}
+use Rattle.http_front.specs.declared.read.Got.{Got}
+use Rattle.http_front.specs.declared.read.Got.TheVariants as got
+use Rattle.gate_trails.specs.Gates.{Between}
+use Rattle.gate_trails.proofs.Trailing.{between-append, between-none}
+use Rattle.rest_answers.specs.Lasts.{has_last, through_last}
+use Rattle.rest_answers.specs.Texts.{malformed_text, printed}
+use Rattle.rest_answers.proofs.Linking.{appends_nothing, appends_twice}
+use Rattle.rest_answers.proofs.Splitting.{GoesOn, none_more, splits_behind}
+use Rattle.rest_routes.specs.Commands.{command_of}
+use Rattle.serve_loop.specs.Serving.{Exchange, Handles, Line, Serves, ServesAll, Serving, Stops, Turns}
+use Rattle.serve_loop.specs.Texts.{HandlesAll, IsFault, ServesText, Sides, end_at, end_due, printed_replies}
+use Rattle.serve_loop.specs.Texts.{requests_of, sides}
+use Rattle.serve_loop.specs.Texts.{text_at, trail_of}
+use Rattle.serve_loop.specs.declared.link.LinkEnd.{LinkEnd}
+use Rattle.serve_loop.specs.declared.link.LinkEnd.TheVariants as end
+use Rattle.serve_loop.specs.declared.link.Turn.TheVariants as turn
+
+-- the bytes to come: those held, and then those that the source has left
+abbrev pub input : Line → Option (List ℕ)
+input w = prepend_known w.held w.source.left
+
+-- what a link acts on
+abbrev pub sides_of : Line → Sides
+sides_of w = sides w.sink w.gate w.clock
+
+-- ---- requests together
+
+-- What requests that were served come to in all: the bytes to come began with them, the sink took their replies in
+-- order, and they are all that was done at the gate and read of the clock.
+record Together (boot : ℕ) (w : Line) (xs : List Exchange) (w' : Line) : Type 0 where
+  read : IfSome (input w) (λ bytes. (rest : List ℕ) × Begins bytes (requests_of xs) rest × (input w' ≡ Some rest))
+  written : Appends w.sink.held w'.sink.held (printed_replies boot xs)
+  gate : Between (trail_of xs) w.gate w'.gate
+  handles : HandlesAll boot w.clock xs w'.clock
+
+-- the bytes to come are as before
+same_input : (known : Option (List ℕ)) (w : Line) → input w ≡ known
+    → IfSome known (λ bytes. (rest : List ℕ) × Begins bytes [] rest × (input w ≡ Some rest))
+same_input None w is = tt
+same_input (Some bytes) w is = (bytes, refl, is)
+
+none_together : (boot : ℕ) (w : Line) → Together boot w [] w
+none_together boot w = record {
+  read = same_input (input w) w refl;
+  written = appends_nothing w.sink.held;
+  gate = between-none w.gate;
+  handles = refl;
+}
+
+-- the bytes to come began with a request, and then with more of them
+reads_first : (next w' : Line) (e : Exchange) (more : List Exchange) (known : Option (List ℕ))
+    → IfSome known (λ bytes. ReadsNext bytes (input next) next.held (got.Request e.request))
+    → IfSome (input next) (λ bytes. (rest : List ℕ) × Begins bytes (requests_of more) rest × (input w' ≡ Some rest))
+    → IfSome known (λ bytes. (rest : List ℕ) × Begins bytes (requests_of (e ∷ more)) rest × (input w' ≡ Some rest))
+reads_first next w' e more None first follows = tt
+reads_first next w' e more (Some bytes) first follows =
+    let rests : (rest : List ℕ) × Begins first.0 (requests_of more) rest × (input w' ≡ Some rest) =
+    subst (λ known. IfSome known (λ bytes. (rest : List ℕ) × Begins bytes (requests_of more) rest
+    × (input w' ≡ Some rest))) first.2 follows in
+    (rests.0, (first.0, first.1, rests.1), rests.2)
+
+-- one request, and then more of them
+first_together : (boot : ℕ) (w next w' : Line) (e : Exchange) (more : List Exchange) → Serves boot w next e
+    → Together boot next more w' → Together boot w (e ∷ more) w'
+first_together boot w next w' e more serves follows = record {
+  read = reads_first next w' e more (input w) serves.carries.asked.next follows.read;
+  written = appends_twice w.sink.held next.sink.held w'.sink.held (printed e.reply boot e.request.last)
+      (printed_replies boot more) serves.replied.written follows.written;
+  gate = between-append serves.carries.gate follows.gate;
+  handles = (next.clock, serves.carries.handles, follows.handles);
+}
+
+-- all that went on, and then some more
+all_together : (boot : ℕ) (w v w' : Line) (xs ys : List Exchange) → ServesAll boot w xs v → Together boot v ys w'
+    → Together boot w (xs ++ ys) w'
+all_together boot w v w' [] ys same follows = subst (λ u. Together boot u ys w') (sym same) follows
+all_together boot w v w' (e ∷ xs) ys serves follows =
+    first_together boot w serves.0 w' e (xs ++ ys) serves.1 (all_together boot serves.0 v w' xs ys serves.3 follows)
+
+-- ---- the last request
+
+-- none of these is the last on its connection
+abbrev AreGoing : List Request → Type 0
+AreGoing [] = Unit {0}
+AreGoing (m ∷ more) = (m.last ≡ false) × AreGoing more
+
+served_going : (boot : ℕ) (w w' : Line) (xs : List Exchange) → ServesAll boot w xs w' → AreGoing (requests_of xs)
+served_going boot w w' [] same = tt
+served_going boot w w' (e ∷ more) serves = (serves.2, served_going boot serves.0 w' more serves.3)
+
+through_going : (ms more : List Request) → AreGoing ms → through_last (ms ++ more) ≡ ms ++ through_last more
+through_going [] more going = refl
+through_going (m ∷ ms) more going =
+    ap (λ last. m ∷ (if last then [] else through_last (ms ++ more))) going.0
+    ∙ ap (λ xs. m ∷ xs) (through_going ms more going.1)
+
+has_going : (ms : List Request) → AreGoing ms → has_last ms ≡ false
+has_going [] going = refl
+has_going (m ∷ ms) going = ap (λ last. last || has_last ms) going.0 ∙ has_going ms going.1
+
+has_final : (ms : List Request) (m : Request) (more : List Request) → AreGoing ms → m.last ≡ true
+    → has_last (ms ++ m ∷ more) ≡ true
+has_final [] m more going last = ap (λ l. l || has_last more) last
+has_final (x ∷ ms) m more going last =
+    ap (λ l. l || has_last (ms ++ m ∷ more)) going.0 ∙ has_final ms m more going.1 last
+
+through_final : (ms : List Request) (m : Request) (more : List Request) → AreGoing ms → m.last ≡ true
+    → through_last (ms ++ m ∷ more) ≡ ms ++ m ∷ []
+through_final ms m more going last =
+    through_going ms (m ∷ more) going
+    ∙ ap (λ l. ms ++ m ∷ (if l then [] else through_last more)) last
+
+requests-append : (xs ys : List Exchange) → requests_of (xs ++ ys) ≡ requests_of xs ++ requests_of ys
+requests-append [] ys = refl
+requests-append (e ∷ xs) ys = ap (λ ms. e.request ∷ ms) (requests-append xs ys)
+
+-- ---- links
+
+-- what is left of a text behind requests
+record Behind (text : List ℕ) (xs : List Exchange) (w : Line) (messages : List Request) (ending : Ending) : Type 0 where
+  rest : List ℕ
+  input_is : input w ≡ Some rest
+  goes_on : GoesOn rest (requests_of xs) messages ending
+
+behind : (boot : ℕ) (w v : Line) (xs : List Exchange) (text : List ℕ) (messages : List Request) (ending : Ending)
+    → Together boot w xs v → input w ≡ Some text → Splits text messages ending → Behind text xs v messages ending
+behind boot w v xs text messages ending all is splits =
+    let taken : (rest : List ℕ) × Begins text (requests_of xs) rest × (input v ≡ Some rest) =
+    subst (λ known. IfSome known (λ bytes. (rest : List ℕ) × Begins bytes (requests_of xs) rest
+    × (input v ≡ Some rest))) is all.read in
+    record {
+      rest = taken.0;
+      input_is = taken.2;
+      goes_on = splits_behind text taken.0 (requests_of xs) messages ending taken.1 splits;
+    }
+
+-- a link that ends with its input
+text_at_end : (boot : ℕ) (w v w' : Line) (xs : List Exchange) (text : List ℕ) (messages : List Request)
+    (ending other : Ending) → Together boot w xs v → AreGoing (requests_of xs) → input w ≡ Some text
+    → Splits text messages ending → w'.gate ≡ v.gate → w'.clock ≡ v.clock
+    → ((rest : List ℕ) → input v ≡ Some rest → EndsAs rest other)
+    → Appends v.sink.held w'.sink.held (text_at (end_at other))
+    → ServesText boot messages ending (end_at other) (sides_of w) (sides_of w')
+text_at_end boot w v w' xs text messages ending other all going is splits gate clock stands written =
+    let far : Behind text xs v messages ending = behind boot w v xs text messages ending all is splits in
+    let none : (far.goes_on.more ≡ []) × (ending ≡ other) = none_more far.rest far.goes_on.more ending other
+    far.goes_on.rest_splits (stands far.rest far.input_is) in
+    let are : messages ≡ requests_of xs =
+    far.goes_on.messages_are ∙ ap (λ ms. requests_of xs ++ ms) none.0 ∙ append-nil (requests_of xs) in
+    record {
+      exchanges = xs;
+      requests_are = sym (ap through_last (are ∙ sym (append-nil (requests_of xs)))
+          ∙ through_going (requests_of xs) [] going ∙ append-nil (requests_of xs));
+      gate = subst (λ g. Between (trail_of xs) w.gate g) (sym gate) all.gate;
+      handles = subst (λ told. HandlesAll boot w.clock xs told) (sym clock) all.handles;
+      end_is = ap end_at (sym none.1)
+          ∙ ap (λ l. if l then end.Ended else end_at ending) (sym (ap has_last are ∙ has_going (requests_of xs) going));
+      written = appends_twice w.sink.held v.sink.held w'.sink.held (printed_replies boot xs) (text_at (end_at other))
+          all.written written;
+    }
+
+-- a link that ends after a final request
+text_at_final : (boot : ℕ) (w v w' : Line) (xs : List Exchange) (text : List ℕ) (messages : List Request)
+    (ending : Ending) → ServesAll boot w xs v → Turns boot turn.Final v w' → input w ≡ Some text
+    → Splits text messages ending → ServesText boot messages ending end.Ended (sides_of w) (sides_of w')
+text_at_final boot w v w' xs text messages ending serves final is splits =
+    let all : Together boot w (xs ++ final.0 ∷ []) w' = all_together boot w v w' xs (final.0 ∷ []) serves
+    (first_together boot v w' w' final.0 [] final.1 (none_together boot w')) in
+    let far : Behind text (xs ++ final.0 ∷ []) w' messages ending =
+    behind boot w w' (xs ++ final.0 ∷ []) text messages ending all is splits in
+    let going : AreGoing (requests_of xs) = served_going boot w v xs serves in
+    let are : messages ≡ requests_of xs ++ final.0.request ∷ far.goes_on.more =
+    far.goes_on.messages_are
+    ∙ ap (λ ms. ms ++ far.goes_on.more) (requests-append xs (final.0 ∷ []))
+    ∙ append_assoc (requests_of xs) (final.0.request ∷ []) far.goes_on.more in
+    record {
+      exchanges = xs ++ final.0 ∷ [];
+      requests_are = requests-append xs (final.0 ∷ [])
+          ∙ sym (ap through_last are
+          ∙ through_final (requests_of xs) final.0.request far.goes_on.more going final.2);
+      gate = all.gate;
+      handles = all.handles;
+      end_is = ap (λ l. if l then end.Ended else end_at ending)
+          (sym (ap has_last are ∙ has_final (requests_of xs) final.0.request far.goes_on.more going final.2));
+      written = subst (Appends w.sink.held w'.sink.held)
+          (sym (append-nil (printed_replies boot (xs ++ final.0 ∷ [])))) all.written;
+    }
+
+-- what is said of the bytes to come holds where they are known
+at_known : (P : List ℕ → Type 0) (known : Option (List ℕ)) → IfSome known P → (rest : List ℕ) → known ≡ Some rest
+    → P rest
+at_known P known holds rest is = subst (λ k. IfSome k P) is holds
+
+-- a link that took nothing more
+same_sink : (v w' : Line) → w'.sink ≡ v.sink → Appends v.sink.held w'.sink.held []
+same_sink v w' same = subst (λ s. Appends v.sink.held s.held []) (sym same) (appends_nothing v.sink.held)
+
+-- a link did what its input asks, or ended by a fault
+pub link_text : (boot : ℕ) (w w' : Line) (ends : LinkEnd) (text : List ℕ) (messages : List Request) (ending : Ending)
+    → Serving boot w w' ends → input w ≡ Some text → Splits text messages ending
+    → IsFault ends ⊎ ServesText boot messages ending ends (sides_of w) (sides_of w')
+link_text boot w w' ends text messages ending s is splits = by ends s.stops where
+  all : Together boot w (s.exchanges ++ []) s.behind
+  all = all_together boot w s.behind s.behind s.exchanges [] s.serves (none_together boot s.behind)
+
+  whole : Together boot w s.exchanges s.behind
+  whole = subst (λ xs. Together boot w xs s.behind) (append-nil s.exchanges) all
+
+  going : AreGoing (requests_of s.exchanges)
+  going = served_going boot w s.behind s.exchanges s.serves
+
+  by : (ends : LinkEnd) → ((ends ≡ end.Ended) × Turns boot turn.Final s.behind w') ⊎ Stops boot ends s.behind w'
+      → IsFault ends ⊎ ServesText boot messages ending ends (sides_of w) (sides_of w')
+  by end.Ended (inl (same, final)) =
+      inr (text_at_final boot w s.behind w' s.exchanges text messages ending s.serves final is splits)
+  by end.Ended (inr stops) = inr (
+      text_at_end boot w s.behind w' s.exchanges text messages ending ended whole going is splits stops.1.gate
+      stops.1.clock
+      (λ rest known. (at_known (λ bytes. ReadsNext bytes (input w') w'.held got.End) (input s.behind) stops.0.next rest
+      known).0)
+      (same_sink s.behind w' stops.2)
+      )
+  by end.Cut (inl (same, final)) = cc
+  by end.Cut (inr stops) = inr (
+      text_at_end boot w s.behind w' s.exchanges text messages ending (cut stops.0) whole going is splits
+      stops.2.gate stops.2.clock
+      (λ rest known. let said : ReadsNext rest (input w') w'.held (got.Cut stops.0) =
+      at_known (λ bytes. ReadsNext bytes (input w') w'.held (got.Cut stops.0)) (input s.behind) stops.1.next rest known in
+      (said.0, said.3))
+      (same_sink s.behind w' stops.3)
+      )
+  by (end.Malformed fault) (inl (same, final)) = cc
+  by (end.Malformed fault) (inr stops) = inr (
+      text_at_end boot w s.behind w' s.exchanges text messages ending (malformed fault) whole going is splits
+      stops.1.gate stops.1.clock
+      (λ rest known. (at_known (λ bytes. ReadsNext bytes (input w') w'.held (got.Malformed fault)) (input s.behind)
+      stops.0.next rest known).0)
+      stops.2.written
+      )
+  by end.ReadFault stops = inl tt
+  by end.WriteFault stops = inl tt
+  by end.NoMemory stops = inl tt
+
+-- with nothing held, the bytes to come are those that the source has left
+nothing_held : (known : Option (List ℕ)) → prepend_known [] known ≡ known
+nothing_held None = refl
+nothing_held (Some bytes) = refl
+
+-- the same, where the source tells its bytes
+pub link_texts : (boot : ℕ) (w w' : Line) (ends : LinkEnd) → w.held ≡ [] → Serving boot w w' ends
+    → IfSome w.source.left (λ text. (messages : List Request) (ending : Ending) → Splits text messages ending
+    → IsFault ends ⊎ ServesText boot messages ending ends (sides_of w) (sides_of w'))
+link_texts boot w w' ends none s = by w.source.left refl where
+  by : (known : Option (List ℕ)) → w.source.left ≡ known
+      → IfSome known (λ text. (messages : List Request) (ending : Ending) → Splits text messages ending
+      → IsFault ends ⊎ ServesText boot messages ending ends (sides_of w) (sides_of w'))
+  by None is = tt
+  by (Some text) is = λ messages ending splits.
+      link_text boot w w' ends text messages ending s
+      (ap (λ held. prepend_known held w.source.left) none ∙ nothing_held w.source.left ∙ is) splits

@@ -1,0 +1,161 @@
+-- A link: its requests are taken one after the other, each comes to its reply at a gate, and then the link ends for one
+-- reason. The boot word is that of the ids of operations.
+use Rattle.std.specs.Prelude.{◌≡◌, ◌≢◌, ◌≤◌, ◌⊎◌, ℕ, List, [], ◌∷◌, Bool, true, false, length, Result, Err, Ok}
+use Rattle.http_heads.specs.declared.request.HeadFault.{HeadFault}
+use Rattle.http_heads.specs.declared.request.Request.{Request}
+use Rattle.http_front.specs.Clocks.{Readings}
+use Rattle.http_front.specs.Held.{most_held}
+use Rattle.http_front.specs.declared.read.Got.{Got}
+use Rattle.http_front.specs.declared.read.Got.TheVariants as got
+use Rattle.records.specs.declared.commands.Command.{Command}
+use Rattle.records.specs.declared.refusals.Refusal.{Refusal}
+use Rattle.records.specs.declared.replies.Reply.{Reply}
+use Rattle.records.specs.declared.replies.Reply.TheVariants as reply
+use Rattle.gate_trails.specs.Chains.{Chain}
+use Rattle.gate_trails.specs.Gates.{Between, Seen}
+use Rattle.gate_trails.specs.Trails.{Item}
+use Rattle.rest_answers.specs.Links.{BreaksOff, Inlet, Outlet, ReadsFrom, Takes}
+use Rattle.rest_answers.specs.Texts.{malformed_text, printed}
+use Rattle.rest_answers.specs.declared.writing.Written.{Written}
+use Rattle.rest_answers.specs.declared.writing.Written.TheVariants as ended
+use Rattle.rest_routes.specs.Commands.{command_of}
+use Rattle.serve_loop.specs.Waits.{ServeBy, replied, stand, unasked}
+use Rattle.serve_loop.specs.declared.link.LinkEnd.{LinkEnd}
+use Rattle.serve_loop.specs.declared.link.LinkEnd.TheVariants as end
+use Rattle.serve_loop.specs.declared.link.Turn.{Turn}
+use Rattle.serve_loop.specs.declared.link.Turn.TheVariants as turn
+
+-- ---- one request
+
+-- It asks for no command, by its form; or memory was refused before its command was asked. No turn and no rest was made,
+-- and the clock was not read.
+pub record IsUnasked (asks : Result Command Refusal) (told : Readings) (trail : List Item) (r : Reply)
+    (told' : Readings)
+    : Type 0 where
+  pub nothing : trail ≡ []
+  pub unread : told' ≡ told
+  pub why : (r ≡ reply.NoMemory) ⊎ ((refusal : Refusal) × (asks ≡ Err refusal) × (r ≡ reply.Refused refusal))
+
+-- Its command was asked, and came to this reply. Each turn and rest of the trail is the one that was due.
+pub record IsAsked (asks : Result Command Refusal) (told : Readings) (trail : List Item) (r : Reply) (told' : Readings)
+    : Type 0 where
+  pub command : Command
+  pub is : asks ≡ Ok command
+  pub due : Chain (ServeBy command) trail (stand unasked told) (stand (replied r) told')
+
+-- What was asked for came to this reply by these turns and rests, between these readings of the clock.
+abbrev pub Handles : Result Command Refusal → Readings → List Item → Reply → Readings → Type 0
+Handles asks told trail r told' = IsUnasked asks told trail r told' ⊎ IsAsked asks told trail r told'
+
+-- between two moments of a gate and of a clock, what was asked for came to this reply
+pub record Reaches (asks : Result Command Refusal) (before after : Seen) (told told' : Readings) (r : Reply)
+    : Type 0 where
+  pub trail : List Item
+  pub gate : Between trail before after
+  pub handles : Handles asks told trail r told'
+
+-- ---- requests
+
+-- A request that was taken, what was done at the gate for it, and its reply.
+pub record Exchange : Type 0 where
+  pub request : Request
+  pub trail : List Item
+  pub reply : Reply
+
+-- what a link works on at one moment: the bytes that its buffer holds, its source and its sink, its gate, and what its
+-- clock tells
+pub record Line : Type 0 where
+  pub held : List ℕ
+  pub source : Inlet
+  pub sink : Outlet
+  pub gate : Seen
+  pub clock : Readings
+
+abbrev pub line : List ℕ → Inlet → Outlet → Seen → Readings → Line
+line held source sink gate clock = record { held = held; source = source; sink = sink; gate = gate; clock = clock }
+
+-- one call of `read_request` answered this of the bytes to come and of the bytes held
+abbrev pub Asks : Line → Line → Got → Type 0
+Asks w w' answer = ReadsFrom w.held w.source answer w'.held w'.source
+
+-- nothing was done at the gate, and the clock was not read
+pub record KeepsGate (w w' : Line) : Type 0 where
+  pub gate : w'.gate ≡ w.gate
+  pub clock : w'.clock ≡ w.clock
+
+-- The next request was taken and came to its reply.
+pub record CarriesOut (boot : ℕ) (w w' : Line) (e : Exchange) : Type 0 where
+  pub asked : Asks w w' (got.Request e.request)
+  pub gate : Between e.trail w.gate w'.gate
+  pub handles : Handles (command_of e.request boot) w.clock e.trail e.reply w'.clock
+
+-- The next request was taken and came to its reply, which was written whole.
+pub record Serves (boot : ℕ) (w w' : Line) (e : Exchange) : Type 0 where
+  pub carries : CarriesOut boot w w' e
+  pub replied : Takes w.sink w'.sink (printed e.reply boot e.request.last)
+
+-- ---- ends
+
+-- What stands next where a link ends before another request was answered whole, and what was done of it: nothing after
+-- the end of the source and at a failed read; its reply at a malformed place; a part of a reply where a write failed;
+-- and where memory was refused, nothing is written, after a request was carried out, before, or before any was read.
+abbrev pub Stops : ℕ → LinkEnd → Line → Line → Type 0
+Stops boot end.Ended w w' = Asks w w' got.End × KeepsGate w w' × (w'.sink ≡ w.sink)
+Stops boot end.Cut w w' = (count : ℕ) × Asks w w' (got.Cut count) × KeepsGate w w' × (w'.sink ≡ w.sink)
+Stops boot (end.Malformed fault) w w' = Asks w w' (got.Malformed fault) × KeepsGate w w'
+    × Takes w.sink w'.sink (malformed_text fault)
+Stops boot end.ReadFault w w' = Asks w w' got.ReadFault × KeepsGate w w' × (w'.sink ≡ w.sink)
+Stops boot end.WriteFault w w' =
+    ((e : Exchange) × CarriesOut boot w w' e × BreaksOff w.sink w'.sink (printed e.reply boot e.request.last))
+    ⊎ ((fault : HeadFault) × Asks w w' (got.Malformed fault) × KeepsGate w w'
+    × BreaksOff w.sink w'.sink (malformed_text fault))
+Stops boot end.NoMemory w w' =
+    (w' ≡ w)
+    ⊎ (Asks w w' got.NoMemory × KeepsGate w w' × (w'.sink ≡ w.sink))
+    ⊎ ((fault : HeadFault) × Asks w w' (got.Malformed fault) × KeepsGate w w' × (w'.sink ≡ w.sink))
+    ⊎ ((e : Exchange) × CarriesOut boot w w' e × (e.reply ≢ reply.NoMemory) × (w'.sink ≡ w.sink))
+
+-- one turn of a link: the next request was answered, or the link ends
+abbrev pub Turns : ℕ → Turn → Line → Line → Type 0
+Turns boot turn.GoOn w w' = (e : Exchange) × Serves boot w w' e × (e.request.last ≡ false)
+Turns boot turn.Final w w' = (e : Exchange) × Serves boot w w' e × (e.request.last ≡ true)
+Turns boot (turn.Stop ends) w w' = Stops boot ends w w'
+
+-- ---- a link
+
+-- requests were answered one after the other, and none of them is the last on its connection
+abbrev pub ServesAll : ℕ → Line → List Exchange → Line → Type 0
+ServesAll boot w [] w' = w ≡ w'
+ServesAll boot w (e ∷ more) w' = (next : Line) × Serves boot w next e × (e.request.last ≡ false)
+    × ServesAll boot next more w'
+
+-- A link from w to w': the requests that it answered whole and after which it went on, the line behind them, and how it
+-- ended there: by a final request, which was answered whole and is the last on its connection, or for another reason.
+pub record Serving (boot : ℕ) (w w' : Line) (ends : LinkEnd) : Type 0 where
+  pub exchanges : List Exchange
+  pub behind : Line
+  pub serves : ServesAll boot w exchanges behind
+  pub stops : ((ends ≡ end.Ended) × Turns boot turn.Final behind w') ⊎ Stops boot ends behind w'
+
+-- A link from this line on, with the outside seen so at its end. What is still to come is what its buffer held, at most
+-- one head, one body and one piece, and what the source has left.
+pub record ServingFrom (boot : ℕ) (w : Line) (source : Inlet) (sink : Outlet) (gate : Seen) (clock : Readings)
+    (ends : LinkEnd) : Type 0 where
+  pub held : List ℕ
+  pub few : length held ≤ most_held
+  pub serving : Serving boot w (line held source sink gate clock) ends
+
+-- ---- the parts of a turn
+
+-- how a turn goes on after a reply, from how its writing ended and whether its request is the last on its connection
+abbrev pub turn_after : Written → Bool → Turn
+turn_after ended.Whole true = turn.Final
+turn_after ended.Whole false = turn.GoOn
+turn_after ended.WriteFault last = turn.Stop end.WriteFault
+turn_after ended.NoMemory last = turn.Stop end.NoMemory
+
+-- how a link ends at a malformed place, from how the writing of its reply ended
+abbrev pub end_after : Written → HeadFault → LinkEnd
+end_after ended.Whole fault = end.Malformed fault
+end_after ended.WriteFault fault = end.WriteFault
+end_after ended.NoMemory fault = end.NoMemory

@@ -1,0 +1,79 @@
+-- What a link comes to, told of its whole input: the requests that are answered, how it ends, and the bytes that are
+-- written.
+use Rattle.std.specs.Prelude.{◌≡◌, ◌++◌, ℕ, List, [], ◌∷◌, map, if◌then◌else◌}
+use Rattle.std.specs.List.{flat_map}
+use Rattle.std.specs.Io.KnownBytes.{Appends}
+use Rattle.http_heads.specs.Messages.{Ending, ended, cut, malformed}
+use Rattle.http_heads.specs.declared.request.Request.{Request}
+use Rattle.http_front.specs.Clocks.{Readings}
+use Rattle.gate_trails.specs.Gates.{Between, Seen}
+use Rattle.gate_trails.specs.Trails.{Item}
+use Rattle.rest_answers.specs.Links.{Outlet}
+use Rattle.rest_answers.specs.Lasts.{has_last, through_last}
+use Rattle.rest_answers.specs.Texts.{malformed_text, printed}
+use Rattle.rest_routes.specs.Commands.{command_of}
+use Rattle.serve_loop.specs.Serving.{Exchange, Handles}
+use Rattle.serve_loop.specs.declared.link.LinkEnd.{LinkEnd}
+use Rattle.serve_loop.specs.declared.link.LinkEnd.TheVariants as end
+
+-- the requests of these
+abbrev pub requests_of : List Exchange → List Request
+requests_of exchanges = map (λ e. e.request) exchanges
+
+-- the bytes of the replies, in their order
+abbrev pub printed_replies : ℕ → List Exchange → List ℕ
+printed_replies boot exchanges = flat_map (λ e. printed e.reply boot e.request.last) exchanges
+
+-- what was done at the gate, in its order
+abbrev pub trail_of : List Exchange → List Item
+trail_of exchanges = flat_map (λ e. e.trail) exchanges
+
+-- requests came to their replies one after the other, between these readings of the clock
+abbrev pub HandlesAll : ℕ → Readings → List Exchange → Readings → Type 0
+HandlesAll boot told [] told' = told' ≡ told
+HandlesAll boot told (e ∷ more) told' = (between : Readings)
+    × Handles (command_of e.request boot) told e.trail e.reply between
+    × HandlesAll boot between more told'
+
+-- how a link ends that has answered all messages of its input
+abbrev pub end_at : Ending → LinkEnd
+end_at ended = end.Ended
+end_at (cut held) = end.Cut
+end_at (malformed fault) = end.Malformed fault
+
+-- how a link ends over an input with these messages and this ending, where nothing fails
+abbrev pub end_due : List Request → Ending → LinkEnd
+end_due messages ending = if has_last messages then end.Ended else end_at ending
+
+-- the text that is written after the replies
+abbrev pub text_at : LinkEnd → List ℕ
+text_at (end.Malformed fault) = malformed_text fault
+text_at other = []
+
+-- a fault of the outside, or refused memory
+abbrev pub IsFault : LinkEnd → Type 0
+IsFault end.ReadFault = Unit {0}
+IsFault end.WriteFault = Unit {0}
+IsFault end.NoMemory = Unit {0}
+IsFault other = ⊥
+
+-- what a link acts on at one moment: its sink, its gate, and what its clock tells
+pub record Sides : Type 0 where
+  pub sink : Outlet
+  pub gate : Seen
+  pub clock : Readings
+
+abbrev pub sides : Outlet → Seen → Readings → Sides
+sides sink gate clock = record { sink = sink; gate = gate; clock = clock }
+
+-- The link did what its input asks, and nothing else. The requests up to and with the first that is the last on its
+-- connection are answered, each by the turns and rests that it is due. These are all that was done at the gate, and the
+-- clock was read for nothing else. The end is the one that is due, and the sink took the replies in their order.
+pub record ServesText (boot : ℕ) (messages : List Request) (ending : Ending) (ends : LinkEnd) (w w' : Sides)
+    : Type 0 where
+  pub exchanges : List Exchange
+  pub requests_are : requests_of exchanges ≡ through_last messages
+  pub gate : Between (trail_of exchanges) w.gate w'.gate
+  pub handles : HandlesAll boot w.clock exchanges w'.clock
+  pub end_is : ends ≡ end_due messages ending
+  pub written : Appends w.sink.held w'.sink.held (printed_replies boot exchanges ++ text_at ends)

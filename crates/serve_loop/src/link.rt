@@ -1,0 +1,221 @@
+//! A link: its requests are answered one after the other.
+ghost use Rattle.std.specs.Prelude.{◌≡◌, ◌⊎◌, ℕ, List, [], true, IfSome};
+ghost use Rattle.http_heads.specs.Messages.{Ending, Splits};
+ghost use Rattle.http_heads.specs.declared.request.Request.{Request as RequestValue};
+ghost use Rattle.size_values.specs.Causes.{Rose};
+ghost use Rattle.rest_answers.specs.Links.{inlet, outlet};
+ghost use Rattle.gate_trails.specs.Gates.{Between, seen};
+ghost use Rattle.gate_trails.specs.Trails.{Item};
+ghost use Rattle.serve_loop.specs.Serving.{Serving, ServingFrom, Turns, end_after, line, turn_after};
+ghost use Rattle.serve_loop.specs.Texts.{IsFault, ServesText, sides};
+ghost use Rattle.serve_loop.specs.declared.link.LinkEnd.TheVariants as end;
+
+use crate::reply::reply_to;
+use gate_trails::Gate;
+use http_front::{Buffer, Clock, Got, HeadFault, Sink, Source, read_request};
+use rest_answers::{Written, answer_for, write_answer, write_refusal};
+use rest_routes::Router;
+use std::alloc::Global;
+use std::sync::Wait;
+
+/// Why a link ends.
+#[derive(Clone, Copy, PartialEq, Eq)]
+pub enum LinkEnd {
+    /// The source has ended between two requests, or a request was answered after which the
+    /// connection ends.
+    Ended,
+    /// The source has ended within a request.
+    Cut,
+    /// No request begins here. It was answered by its rule, and the connection ends.
+    Malformed(HeadFault),
+    /// A read failed.
+    ReadFault,
+    /// A write failed.
+    WriteFault,
+    /// Memory was refused outside a request.
+    NoMemory,
+}
+
+/// What one turn of a link comes to.
+#[derive(Clone, Copy, PartialEq, Eq)]
+pub enum Turn {
+    /// A request was answered, and the next one may come.
+    GoOn,
+    /// A request was answered, and its connection ends.
+    Final,
+    /// The link ends.
+    Stop(LinkEnd),
+}
+
+/// How a turn goes on after a reply, from how its writing ended and whether its request is the last
+/// on its connection.
+fn turn_after(written: Written, last: bool) -> Turn
+    ensures { result ≡ turn_after written last }
+{
+    match written {
+        Written::Whole => { if last { Turn::Final } else { Turn::GoOn } }
+        Written::WriteFault => Turn::Stop(LinkEnd::WriteFault),
+        Written::NoMemory => Turn::Stop(LinkEnd::NoMemory),
+    }
+}
+
+/// How a link ends at a malformed place, from how the writing of its reply ended.
+fn end_after(written: Written, fault: HeadFault) -> LinkEnd
+    ensures { result ≡ end_after written fault }
+{
+    match written {
+        Written::Whole => LinkEnd::Malformed(fault),
+        Written::WriteFault => LinkEnd::WriteFault,
+        Written::NoMemory => LinkEnd::NoMemory,
+    }
+}
+
+/// One turn of a link: takes the next message and answers it.
+fn serve_next<G: Gate, S: Source, K: Sink, C: Clock>(
+    alloc: Global,
+    router: &Router,
+    buffer: &mut Buffer,
+    gate: &mut G,
+    source: &mut S,
+    sink: &mut K,
+    clock: &mut C,
+    boot: u64,
+) -> Turn
+    ensures { Turns boot result
+        (line buffer.old (inlet S.left S.ended S.failures source.old)
+        (outlet K.held K.failures sink.old) (seen G.told G.turned G.rested gate.old)
+        (C.readings clock.old))
+        (line buffer.new (inlet S.left S.ended S.failures source.new)
+        (outlet K.held K.failures sink.new) (seen G.told G.turned G.rested gate.new)
+        (C.readings clock.new)) }
+{
+    match read_request(alloc, buffer, source) {
+        Got::Request(request) => {
+            let reply = reply_to(alloc, router, gate, clock, &request, boot);
+            let answered = answer_for(alloc, &reply, boot, request.last);
+            drop(reply);
+            let written = write_answer(sink, &answered, request.last);
+            drop(answered);
+            let last = request.last;
+            drop(request);
+            turn_after(written, last)
+        }
+        Got::End => Turn::Stop(LinkEnd::Ended),
+        Got::Cut(_) => Turn::Stop(LinkEnd::Cut),
+        Got::Malformed(fault) => { Turn::Stop(end_after(write_refusal(alloc, sink, fault), fault)) }
+        Got::ReadFault => Turn::Stop(LinkEnd::ReadFault),
+        Got::NoMemory => Turn::Stop(LinkEnd::NoMemory),
+    }
+}
+
+/// Answers requests one after the other until the link ends.
+fn serve<T: Wait, G: Gate, S: Source, K: Sink, C: Clock>(
+    rt: &T,
+    alloc: Global,
+    router: &Router,
+    buffer: &mut Buffer,
+    gate: &mut G,
+    source: &mut S,
+    sink: &mut K,
+    clock: &mut C,
+    boot: u64,
+) -> LinkEnd
+    ensures { Serving boot
+        (line buffer.old (inlet S.left S.ended S.failures source.old)
+        (outlet K.held K.failures sink.old) (seen G.told G.turned G.rested gate.old)
+        (C.readings clock.old))
+        (line buffer.new (inlet S.left S.ended S.failures source.new)
+        (outlet K.held K.failures sink.new) (seen G.told G.turned G.rested gate.new)
+        (C.readings clock.new))
+        result }
+{
+    for _ in rt.forever() {
+        match serve_next(alloc, router, buffer, gate, source, sink, clock, boot) {
+            Turn::GoOn => {}
+            Turn::Final => return LinkEnd::Ended,
+            Turn::Stop(ends) => return ends,
+        }
+    }
+    unreachable!()
+}
+
+/// A link, from an empty buffer on.
+fn serve_from_empty<T: Wait, G: Gate, S: Source, K: Sink, C: Clock>(
+    rt: &T,
+    alloc: Global,
+    gate: &mut G,
+    source: &mut S,
+    sink: &mut K,
+    clock: &mut C,
+    boot: u64,
+) -> LinkEnd
+    ensures { ServingFrom boot
+        (line [] (inlet S.left S.ended S.failures source.old) (outlet K.held K.failures sink.old)
+        (seen G.told G.turned G.rested gate.old) (C.readings clock.old))
+        (inlet S.left S.ended S.failures source.new) (outlet K.held K.failures sink.new)
+        (seen G.told G.turned G.rested gate.new) (C.readings clock.new) result }
+{
+    let Ok(router) = Router::new(alloc) else {
+        return LinkEnd::NoMemory;
+    };
+    let Ok(mut buffer) = Buffer::new(alloc) else {
+        drop(router);
+        return LinkEnd::NoMemory;
+    };
+    let ends = serve(
+        rt,
+        alloc,
+        &router,
+        &mut buffer,
+        gate,
+        source,
+        sink,
+        clock,
+        boot,
+    );
+    drop(buffer);
+    drop(router);
+    ends
+}
+
+/// Answers the requests of a connection one after the other, each at the gate, and writes their
+/// replies (HTTP/1.1, RFC 9112, section 9). There is no limit to their number. A request asks for
+/// its command once, and a wait is looked at, and followed by one rest after each look that shows
+/// its operation live: until it has ended, until the clock is at the deadline, or a million times.
+/// The boot word is that of the ids of operations.
+pub fn serve_link<T: Wait, G: Gate, S: Source, K: Sink, C: Clock>(
+    rt: &T,
+    alloc: Global,
+    gate: &mut G,
+    source: &mut S,
+    sink: &mut K,
+    clock: &mut C,
+    boot: u64,
+) -> LinkEnd
+    ensures serves { ServingFrom boot
+        (line [] (inlet S.left S.ended S.failures source.old) (outlet K.held K.failures sink.old)
+        (seen G.told G.turned G.rested gate.old) (C.readings clock.old))
+        (inlet S.left S.ended S.failures source.new) (outlet K.held K.failures sink.new)
+        (seen G.told G.turned G.rested gate.new) (C.readings clock.new) result }
+
+    // What was done at the gate is one trail.
+    ensures trail { (trail : List Item) × Between trail (seen G.told G.turned G.rested gate.old)
+        (seen G.told G.turned G.rested gate.new) }
+
+    // Over a source that tells its bytes: a fault, or what these bytes ask.
+    ensures text { IfSome (S.left source.old) (λ text. (messages : List RequestValue) (ending : Ending)
+        → Splits text messages ending → IsFault result
+        ⊎ ServesText boot messages ending result
+        (sides (outlet K.held K.failures sink.old) (seen G.told G.turned G.rested gate.old)
+        (C.readings clock.old))
+        (sides (outlet K.held K.failures sink.new) (seen G.told G.turned G.rested gate.new)
+        (C.readings clock.new))) }
+
+    ensures cut { result ≡ end.Cut → S.ended source.new ≡ true }
+    ensures read_fault { result ≡ end.ReadFault
+        → Rose (S.failures source.old) (S.failures source.new) }
+    ensures write_fault { result ≡ end.WriteFault
+        → Rose (K.failures sink.old) (K.failures sink.new) }
+{
+    serve_from_empty(rt, alloc, gate, source, sink, clock, boot)
+}
