@@ -150,6 +150,13 @@ records-none : records_of empty_state ≡ []
 unfolding records_of
 records-none = refl
 
+-- the records of the state that rows of entries in their order make
+pub records-all : (rows : List Row) → Each IsKeyed rows → IsOrderedEntries (map entry_of rows) → records_of (with_all rows empty_state) ≡ map entry_of rows
+records-all rows keyed sorted =
+    sym (records-after empty_state (put_all rows) empty-named (rows-stay_named rows keyed))
+    ∙ ap (after_changes (entry_changes (put_all rows))) records-none
+    ∙ put-sorted rows [] sorted
+
 pub opening-entries : OpeningKeepsEntries
 opening-entries entries s bytes sorted some h = by (is-opening entries s h) where
   by : IsOpening entries s → records_of s ≡ entries
@@ -157,7 +164,5 @@ opening-entries entries s bytes sorted some h = by (is-opening entries s h) wher
   by (again rows read none is) =
       let are = rows-read entries rows bytes read in
       ap records_of (is ∙ with_rows-is rows)
-      ∙ sym (records-after empty_state (put_all rows) empty-named (rows-stay_named rows are.keyed))
-      ∙ ap (after_changes (entry_changes (put_all rows))) records-none
-      ∙ put-sorted rows [] (subst IsOrderedEntries are.spelled sorted)
+      ∙ records-all rows are.keyed (subst IsOrderedEntries are.spelled sorted)
       ∙ sym are.spelled
