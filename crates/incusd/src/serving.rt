@@ -1,5 +1,5 @@
 //! A server over TCP, whose jobs run on threads.
-ghost use Rattle.std.specs.Prelude.{◌≡◌, ◌×◌, map, string_bytes};
+ghost use Rattle.std.specs.Prelude.{◌≡◌, map, string_bytes};
 ghost use Rattle.serve_words.specs.Words.{serve_setup_of};
 
 use crate::telling::tell_address;
@@ -53,9 +53,10 @@ where
     let start = move |job: Job<R, L, T>| -> Option<JoinHandle<JobEnd<R, L, T>>> {
         start_thread(&system, job)
     };
-    let start_or_run = move |job: Job<R, L, T>| -> Result<JoinHandle<JobEnd<R, L, T>>, JobEnd<R, L, T>> {
-        start_thread_or_run(&system, job)
-    };
+    let start_or_run = move |job: Job<R, L, T>| -> Result<
+        JoinHandle<JobEnd<R, L, T>>,
+        JobEnd<R, L, T>,
+    > { start_thread_or_run(&system, job) };
     let mut spawner = ThreadSpawner::new(system, start, start_or_run);
     let host = ModelHost::new(alloc, Seq::new(alloc));
     let mut clock = SystemClock::new(system);

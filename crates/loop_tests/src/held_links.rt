@@ -1,5 +1,5 @@
 //! Two links that meet in an operation whose call of the host is held.
-ghost use Rattle.std.specs.Prelude.{◌≡◌, ◌×◌, None};
+ghost use Rattle.std.specs.Prelude.{◌≡◌, None};
 
 use crate::links::{INSTANCES, POOL, count_in_replies, is_answered, new_machine, replies_to};
 use gate_trails::Gate;

@@ -1,5 +1,5 @@
 //! Links over two gates to one server under a lock.
-ghost use Rattle.std.specs.Prelude.{◌≡◌, ◌×◌, ◌≤◌};
+ghost use Rattle.std.specs.Prelude.{◌≡◌, ◌≤◌};
 
 use crate::links::{is_answered, new_machine};
 use gate_trails::Gate;

@@ -1,4 +1,4 @@
-ghost use Rattle.std.specs.Prelude.{◌≡◌, ◌+◌, ◌×◌, ◌≤◌, IfOk, IfSome, None, OnErr, is_some, vec_len};
+ghost use Rattle.std.specs.Prelude.{◌≡◌, ◌+◌, ◌≤◌, IfOk, IfSome, None, OnErr, is_some, vec_len};
 ghost use Rattle.row_machine.specs.declared.events.Event.TheVariants as event_of;
 ghost use Rattle.gate_trails.specs.Trails.{MayAnswer};
 
@@ -39,8 +39,7 @@ impl<
     C: Clock + Drop,
     L: Ledger,
     T: Wait + time::Clock + Copy + Drop,
-> ServerSeats<R, H, C, L, T>
-{
+> ServerSeats<R, H, C, L, T> {
     /// So many seats at this server, over this host and this clock. Where memory is refused, the
     /// server and the host are let go.
     pub fn new(
@@ -98,8 +97,7 @@ impl<
     C: Clock + Drop,
     L: Ledger,
     T: Wait + time::Clock + Copy + Drop,
-> Jobs<ServerJob<S, K, R, H, C, L, T>> for ServerSeats<R, H, C, L, T>
-{
+> Jobs<ServerJob<S, K, R, H, C, L, T>> for ServerSeats<R, H, C, L, T> {
     type Source = S;
 
     type Sink = K;

@@ -1,5 +1,5 @@
 -- The clauses of the top call, from what a server comes to.
-use Rattle.std.proofs.Common.{◌≡◌, ◌≢◌, ◌<◌, ◌×◌, ◌⊎◌, ℕ, List, Bool, true, false, Option, Some, None, IfSome}
+use Rattle.std.proofs.Common.{◌≡◌, ◌≢◌, ◌<◌, ◌⊎◌, ℕ, List, Bool, true, false, Option, Some, None, IfSome}
 use Rattle.std.proofs.Common.{Result, Ok, Err, refl, ap, sym, ◌∙◌, subst, arith, inl, inr}
 use Rattle.std.proofs.lemmas.Bool.{false≢true}
 use Rattle.std.specs.Option.{is_some}
@@ -7,38 +7,25 @@ use Rattle.size_values.specs.Causes.{Rose}
 use Rattle.size_values.specs.declared.entry.Entry.{Entry}
 use Rattle.record_keeper.specs.Store.{Store}
 use Rattle.row_machine.specs.machine.State.{State}
-use Rattle.row_machine.specs.opening.Opening.{Opening, opened, damaged, broken, opening_of}
+use Rattle.row_machine.specs.opening.Opening.{Opening, opened, opening_of}
 use Rattle.core_rows.specs.Opening.{OpensTo, OpensToNone, Refuses, is_refused}
-use Rattle.core_rows.specs.declared.opening.OpenFault.{OpenFault}
 use Rattle.core_rows.specs.declared.opening.OpenFault.TheVariants as fault
 use Rattle.serving.specs.Troubles.{status_of}
 use Rattle.serving.specs.declared.trouble.Trouble.{Trouble}
 use Rattle.serving.specs.declared.trouble.Trouble.TheVariants as trouble
 use Rattle.serve_words.specs.Words.{serve_words_of}
 use Rattle.serve_words.specs.declared.words.ServeWords.{ServeWords}
-use Rattle.start_faults.specs.Starts.{IsUnopened, start_fault, start_status}
+use Rattle.start_faults.specs.Starts.{IsUnopened, start_status}
 use Rattle.start_faults.specs.declared.fault.StartFault.{StartFault}
 use Rattle.start_faults.specs.declared.fault.StartFault.TheVariants as start
 use Rattle.server_main.specs.Servers.{Begun, EndsBy, GivesBack, HasCauseToRefuse, NotBegun, Outside, Serves, ServesAll}
 
--- ---- causes
-
--- a refused opening is a cause to begin no server
-pub has_cause : (why : OpenFault) (words : List (List ℕ)) (keeper keeper' : Store) → is_some (serve_words_of words) ≡ true
-    → Refuses why keeper keeper' → HasCauseToRefuse (start_fault why) words keeper keeper'
-has_cause fault.KeeperFailed words keeper keeper' read refuses = (read, refuses)
-has_cause (fault.Damaged kind key) words keeper keeper' read refuses =
-    (read, (damaged kind key, refl, refuses))
-has_cause (fault.Broken rule kind key) words keeper keeper' read refuses =
-    (read, (broken rule kind key, refl, refuses))
-has_cause fault.NoMemory words keeper keeper' read refuses = inr (read, refuses)
+-- ---- statuses that are not these
 
 -- the keeper failed at the opening
 refuses_rose : (store store' : Store) → Refuses fault.KeeperFailed store store' → Rose store.failures store'.failures
 refuses_rose store store' (inl fails) = fails.rose
 refuses_rose store store' (inr fails) = fails.1.rose
-
--- ---- statuses that are not these
 
 -- the status of a server that was begun is none of those that tell why there was none, but for want of memory
 not_of_server : {P : Type 0} (ends : Result (Unit {0}) Trouble) (n : ℕ) → status_of ends ≡ n → 0 < n → n < 9 → P

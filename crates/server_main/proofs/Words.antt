@@ -1,5 +1,5 @@
 -- What the words say of a server.
-use Rattle.std.proofs.Common.{◌≡◌, ◌+◌, ◌≤◌, ◌×◌, ℕ, List, Option, Some, None, refl, ap, sym, ◌∙◌}
+use Rattle.std.proofs.Common.{◌≡◌, ◌+◌, ℕ, List, Option, Some, None, refl, ap, sym, ◌∙◌}
 use Rattle.std.specs.Option.{option_map}
 use Rattle.serve_words.specs.Words.{options_of, db_in, serve_setup_of, serve_words_of, setup_with}
 use Rattle.serve_words.specs.declared.words.Options.{Options}

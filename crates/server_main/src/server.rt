@@ -1,4 +1,4 @@
-ghost use Rattle.std.specs.Prelude.{◌≡◌, ◌+◌, ◌×◌, ◌⊎◌, ◌≤◌, List, map, option_map, Some, None, IfSome};
+ghost use Rattle.std.specs.Prelude.{◌≡◌, ◌+◌, ◌⊎◌, ◌≤◌, List, map, option_map, Some, None, IfSome};
 ghost use Rattle.std.specs.Prelude.{OnOk, IfErr, is_some, string_bytes, true};
 ghost use Rattle.size_values.specs.Causes.{Rose};
 ghost use Rattle.size_values.specs.declared.entry.Entry.{Entry as EntryValue};
@@ -62,8 +62,6 @@ where
         (outside (D.seen doors.new) (P.counts spawner.new) (P.failures spawner.new)) }
     ensures begun { (P.counts spawner.new).links ≡ (D.seen doors.new).given }
     ensures first { GivesFirst 0 (D.seen doors.new).given (D.left doors.old) (D.left doors.new) }
-    ensures few { (D.seen doors.new).given ≤ said.connections }
-    ensures workers { (P.counts spawner.new).others ≤ said.workers }
     ensures out { (P.counts spawner.new).out ≡ 0 }
 {
     let passes = said.connections + said.workers + 1;
@@ -117,8 +115,6 @@ where
         (outside (D.seen doors.new) (P.counts spawner.new) (P.failures spawner.new)) result.0 }
     ensures begun { (P.counts spawner.new).links ≡ (D.seen doors.new).given }
     ensures first { GivesFirst 0 (D.seen doors.new).given (D.left doors.old) (D.left doors.new) }
-    ensures few { (D.seen doors.new).given ≤ said.connections }
-    ensures workers { (P.counts spawner.new).others ≤ said.workers }
     ensures out { (P.counts spawner.new).out ≡ 0 }
 {
     match Daemon::begin(alloc, &mut keeper) {
@@ -130,6 +126,50 @@ where
             (status_of(served), None)
         }
         Err(fault) => (StartFault::of(fault).status(), Some(keeper)),
+    }
+}
+
+/// Reads the words, and serves what they ask for.
+fn serve_any<R, H, C, L, T, D, P>(
+    rt: T,
+    alloc: Global,
+    words: &[String],
+    doors: &mut D,
+    spawner: &mut P,
+    keeper: R,
+    host: H,
+    clock: C,
+    boot: u64,
+    blank: Blank,
+) -> (u8, Option<R>)
+where
+    R: Keeper + Drop,
+    H: Host + Drop,
+    C: Clock + Drop,
+    L: Ledger,
+    T: Wait + time::Clock + Copy + Drop,
+    D: Doors,
+    P: Spawner<ServerJob<D::Source, D::Sink, R, H, C, L, T>>,
+    requires name { blank.name ≡ L.name }
+    requires parts { (blank.parts ≡ L.parts)
+        × (blank.parts ≡ (serve_setup_of (map (λ w. string_bytes w) words.now)).passes) }
+    requires doors { (D.seen doors.old).given ≡ 0 }
+    requires idle { P.counts spawner.old ≡ none_begun }
+    requires ready { P.ready spawner.old }
+    ensures serves { Serves (map (λ w. string_bytes w) words.now)
+        (R.store keeper) (option_map R.store result.1)
+        (outside (D.seen doors.old) (P.counts spawner.old) (P.failures spawner.old))
+        (outside (D.seen doors.new) (P.counts spawner.new) (P.failures spawner.new)) result.0 }
+    ensures begun { (P.counts spawner.new).links ≡ (D.seen doors.new).given }
+    ensures first { GivesFirst 0 (D.seen doors.new).given (D.left doors.old) (D.left doors.new) }
+    ensures out { (P.counts spawner.new).out ≡ 0 }
+{
+    match read_serve_words(alloc, words) {
+        Ok(Some(said)) => serve_said::<R, H, C, L, T, D, P>(
+            rt, alloc, said, doors, spawner, keeper, host, clock, boot, blank,
+        ),
+        Ok(None) => (StartFault::Words.status(), Some(keeper)),
+        Err(NoMemory) => (StartFault::NoMemory.status(), Some(keeper)),
     }
 }
 
@@ -196,20 +236,16 @@ where
     ensures refused { IfSome (R.store keeper).told (λ entries.
         is_refused (opening_of entries) ≡ true
         → is_some (serve_words_of (map (λ w. string_bytes w) words.now)) ≡ true
-        → IsOneOf result.0 (6 ∷ 7 ∷ 9 ∷ [])) }
+        → (result.0 ≡ 6) ⊎ ((result.0 ≡ 7) ⊎ (result.0 ≡ 9))) }
 
     // Words that are read, entries that open to rows, and no fault of keeper, doors and spawner: the
     // links are served, or memory was refused.
     ensures complete { IfSome (R.store keeper).told (λ entries. (s : State)
         → opening_of entries ≡ opened s
         → is_some (serve_words_of (map (λ w. string_bytes w) words.now)) ≡ true
-        → IsOneOf result.0 (0 ∷ 6 ∷ 9 ∷ 11 ∷ 12 ∷ [])) }
+        → (result.0 ≡ 0) ⊎ ((result.0 ≡ 6) ⊎ ((result.0 ≡ 9) ⊎ ((result.0 ≡ 11) ⊎ (result.0 ≡ 12))))) }
 {
-    match read_serve_words(alloc, words) {
-        Ok(Some(said)) => serve_said::<R, H, C, L, T, D, P>(
-            rt, alloc, said, doors, spawner, keeper, host, clock, boot, blank,
-        ),
-        Ok(None) => (StartFault::Words.status(), Some(keeper)),
-        Err(NoMemory) => (StartFault::NoMemory.status(), Some(keeper)),
-    }
+    serve_any::<R, H, C, L, T, D, P>(
+        rt, alloc, words, doors, spawner, keeper, host, clock, boot, blank,
+    )
 }

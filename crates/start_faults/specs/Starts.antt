@@ -1,5 +1,5 @@
 -- Why a server is not begun.
-use Rattle.std.specs.Prelude.{◌≡◌, ◌×◌, ℕ, true, Option, Some, None}
+use Rattle.std.specs.Prelude.{◌≡◌, ℕ, true, Option, Some, None}
 use Rattle.record_keeper.specs.Store.{Store}
 use Rattle.row_machine.specs.machine.State.{State}
 use Rattle.row_machine.specs.opening.Opening.{Opening}

@@ -47,11 +47,7 @@ pub fn tell_fault<R: Keeper>(rt: HostRuntime, program: &str, keeper: &mut R) {
 }
 
 /// The line that says why a file keeps no rows.
-fn trouble_line(
-    alloc: Global,
-    program: &str,
-    keeper: &SqliteKeeper,
-) -> Result<String, NoMemory> {
+fn trouble_line(alloc: Global, program: &str, keeper: &SqliteKeeper) -> Result<String, NoMemory> {
     match keeper.trouble() {
         Some(trouble) => Ok(format!(in alloc; "{program}: {}: {trouble}\n", keeper.path())?),
         None => Ok(format!(in alloc;
