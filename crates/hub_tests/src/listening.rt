@@ -1,4 +1,8 @@
 //! What a listener gets of the notices that were pushed.
+ghost use Rattle.std.specs.Prelude.{◌≤◌, length};
+ghost use Rattle.event_hub.specs.Short.{most_bytes};
+ghost use Rattle.event_hub.specs.Telling.{IsShort};
+
 use event_hub::{About, Hub, Progress};
 use records::{Filter, Life, Notice, OpFault, Status, Told, Untold};
 use row_machine::Fetched;
@@ -71,7 +75,10 @@ const RUNNING: Progress = Progress {
 };
 
 /// An instance of a project.
-fn instance_in(project: &'static str) -> About<'static> {
+fn instance_in(project: &'static str) -> About<'static>
+    requires { length project.now ≤ most_bytes }
+    ensures { IsShort result }
+{
     About {
         project,
         kind: ObjectKind::Instance,
