@@ -1,3 +1,4 @@
 pub mod Refusals
 pub mod Replies
+pub mod Examples
 pub mod Notices
