@@ -8,7 +8,7 @@ use Rattle.sqlite.specs.Store.{Ghosts}
 use Rattle.sqlite.specs.Effect.{Database}
 use Rattle.sqlite.specs.State.{Executes}
 use Rattle.sqlite.specs.Held.{Held, state}
-use Rattle.sqlite_rows.specs.declared.tables.TheConstants.{PUT, REMOVE}
+use Rattle.sqlite_rows.specs.declared.changes.TheConstants.{PUT, REMOVE}
 
 -- the statement that makes a change
 abbrev pub statement_of : EntryChange → List ℕ

@@ -4,11 +4,16 @@ ghost use Rattle.sqlite.specs.Effect.{Database};
 ghost use Rattle.sqlite.specs.State.{HasCleanDisk, ExecutesInside, KeepsCommit, Survives};
 ghost use Rattle.sqlite.specs.Held.{state};
 ghost use Rattle.size_values.specs.declared.entry.EntryChange.{EntryChange as Change};
+ghost use Rattle.sqlite_tables.specs.Guarded.{StaysGuarded};
 ghost use Rattle.sqlite_rows.specs.Changes.{statement_of, values_of, Makes, Leaves};
 
-use crate::tables::{PUT, REMOVE};
 use size_values::{Entry, EntryChange, Text};
 use sqlite::{Alter, Connection, Error, ErrorCode, Transaction, params};
+
+const PUT: &str = "INSERT INTO records (kind, key, body) VALUES (?1, ?2, ?3) \
+    ON CONFLICT (kind, key) DO UPDATE SET body = excluded.body";
+
+const REMOVE: &str = "DELETE FROM records WHERE kind = ?1 AND key = ?2";
 
 fn put<S: Alter>(transaction: &mut Transaction<'_, S>, entry: &Entry) -> Result<usize, Error>
     ensures same_reference { transaction.new.conn.ghost_name ≡ transaction.old.conn.ghost_name }
@@ -74,11 +79,13 @@ fn change_each<S: Alter>(
     Ok(())
 }
 
-/// Makes all the changes, in their order, or none of them; also where it is cut off by a crash.
+/// Makes all the changes, in their order, or none of them; also where it is cut off by a crash. It leaves no
+/// transaction open, and answers that one is where it finds one.
 pub fn change_all<S: Alter>(
     database: &mut Connection<S>,
     changes: &[EntryChange],
 ) -> Result<(), Error>
+    ensures guarded { StaysGuarded S.Store database.old database.new }
     ensures all { HasCleanDisk (state S.Store database.new)
         → OnOk result (Leaves S.Store changes.now database.old (state S.Store database.new).committed) }
     ensures none { HasCleanDisk (state S.Store database.new) → IsTrue (state S.Store database.new).is_open

@@ -3,11 +3,13 @@ ghost use Rattle.std.specs.Prelude.{IfOk};
 ghost use Rattle.record_keeper.specs.Entries.{IsOrderedEntries};
 
 use crate::order::are_ordered;
-use crate::tables::ALL;
-use crate::trouble::{Trouble, trouble_of};
 use size_values::{Entry, Or, Seq, Text};
 use sqlite::{Alter, Connection, Error, Row};
+use sqlite_tables::{Trouble, trouble_of};
 use std::alloc::Global;
+
+/// All rows, in the order of entries.
+const ALL: &str = "SELECT kind, key, body FROM records ORDER BY kind, key";
 
 /// The kind that a row says.
 fn kind_of(row: &Row) -> Result<u8, Error> {

@@ -1,7 +1,8 @@
-ghost use Rattle.std.specs.Prelude.{◌≡◌, ◌↔◌};
+ghost use Rattle.std.specs.Prelude.{◌≡◌, ◌↔◌, true};
 ghost use Rattle.size_values.specs.declared.memory.Or.TheVariants.{NoMemory as no_memory};
+ghost use Rattle.sqlite_tables.specs.Troubles.{is_failure, is_refusal};
 
-use crate::tables::VERSION;
+use crate::content::VERSION;
 use size_values::Or;
 use sqlite::{Error, ErrorCode};
 use std::fmt;
@@ -55,7 +56,9 @@ impl fmt::Display for Trouble {
 
 /// What an error of the database is: out of memory, or the trouble.
 pub fn trouble_of(error: Error) -> Or<Trouble>
-    ensures { (result ≡ no_memory) ↔ (error ≡ Error.SqliteFailure ErrorCode.OutOfMemory) }
+    ensures memory { (result ≡ no_memory) ↔ (error ≡ Error.SqliteFailure ErrorCode.OutOfMemory) }
+    ensures refusal { is_refusal result ≡ true }
+    ensures failure { is_failure result ≡ true }
 {
     match error {
         Error::SqliteFailure(ErrorCode::OutOfMemory) => Or::NoMemory,
