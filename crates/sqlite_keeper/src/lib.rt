@@ -6,4 +6,4 @@ mod keeper;
 mod rows_file;
 
 pub use keeper::SqliteKeeper;
-pub use sqlite_rows::Trouble;
+pub use sqlite_tables::Trouble;

@@ -1,10 +1,18 @@
 //! The database file that keeps the rows.
-ghost use Rattle.std.specs.Prelude.{IfOk};
+ghost use Rattle.std.specs.Prelude.{◌≡◌, true, false, IsTrue, IfOk, IfErr, OnOk, OnErr};
 ghost use Rattle.record_keeper.specs.Entries.{IsOrderedEntries};
+ghost use Rattle.sqlite.specs.Effect.{Database as Whole};
+ghost use Rattle.sqlite.specs.Files.{file_state, over_files};
+ghost use Rattle.sqlite.specs.State.{HasCleanDisk, Survives};
+ghost use Rattle.sqlite_tables.specs.Guarded.{StaysGuarded};
+ghost use Rattle.sqlite_tables.specs.Troubles.{is_failure, is_refusal};
+ghost use Rattle.sqlite_rows.specs.Changes.{Leaves};
+ghost use Rattle.sqlite_rows.specs.Entries.{AreKept};
 
 use size_values::{Entry, EntryChange, Or, Seq, Text};
 use sqlite::{Connection, File, FileStore};
-use sqlite_rows::{Trouble, admit, change_all, entries_in, trouble_of};
+use sqlite_rows::{change_all, entries_in};
+use sqlite_tables::{Trouble, admit, trouble_of};
 use std::alloc::Global;
 use std::io::Read;
 use std::{fs, io};
@@ -23,7 +31,10 @@ pub(crate) struct RowsFile {
 impl RowsFile {
     /// Opens the file, and makes its tables where it is missing or has none. Where it is anything
     /// else than a file of this program, it is not written to.
-    pub(crate) fn open(rt: &HostRuntime, path: &Text) -> Result<RowsFile, Or<Trouble>> {
+    pub(crate) fn open(rt: &HostRuntime, path: &Text) -> Result<RowsFile, Or<Trouble>>
+        ensures settled { IfOk result (λ file. file.database.in_transaction ≡ false) }
+        ensures cause { IfErr result (λ why. is_refusal why ≡ true) }
+    {
         if let Ok(false) = may_be_database(rt, path.view()) {
             return Err(Or::Why(Trouble::NotADatabase));
         }
@@ -33,7 +44,11 @@ impl RowsFile {
         }
     }
 
-    fn over(mut database: Database) -> Result<RowsFile, Or<Trouble>> {
+    fn over(mut database: Database) -> Result<RowsFile, Or<Trouble>>
+        requires { database.in_transaction ≡ false }
+        ensures settled { IfOk result (λ file. file.database.in_transaction ≡ false) }
+        ensures cause { IfErr result (λ why. is_refusal why ≡ true) }
+    {
         match admit(&mut database) {
             Ok(()) => Ok(RowsFile { database }),
             Err(why) => {
@@ -45,13 +60,27 @@ impl RowsFile {
 
     /// All entries.
     pub(crate) fn entries(&mut self, alloc: Global) -> Result<Seq<Entry>, Or<Trouble>>
-        ensures { IfOk result IsOrderedEntries }
+        ensures guarded { StaysGuarded over_files self.old.database self.new.database }
+        ensures ordered { IfOk result IsOrderedEntries }
+        ensures kept { HasCleanDisk (file_state self.new.database)
+            → IfOk result (AreKept over_files self.old.database self.new.database) }
+        ensures cause { IfErr result (λ why. is_failure why ≡ true) }
     {
         entries_in(alloc, &mut self.database)
     }
 
-    /// Makes all the changes, in their order, or none of them.
-    pub(crate) fn change(&mut self, changes: &[EntryChange]) -> Result<(), Or<Trouble>> {
+    /// Makes all the changes, in their order, or none of them; also where it is cut off by a crash.
+    pub(crate) fn change(&mut self, changes: &[EntryChange]) -> Result<(), Or<Trouble>>
+        ensures guarded { StaysGuarded over_files self.old.database self.new.database }
+        ensures all { HasCleanDisk (file_state self.new.database)
+            → OnOk result (Leaves over_files changes.now self.old.database (file_state self.new.database).committed) }
+        ensures none { HasCleanDisk (file_state self.new.database) → IsTrue (file_state self.new.database).is_open
+            → OnErr result (((file_state self.new.database).now ≡ (file_state self.old.database).now)
+            × ((file_state self.new.database).committed ≡ (file_state self.old.database).committed)) }
+        ensures crash { Survives (file_state self.old.database) (file_state self.new.database)
+            (λ trees. (whole : Whole) × Leaves over_files changes.now self.old.database whole × (trees ≡ whole.trees)) }
+        ensures cause { IfErr result (λ why. is_failure why ≡ true) }
+    {
         match change_all(&mut self.database, changes) {
             Ok(()) => Ok(()),
             Err(error) => Err(trouble_of(error)),
