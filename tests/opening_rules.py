@@ -14,84 +14,16 @@ volumes and snapshots. It ends with status 1 where something is otherwise.
 """
 import argparse
 import shutil
-import sqlite3
-import subprocess
 import sys
 import tempfile
 from pathlib import Path
 
+sys.dont_write_bytecode = True
+import row_entries  # noqa: E402
+from row_entries import (FEATURES, INSTANCE, KINDS, NETWORK, POOL, PROFILE, PROJECT, ROOT, SNAPSHOT, VOLUME, devices, instance, listed,
+                         machine, network, pool, profile, project, settings, snapshot, text, volume)
+
 TOP = Path(__file__).resolve().parent.parent
-KINDS = ("project", "profile", "network", "pool", "volume", "instance", "snapshot")
-PROJECT, PROFILE, NETWORK, POOL, VOLUME, INSTANCE, SNAPSHOT = range(1, 8)
-FEATURES = dict.fromkeys(("features.images", "features.networks", "features.profiles", "features.storage.buckets",
-                          "features.storage.volumes"), "true")
-ROOT = {"root": {"type": "disk", "path": "/", "pool": "tank"}}
-
-
-# ---- the spelling of rows
-
-def number(value, width=8):
-    return value.to_bytes(width, "big")
-
-
-def text(value):
-    spelt = value if isinstance(value, bytes) else value.encode()
-    return number(len(spelt), 4) + spelt
-
-
-def listed(items):
-    return number(len(items), 4) + b"".join(items)
-
-
-def in_order(named):
-    return sorted(named.items(), key=lambda item: item[0].encode())
-
-
-def settings(config):
-    return listed([text(key) + text(value) for key, value in in_order(config)])
-
-
-def devices(named):
-    return listed([text(name) + settings(device) for name, device in in_order(named)])
-
-
-def shape(profiles, config, named):
-    return listed([text(name) for name in profiles]) + settings(config) + devices(named)
-
-
-def project(name, config, description=""):
-    return PROJECT, name, b"\1" + text(description) + settings(config)
-
-
-def profile(key, config={}, named={}, description=""):
-    return PROFILE, key, b"\1" + text(description) + settings(config) + devices(named)
-
-
-def network(key, config={}, description=""):
-    return NETWORK, key, b"\1" + text(description) + settings(config)
-
-
-def pool(name, config={}, description="", driver=0):
-    return POOL, name, b"\1" + bytes([driver]) + text(description) + settings(config)
-
-
-def volume(key, config={}, description="", created=0):
-    return VOLUME, key, b"\1" + text(description) + settings(config) + number(created)
-
-
-def instance(key, config={}, named=ROOT, profiles=("default",), kind=0, ephemeral=0, description="", origin="", created=0):
-    head = b"\1" + bytes([kind, ephemeral]) + text(description) + text(origin) + number(created)
-    return INSTANCE, key, head + shape(profiles, config, named)
-
-
-def machine(key, config={}, named=ROOT, profiles=("default",)):
-    return instance(key, config, named, profiles, kind=1)
-
-
-def snapshot(key, config={}, named={}, profiles=(), created=0, expires=0):
-    return SNAPSHOT, key, b"\1" + number(created) + number(expires) + shape(profiles, config, named)
-
-
 TANK = pool("tank")
 BOX = instance("default/box")
 # A project whose rows are all its own, with its profile `default`.
@@ -119,9 +51,9 @@ def gone(kind, key):
 NAMES = [
     ("the project default is missing", [gone(PROJECT, "default")], PROJECT, "default", "N1"),
     ("the project default is missing beside another", [gone(PROJECT, "default"), *LAB], PROJECT, "default", "N1"),
-    *((f"the project of a {KINDS[row[0] - 1]} is missing", [TANK, row], row[0], row[1], "N1") for row in (
+    *((f"a row of kind {KINDS[row[0] - 1]} whose project is missing", [TANK, row], row[0], row[1], "N1") for row in (
         profile("ghost/web"), network("ghost/net0"), volume("ghost/tank/disk"), instance("ghost/box"), snapshot("ghost/box/first"))),
-    *((f"a {KINDS[row[0] - 1]} in a project without that feature", [project("lab", {}), TANK, row], row[0], row[1], "N1") for row in (
+    *((f"a row of kind {KINDS[row[0] - 1]} in a project without that feature", [project("lab", {}), TANK, row], row[0], row[1], "N1") for row in (
         profile("lab/web"), network("lab/net0"), volume("lab/tank/disk"))),
     ("the pool of a volume is missing", [volume("default/tank/disk")], VOLUME, "default/tank/disk", "N2"),
     ("the instance of a snapshot is missing", [TANK, BOX, snapshot("default/cell/first")], SNAPSHOT, "default/cell/first", "N2"),
@@ -148,7 +80,7 @@ NET = network("default/net0")
 EVERY = (lambda config: project("lab", config), lambda config: profile("default/web", config), lambda config: network("default/net0", config),
          lambda config: pool("tank", config), lambda config: volume("default/tank/disk", config),
          lambda config: instance("default/box", config))
-MALFORMED = ({"limits.instances": "many"}, {"limits.memory": "lots"}, {"bridge.mtu": "0"}, {"size": "big"}, {"size": "1.5GB"},
+MALFORMED = ({"limits.instances": "many"}, {"limits.memory": "lots"}, {"bridge.mtu": "0"}, {"size": "big"}, {"size": "9XB"},
              {"limits.processes": "-1"})
 
 
@@ -159,15 +91,15 @@ def devices_of(named, *more):
 
 
 def at_device(said, rule, named, *more):
-    return [(f"{said} of a {KINDS[kind - 1]}", rows, kind, key, rule) for rows, kind, key in devices_of(named, *more)]
+    return [(f"{said}, {KINDS[kind - 1]}", rows, kind, key, rule) for rows, kind, key in devices_of(named, *more)]
 
 
 SETTINGS = [
-    *((f"an unknown key of a {KINDS[row[0] - 1]}", [TANK, row], row[0], row[1], "V1") for row in
+    *((f"an unknown key, {KINDS[row[0] - 1]}", [TANK, row], row[0], row[1], "V1") for row in
       (make({"colour": "red"}) for make in EVERY)),
     ("a key of virtual machines in a container", [TANK, instance("default/box", {"raw.qemu": "-s"})], INSTANCE, "default/box", "V1"),
     ("a key of containers in a virtual machine", [TANK, machine("default/box", {"raw.lxc": "x"})], INSTANCE, "default/box", "V1"),
-    *((f"a malformed value of a {KINDS[row[0] - 1]}", [TANK, row], row[0], row[1], "V2") for row in
+    *((f"a malformed value, {KINDS[row[0] - 1]}", [TANK, row], row[0], row[1], "V2") for row in
       (make(config) for make, config in zip(EVERY, MALFORMED))),
     ("a limit of 2^63", [project("lab", {"limits.cpu": str(2 ** 63)})], PROJECT, "lab", "V2"),
     ("an unknown key behind a malformed value", [project("lab", {"limits.cpu": "x", "zone": "y"})], PROJECT, "lab", "V2"),
@@ -277,7 +209,7 @@ def tables():
     for most, make, kind in MOST:
         beside, there = BESIDE[kind]
         rows = [make(at) for at in range(most - there + 1)]
-        yield f"{most + 1} of {KINDS[kind - 1]}", [*beside, *rows], kind, rows[-1][1], "C1", most > 20_000
+        yield f"{most + 1} rows, {KINDS[kind - 1]}", [*beside, *rows], kind, rows[-1][1], "C1", most > 20_000
 
 
 def filled(make, size):
@@ -295,10 +227,10 @@ def beside(row):
 
 
 SIZES = [
-    *((f"a {KINDS[row[0] - 1]} of 65,537 bytes", [*beside(row), row], row[0], row[1], "C2")
+    *((f"65,537 bytes, {KINDS[row[0] - 1]}", [*beside(row), row], row[0], row[1], "C2")
       for row in (filled(make, LARGEST + 1) for make in LARGE)),
-    ("a snapshot of 65,537 bytes", [TANK, BOX, filled(lambda said: snapshot("default/box/first", {"user.x": said or "x"}), LARGEST + 1)
-     if False else snapshot("default/box/first", {"user.x": "x" * 65_490})], SNAPSHOT, "default/box/first", "C2"),
+    ("65,537 bytes, snapshot", [TANK, BOX, filled(lambda said: snapshot("default/box/first", {"user.x": said}), LARGEST + 1)],
+     SNAPSHOT, "default/box/first", "C2"),
 ]
 
 # ---- entries that are no rows
@@ -310,6 +242,10 @@ GOOD = [project("lab", OWN, "for tests"), profile("lab/web", {"limits.cpu": "2"}
 STANDING = [profile("lab/default"), *GOOD]
 
 
+# Where the first length or count of a body begins, if not behind the version.
+FIRST_LENGTH = {POOL: 2, INSTANCE: 3, SNAPSHOT: 17}
+
+
 def with_body(row, body):
     return row[0], row[1], body
 
@@ -318,20 +254,19 @@ def changed(row, at, byte):
     return with_body(row, row[2][:at] + bytes([byte]) + row[2][at + 1:])
 
 
-def replaced(row, *, key=None, kind=None):
-    return kind or row[0], key or row[1], row[2]
+def with_key(row, key):
+    return row[0], key, row[2]
 
 
 def damages():
     """An entry of each kind that is damaged in each of these ways."""
     for row in GOOD:
         name = KINDS[row[0] - 1]
-        yield f"one byte more in a {name}", with_body(row, row[2] + b"\0")
-        yield f"one byte fewer in a {name}", with_body(row, row[2][:-1])
-        yield f"another version of a {name}", changed(row, 0, 2)
-        yield f"no byte of a {name}", with_body(row, b"")
-        yield f"another count in a {name}", changed(row, len(row[2]) - 1, row[2][-1] ^ 1) if row[0] in (PROJECT, NETWORK) else \
-            changed(row, {PROFILE: 4, POOL: 5, VOLUME: 4, INSTANCE: 6, SNAPSHOT: 20}[row[0]], 200)
+        yield f"one byte more, {name}", with_body(row, row[2] + b"\0")
+        yield f"one byte fewer, {name}", with_body(row, row[2][:-1])
+        yield f"another version, {name}", changed(row, 0, 2)
+        yield f"no byte, {name}", with_body(row, b"")
+        yield f"a length beyond the end, {name}", changed(row, FIRST_LENGTH.get(row[0], 1), 1)
     yield "a byte that is no UTF-8 in a description", changed(GOOD[0], 5, 0xFF)
     yield "another driver", changed(GOOD[3], 1, 4)
     yield "another kind of instance", changed(GOOD[5], 1, 2)
@@ -343,14 +278,14 @@ def damages():
     yield "a setting twice", with_body(GOOD[0], b"\1" + text("") + listed([text("a") + text("1"), text("a") + text("1")]))
     yield "devices in another order", with_body(GOOD[1], b"\1" + text("") + settings({}) + listed([
         text("b") + settings(GPU), text("a") + settings(GPU)]))
-    yield "no good name of a project", replaced(GOOD[0], key="-lab")
-    yield "a project with a slash", replaced(GOOD[0], key="lab/web")
-    yield "a profile without a project", replaced(GOOD[1], key="web")
-    yield "a network with a name of 16 bytes", replaced(GOOD[2], key="lab/net0123456789abc")
-    yield "a volume without a pool", replaced(GOOD[4], key="lab/disk")
-    yield "an instance whose name begins with a digit", replaced(GOOD[5], key="lab/1box")
-    yield "a snapshot without an instance", replaced(GOOD[6], key="lab/first")
-    yield "kind 0", replaced(GOOD[0], kind=0) if False else (0, "lab", GOOD[0][2])
+    yield "no good name of a project", with_key(GOOD[0], "-lab")
+    yield "a project with a slash", with_key(GOOD[0], "lab/web")
+    yield "a profile without a project", with_key(GOOD[1], "web")
+    yield "a network with a name of 16 bytes", with_key(GOOD[2], "lab/net0123456789abc")
+    yield "a volume without a pool", with_key(GOOD[4], "lab/disk")
+    yield "an instance whose name begins with a digit", with_key(GOOD[5], "lab/1box")
+    yield "a snapshot without an instance", with_key(GOOD[6], "lab/first")
+    yield "kind 0", (0, "lab", GOOD[0][2])
     yield "kind 8", (8, "lab", GOOD[0][2])
 
 
@@ -385,46 +320,30 @@ class Tries:
     def __init__(self, program, folder):
         self.program, self.folder, self.faults, self.tried = program, Path(folder), [], 0
         self.first = self.folder / "first.db"
-        ran = self.check(self.first)
+        ran = row_entries.check(program, self.first)
         if ran.returncode != 0:
             sys.exit(f"a new file is not made: status {ran.returncode}, {ran.stderr.decode()}")
 
-    def check(self, file):
-        return subprocess.run([self.program, "check", "--db", str(file)], capture_output=True, check=False, timeout=300)
-
     def file_with(self, entries):
-        """A file of the program, with these entries in place of those of the same kind and key."""
+        """A new file of the program with these entries."""
         file = self.folder / "case.db"
-        for name in (file, Path(f"{file}-wal")):
-            name.unlink(missing_ok=True)
-        for name in (self.first, Path(f"{self.first}-wal")):
-            if name.exists():
-                shutil.copy(name, self.folder / name.name.replace("first", "case"))
-        write = sqlite3.connect(file)
-        with write:
-            for kind, key, body in entries:
-                if body is None:
-                    write.execute("DELETE FROM records WHERE kind = ? AND key = ?", (kind, key))
-                else:
-                    write.execute("INSERT OR REPLACE INTO records VALUES (?, ?, ?)", (kind, key, body))
-        write.close()
+        for ending in ("", "-wal"):
+            made, copy = Path(f"{self.first}{ending}"), Path(f"{file}{ending}")
+            copy.unlink(missing_ok=True)
+            if made.exists():
+                shutil.copy(made, copy)
+        row_entries.write(file, entries)
         return file
-
-    def entries_of(self, file):
-        read = sqlite3.connect(file)
-        found = read.execute("SELECT kind, key, body FROM records ORDER BY kind, key").fetchall()
-        read.close()
-        return found
 
     def judge(self, said, entries, status, line):
         self.tried += 1
         file = self.file_with(entries)
-        before = self.entries_of(file)
-        ran = self.check(file)
+        before = row_entries.read(file)
+        ran = row_entries.check(self.program, file)
         written = ran.stderr.decode()
         if ran.returncode != status or written != line or (status != 0 and ran.stdout):
             self.faults.append(f"{said}: status {ran.returncode}, said {written!r}; due: {status}, {line!r}")
-        if self.entries_of(file) != before:
+        if row_entries.read(file) != before:
             self.faults.append(f"{said}: the entries have changed")
 
 
