@@ -3,7 +3,7 @@
 #![tactic(auto)]
 
 use program_parts::{CommandLine, end, read_command_line, run_in_memory};
-use serial_run::StartFault;
+use start_faults::StartFault;
 use std::process::ExitCode;
 
 /// The exit status of what the words ask for. A file is not read.
