@@ -4,13 +4,13 @@ use http_front::{Sink, WriterSink};
 use record_keeper::Keeper;
 use rest_replies::rule_name;
 use run_words::usage;
-use serial_run::{OpenFault, opening_fault};
+use serial_run::{OpenFault, StartFault, opening_fault};
 use size_values::NoMemory;
-use sqlite_keeper::SqliteKeeper;
 use std::alloc::Global;
+use std::process::ExitCode;
 
 /// Writes a line on standard error, if there is one.
-fn tell(rt: HostRuntime, line: Result<String, NoMemory>) {
+pub fn tell(rt: HostRuntime, line: Result<String, NoMemory>) {
     let mut errors = WriterSink::new(rt.stderr());
     if let Ok(line) = line {
         let _told = errors.write(line.as_bytes());
@@ -18,10 +18,13 @@ fn tell(rt: HostRuntime, line: Result<String, NoMemory>) {
     }
 }
 
-/// The commands that the words may name, after words that were not read.
-pub(crate) fn tell_usage(rt: HostRuntime) {
-    let mut errors = WriterSink::new(rt.stderr());
-    let _told = errors.write(usage().as_bytes());
+/// The exit of a program with this status. After words that were not read it tells which were expected.
+pub fn end(rt: HostRuntime, status: u8) -> ExitCode {
+    if status == StartFault::Words.status() {
+        let mut errors = WriterSink::new(rt.stderr());
+        let _told = errors.write(usage().as_bytes());
+    }
+    ExitCode::from(status)
 }
 
 /// The line that says which entry or which row is at fault, by its kind and its key.
@@ -40,28 +43,12 @@ fn fault_line(alloc: Global, fault: &OpenFault) -> Result<String, NoMemory> {
     }
 }
 
-/// Why the entries of a keeper open to no rows.
-pub(crate) fn tell_fault<R: Keeper>(rt: HostRuntime, keeper: &mut R) {
+/// Tells why the entries of a keeper open to no rows.
+pub fn tell_fault<R: Keeper>(rt: HostRuntime, keeper: &mut R) {
     let Some(fault) = opening_fault(rt.alloc(), keeper) else {
         return;
     };
     let line = fault_line(rt.alloc(), &fault);
     drop(fault);
     tell(rt, line);
-}
-
-/// The line that says why a file keeps no rows.
-fn trouble_line(alloc: Global, keeper: &SqliteKeeper) -> Result<String, NoMemory> {
-    match keeper.trouble() {
-        Some(trouble) => Ok(format!(in alloc; "incus_run: {}: {trouble}\n", keeper.path())?),
-        None => Ok(format!(in alloc;
-            "incus_run: {}: the rows could not be read or written\n",
-            keeper.path()
-        )?),
-    }
-}
-
-/// Why a file keeps no rows.
-pub(crate) fn tell_trouble(rt: HostRuntime, keeper: &SqliteKeeper) {
-    tell(rt, trouble_line(rt.alloc(), keeper));
 }

@@ -1,0 +1,62 @@
+//! What a program is started with.
+ghost use Rattle.std.specs.Prelude.{◌≡◌, ◌≢◌, map, string_bytes, IfOk, IfErr};
+ghost use Rattle.run_words.specs.Words.{setup_of};
+ghost use Rattle.serial_run.specs.declared.running.StartFault.TheVariants as fault;
+
+use run_words::{Setup, setup_of};
+use serial_run::StartFault;
+use std::io::ErrorKind;
+use std::{env, io};
+
+/// The words after the program's own name, and what they say of the outside.
+#[derive(Drop)]
+pub struct CommandLine {
+    pub words: Vec<String>,
+    pub setup: Setup,
+}
+
+/// Why the words could not be taken: one is no UTF-8, which is not read, or there was no memory for them.
+fn fault_of(error: &io::Error) -> StartFault
+    ensures unopened { result ≢ fault.Unopened }
+    ensures failed { result ≢ fault.KeeperFailed }
+{
+    match error.kind() {
+        ErrorKind::InvalidData => StartFault::Words,
+        _ => StartFault::NoMemory,
+    }
+}
+
+/// The words after the program's own name.
+fn words_of(rt: &HostRuntime) -> io::Result<Vec<String>> {
+    let mut words = Vec::new(rt.alloc());
+    for word in env::args(rt)?.skip(1) {
+        words.push(word)?;
+    }
+    Ok(words)
+}
+
+/// These words, and what they say of the outside.
+fn command_line_of(rt: &HostRuntime, words: Vec<String>) -> Result<CommandLine, StartFault>
+    ensures setup { IfOk result (λ line. line.setup ≡ setup_of (map (λ w. string_bytes w) line.words.items)) }
+    ensures fault { IfErr result (λ why. why ≡ fault.NoMemory) }
+{
+    match setup_of(rt.alloc(), &words) {
+        Ok(setup) => Ok(CommandLine { words, setup }),
+        Err(_) => {
+            drop(words);
+            Err(StartFault::NoMemory)
+        }
+    }
+}
+
+/// Reads the command line. It fails where a word is no UTF-8, and where memory is refused.
+pub fn read_command_line(rt: &HostRuntime) -> Result<CommandLine, StartFault>
+    ensures setup { IfOk result (λ line. line.setup ≡ setup_of (map (λ w. string_bytes w) line.words.items)) }
+    ensures unopened { IfErr result (λ why. why ≢ fault.Unopened) }
+    ensures failed { IfErr result (λ why. why ≢ fault.KeeperFailed) }
+{
+    match words_of(rt) {
+        Ok(words) => command_line_of(rt, words),
+        Err(error) => Err(fault_of(&error)),
+    }
+}
