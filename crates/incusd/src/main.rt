@@ -6,10 +6,10 @@
 ghost use Rattle.std.specs.Prelude.{◌≡◌, map, string_bytes};
 ghost use Rattle.serve_words.specs.Words.{serve_setup_of};
 
-mod serving;
+mod listening;
 mod telling;
 
-use crate::serving::serve_over;
+use crate::listening::serve_over;
 use crate::telling::{PROGRAM, tell_end};
 use file_telling::tell_trouble;
 use record_keeper::MapKeeper;
