@@ -3,6 +3,8 @@ use denote.RattleType.{RattleType}
 use denote.Param.Send.{IsSend, sendable}
 use denote.Param.SendFields.{declared_send}
 use denote.Struct.Declared.{row}
+use Rattle.size_values.proofs.text.Text.TheSendSync as text_crosses
+use Rattle.sqlite_tables.proofs.trouble.Trouble.TheSendSync as trouble_crosses
 use Rattle.sqlite.proofs.connection.Connection.TheSendSync as connection_crosses
 use Rattle.sqlite.below.sqlite_store.proofs.store.FileStore.TheSendSync as store_crosses
 use Rattle.sqlite.below.sqlite_disk.proofs.modelled.Modelled.TheSendSync as disk_crosses
@@ -16,6 +18,7 @@ use Rattle.sqlite.below.sqlite_disk.specs.contracts.start.UnknownStart.TheImpl a
 use Rattle.sqlite.below.sqlite_store.specs.contracts.store.FileStoreStore.TheImpl as stores
 use Rattle.sqlite_keeper.specs.contracts.rows_file.RowsFile as rows
 use Rattle.sqlite_keeper.specs.contracts.keeper.SqliteKeeper as keeper
+use Rattle.sqlite_keeper.specs.contracts.keeper.SqliteKeeper.TheInside as inside
 
 -- a file of the system
 host_send : IsSend host.the_row
@@ -41,14 +44,20 @@ rows_send = declared_send rows.the_type (
   tt,
 )
 
-pub keeper_send : IsSend (row keeper.the_type)
-keeper_send = declared_send keeper.the_type (
+inside_send : IsSend inside.the_row
+inside_send = declared_send inside.the_type (
   search sendable depth 9,
   (
-    search sendable depth 9,
+    search (sendable, text_crosses.the_send) depth 9,
     (
       search (sendable, rows_send) depth 9,
-      (search sendable depth 9, (search sendable depth 9, (search sendable depth 9, tt))),
+      (
+        search sendable depth 9,
+        (search sendable depth 9, (search (sendable, trouble_crosses.the_send) depth 9, tt)),
+      ),
     ),
   ),
 )
+
+pub keeper_send : IsSend keeper.the_row
+keeper_send = search (sendable, inside_send) depth 9
