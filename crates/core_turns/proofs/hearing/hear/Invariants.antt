@@ -1,4 +1,4 @@
-use Rattle.std.proofs.Common.{◌≡◌, ℕ, length}
+use Rattle.std.proofs.Common.{◌≡◌, length}
 use Rattle.event_hub.specs.Recent.{all_pushed}
 use Rattle.core_turns.proofs.hearing.hear.Given as goal
 
