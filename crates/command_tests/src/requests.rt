@@ -13,6 +13,7 @@ fn request(alloc: Global, method: &str, target: &str, body: &str) -> Result<Requ
         target: Text::from_text(alloc, target)?,
         body: Seq::of_bytes(alloc, body.as_bytes())?,
         last: false,
+        upgrade: None,
     })
 }
 

@@ -155,6 +155,7 @@ fn take_request(
         target: head.target,
         body,
         last: head.last,
+        upgrade: head.upgrade,
     })
 }
 

@@ -1,5 +1,6 @@
 pub mod SearchLemmas
 pub mod HeadLemmas
+mod KeyLemmas
 pub mod LengthLemmas
 pub mod MessageLemmas
 pub mod DecisionLemmas

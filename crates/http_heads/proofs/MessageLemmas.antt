@@ -11,6 +11,7 @@ use Rattle.http_heads.specs.declared.request.HeadFault.{HeadFault}
 use Rattle.http_heads.specs.declared.request.HeadFault.TheVariants.{H1, H2, H3, H4}
 use Rattle.http_heads.specs.Heads.{blank_len, head_len, behind_blank, head_bytes}
 use Rattle.http_heads.specs.Fields.{fields_of, framing, is_last}
+use Rattle.http_heads.specs.Upgrades.{upgrade_key}
 use Rattle.http_heads.specs.Messages.{IsHead, HasHead, IsMessage, IsBlank, IsCut, IsNoHead, IsTooLong, IsFramedBadly, IsMalformed, Ending, ended, cut, malformed, EndsAs, Begins, Splits}
 use Rattle.http_heads.specs.Readings.{IsHeadWith, HasFault}
 use Rattle.http_heads.proofs.LengthLemmas.{head_end-all_blank, head_len-short, head_len-long, head_len-append, head_len-le, blank_len-le}
@@ -39,6 +40,7 @@ IsMessage-append {bytes} {rest} {m} more h =
       body_is = h.body_is
           ∙ sym (ap (take h.body) (drop-append-le h.len bytes more len_fits) ∙ take-append-le h.body (drop h.len bytes) more body_fits);
       last_is = h.last_is;
+      upgrade_is = h.upgrade_is;
       rest_is = ap (λ l. l ++ more) h.rest_is ∙ sym (drop-append-le (h.len + h.body) bytes more h.whole);
     }
 
@@ -125,8 +127,9 @@ message_unique {bytes} {rest} {other} {m} {n} h k =
     let method : m.method ≡ n.method = h.method_is ∙ ap (λ x. x.method) heads.1 ∙ sym k.method_is in
     let target : m.target ≡ n.target = h.target_is ∙ ap (λ x. x.target) heads.1 ∙ sym k.target_is in
     let last : m.last ≡ n.last = h.last_is ∙ ap is_last heads.1 ∙ sym k.last_is in
+    let upgrade : m.upgrade ≡ n.upgrade = h.upgrade_is ∙ ap upgrade_key heads.1 ∙ sym k.upgrade_is in
     let body : m.body ≡ n.body = h.body_is ∙ ap₂ (λ b l. take b (drop l bytes)) bodies heads.0 ∙ sym k.body_is in (
-      λ i. record { method = method i; target = target i; body = body i; last = last i },
+      λ i. record { method = method i; target = target i; body = body i; last = last i; upgrade = upgrade i },
       h.rest_is ∙ ap₂ (λ l b. drop (l + b) bytes) heads.0 bodies ∙ sym k.rest_is,
     )
 

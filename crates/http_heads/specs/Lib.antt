@@ -4,3 +4,4 @@ pub mod Limits
 pub mod Messages
 pub mod Readings
 pub mod Search
+pub mod Upgrades

@@ -7,6 +7,7 @@ use Rattle.http_heads.specs.declared.request.HeadFault.{HeadFault}
 use Rattle.http_heads.specs.declared.request.HeadFault.TheVariants.{H1, H2, H3, H4}
 use Rattle.http_heads.specs.Heads.{blank_len, head_len, head_bytes}
 use Rattle.http_heads.specs.Fields.{fields_of, framing, is_last}
+use Rattle.http_heads.specs.Upgrades.{upgrade_key}
 
 -- these bytes are a request head (RFC 9112) of at most 64 headers
 pub record IsHead (bytes : List ℕ) (head : RequestHead) : Type 0 where
@@ -30,6 +31,7 @@ pub record IsMessage (bytes : List ℕ) (m : Request) (rest : List ℕ) : Type 0
   pub target_is : m.target ≡ head.target
   pub body_is : m.body ≡ take body (drop len bytes)
   pub last_is : m.last ≡ is_last head
+  pub upgrade_is : m.upgrade ≡ upgrade_key head
   pub rest_is : rest ≡ drop (len + body) bytes
 
 -- only CR and LF stand here, too few to be a head that is too long

@@ -11,6 +11,7 @@ use Rattle.http_heads.specs.declared.request.HeadFault.{HeadFault}
 use Rattle.http_heads.specs.declared.request.HeadFault.TheVariants.{H1, H2, H3, H4}
 use Rattle.http_heads.specs.Fields.{fields_of, framing, is_last}
 use Rattle.http_heads.specs.Messages.{IsHead}
+use Rattle.http_heads.specs.Upgrades.{upgrade_key}
 
 -- the text is a head, and this is what it says
 pub record Says (text : List ℕ) (h : Head) : Type 0 where
@@ -20,6 +21,7 @@ pub record Says (text : List ℕ) (h : Head) : Type 0 where
   pub method_is : h.method ≡ head.method
   pub target_is : h.target ≡ head.target
   pub last_is : h.last ≡ is_last head
+  pub upgrade_is : h.upgrade ≡ upgrade_key head
 
 -- the text is a head with this fault in its headers
 pub record IsHeadWith (text : List ℕ) (fault : HeadFault) : Type 0 where

@@ -26,7 +26,7 @@ pub(crate) fn framing(bytes: &[u8], headers: &[HeaderSpan]) -> Result<usize, Hea
 }
 
 /// The value of the header of this name, if there is one; several are a fault.
-fn single_value<'a>(
+pub(crate) fn single_value<'a>(
     bytes: &'a [u8],
     headers: &[HeaderSpan],
     name: &[u8],

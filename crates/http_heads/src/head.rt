@@ -1,25 +1,30 @@
-ghost use Rattle.std.specs.Prelude.{◌≡◌, ◌≤◌, ℕ, length, take, IfOk, IfErr, IfSome, IfNone, IsUtf8};
+ghost use Rattle.std.specs.Prelude.{◌≡◌, ◌≤◌, ℕ, length, take, map, All, IfOk, IfErr, IfSome, IfNone, IsUtf8};
 ghost use Rattle.httparse.specs.Grammar.{RequestHead};
+ghost use Rattle.httparse.specs.Spans.{IsWithin, IsHeaderWithin, span_bytes, header_bytes};
 ghost use Rattle.http_heads.specs.Heads.{behind_blank};
 ghost use Rattle.http_heads.specs.Limits.{max_body, max_fields};
 ghost use Rattle.http_heads.specs.Messages.{IsHead};
 ghost use Rattle.http_heads.specs.Readings.{Says, HasReason, AreParts};
+ghost use Rattle.http_heads.specs.Upgrades.{key_in};
 
 use crate::fields::{framing, some_lists};
 use crate::request::{HeadFault, MAX_FIELDS};
 use crate::search::leading_line_bytes;
+use crate::upgrade::key_in;
 use httparse::Status;
 use httparse::spans::{EMPTY_HEADER_SPAN, HeaderSpan, RequestSpans, parse_request};
 use size_values::{NoMemory, Or, Text};
 use std::alloc::Global;
 
-/// What a head says: the method, the target, the length of the body, and whether the connection ends after it.
+/// What a head says: the method, the target, the length of the body, whether the connection ends after it, and the
+/// key of the WebSocket handshake that it asks for.
 #[derive(Drop)]
 pub struct Head {
     pub method: Text,
     pub target: Text,
     pub body: usize,
     pub last: bool,
+    pub upgrade: Option<Text>,
 }
 
 /// Reads a whole head, with the CR and LF bytes before it. A fault is H1, H3 or H4, the first that stands.
@@ -75,12 +80,32 @@ fn head_of(
     let last = spans.version == 0 || some_lists(text, headers, b"connection", b"close");
     let method = text_of(alloc, spans.method.of(text))?;
     let target = text_of(alloc, spans.path.of(text))?;
+    let upgrade = upgrade_of(alloc, text, headers, spans)?;
     Ok(Head {
         method,
         target,
         body,
         last,
+        upgrade,
     })
+}
+
+/// The key of the WebSocket handshake that a head asks for.
+fn upgrade_of(
+    alloc: Global,
+    text: &[u8],
+    headers: &[HeaderSpan],
+    spans: &RequestSpans,
+) -> Result<Option<Text>, NoMemory>
+    requires headers { All (IsHeaderWithin (length text.now)) headers.now }
+    requires method { IsWithin (length text.now) spans.now.method }
+    ensures { IfOk result (λ key. key ≡ key_in (span_bytes text.now spans.now.method) spans.now.version
+        (map (header_bytes text.now) headers.now)) }
+{
+    match key_in(spans.method.of(text), spans.version, text, headers) {
+        Some(key) => Ok(Some(text_of(alloc, key)?)),
+        None => Ok(None),
+    }
 }
 
 fn text_of(alloc: Global, bytes: &[u8]) -> Result<Text, NoMemory>

@@ -7,6 +7,7 @@ mod head;
 mod laws;
 mod request;
 mod search;
+mod upgrade;
 
 pub use head::{Head, read_head};
 pub use laws::{later_bytes, one_ending, one_next_message, one_reading, some_reading};

@@ -11,3 +11,5 @@ mod readings;
 mod replies;
 #[cfg(test)]
 mod streams;
+#[cfg(test)]
+mod upgrades;

@@ -17,9 +17,10 @@ use Rattle.records.specs.declared.refusals.Refusal.{Refusal}
 use Rattle.rest_paths.specs.Answers.{followed}
 use Rattle.records.specs.declared.refusals.Rule.TheVariants as rule
 use Rattle.rest_paths.specs.Refusals.{on_key}
-use Rattle.rest_paths.specs.Queries.{text_of, project_after, recursion_of, has_leading_zero, timeout_seconds, timeout_of, are_types, no_query, flags_after, query_after, query_in, query_from_text, wait_timeout}
+use Rattle.rest_paths.specs.Queries.{text_of, project_after, recursion_of, has_leading_zero, timeout_seconds, timeout_of, types_of, no_query, flags_after, query_after, query_in, query_from_text, wait_timeout}
 use Rattle.rest_paths.specs.declared.query.Flags.{Flags}
 use Rattle.rest_paths.specs.declared.query.Query.{Query}
+use Rattle.rest_paths.specs.declared.query.Types.{Types}
 
 -- a value whose last fault does not stand is within its bounds
 last_fault : (value n : ℕ) (a b c : Option ValueFault) (outside : Bool) → reading value (a ∷ b ∷ c ∷ fault_if outside OutOfRange ∷ []) ≡ Ok n
@@ -86,20 +87,20 @@ unfolding flags_after
 flags_fine flags key value h =
     by (bytes_eq key (codes "recursion") && not (is_some flags.recursion)) (recursion_of value)
     (bytes_eq key (codes "timeout") && not (is_some flags.timeout)) (timeout_of value) (timeout_fine value)
-    (bytes_eq key (codes "type") && not flags.has_types) (are_types value)
+    (bytes_eq key (codes "type") && not (is_some flags.types)) (types_of value)
     (bytes_eq key (codes "all-projects") || bytes_eq key (codes "filter"))
   where
-    by : (a : Bool) (r : Option Bool) (b : Bool) (time : Option ℤ) → is_fine time ≡ true → (c d e : Bool)
+    by : (a : Bool) (r : Option Bool) (b : Bool) (time : Option ℤ) → is_fine time ≡ true → (c : Bool) (d : Option Types) (e : Bool)
         → FlagsFine (cond a (option_map (λ (r : Bool). record flags { recursion = Some r }) r)
         (cond b (option_map (λ (t : ℤ). record flags { timeout = Some t }) time)
-        (cond c (cond d (Some (record flags { has_types = true })) None)
+        (cond c (option_map (λ (t : Types). record flags { types = Some t }) d)
         (cond e None (Some flags)))))
     by true None b time k c d e = tt
     by true (Some r) b time k c d e = h
     by false r true None k c d e = tt
     by false r true (Some t) k c d e = k
-    by false r false time k true true e = h
-    by false r false time k true false e = tt
+    by false r false time k true (Some t) e = h
+    by false r false time k true None e = tt
     by false r false time k false d true = tt
     by false r false time k false d false = h
 

@@ -2,7 +2,7 @@
 use Rattle.std.specs.Prelude.{ℕ, ◌==◌, ◌&&◌, ◌||◌, ℤ, pos, negsuc, nat_lt, Bool, true, false, not, List, [], ◌∷◌}
 use Rattle.std.specs.Prelude.{length, slice_index, Option, Some, None, Result, Ok, ok_or, option_map, unwrap_or}
 use Rattle.std.specs.Prelude.{is_some, if◌then◌else◌, codes}
-use Rattle.std.specs.List.{list_all, slice_split}
+use Rattle.std.specs.List.{list_all, list_any, slice_split}
 use Rattle.std.specs.Result.{result_ok}
 use Rattle.std.specs.Str.{bytes_eq}
 use Rattle.std.specs.Str.Lossy.{utf8_lossy}
@@ -15,6 +15,7 @@ use Rattle.rest_paths.specs.Answers.{followed}
 use Rattle.rest_paths.specs.Refusals.{on_key}
 use Rattle.rest_paths.specs.declared.query.Flags.{Flags}
 use Rattle.rest_paths.specs.declared.query.Query.{Query}
+use Rattle.rest_paths.specs.declared.query.Types.{Types}
 
 -- the text that a key or a value of a query stands for: decoded, and bytes that are no UTF-8 replaced
 abbrev pub text_of : List ℕ → List ℕ
@@ -47,9 +48,23 @@ is_type word = bytes_eq word (codes "lifecycle") || bytes_eq word (codes "operat
 unfoldable pub are_types : List ℕ → Bool
 are_types value = list_all is_type (slice_split (λ byte. byte == 44) value)
 
+-- one of the words with commas between is this one
+unfoldable pub lists_word : List ℕ → List ℕ → Bool
+lists_word word value = list_any (λ part. bytes_eq part word) (slice_split (λ byte. byte == 44) value)
+
+-- the types of events that a text lists, if it lists nothing else
+unfoldable pub types_of : List ℕ → Option Types
+types_of value =
+    if are_types value
+    then Some (record {
+      lifecycle = lists_word (codes "lifecycle") value;
+      operation = lists_word (codes "operation") value;
+    })
+    else None
+
 -- a query that says nothing
 abbrev pub no_query : Query
-no_query = record { project = None; flags = record { recursion = None; timeout = None; has_types = false } }
+no_query = record { project = None; flags = record { recursion = None; timeout = None; types = None } }
 
 -- The flags after one more pair, or none if the pair is bad. The first of equal keys counts, and other keys say
 -- nothing.
@@ -61,7 +76,7 @@ flags_after flags key value =
     else (if bytes_eq key (codes "timeout")
     && not (is_some flags.timeout) then option_map (λ (t : ℤ). record flags { timeout = Some t }) (timeout_of value)
     else (if bytes_eq key (codes "type")
-    && not flags.has_types then (if are_types value then Some (record flags { has_types = true }) else None)
+    && not (is_some flags.types) then option_map (λ (t : Types). record flags { types = Some t }) (types_of value)
     else (if bytes_eq key (codes "all-projects") || bytes_eq key (codes "filter") then None
     else Some flags)))
 
@@ -97,3 +112,7 @@ wants_objects query = unwrap_or query.flags.recursion false
 -- the time to wait for an operation, which has no end where the query says nothing
 abbrev pub wait_timeout : Query → ℤ
 wait_timeout query = unwrap_or query.flags.timeout (negsuc 0)
+
+-- the types of events that are wanted, which are both where the query says nothing
+abbrev pub wanted_types : Query → Types
+wanted_types query = unwrap_or query.flags.types (record { lifecycle = true; operation = true })

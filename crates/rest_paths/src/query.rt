@@ -1,11 +1,11 @@
 ghost use Rattle.std.specs.Prelude.{◌≡◌, ◌≤◌, IfOk, IfSome};
+ghost use Rattle.std.specs.Str.{bytes_eq};
 ghost use Rattle.records.specs.Forms.{longest_wait};
 ghost use Rattle.rest_paths.specs.Answers.{Gives};
 ghost use Rattle.rest_paths.specs.Queries.{recursion_of, has_leading_zero, timeout_seconds, timeout_of, is_type};
-ghost use Rattle.rest_paths.specs.Queries.{are_types};
+ghost use Rattle.rest_paths.specs.Queries.{are_types, lists_word, types_of};
 ghost use Rattle.rest_paths.specs.Queries.{no_query, flags_after, project_after, query_after, query_from_text};
-ghost use Rattle.rest_paths.specs.Queries.{project_of};
-ghost use Rattle.rest_paths.specs.Queries.{wants_objects, wait_timeout};
+ghost use Rattle.rest_paths.specs.Queries.{project_of, wants_objects, wait_timeout, wanted_types};
 
 use crate::refusals::refusal_on_key;
 use form_urlencoded::parse;
@@ -13,13 +13,20 @@ use records::{Refusal, Rule};
 use size_values::{NoMemory, Or, Text, read_count};
 use std::alloc::Global;
 
+/// Which types of events are wanted.
+#[derive(Clone, Copy)]
+pub struct Types {
+    pub lifecycle: bool,
+    pub operation: bool,
+}
+
 /// What a query says besides the project: whether objects are listed and not their links alone, how many seconds to
-/// wait for an operation, with -1 for no end, and that a `type` was there.
+/// wait for an operation, with -1 for no end, and which types of events are wanted.
 #[derive(Clone, Copy)]
 pub struct Flags {
     pub recursion: Option<bool>,
     pub timeout: Option<i64>,
-    pub has_types: bool,
+    pub types: Option<Types>,
 }
 
 /// What the query of a target says, as far as it is read.
@@ -93,6 +100,35 @@ fn are_types(value: &[u8]) -> bool
     value.split(|byte| *byte == b',').all(|word| is_type(word))
 }
 
+/// Whether one of the words with commas between is this one.
+fn lists_word(word: &[u8], value: &[u8]) -> bool
+    ensures { result ≡ lists_word word.now value.now }
+{
+    value
+        .split(|byte| *byte == b',')
+        .any(|part| is_word(part, word))
+}
+
+fn is_word(part: &[u8], word: &[u8]) -> bool
+    ensures { result ≡ bytes_eq part.now word.now }
+{
+    part == word
+}
+
+/// The types of events that a text lists, if it lists nothing else.
+#[tactic(auto, unfolding(crate::specs::Queries::types_of))]
+fn types_of(value: &[u8]) -> Option<Types>
+    ensures { result ≡ types_of value.now }
+{
+    if !are_types(value) {
+        return None;
+    }
+    Some(Types {
+        lifecycle: lists_word(b"lifecycle", value),
+        operation: lists_word(b"operation", value),
+    })
+}
+
 /// The flags after one more pair, or none if the pair is bad. The first of equal keys counts, and keys of no meaning
 /// are passed over.
 #[tactic(auto, unfolding(crate::specs::Queries::flags_after))]
@@ -102,14 +138,14 @@ fn flags_after(flags: Flags, key: &str, value: &str) -> Option<Flags>
     let Flags {
         recursion,
         timeout,
-        has_types,
+        types,
     } = flags;
     if key == "recursion" && recursion.is_none() {
         return match recursion_of(value) {
             Some(objects) => Some(Flags {
                 recursion: Some(objects),
                 timeout,
-                has_types,
+                types,
             }),
             None => None,
         };
@@ -119,20 +155,20 @@ fn flags_after(flags: Flags, key: &str, value: &str) -> Option<Flags>
             Some(time) => Some(Flags {
                 recursion,
                 timeout: Some(time),
-                has_types,
+                types,
             }),
             None => None,
         };
     }
-    if key == "type" && !has_types {
-        if !are_types(value.as_bytes()) {
-            return None;
-        }
-        return Some(Flags {
-            recursion,
-            timeout,
-            has_types: true,
-        });
+    if key == "type" && types.is_none() {
+        return match types_of(value.as_bytes()) {
+            Some(types) => Some(Flags {
+                recursion,
+                timeout,
+                types: Some(types),
+            }),
+            None => None,
+        };
     }
     if key == "all-projects" || key == "filter" {
         return None;
@@ -180,7 +216,7 @@ pub fn query_from_text(alloc: Global, text: &str) -> Result<Query, Or<Refusal>>
         flags: Flags {
             recursion: None,
             timeout: None,
-            has_types: false,
+            types: None,
         },
     };
     for pair in parse(alloc, text.as_bytes()) {
@@ -217,5 +253,18 @@ pub fn wait_timeout(query: &Query) -> i64
     match query.flags.timeout {
         Some(time) => time,
         None => -1,
+    }
+}
+
+/// Which types of events are wanted: both, where nothing is said.
+pub fn wanted_types(query: &Query) -> Types
+    ensures { result ≡ wanted_types query.now }
+{
+    match query.flags.types {
+        Some(types) => types,
+        None => Types {
+            lifecycle: true,
+            operation: true,
+        },
     }
 }

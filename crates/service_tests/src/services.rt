@@ -30,6 +30,7 @@ fn creation(alloc: Global, body: &str) -> Result<Request, NoMemory> {
         target,
         body: Seq::from_vec(body),
         last: true,
+        upgrade: None,
     })
 }
 

@@ -33,6 +33,7 @@ fn request_of(alloc: Global, line: &str) -> Result<Request, NoMemory> {
         target,
         body,
         last: false,
+        upgrade: None,
     })
 }
 
