@@ -4,6 +4,8 @@
 
 mod accepting;
 mod filters;
+mod laws;
 
 pub use accepting::accept_text;
 pub use filters::event_filter;
+pub use laws::{accepts_the_example, filters_by_example, no_filter_where_none_is_asked};

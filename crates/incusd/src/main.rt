@@ -11,12 +11,13 @@ mod telling;
 
 use crate::serving::serve_over;
 use crate::telling::{PROGRAM, tell_end};
+use file_telling::tell_trouble;
 use record_keeper::MapKeeper;
 use serve_words::{serve_setup_of, serve_usage};
 use size_values::{Seq, Text};
 use sqlite_keeper::SqliteKeeper;
 use start_faults::StartFault;
-use start_telling::{fault_of, tell, tell_fault, tell_trouble, words_of};
+use start_telling::{fault_of, tell, tell_fault, words_of};
 use std::net::{Net, TcpListener, TcpStream};
 use std::process::ExitCode;
 use std::sync::Wait;

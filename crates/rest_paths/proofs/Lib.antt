@@ -3,3 +3,4 @@ pub mod Names
 pub mod Rows
 pub mod Taken
 pub mod Timeouts
+mod Events

@@ -1,7 +1,8 @@
 -- The paths of the REST API, what stands at each, and which methods are offered there.
-use Rattle.std.specs.Prelude.{ℕ, Bool, true, false, ◌&&◌, List, [], ◌∷◌, map, Option, Some, None, Result, Ok, Err}
+use Rattle.std.specs.Prelude.{◌≡◌, ◌↔◌, ℕ, Bool, true, false, ◌&&◌, List, [], ◌∷◌, map, Option, Some, None, Result, Ok, Err}
 use Rattle.std.specs.Prelude.{is_none, option_map, option_and_then, if◌then◌else◌, codes}
 use Rattle.std.specs.Str.{bytes_eq}
+use Rattle.matchit.specs.Level.{IsText}
 use Rattle.matchit.specs.Order.{placed}
 use Rattle.matchit.specs.Route.{Scan, parse_route}
 use Rattle.matchit.specs.Router.{RouteOf, route_from, nearest}
@@ -12,6 +13,7 @@ use Rattle.rest_paths.specs.declared.places.TheConstants.{ROUTES}
 use Rattle.rest_paths.specs.declared.places.Line.{Line}
 use Rattle.rest_paths.specs.declared.places.Methods.{Methods}
 use Rattle.rest_paths.specs.declared.places.Place.{Place}
+use Rattle.rest_paths.specs.declared.places.Place.TheVariants as place
 use Rattle.rest_paths.specs.declared.places.Verb.{Verb}
 use Rattle.rest_paths.specs.declared.places.Verb.TheVariants as verb
 
@@ -57,6 +59,12 @@ rows = rows_after routes []
 -- the line of the table that a path belongs to, if it is listed
 unfoldable pub line_of : List ℕ → Option Line
 line_of path = option_map (λ route. route.value) (first rows path)
+
+-- events stand at this path and at no other
+abbrev pub EventsStandAtOnePath : Type 0
+EventsStandAtOnePath =
+    (path : List ℕ) → IsText path
+    → (option_map (λ line. line.place) (line_of path) ≡ Some place.Events) ↔ (path ≡ codes "/1.0/events")
 
 -- ---- methods
 

@@ -1,7 +1,7 @@
 //! What can be said of the table of paths. A law is the contract of a function that does nothing.
 ghost use Rattle.std.specs.Prelude.{◌≡◌, true, []};
 ghost use Rattle.rest_paths.specs.Filled.{NamesFill};
-ghost use Rattle.rest_paths.specs.Places.{routes, are_taken};
+ghost use Rattle.rest_paths.specs.Places.{routes, are_taken, EventsStandAtOnePath};
 
 /// No path of the table is malformed, and none conflicts with one before it, so that a table of paths fails to be made
 /// for memory alone.
@@ -13,4 +13,9 @@ pub fn paths_do_not_conflict()
 /// the router finds one.
 pub fn names_fill_the_braces()
     ensures { NamesFill }
+{}
+
+/// Events stand at `/1.0/events`, and at no other path.
+pub fn events_stand_at_one_path()
+    ensures { EventsStandAtOnePath }
 {}

@@ -5,5 +5,5 @@
 mod telling;
 mod words;
 
-pub use telling::{tell, tell_fault, tell_line, tell_trouble};
+pub use telling::{tell, tell_fault, tell_line};
 pub use words::{fault_of, words_of};

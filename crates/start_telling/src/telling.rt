@@ -2,7 +2,6 @@ use http_front::{Sink, WriterSink};
 use record_keeper::Keeper;
 use rest_replies::rule_name;
 use size_values::NoMemory;
-use sqlite_keeper::SqliteKeeper;
 use start_faults::{OpenFault, opening_fault};
 use std::alloc::Global;
 
@@ -44,20 +43,4 @@ pub fn tell_fault<R: Keeper>(rt: HostRuntime, program: &str, keeper: &mut R) {
     let line = fault_line(rt.alloc(), program, &fault);
     drop(fault);
     tell_line(rt, line);
-}
-
-/// The line that says why a file keeps no rows.
-fn trouble_line(alloc: Global, program: &str, keeper: &SqliteKeeper) -> Result<String, NoMemory> {
-    match keeper.trouble() {
-        Some(trouble) => Ok(format!(in alloc; "{program}: {}: {trouble}\n", keeper.path())?),
-        None => Ok(format!(in alloc;
-            "{program}: {}: the rows could not be read or written\n",
-            keeper.path()
-        )?),
-    }
-}
-
-/// Why a file keeps no rows.
-pub fn tell_trouble(rt: HostRuntime, program: &str, keeper: &SqliteKeeper) {
-    tell_line(rt, trouble_line(rt.alloc(), program, keeper));
 }

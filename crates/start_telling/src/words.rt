@@ -1,3 +1,6 @@
+ghost use Rattle.std.specs.Prelude.{◌≢◌};
+ghost use Rattle.start_faults.specs.declared.fault.StartFault.TheVariants as fault;
+
 use start_faults::StartFault;
 use std::io::ErrorKind;
 use std::{env, io};
@@ -13,7 +16,10 @@ pub fn words_of(rt: &HostRuntime) -> io::Result<Vec<String>> {
 
 /// Why the words could not be taken: one is no UTF-8, which is not read, or there was no memory for
 /// them.
-pub fn fault_of(error: &io::Error) -> StartFault {
+pub fn fault_of(error: &io::Error) -> StartFault
+    ensures unopened { result ≢ fault.Unopened }
+    ensures failed { result ≢ fault.KeeperFailed }
+{
     match error.kind() {
         ErrorKind::InvalidData => StartFault::Words,
         _ => StartFault::NoMemory,
