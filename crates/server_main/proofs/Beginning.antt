@@ -1,13 +1,15 @@
 -- A server that is begun, and one that is not.
-use Rattle.std.proofs.Common.{◌≡◌, ℕ, true, List, Some, None, Result, Ok, Err, IfErr, OnOk, refl, ap, inl, inr}
-use Rattle.std.specs.Option.{is_some}
+use Rattle.std.proofs.Common.{◌≡◌, ◌+◌, ◌++◌, ℕ, true, List, [], length, Option, Some, None, Result, Ok, Err, IfErr, OnOk}
+use Rattle.std.proofs.Common.{refl, ap, sym, inl, inr}
+use Rattle.std.proofs.lemmas.Iterator.Adapters.{option_map_id}
+use Rattle.std.specs.Option.{is_some, option_map}
 use Rattle.record_keeper.specs.Store.{Store}
 use Rattle.row_machine.specs.machine.State.{State}
 use Rattle.row_machine.specs.opening.Opening.{damaged, broken}
 use Rattle.core_rows.specs.Opening.{OpensTo, Refuses}
 use Rattle.core_rows.specs.declared.opening.OpenFault.{OpenFault}
 use Rattle.core_rows.specs.declared.opening.OpenFault.TheVariants as fault
-use Rattle.serving.specs.Serves.{IsServed}
+use Rattle.serving.specs.Serves.{GivesFirst, IsServed}
 use Rattle.serving.specs.Troubles.{IsCaused, status_of}
 use Rattle.serving.specs.declared.trouble.Trouble.{Trouble}
 use Rattle.serve_words.specs.Words.{serve_words_of}
@@ -15,6 +17,10 @@ use Rattle.serve_words.specs.declared.words.ServeWords.{ServeWords}
 use Rattle.start_faults.specs.Starts.{start_fault, start_status}
 use Rattle.start_faults.specs.declared.fault.StartFault.TheVariants as start
 use Rattle.server_main.specs.Servers.{EndsBy, HasCauseToRefuse, Outside, Serves}
+
+-- doors that gave no link
+pub gives_none : {T : Type 0} (given : ℕ) (left : Option (List T)) → given ≡ 0 → GivesFirst 0 given left left
+gives_none given left none = record { links = []; count = none; first = sym (option_map_id left) }
 
 -- how a server ended, from what is known of each end
 pub ends_so : (said : ServeWords) (ends : Result (Unit {0}) Trouble) (before after : Outside)

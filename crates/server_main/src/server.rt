@@ -1,17 +1,14 @@
 ghost use Rattle.std.specs.Prelude.{◌≡◌, ◌+◌, ◌⊎◌, ◌≤◌, List, map, option_map, Some, None, IfSome};
-ghost use Rattle.std.specs.Prelude.{OnOk, IfErr, is_some, string_bytes, true};
+ghost use Rattle.std.specs.Prelude.{is_some, string_bytes, true};
 ghost use Rattle.size_values.specs.Causes.{Rose};
-ghost use Rattle.size_values.specs.declared.entry.Entry.{Entry as EntryValue};
-ghost use Rattle.record_keeper.specs.Store.{Store, after_calls};
 ghost use Rattle.row_machine.specs.machine.State.{State};
 ghost use Rattle.row_machine.specs.opening.Opening.{opened, opening_of};
 ghost use Rattle.core_rows.specs.Opening.{is_refused};
+ghost use Rattle.start_faults.specs.Starts.{IsUnopened};
 ghost use Rattle.spawners.specs.Counts.{none_begun};
-ghost use Rattle.serving.specs.Serves.{GivesFirst, IsServed};
-ghost use Rattle.serving.specs.Troubles.{IsCaused};
+ghost use Rattle.serving.specs.Serves.{GivesFirst};
 ghost use Rattle.serve_words.specs.Words.{serve_setup_of, serve_words_of};
-ghost use Rattle.serve_words.specs.declared.words.ServeWords.{ServeWords as ServeWordsValue};
-ghost use Rattle.server_main.specs.Servers.{EndsBy, Serves, outside};
+ghost use Rattle.server_main.specs.Servers.{EndsBy, GivesBack, Serves, ServesAll, outside};
 
 use core_turns::Daemon;
 use doors::Doors;
@@ -31,6 +28,7 @@ use std::sync::ledger::{Blank, Ledger};
 use std::time;
 
 /// Serves links and workers over a server that stands.
+#[tactic(auto, using(crate::proofs::Beginning::ends_so, crate::proofs::Beginning::gives_none))]
 fn serve_over<R, H, C, L, T, D, P>(
     rt: T,
     alloc: Global,
@@ -83,6 +81,7 @@ where
 
 /// Opens the rows of the keeper and serves links and workers over them. Where they are not opened,
 /// the keeper is given back.
+#[tactic(auto, using(crate::proofs::Beginning::server_begun, crate::proofs::Beginning::rows_unopened, crate::proofs::Beginning::gives_none,))]
 fn serve_said<R, H, C, L, T, D, P>(
     rt: T,
     alloc: Global,
@@ -130,6 +129,7 @@ where
 }
 
 /// Reads the words, and serves what they ask for.
+#[tactic(auto, using(crate::proofs::Words::passes_said, crate::proofs::Beginning::words_unread, crate::proofs::Beginning::words_refused, crate::proofs::Beginning::gives_none,))]
 fn serve_any<R, H, C, L, T, D, P>(
     rt: T,
     alloc: Global,
