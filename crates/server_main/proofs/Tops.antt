@@ -98,7 +98,7 @@ module _ (words : List (List ℕ)) (keeper : Store) (back : Option Store) (befor
   top_keeper_fault (inl begun) is =
       not_of_server begun.ends 6 (sym begun.status_is ∙ is) (omega arith) (omega arith)
   top_keeper_fault (inr none) six =
-      given_back back none.left _ none.given_back (by none.why none.cause (sym none.status_is ∙ six)) where
+      given_back back none.left (λ left. Rose keeper.failures left.failures) none.given_back (by none.why none.cause (sym none.status_is ∙ six)) where
         by : (why : StartFault) → HasCauseToRefuse why words keeper none.left → start_status why ≡ 6
             → Rose keeper.failures none.left.failures
         by start.KeeperFailed cause is = refuses_rose keeper none.left cause.1
@@ -111,7 +111,7 @@ module _ (words : List (List ℕ)) (keeper : Store) (back : Option Store) (befor
   top_unopened (inl begun) is =
       not_of_server begun.ends 7 (sym begun.status_is ∙ is) (omega arith) (omega arith)
   top_unopened (inr none) seven =
-      given_back back none.left _ none.given_back (by none.why none.cause (sym none.status_is ∙ seven)) where
+      given_back back none.left (IsUnopened keeper) none.given_back (by none.why none.cause (sym none.status_is ∙ seven)) where
         by : (why : StartFault) → HasCauseToRefuse why words keeper none.left → start_status why ≡ 7
             → IsUnopened keeper none.left
         by start.Unopened cause is = cause.1
