@@ -10,6 +10,7 @@ use std::alloc::Global;
 use store_report::check_report;
 
 /// Tells of a server how many rows of each kind it has, and its books.
+#[tactic(auto, unfolding(store_report::specs::Report::counts_of, store_report::specs::Report::books_of))]
 fn tell_report<K: Sink>(alloc: Global, sink: &mut K, daemon: &Daemon) -> u8
     ensures { TellsReport result daemon.now (outlet K.held K.failures sink.old)
         (outlet K.held K.failures sink.new) }

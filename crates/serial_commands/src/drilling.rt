@@ -29,6 +29,7 @@ struct Input {
 }
 
 /// The replies of a drill summed up, and what the rows are after them.
+#[tactic(auto, unfolding(store_report::specs::Report::counts_of, store_report::specs::Report::books_of))]
 fn drilled_text(alloc: Global, replies: &[u8], service: &Service) -> Result<String, NoMemory>
     ensures { IfOk result (λ text. string_bytes text ≡ drilled_text replies.now service.now.state) }
 {
