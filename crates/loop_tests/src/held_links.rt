@@ -90,7 +90,7 @@ fn cancels<T: Wait + Clock, G: Gate>(
 /// Creates an instance and waits for it, and closes the server then. Whether the wait tells that it was cancelled.
 fn waits<T: Wait, G: Gate>(rt: &T, alloc: Global, gate: &mut G) -> bool {
     let told = count_in_replies(rt, alloc, gate, CREATED, "\"status\":\"Cancelled\"");
-    let _ = gate.turn(Event::Close);
+    drop(gate.turn(Event::Close));
     told == 1
 }
 

@@ -74,7 +74,7 @@ fn works<L: Ledger, T: Wait + Clock + Copy>(floor: &Floor<L, T>, gate: &mut Lock
 fn closes<L: Ledger, T: Wait + Clock>(floor: &Floor<L, T>, gate: &mut Locked<L, T>) {
     for _ in floor.rt.forever() {
         if floor.ended.load(Ordering::SeqCst) >= 4 {
-            let _ = gate.turn(Event::Close);
+            drop(gate.turn(Event::Close));
             return;
         }
         thread::yield_now();

@@ -1,6 +1,4 @@
-ghost use Rattle.std.specs.Prelude.{◌≡◌, ◌+◌, ◌≤◌, IfOk, IfSome, None, OnErr, is_some, vec_len};
-ghost use Rattle.row_machine.specs.declared.events.Event.TheVariants as event_of;
-ghost use Rattle.gate_trails.specs.Trails.{MayAnswer};
+ghost use Rattle.std.specs.Prelude.{◌≡◌, ◌+◌, ◌≤◌, IfOk, OnErr, false, vec_len};
 
 use crate::jobs::{JobEnd, ServerJob};
 use gates::{DaemonMachine, LockedGate};
@@ -8,7 +6,7 @@ use host_lock::LockedHost;
 use host_model::Host;
 use http_front::{Clock, Sink, Source};
 use record_keeper::Keeper;
-use row_machine::{Answer, Event};
+use row_machine::Event;
 use serving::Jobs;
 use size_values::NoMemory;
 use std::alloc::Global;
@@ -28,9 +26,8 @@ pub struct ServerSeats<R: Keeper, H, C, L: Ledger, T: Wait + time::Clock> {
     host: LockedHost<H, T>,
     clock: C,
     boot: u64,
-    /// What the server answered to the close, once it was told.
-    closed: Option<Answer>,
-    ghost answered: { IfSome closed (λ answer. MayAnswer event_of.Close answer) },
+    /// Whether the server was closed.
+    closed: bool,
 }
 
 impl<
@@ -56,7 +53,7 @@ impl<
         requires name { blank.name ≡ L.name }
         requires parts { (blank.parts ≡ L.parts) × (blank.parts ≡ passes) }
         ensures seats { IfOk result (λ s. vec_len s.passes ≡ passes) }
-        ensures open { IfOk result (λ s. s.closed ≡ None) }
+        ensures open { IfOk result (λ s. s.closed ≡ false) }
     {
         let host = LockedHost::new(rt, alloc, host)?;
         let Ok((turnstile, passes)) = Turnstile::new(alloc, machine, passes, blank) else {
@@ -71,7 +68,7 @@ impl<
             host,
             clock,
             boot,
-            closed: None,
+            closed: false,
         })
     }
 }
@@ -106,12 +103,12 @@ impl<
 
     ghost seats = { λ s. vec_len s.passes };
 
-    ghost closed = { λ s. is_some s.closed };
+    ghost closed = { λ s. s.closed };
 
     fn seat(&mut self) -> Result<LockedGate<R, L, T>, NoMemory>
         requires left { 1 ≤ vec_len self.old.passes }
         ensures seats { vec_len self.old.passes ≤ vec_len self.new.passes + 1 }
-        ensures closed { is_some self.new.closed ≡ is_some self.old.closed }
+        ensures closed { self.new.closed ≡ self.old.closed }
 
         // Where memory is refused, every pass is left.
         ensures kept { OnErr result (self.new.passes ≡ self.old.passes) }
@@ -171,6 +168,7 @@ impl<
             unreachable!();
         };
         let answer = self.turnstile.turn(&self.rt, pass, Event::Close);
-        self.closed = Some(answer);
+        drop(answer);
+        self.closed = true;
     }
 }
