@@ -22,7 +22,6 @@ use Rattle.serial_sessions.specs.Inputs.{requests_of, answered, end_at, end_behi
 use Rattle.rest_answers.specs.Lasts.{has_last, through_last}
 use Rattle.serial_sessions.specs.Worlds.{World, input}
 
-
 -- requests that go on are all before the first last one
 through_last_going : (exchanges : List Exchange) (more : List Request) → AllGoOn exchanges
     → through_last (requests_of exchanges ++ more) ≡ requests_of exchanges ++ through_last more
