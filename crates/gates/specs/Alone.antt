@@ -1,16 +1,18 @@
--- A server of one's own: what it is and works on, and what was made at its gate.
-use Rattle.std.specs.Prelude.{ℕ}
-use Rattle.serial_steps.specs.Steps.{Site}
+-- A gate that owns its server, and all that the server works on.
+use Rattle.std.specs.Prelude.{ℕ, List, Option}
+use Rattle.http_front.specs.Clocks.{Readings}
+use Rattle.host_model.specs.declared.root.HostRoot.{HostRoot}
+use Rattle.record_keeper.specs.Store.{Store}
+use Rattle.serial_steps.specs.Steps.{Site, hosted, serial, site}
 use Rattle.gate_trails.specs.Trails.{Told, told_as}
+use Rattle.gates.specs.declared.alone.AloneGate.{AloneGate}
 
--- the server, its store, its host and its clock at one moment, and how many turns and rests were made at its gate
-pub record Alone : Type 0 where
-  pub site : Site
-  pub made : ℕ
-  pub rests : ℕ
-
-abbrev pub alone : Site → ℕ → ℕ → Alone
-alone site made rests = record { site = site; made = made; rests = rests }
+-- the server of a gate with the call in its worker's hand, its store, its host and its clock at one moment, by what
+-- keeper, host and clock tell
+abbrev pub site_of : {R H C : Type 0} → (R → Store) → (H → Option (List HostRoot)) → (H → ℕ) → (C → Readings)
+    → AloneGate R H C → Site
+site_of store told failures readings g =
+    site (serial g.daemon g.hand) (store g.keeper) (hosted told failures g.host) (readings g.clock)
 
 -- what is told of it
 abbrev pub told_at : Site → Told

@@ -2,7 +2,7 @@ ghost use Rattle.std.specs.Prelude.{◌≡◌, ◌+◌, None, Some};
 ghost use Rattle.core_turns.specs.Turns.{IsServed};
 ghost use Rattle.gate_trails.specs.Trails.{RestsTold, capped};
 ghost use Rattle.serial_steps.specs.Steps.{Step, Steps, hosted, serial, site};
-ghost use Rattle.gates.specs.Alone.{alone, told_at};
+ghost use Rattle.gates.specs.Alone.{site_of, told_at};
 
 use core_turns::Daemon;
 use gate_trails::Gate;
@@ -12,13 +12,11 @@ use record_keeper::Keeper;
 use row_machine::{Answer, Event};
 use serial_steps::{facts_hold, go_on};
 use std::alloc::Global;
-use std::marker::Model;
 use std::mem;
 
 /// A gate that owns its server and all that it works on: the keeper, the host and a clock. Nobody
 /// else has turns at it. Its one worker makes a step in each rest: it asks for a call where it has
-/// none in hand, and else makes the call that it has on the host and reports of it. Contracts see
-/// the server at its site, and how many turns and rests were made.
+/// none in hand, and else makes the call that it has on the host and reports of it.
 #[derive(Drop)]
 pub struct AloneGate<R: Keeper, H: Host, C: Clock> {
     alloc: Global,
@@ -31,22 +29,15 @@ pub struct AloneGate<R: Keeper, H: Host, C: Clock> {
     rests: u64,
 }
 
-impl<R: Keeper, H: Host, C: Clock> Model for AloneGate<R, H, C> {
-    ghost use Rattle.serial_steps.specs.Steps.{hosted, serial, site};
-    ghost use Rattle.gates.specs.Alone.{Alone, alone};
-
-    ghost Value = { Alone };
-
-    ghost view = { λ g. alone (site (serial g.daemon g.hand) (R.store g.keeper)
-        (hosted H.told H.failures g.host) (C.readings g.clock)) g.made g.rests };
-}
-
 impl<R: Keeper, H: Host, C: Clock> AloneGate<R, H, C> {
     /// The gate of this server, whose worker has no call in hand. No turn and no rest was made at
     /// it yet.
     pub fn new(alloc: Global, daemon: Daemon, keeper: R, host: H, clock: C) -> AloneGate<R, H, C>
-        ensures { result ≡ alone (site (serial daemon None) (R.store keeper)
-            (hosted H.told H.failures host) (C.readings clock)) 0 0 }
+        ensures site { site_of R.store H.told H.failures C.readings result
+            ≡ site (serial daemon None) (R.store keeper) (hosted H.told H.failures host)
+            (C.readings clock) }
+        ensures made { result.made ≡ 0 }
+        ensures rests { result.rests ≡ 0 }
     {
         AloneGate {
             alloc,
@@ -62,7 +53,7 @@ impl<R: Keeper, H: Host, C: Clock> AloneGate<R, H, C> {
 }
 
 impl<R: Keeper, H: Host, C: Clock> Gate for AloneGate<R, H, C> {
-    ghost told = { λ g. Some (told_at g.site) };
+    ghost told = { λ g. Some (told_at (site_of R.store H.told H.failures C.readings g)) };
 
     ghost turned = { λ g. g.made };
 
@@ -76,12 +67,15 @@ impl<R: Keeper, H: Host, C: Clock> Gate for AloneGate<R, H, C> {
     }
 
     fn rest(&mut self)
-        ensures told { RestsTold (Some (told_at self.old.site)) (Some (told_at self.new.site)) }
+        ensures told { RestsTold
+            (Some (told_at (site_of R.store H.told H.failures C.readings self.old)))
+            (Some (told_at (site_of R.store H.told H.failures C.readings self.new))) }
         ensures turned { self.new.made ≡ self.old.made }
         ensures rested { self.new.rests ≡ capped (self.old.rests + 1) }
 
         // One step of its worker.
-        ensures step { (s : Step) × Steps self.old.site s self.new.site }
+        ensures step { (s : Step) × Steps (site_of R.store H.told H.failures C.readings self.old) s
+            (site_of R.store H.told H.failures C.readings self.new) }
     {
         let hand = self.hand.take();
         let next = go_on(
