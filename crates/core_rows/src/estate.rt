@@ -4,7 +4,7 @@ ghost use Rattle.row_machine.specs.machine.Rules.{names_broken, standing_broken}
 ghost use Rattle.records.specs.declared.commands.What.TheVariants as what;
 ghost use Rattle.size_values.specs.Moments.{moment_limit};
 ghost use Rattle.work_reports.specs.Jobs.{IsReported, IsTaken};
-ghost use Rattle.work_reports.specs.Waiting.{IsSilent};
+ghost use Rattle.work_reports.specs.Waiting.{IsSilent, told_by};
 ghost use Rattle.core_rows.specs.Planned.{Follows, IsToDo, IsToStart};
 ghost use Rattle.core_rows.specs.Asked.{IsAsked};
 ghost use Rattle.record_keeper.specs.Store.{Store};
@@ -231,12 +231,18 @@ impl Estate {
         Ok(Some(notice))
     }
 
-    /// Drops the notices that were not yet taken: nobody listens.
-    pub fn forget_told(&mut self)
-        ensures untold { self.new.untold ≡ [] }
+    /// Hands out the first notice that was not yet taken, in the form in which it waits: what it tells of an operation
+    /// goes with the operation as it is kept. It takes no memory.
+    pub fn take_waiting(&mut self) -> Option<Waiting>
+        ensures some { IfSome result (λ waiting. self.old.untold
+            ≡ told_by self.old.state.operations waiting ∷ self.new.untold) }
+        ensures none { IfNone result ((self.old.untold ≡ []) × (self.new.untold ≡ [])) }
         ensures state { self.new.state ≡ self.old.state }
         ensures silent { IsSilent self.new.state }
     {
-        self.untold.clear();
+        if self.untold.is_empty() {
+            return None;
+        }
+        Some(self.untold.remove(0))
     }
 }

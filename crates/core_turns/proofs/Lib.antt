@@ -1,5 +1,5 @@
-mod Dropping
 mod Holding
 mod Ordered
+mod ShortKept
 mod Turning
 mod Workers

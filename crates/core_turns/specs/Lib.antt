@@ -1,4 +1,5 @@
 pub mod Commands
+pub mod Hearing
 pub mod Opens
 pub mod Turns
 pub mod View

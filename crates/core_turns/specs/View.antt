@@ -1,12 +1,19 @@
--- What contracts see of the server.
+-- What contracts see of the server, and what is true of its fields.
 use Rattle.std.specs.Prelude.{◌≡◌, []}
+use Rattle.row_machine.specs.facts.Whole.{IsWhole}
 use Rattle.row_machine.specs.machine.State.{State}
+use Rattle.event_hub.specs.Recent.{with_recent}
+use Rattle.notice_laws.specs.ShortTasks.{AreShort}
+use Rattle.work_reports.specs.Waiting.{IsSilent}
 use Rattle.core_turns.specs.declared.daemon.Daemon.TheInside.{Inside}
 
--- the state of the machine that its rows are
+-- the state of the machine that its rows are, with the notices that the hub keeps
 abbrev pub state_in : Inside → State
-state_in d = d.estate.state
+state_in d = with_recent d.hub d.estate.state
 
--- no notice waits to be taken
-abbrev pub IsQuiet : Inside → Type 0
-IsQuiet d = d.estate.untold ≡ []
+-- all notices are in the hub, and none waits to be taken; the facts hold of the whole; and the texts of operations are short
+pub record IsDaemon (d : Inside) : Type 0 where
+  pub quiet : d.estate.untold ≡ []
+  pub silent : IsSilent d.estate.state
+  pub whole : IsWhole (state_in d)
+  pub short : AreShort d.estate.state

@@ -5,24 +5,28 @@ ghost use Rattle.row_machine.specs.declared.events.Event.TheVariants as event_of
 ghost use Rattle.row_machine.specs.facts.Whole.{IsWhole};
 ghost use Rattle.size_values.specs.Moments.{moment_limit};
 ghost use Rattle.core_turns.specs.Opens.{Opens};
-ghost use Rattle.core_turns.specs.Turns.{IsServed, IsTurn};
+ghost use Rattle.core_turns.specs.Turns.{IsServed, IsTurn, without_notices};
 
+use crate::hearing::hear;
 use crate::{asking, working};
 use core_rows::{Estate, OpenFault, load_rows};
+use event_hub::Hub;
 use host_model::Report;
 use record_keeper::Keeper;
-use records::Command;
+use records::{Command, Filter};
 use row_machine::{Answer, Event};
 use row_readings::View;
 use std::alloc::Global;
 use std::marker::Model;
 
-/// The server as one value: its rows and its background operations. It takes one turn after the
-/// other, and each is one step of the row machine, whose notices are dropped: nobody hears them
-/// (<https://linuxcontainers.org/incus/docs/main/rest-api/>).
+/// The server as one value: its rows, its background operations, and the last notices of what it
+/// did, for those who listen (<https://linuxcontainers.org/incus/docs/main/events/>). It takes one
+/// turn after the other, and each is one step of the row machine. Memory is taken by a request, by a
+/// listener, and at the end of an operation; no other turn takes any.
 #[derive(Drop)]
 pub struct Daemon {
     estate: Estate,
+    hub: Hub,
 }
 
 impl Model for Daemon {
@@ -30,11 +34,18 @@ impl Model for Daemon {
 
     ghost Value = { State };
 
-    ghost use Rattle.core_turns.specs.View.{state_in, IsQuiet};
+    ghost use Rattle.core_turns.specs.View.{state_in, IsDaemon};
 
     ghost view = { state_in };
 
-    ghost invariant = { IsQuiet };
+    ghost invariant = { IsDaemon };
+}
+
+/// The facts of the rows hold at all times: this does nothing.
+fn facts_hold(estate: &Estate)
+    ensures { IsWhole estate.now.state }
+{
+    let _rows = estate.view();
 }
 
 impl Daemon {
@@ -43,13 +54,17 @@ impl Daemon {
     pub fn begin<R: Keeper>(alloc: Global, keeper: &mut R) -> Result<Daemon, OpenFault>
         ensures { Opens result (R.store keeper.old) (R.store keeper.new) }
     {
+        let Ok(hub) = Hub::new(alloc) else {
+            return Err(OpenFault::NoMemory);
+        };
         let estate = load_rows(alloc, keeper)?;
-        Ok(Daemon { estate })
+        facts_hold(&estate);
+        Ok(Daemon { estate, hub })
     }
 
-    /// The rows, to be read.
+    /// The rows and operations, to be read, without the notices.
     pub fn view(&self) -> View<'_>
-        ensures state { result ≡ self.now }
+        ensures rows { result ≡ without_notices self.now }
         ensures whole { IsWhole self.now }
     {
         self.estate.view()
@@ -76,18 +91,16 @@ impl Daemon {
             self.new (R.store keeper.new) }
     {
         let answer = asking::ask(alloc, &mut self.estate, keeper, command, moment);
-        self.estate.forget_told();
+        hear(&mut self.estate, &mut self.hub);
         answer
     }
 
     /// A client that waits for an operation looks at it.
-    fn look(&mut self, number: u64) -> Answer
-        ensures { (store : Store) → IsTurn self.old store (event_of.Look number) result self.new
+    pub fn look(&self, number: u64) -> Answer
+        ensures { (store : Store) → IsTurn self.now store (event_of.Look number) result self.now
             store }
     {
-        let answer = asking::look(&self.estate, number);
-        self.estate.forget_told();
-        answer
+        asking::look(&self.estate, number)
     }
 
     /// A worker asks for a call to make on the host.
@@ -97,7 +110,7 @@ impl Daemon {
             store }
     {
         let answer = working::take(&mut self.estate, moment);
-        self.estate.forget_told();
+        hear(&mut self.estate, &mut self.hub);
         answer
     }
 
@@ -115,8 +128,20 @@ impl Daemon {
             result self.new (R.store keeper.new) }
     {
         let answer = working::report(alloc, &mut self.estate, keeper, number, report, moment);
-        self.estate.forget_told();
+        hear(&mut self.estate, &mut self.hub);
         answer
+    }
+
+    /// A listener asks for the notices from a number on that it takes; 0 asks for the next number
+    /// alone.
+    pub fn fetch(&self, alloc: Global, cursor: u64, filter: &Filter) -> Answer
+        ensures { (store : Store) → IsTurn self.now store (event_of.Fetch cursor filter.now) result
+            self.now store }
+    {
+        match self.hub.since(alloc, cursor, filter) {
+            Ok(fetched) => Answer::Fetched(fetched),
+            Err(_) => Answer::NoMemory,
+        }
     }
 
     /// No more work is handed out once nothing is pending.
@@ -124,11 +149,11 @@ impl Daemon {
         ensures { (store : Store) → IsTurn self.old store event_of.Close result self.new store }
     {
         let answer = working::close(&mut self.estate);
-        self.estate.forget_told();
+        hear(&mut self.estate, &mut self.hub);
         answer
     }
 
-    /// One event of any kind that is served.
+    /// One event of any kind.
     pub fn turn<R: Keeper>(&mut self, alloc: Global, keeper: &mut R, event: Event) -> Answer
         requires served { IsServed event }
         ensures { IsTurn self.old (R.store keeper.old) event result self.new (R.store keeper.new) }
@@ -144,7 +169,11 @@ impl Daemon {
             Event::Done(number, report, moment) => {
                 self.report(alloc, keeper, number, report, moment)
             }
-            Event::Fetch(_, _) => unreachable!(),
+            Event::Fetch(cursor, filter) => {
+                let answer = self.fetch(alloc, cursor, &filter);
+                drop(filter);
+                answer
+            }
             Event::Close => self.close(),
         }
     }

@@ -1,9 +1,9 @@
-//! The server as one value, and its turns: each event is answered as one step of the row machine,
-//! whose notices nobody hears.
+//! The server as one value, and its turns: each event is answered as one step of the row machine.
 #![tactic(auto)]
 
 mod asking;
 mod daemon;
+mod hearing;
 mod promise;
 mod working;
 

@@ -42,6 +42,11 @@ impl<T> NetDoors<T> {
             faults: 0,
         }
     }
+
+    /// Whether there is a listener.
+    pub fn is_listening(&self) -> bool {
+        self.listener.is_some()
+    }
 }
 
 impl<T: OpenListener> Doors for NetDoors<T>

@@ -2,103 +2,50 @@
 //! memory or in a file, by the clock of the system; or writes, drills or checks (`run_words::usage`).
 #![tactic(auto)]
 
-mod telling;
-
-use crate::telling::{tell_fault, tell_trouble, tell_usage};
-use host_model::ModelHost;
-use http_front::{Clock, ReaderSource, SystemClock, WriterSink};
-use record_keeper::{Keeper, MapKeeper};
-use run_words::{Setup, setup_of};
-use serial_run::{StartFault, run_main};
-use size_values::Seq;
+use file_telling::tell_trouble;
+use program_parts::{CommandLine, end, read_command_line, run_in_memory, run_over};
 use sqlite_keeper::SqliteKeeper;
-use std::io::ErrorKind;
+use start_faults::StartFault;
+use start_telling::tell_fault;
 use std::process::ExitCode;
-use std::{env, io};
 
-/// Why the words could not be taken: one is no UTF-8, which is not read, or there was no memory for
-/// them.
-fn fault_of(error: &io::Error) -> StartFault {
-    match error.kind() {
-        ErrorKind::InvalidData => StartFault::Words,
-        _ => StartFault::NoMemory,
-    }
-}
+/// The name of the program.
+const PROGRAM: &str = "incus_run";
 
-/// The words after the program's own name.
-fn words_of(rt: &HostRuntime) -> io::Result<Vec<String>> {
-    let mut words = Vec::new(rt.alloc());
-    for word in env::args(rt)?.skip(1) {
-        words.push(word)?;
-    }
-    Ok(words)
-}
-
-/// All that the program does, over a keeper.
-fn run_over<R: Keeper>(
-    rt: HostRuntime,
-    words: &[String],
-    fail_host: Seq<u64>,
-    keeper: R,
-) -> (u8, R) {
-    let mut host = ModelHost::new(rt.alloc(), fail_host);
-    let mut source = ReaderSource::new(rt.stdin());
-    let mut sink = WriterSink::new(rt.stdout());
-    let mut clock = SystemClock::new(rt);
-    let boot = clock.now();
-    run_main(
-        rt.alloc(),
-        words,
-        &mut source,
-        &mut sink,
-        keeper,
-        &mut host,
-        &mut clock,
-        boot,
-    )
-}
-
-/// The same over rows in memory.
-fn run_in_memory(rt: HostRuntime, words: &[String], setup: Setup) -> u8 {
-    let keeper = MapKeeper::new(rt.alloc(), setup.fail_keeper);
-    let (status, keeper) = run_over(rt, words, setup.fail_host, keeper);
-    drop(keeper);
-    status
-}
-
-/// The same over the rows of a file. Standard error tells why it was not opened.
-fn run_over_file(rt: HostRuntime, words: &[String], setup: Setup) -> u8 {
-    let keeper = SqliteKeeper::at(rt, setup.db);
-    let (status, mut keeper) = run_over(rt, words, setup.fail_host, keeper);
+/// Tells why the run over a file did not begin, where it did not.
+fn tell_why(rt: HostRuntime, status: u8, keeper: &mut SqliteKeeper) {
     if status == StartFault::KeeperFailed.status() {
-        tell_trouble(rt, &keeper);
+        tell_trouble(rt, PROGRAM, keeper);
     }
     if status == StartFault::Unopened.status() {
-        tell_fault(rt, &mut keeper);
+        tell_fault(rt, PROGRAM, keeper);
     }
+}
+
+/// What the words ask for, over the rows of the file that they name.
+fn run_over_file(rt: HostRuntime, line: CommandLine) -> u8 {
+    let CommandLine { words, setup } = line;
+    let keeper = SqliteKeeper::at(rt, setup.db);
+    let (status, mut keeper) = run_over(rt, &words, setup.fail_host, keeper);
+    drop(words);
+    tell_why(rt, status, &mut keeper);
     drop(keeper);
     status
 }
 
-/// The exit status for words that could be taken.
-fn run(rt: HostRuntime, words: &[String]) -> u8 {
-    let Ok(setup) = setup_of(rt.alloc(), words) else {
-        return StartFault::NoMemory.status();
-    };
-    if setup.db.is_empty() {
-        run_in_memory(rt, words, setup)
+/// The exit status of what the words ask for.
+fn run(rt: HostRuntime, line: CommandLine) -> u8 {
+    if line.setup.db.is_empty() {
+        run_in_memory(rt, line)
     } else {
-        run_over_file(rt, words, setup)
+        run_over_file(rt, line)
     }
 }
 
 fn main(rt: HostRuntime) -> ExitCode {
-    let status = match words_of(&rt) {
-        Ok(words) => run(rt, &words),
-        Err(error) => fault_of(&error).status(),
+    let status = match read_command_line(&rt) {
+        Ok(line) => run(rt, line),
+        Err(fault) => fault.status(),
     };
-    if status == StartFault::Words.status() {
-        tell_usage(rt);
-    }
-    ExitCode::from(status)
+    end(rt, status)
 }

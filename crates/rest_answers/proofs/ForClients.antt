@@ -29,7 +29,7 @@ use Rattle.row_machine.specs.shown.Views.{read, one, row_view, state_view, opera
 use Rattle.row_machine.specs.shown.Views.{rows_reply, is_operation, listed}
 use Rattle.row_machine.specs.shown.Notices.{view_of}
 use Rattle.core_rows.specs.Asked.{answered}
-use Rattle.core_turns.specs.Turns.{IsTurn, turned, unheard}
+use Rattle.core_turns.specs.Turns.{IsTurn}
 use Rattle.rest_answers.specs.Asked.{IsAtOnce, IsForClient}
 
 -- ---- replies of reads
@@ -151,23 +151,23 @@ answer_in (Some x) a = x.answer
 
 -- what a turn was answered
 pub turned_speaks : (such : Answer → Type 0) (s : State) (e : Event) (outcome : Outcome) (a : Answer) (s' : State)
-    → Speaks such (step s e outcome) → turned s e outcome ≡ Some (and_then a s') → such a
-unfolding turned answer_in
+    → Speaks such (step s e outcome) → step s e outcome ≡ Some (and_then a s') → such a
+unfolding answer_in
 turned_speaks such s e outcome a s' speaks is = by (step s e outcome) speaks is where
   by : (after : Option After) → Speaks such after
-      → option_map (λ (x : After). and_then x.answer (unheard x.state)) after ≡ Some (and_then a s') → such a
+      → after ≡ Some (and_then a s') → such a
   by None speaks is = absurd (none_is is) where
     none_is : {x : After} → None ≡ Some x → ⊥
     none_is e = cc
   by (Some x) speaks is = subst such (same is) speaks where
-    same : Some (and_then x.answer (unheard x.state)) ≡ Some (and_then a s') → x.answer ≡ a
+    same : Some x ≡ Some (and_then a s') → x.answer ≡ a
     same e = ap (λ o. answer_in o a) e
 
 -- ---- turns
 
 -- a command that was asked
 pub turned_for_client : (s : State) (c : Command) (moment : ℕ) (outcome : Outcome) (a : Answer) (s' : State)
-    → turned s (event.Ask c moment) outcome ≡ Some (and_then a s') → IsForClient a
+    → step s (event.Ask c moment) outcome ≡ Some (and_then a s') → IsForClient a
 unfolding step
 turned_for_client s c moment outcome a s' is =
     turned_speaks IsForClient s (event.Ask c moment) outcome a s'
@@ -180,7 +180,7 @@ for_client {s} {s'} {store} {store'} {c} {moment} {a} t =
 
 -- an operation that was asked for
 pub turned_at_once : (s : State) (project : List ℕ) (op moment : ℕ) (outcome : Outcome) (a : Answer) (s' : State)
-    → turned s (event.Ask (record { project = project; what = what.GetOp op }) moment) outcome
+    → step s (event.Ask (record { project = project; what = what.GetOp op }) moment) outcome
     ≡ Some (and_then a s') → IsAtOnce a
 unfolding step
 turned_at_once s project op moment outcome a s' is =

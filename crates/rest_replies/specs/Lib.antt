@@ -1,4 +1,3 @@
 pub mod Refusals
 pub mod Replies
-pub mod Examples
 pub mod Notices

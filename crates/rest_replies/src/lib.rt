@@ -7,7 +7,7 @@ mod notices;
 mod printing;
 mod refusals;
 
-pub use laws::{no_memory_is_known, notices_by_example};
+pub use laws::no_memory_is_known;
 pub use notices::print_notice;
 pub use printing::print;
 pub use refusals::rule_name;

@@ -18,10 +18,9 @@ use Rattle.row_machine.specs.declared.events.Answer.TheVariants as answer
 use Rattle.row_machine.specs.declared.events.Event.TheVariants as event
 use Rattle.row_machine.specs.machine.State.{State}
 use Rattle.row_machine.specs.machine.Accept.{After, and_then}
-use Rattle.row_machine.specs.machine.Step.{Outcome, well, keeper_failed, no_memory}
+use Rattle.row_machine.specs.machine.Step.{Outcome, well, keeper_failed, no_memory, step}
 use Rattle.work_reports.specs.Stores.{IsCaused, KeepsRecords, Stores}
 use Rattle.core_rows.specs.Asked.{answered, changes_of}
-use Rattle.core_turns.specs.Turns.{turned}
 use Rattle.serial_steps.specs.Steps.{Site, Step, StepsTo, Finishes, WaitsFor, most_steps}
 use Rattle.serial_steps.specs.Counts.{moments_in, failed_commits, keeper_failures_in, host_failures_in}
 use Rattle.rest_answers.specs.Asked.{showing}
@@ -66,7 +65,7 @@ unasked s no_memory = Some (and_then answer.NoMemory s)
 -- a moment was refused by its form, or memory was refused before its command was known; one that is refused by its form
 -- has no moment. None where the outcome is not possible with it.
 abbrev pub carried_out : State → Option ℕ → Outcome → Result Command Refusal → Option After
-carried_out s (Some moment) outcome (Ok command) = turned s (event.Ask command moment) outcome
+carried_out s (Some moment) outcome (Ok command) = step s (event.Ask command moment) outcome
 carried_out s (Some moment) outcome (Err refusal) = None
 carried_out s None outcome (Ok command) = unasked s outcome
 carried_out s None outcome (Err refusal) = refused s refusal outcome

@@ -1,5 +1,6 @@
 ghost use Rattle.std.specs.Prelude.{◌≡◌, List};
 ghost use Rattle.row_machine.specs.facts.Whole.{IsWhole};
+ghost use Rattle.core_turns.specs.Turns.{without_notices};
 ghost use Rattle.serial_steps.specs.Steps.{hosted, site, Step};
 ghost use Rattle.rest_service.specs.Answers.{Answers, OpensService};
 ghost use Rattle.rest_service.specs.Exchanges.{IsPaced};
@@ -85,9 +86,9 @@ impl Service {
         answered
     }
 
-    /// The rows and operations, to be read.
+    /// The rows and operations, to be read, without the notices.
     pub fn view(&self) -> View<'_>
-        ensures state { result ≡ self.now.state }
+        ensures rows { result ≡ without_notices self.now.state }
         ensures whole { IsWhole self.now.state }
     {
         self.daemon.view()

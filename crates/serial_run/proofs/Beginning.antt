@@ -15,7 +15,8 @@ use Rattle.run_words.specs.declared.words.Pace.{Pace}
 use Rattle.run_words.specs.declared.words.Pace.TheVariants.{All}
 use Rattle.serial_run.specs.Runs.{HasCauseToRefuse, IsUnread, Opened, Refused, Runs, RunsOver, Unopened, boot_with}
 use Rattle.serial_sessions.specs.Inputs.{status_of}
-use Rattle.serial_run.specs.Runs.{SessionFrom, begun, clock_of, start_fault}
+use Rattle.start_faults.specs.Starts.{start_fault}
+use Rattle.serial_run.specs.Runs.{SessionFrom, begun, clock_of}
 use Rattle.serial_sessions.specs.declared.session.SessionEnd.{SessionEnd}
 use Rattle.serial_sessions.specs.Worlds.{Inlet, Outlet, Outside, outside, world}
 use Rattle.serial_sessions.proofs.Served.{session_still}

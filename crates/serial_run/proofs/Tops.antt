@@ -19,13 +19,14 @@ use Rattle.run_words.specs.Words.{as_run, is_run, now_of, pace_of, words_of}
 use Rattle.run_words.specs.declared.words.Pace.{Pace}
 use Rattle.rest_service.specs.Exchanges.{LeadTo, moments_of, printed_replies, keeper_failures_of, host_failures_of}
 use Rattle.rest_service.proofs.Along.{IsAlong}
-use Rattle.serial_run.specs.declared.running.StartFault.{StartFault}
-use Rattle.serial_run.specs.declared.running.StartFault.TheVariants as start
+use Rattle.start_faults.specs.declared.fault.StartFault.{StartFault}
+use Rattle.start_faults.specs.declared.fault.StartFault.TheVariants as start
 use Rattle.serial_sessions.specs.declared.session.SessionEnd.{SessionEnd}
 use Rattle.serial_sessions.specs.declared.session.SessionEnd.TheVariants as end
 use Rattle.serial_sessions.specs.Most.{most_requests}
 use Rattle.serial_sessions.specs.Inputs.{status_of}
-use Rattle.serial_run.specs.Runs.{start_status, begun, boot_with, seen_with, IsUnread, Ran, Runs}
+use Rattle.start_faults.specs.Starts.{start_status}
+use Rattle.serial_run.specs.Runs.{begun, boot_with, seen_with, IsUnread, Ran, Runs}
 use Rattle.serial_run.specs.Runs.{HasCauseToRefuse, Opened}
 use Rattle.serial_sessions.specs.Sessions.{Session, Stops, StopsBehindFinal, AllGoOn, OnlyFinalEnds}
 use Rattle.serial_sessions.specs.Inputs.{answered, end_due}

@@ -10,10 +10,11 @@ use Rattle.core_rows.specs.Opening.{AreTold, OpensTo, OpensToNone, Refuses, is_r
 use Rattle.core_rows.specs.declared.opening.OpenFault.{OpenFault}
 use Rattle.core_rows.specs.declared.opening.OpenFault.TheVariants as fault
 use Rattle.serial_steps.specs.Steps.{Serial, serial}
+use Rattle.start_faults.specs.Starts.{IsUnopened, start_fault, start_status}
 use Rattle.run_words.specs.Words.{boot_of, is_run, now_of, pace_of, words_of}
 use Rattle.run_words.specs.declared.words.Pace.{Pace}
-use Rattle.serial_run.specs.declared.running.StartFault.{StartFault}
-use Rattle.serial_run.specs.declared.running.StartFault.TheVariants as start
+use Rattle.start_faults.specs.declared.fault.StartFault.{StartFault}
+use Rattle.start_faults.specs.declared.fault.StartFault.TheVariants as start
 use Rattle.serial_sessions.specs.declared.session.SessionEnd.{SessionEnd}
 use Rattle.serial_sessions.specs.declared.session.SessionEnd.TheVariants as end
 use Rattle.serial_sessions.specs.Inputs.{status_of}
@@ -34,20 +35,6 @@ seen_with words out = record out { clock = clock_of (now_of words) out.clock }
 abbrev pub IsUnread : Option ℕ → Readings → Readings → Type 0
 IsUnread (Some moment) told told' = told' ≡ told
 IsUnread None told told' = Unit {0}
-
--- the exit status of a run that has no session
-abbrev pub start_status : StartFault → ℕ
-start_status start.KeeperFailed = 6
-start_status start.Unopened = 7
-start_status start.Words = 8
-start_status start.NoMemory = 9
-
--- a refused opening as a reason for no session
-abbrev pub start_fault : OpenFault → StartFault
-start_fault fault.KeeperFailed = start.KeeperFailed
-start_fault (fault.Damaged kind key) = start.Unopened
-start_fault (fault.Broken rule kind key) = start.Unopened
-start_fault fault.NoMemory = start.NoMemory
 
 -- the boot word of a run: the one that the words say, or the one that is handed in
 abbrev pub boot_with : List (List ℕ) → ℕ → ℕ
@@ -82,10 +69,6 @@ pub record Ran (words : List (List ℕ)) (handed : ℕ) (before after : Outside)
   pub read : is_run words ≡ true
   pub opened : Opened (boot_with words handed) (pace_of words) (seen_with words before) (seen_with words after) status
   pub unread : IsUnread (now_of words) before.clock after.clock
-
--- an entry is damaged or the rows break a rule, and the keeper is as it was but for one load
-abbrev pub IsUnopened : Store → Store → Type 0
-IsUnopened keeper keeper' = (opening : Opening) × (is_refused opening ≡ true) × OpensToNone opening keeper keeper'
 
 -- Why there was no session. Words that are not read leave the keeper as it was, as does out of memory while they are read, and a
 -- refused opening does what it may do to it.
@@ -124,8 +107,3 @@ pub record Unopened (before after : Outside) (status : ℕ) : Type 0 where
 -- once the words are read, the rows were opened and there was a session, or they were not
 abbrev pub RunsOver : ℕ → Pace → Outside → Outside → ℕ → Type 0
 RunsOver boot pace before after status = Opened boot pace before after status ⊎ Unopened before after status
-
--- why the entries of a keeper open to no rows; none where they open
-abbrev pub Explains : Option OpenFault → Store → Store → Type 0
-Explains None keeper keeper' = (s : State) × OpensTo s keeper keeper'
-Explains (Some why) keeper keeper' = Refuses why keeper keeper'

@@ -3,5 +3,4 @@
 
 mod running;
 
-pub use rest_service::OpenFault;
-pub use running::{StartFault, opening_fault, run_main};
+pub use running::run_main;

@@ -15,60 +15,21 @@ ghost use Rattle.run_words.specs.declared.words.CommandWords.TheVariants as comm
 ghost use Rattle.serial_steps.specs.Steps.{hosted};
 ghost use Rattle.serial_sessions.specs.Most.{most_requests};
 ghost use Rattle.serial_run.specs.Does.{Does};
-ghost use Rattle.serial_run.specs.Runs.{Explains, Runs, RunsOver, SessionFrom, boot_with, seen_with};
+ghost use Rattle.serial_run.specs.Runs.{Runs, RunsOver, SessionFrom, boot_with, seen_with};
 ghost use Rattle.serial_sessions.specs.Inputs.{status_of};
-ghost use Rattle.serial_run.specs.Runs.{start_fault, start_status};
 ghost use Rattle.serial_run.specs.Texts.{RunsText, is_fault};
 ghost use Rattle.serial_sessions.specs.Worlds.{inlet, outlet, outside, world};
 
-use core_rows::load_rows;
 use host_model::Host;
 use http_front::{Buffer, Clock, Sink, Source, StillClock};
 use record_keeper::Keeper;
-use rest_service::{OpenFault, Service};
+use rest_service::Service;
 use run_words::{CommandWords, Pace, RunWords, read_words};
 use serial_commands::{check, drill, make};
 use serial_sessions::{SessionEnd, serve};
 use size_values::NoMemory;
+use start_faults::StartFault;
 use std::alloc::Global;
-
-/// Why a run has no session.
-#[derive(Clone, Copy, Debug, PartialEq, Eq)]
-pub enum StartFault {
-    /// The words of the command line are not those of a run.
-    Words,
-    KeeperFailed,
-    /// The keeper's entries open to no rows: one is damaged, or the rows break a rule.
-    Unopened,
-    NoMemory,
-}
-
-impl StartFault {
-    /// The exit status.
-    pub fn status(self) -> u8
-        ensures { result ≡ start_status self }
-    {
-        match self {
-            StartFault::KeeperFailed => 6,
-            StartFault::Unopened => 7,
-            StartFault::Words => 8,
-            StartFault::NoMemory => 9,
-        }
-    }
-}
-
-impl StartFault {
-    fn of(fault: OpenFault) -> StartFault
-        ensures { result ≡ start_fault fault }
-    {
-        match fault {
-            OpenFault::KeeperFailed => StartFault::KeeperFailed,
-            OpenFault::Damaged { .. } => StartFault::Unopened,
-            OpenFault::Broken { .. } => StartFault::Unopened,
-            OpenFault::NoMemory => StartFault::NoMemory,
-        }
-    }
-}
 
 /// One session, from an empty buffer on.
 fn session<S: Source, K: Sink, R: Keeper, H: Host, C: Clock>(
@@ -304,18 +265,4 @@ pub fn run_main<S: Source, K: Sink, R: Keeper, H: Host, C: Clock>(
         → (K.held sink.new ≡ K.held sink.old) × ((result.0 ≡ 7) ⊎ (result.0 ≡ 9))) }
 {
     run(alloc, words, source, sink, keeper, host, clock, boot)
-}
-
-/// Why the entries of a keeper open to no rows, for a person to read after a run that ended with
-/// status 7; none where they open.
-pub fn opening_fault<R: Keeper>(alloc: Global, keeper: &mut R) -> Option<OpenFault>
-    ensures { Explains result (R.store keeper.old) (R.store keeper.new) }
-{
-    match load_rows(alloc, keeper) {
-        Ok(estate) => {
-            drop(estate);
-            None
-        }
-        Err(fault) => Some(fault),
-    }
 }

@@ -19,7 +19,7 @@ use Rattle.row_machine.specs.machine.Task.{Task}
 use Rattle.row_machine.specs.machine.Accept.{After}
 use Rattle.row_machine.specs.machine.Step.{Outcome, well, keeper_failed, no_memory, step}
 use Rattle.row_machine.specs.facts.Whole.{IsWhole}
-use Rattle.core_turns.specs.Turns.{IsTurn, Turns, turned}
+use Rattle.core_turns.specs.Turns.{IsTurn, Turns}
 use Rattle.machine_laws.specs.Waits.{Round, Served, served, event_of, hand_of, IsAlone}
 use Rattle.machine_laws.proofs.WaitsSteps.{served-does}
 use Rattle.serial_steps.specs.Steps.{Site, site, serial, Hosted, Step, took, reported, Steps, HasCause, job_of, number_in}
@@ -32,7 +32,7 @@ use Rattle.serial_steps.proofs.Turning.{IsStep, turned-step}
 -- nothing of the outside can fail in it
 took-well : (s : State) (store : Store) (moment : ℕ) (outcome : Outcome) (a : Answer) (s' : State) (store' : Store)
     → Turns s store (event.Take moment) outcome a s' store' → Turns s store (event.Take moment) well a s' store'
-unfolding turned step
+unfolding step
 took-well s store moment well a s' store' t = t
 took-well s store moment (keeper_failed rise) a s' store' t = absurd (never t.is) where
   never : {X : Type 0} {x : X} → None ≡ Some x → ⊥
@@ -118,7 +118,7 @@ with_hand a = record { state = a.state; hand = hand_of a.answer }
 
 -- a turn of the worker, with this number in hand or none
 turn-lessens : (w w' : Site) (hand : Option ℕ) (round : Round) (a : Answer) → IsWhole w.serial.state → IsAlone w.serial.state hand
-    → turned w.serial.state (event_of hand round) round.outcome ≡ Some (record { answer = a; state = w'.serial.state })
+    → step w.serial.state (event_of hand round) round.outcome ≡ Some (record { answer = a; state = w'.serial.state })
     → w'.serial.hand ≡ job_of a → StaysAlone w w'
 turn-lessens w w' hand round a h alone is job = record {
   less = subst (λ (k : Kept Task). sum_by steps k.live ≤ steps_of w.serial.state - 1) (sym s.operations) left.less;

@@ -3,7 +3,7 @@ ghost use Rattle.machine_laws.specs.Waits.{IsAlone};
 ghost use Rattle.operations.specs.Kept.{live_at};
 ghost use Rattle.row_machine.specs.declared.events.Event.TheVariants as event;
 ghost use Rattle.row_machine.specs.facts.Whole.{IsWhole};
-ghost use Rattle.core_turns.specs.Turns.{IsServed, IsTurn};
+ghost use Rattle.core_turns.specs.Turns.{IsServed, IsTurn, without_notices};
 ghost use Rattle.serial_steps.specs.Steps.{Finishes, Step, Steps, StepsTo, WaitsFor, most_steps};
 ghost use Rattle.serial_steps.specs.Steps.{hosted, number_in, serial, site};
 
@@ -79,9 +79,9 @@ impl SerialDaemon {
         self.daemon.ask(alloc, keeper, command, moment)
     }
 
-    /// The rows and operations, to be read.
+    /// The rows and operations, to be read, without the notices.
     pub fn view(&self) -> View<'_>
-        ensures state { result ≡ self.now.state }
+        ensures rows { result ≡ without_notices self.now.state }
         ensures whole { IsWhole self.now.state }
     {
         self.daemon.view()

@@ -81,7 +81,8 @@ pub(crate) fn options_of_matches(given: &Option<ArgMatches<'_>>) -> Option<Optio
 /// each at most once, as `--name VALUE` or `--name=VALUE`. The first two have to be given.
 #[tactic(auto, unfolding(crate::specs::Words::options_of))]
 pub fn read_serve_words(alloc: Global, words: &[String]) -> Result<Option<ServeWords>, NoMemory>
-    ensures { IfOk result (λ said. said ≡ serve_words_of (map (λ w. string_bytes w) words.now)) }
+    ensures says { IfOk result (λ said. said ≡ serve_words_of (map (λ w. string_bytes w) words.now)) }
+    ensures few { IfOk result (λ said. IfSome said (λ s. (s.connections ≤ 1000000) × (s.workers ≤ 8))) }
 {
     let given = parsed_options(alloc, words)?;
     let said = options_of_matches(&given);

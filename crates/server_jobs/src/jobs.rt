@@ -49,8 +49,7 @@ impl<
     C: Clock + Drop,
     L: Ledger,
     T: Wait + time::Clock + Copy + Drop,
-> Job for ServerJob<S, K, R, H, C, L, T>
-{
+> Job for ServerJob<S, K, R, H, C, L, T> {
     type Out = JobEnd<R, L, T>;
 
     ghost link = { is_link };

@@ -22,7 +22,7 @@ const FAILS: [u64; 12] = [17, 18, 23, 31, 32, 33, 41, 50, 55, 63, 71, 90];
 type Wrong = Option<(u64, u64)>;
 
 /// Makes what is there before the first event.
-fn set_up(alloc: Global, router: &Router, server: &mut Server) -> Result<(), NoMemory> {
+pub(crate) fn set_up(alloc: Global, router: &Router, server: &mut Server) -> Result<(), NoMemory> {
     for line in SETUP {
         drop(server.ask(alloc, router, line)?);
     }

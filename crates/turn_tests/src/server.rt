@@ -4,9 +4,9 @@ use core_turns::Daemon;
 use host_model::Report;
 use http_heads::Request;
 use record_keeper::MapKeeper;
-use records::{Command, What};
+use records::{Command, Filter, What};
 use rest_routes::Router;
-use row_machine::Answer;
+use row_machine::{Answer, Event};
 use row_readings::View;
 use size_values::{NoMemory, Seq, Text};
 use std::alloc::Global;
@@ -88,6 +88,25 @@ impl Server {
         let answer = self.daemon.ask(alloc, &mut self.keeper, &command, NOW);
         drop(command);
         Some(answer)
+    }
+
+    /// A listener asks for the notices of a project from this number on, those of actions as well
+    /// or of operations alone.
+    pub(crate) fn fetch(
+        &mut self,
+        alloc: Global,
+        cursor: u64,
+        life: bool,
+        project: &str,
+    ) -> Result<Answer, NoMemory> {
+        let project = Text::from_text(alloc, project)?;
+        let filter = Filter {
+            life,
+            op: true,
+            project,
+        };
+        let event = Event::Fetch(cursor, filter);
+        Ok(self.daemon.turn(alloc, &mut self.keeper, event))
     }
 
     /// A worker asks for a call.

@@ -1,5 +1,10 @@
-use Rattle.core_turns.proofs.Turning.{heard-by-nobody}
+use Rattle.core_turns.proofs.Turning.{nothing-heard}
 use Rattle.core_turns.proofs.daemon.Daemon.look.Goals as goal
 
+pub look-requires : goal.look-requires
+look-requires c = record { quiet = c.self.invariant.quiet }
+
 pub returns : goal.returns
-returns c = λ store. rw (← c.self.view_is) (heard-by-nobody (c.look-answer.ensures store) c.forget_told.ensures.state c.forget_told.ensures.silent)
+returns c = λ store.
+    rw (← c.self.view_is)
+    (nothing-heard c.self.inside.hub c.self.invariant.quiet tt c.self.invariant.silent (c.look.ensures store))

@@ -1,5 +1,23 @@
-use Rattle.core_turns.proofs.Turning.{heard-by-nobody}
+use Rattle.core_turns.proofs.Turning.{heard, no_store, stays-short, turn-whole}
 use Rattle.core_turns.proofs.daemon.Daemon.take.Goals as goal
 
+pub hear-requires : goal.hear-requires
+hear-requires c =
+    let own = c.self.invariant in
+    record { short = stays-short c.self.inside.hub tt own.silent own.whole c.requires.early own.short (c.take-answer.ensures no_store) }
+
+pub invariant_of-self : goal.invariant_of-self
+invariant_of-self c =
+    let own = c.self.invariant in
+    let turn = heard c.self.inside.hub tt own.silent c.hear.ensures.silent (c.take-answer.ensures no_store) c.hear.ensures.state in
+    record {
+      quiet = c.hear.ensures.untold;
+      silent = c.hear.ensures.silent;
+      whole = rw c.hear.ensures.told (turn-whole own.whole c.requires.early turn);
+      short = rw c.hear.ensures.state (stays-short c.self.inside.hub tt own.silent own.whole c.requires.early own.short (c.take-answer.ensures no_store));
+    }
+
 pub returns : goal.returns
-returns c = λ store. rw (← c.self.view_is) (heard-by-nobody (c.take-answer.ensures store) c.forget_told.ensures.state c.forget_told.ensures.silent)
+returns c = λ store.
+    rw (c.hear.ensures.told, ← c.self.view_is)
+    (heard c.self.inside.hub tt c.self.invariant.silent c.hear.ensures.silent (c.take-answer.ensures store) c.hear.ensures.state)

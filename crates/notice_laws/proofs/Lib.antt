@@ -1,0 +1,5 @@
+pub mod After
+pub mod Apart
+pub mod Aside
+pub mod Shortness
+pub mod Telling

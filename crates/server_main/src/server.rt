@@ -1,0 +1,251 @@
+ghost use Rattle.std.specs.Prelude.{◌≡◌, ℕ, ◌+◌, ◌⊎◌, ◌≤◌, List, map, option_map, Some, None, IfSome};
+ghost use Rattle.std.specs.Prelude.{is_some, string_bytes, true};
+ghost use Rattle.size_values.specs.Causes.{Rose};
+ghost use Rattle.row_machine.specs.machine.State.{State};
+ghost use Rattle.row_machine.specs.opening.Opening.{opened, opening_of};
+ghost use Rattle.core_rows.specs.Opening.{is_refused};
+ghost use Rattle.start_faults.specs.Starts.{IsUnopened};
+ghost use Rattle.spawners.specs.Counts.{none_begun};
+ghost use Rattle.serving.specs.Serves.{GivesFirst};
+ghost use Rattle.serve_words.specs.Words.{serve_setup_of, serve_words_of};
+ghost use Rattle.server_main.specs.Servers.{EndsBy, GivesBack, Serves, ServesAll, outside};
+
+use core_turns::Daemon;
+use doors::Doors;
+use gates::DaemonMachine;
+use host_model::Host;
+use http_front::Clock;
+use record_keeper::Keeper;
+use serve_words::{ServeWords, read_serve_words};
+use server_jobs::{ServerJob, ServerSeats};
+use serving::{Trouble, serve, status_of};
+use size_values::NoMemory;
+use spawners::Spawner;
+use start_faults::StartFault;
+use std::alloc::Global;
+use std::sync::Wait;
+use std::sync::ledger::{Blank, Ledger};
+use std::time;
+
+/// Serves links and workers over a server that stands.
+#[tactic(auto, using(crate::proofs::Beginning::ends_so, crate::proofs::Beginning::gives_none))]
+fn serve_over<R, H, C, L, T, D, P>(
+    rt: T,
+    alloc: Global,
+    said: ServeWords,
+    doors: &mut D,
+    spawner: &mut P,
+    machine: DaemonMachine<R>,
+    host: H,
+    clock: C,
+    boot: u64,
+    blank: Blank,
+) -> Result<(), Trouble>
+where
+    R: Keeper + Drop,
+    H: Host + Drop,
+    C: Clock + Drop,
+    L: Ledger,
+    T: Wait + time::Clock + Copy + Drop,
+    D: Doors,
+    P: Spawner<ServerJob<D::Source, D::Sink, R, H, C, L, T>>,
+    requires few { (said.connections ≤ 1000000) × (said.workers ≤ 8) }
+    requires name { blank.name ≡ L.name }
+    requires parts { (blank.parts ≡ L.parts) × (blank.parts ≡ said.connections + said.workers + 1) }
+    requires doors { (D.seen doors.old).given ≡ 0 }
+    requires idle { P.counts spawner.old ≡ none_begun }
+    requires ready { P.ready spawner.old }
+    ensures ends { EndsBy said result
+        (outside (D.seen doors.old) (P.counts spawner.old) (P.failures spawner.old))
+        (outside (D.seen doors.new) (P.counts spawner.new) (P.failures spawner.new)) }
+    ensures begun { (P.counts spawner.new).links ≡ (D.seen doors.new).given }
+    ensures first { GivesFirst 0 (D.seen doors.new).given (D.left doors.old) (D.left doors.new) }
+    ensures out { (P.counts spawner.new).out ≡ 0 }
+{
+    let passes = said.connections + said.workers + 1;
+    let seats = ServerSeats::<R, H, C, L, T>::new(
+        rt, alloc, machine, host, clock, boot, passes, blank,
+    );
+    let Ok(mut seats) = seats else {
+        return Err(Trouble::NoMemory);
+    };
+    serve(
+        alloc,
+        &mut seats,
+        doors,
+        spawner,
+        said.connections,
+        said.workers,
+    )
+}
+
+/// Opens the rows of the keeper and serves links and workers over them. Where they are not opened,
+/// the keeper is given back.
+#[tactic(auto, using(crate::proofs::Beginning::server_begun, crate::proofs::Beginning::rows_unopened, crate::proofs::Beginning::gives_none,))]
+fn serve_said<R, H, C, L, T, D, P>(
+    rt: T,
+    alloc: Global,
+    said: ServeWords,
+    doors: &mut D,
+    spawner: &mut P,
+    mut keeper: R,
+    host: H,
+    clock: C,
+    boot: u64,
+    blank: Blank,
+) -> (u8, Option<R>)
+where
+    R: Keeper + Drop,
+    H: Host + Drop,
+    C: Clock + Drop,
+    L: Ledger,
+    T: Wait + time::Clock + Copy + Drop,
+    D: Doors,
+    P: Spawner<ServerJob<D::Source, D::Sink, R, H, C, L, T>>,
+    requires few { (said.connections ≤ 1000000) × (said.workers ≤ 8) }
+    requires name { blank.name ≡ L.name }
+    requires parts { (blank.parts ≡ L.parts) × (blank.parts ≡ said.connections + said.workers + 1) }
+    requires doors { (D.seen doors.old).given ≡ 0 }
+    requires idle { P.counts spawner.old ≡ none_begun }
+    requires ready { P.ready spawner.old }
+    ensures serves { (words : List (List ℕ)) → serve_words_of words ≡ Some said →
+        Serves words (R.store keeper) (option_map R.store result.1)
+        (outside (D.seen doors.old) (P.counts spawner.old) (P.failures spawner.old))
+        (outside (D.seen doors.new) (P.counts spawner.new) (P.failures spawner.new)) result.0 }
+    ensures begun { (P.counts spawner.new).links ≡ (D.seen doors.new).given }
+    ensures first { GivesFirst 0 (D.seen doors.new).given (D.left doors.old) (D.left doors.new) }
+    ensures out { (P.counts spawner.new).out ≡ 0 }
+{
+    match Daemon::begin(alloc, &mut keeper) {
+        Ok(daemon) => {
+            let machine = DaemonMachine::new(alloc, daemon, keeper);
+            let served = serve_over::<R, H, C, L, T, D, P>(
+                rt, alloc, said, doors, spawner, machine, host, clock, boot, blank,
+            );
+            (status_of(served), None)
+        }
+        Err(fault) => (StartFault::of(fault).status(), Some(keeper)),
+    }
+}
+
+/// Reads the words, and serves what they ask for.
+#[tactic(auto, using(crate::proofs::Beginning::words_unread, crate::proofs::Beginning::words_refused, crate::proofs::Beginning::gives_none,))]
+fn serve_any<R, H, C, L, T, D, P>(
+    rt: T,
+    alloc: Global,
+    words: &[String],
+    doors: &mut D,
+    spawner: &mut P,
+    keeper: R,
+    host: H,
+    clock: C,
+    boot: u64,
+    blank: Blank,
+) -> (u8, Option<R>)
+where
+    R: Keeper + Drop,
+    H: Host + Drop,
+    C: Clock + Drop,
+    L: Ledger,
+    T: Wait + time::Clock + Copy + Drop,
+    D: Doors,
+    P: Spawner<ServerJob<D::Source, D::Sink, R, H, C, L, T>>,
+    requires name { blank.name ≡ L.name }
+    requires parts { (blank.parts ≡ L.parts)
+        × (blank.parts ≡ (serve_setup_of (map (λ w. string_bytes w) words.now)).passes) }
+    requires doors { (D.seen doors.old).given ≡ 0 }
+    requires idle { P.counts spawner.old ≡ none_begun }
+    requires ready { P.ready spawner.old }
+    ensures serves { Serves (map (λ w. string_bytes w) words.now)
+        (R.store keeper) (option_map R.store result.1)
+        (outside (D.seen doors.old) (P.counts spawner.old) (P.failures spawner.old))
+        (outside (D.seen doors.new) (P.counts spawner.new) (P.failures spawner.new)) result.0 }
+    ensures begun { (P.counts spawner.new).links ≡ (D.seen doors.new).given }
+    ensures first { GivesFirst 0 (D.seen doors.new).given (D.left doors.old) (D.left doors.new) }
+    ensures out { (P.counts spawner.new).out ≡ 0 }
+{
+    match read_serve_words(alloc, words) {
+        Ok(Some(said)) => serve_said::<R, H, C, L, T, D, P>(
+            rt, alloc, said, doors, spawner, keeper, host, clock, boot, blank,
+        ),
+        Ok(None) => (StartFault::Words.status(), Some(keeper)),
+        Err(NoMemory) => (StartFault::NoMemory.status(), Some(keeper)),
+    }
+}
+
+/// All that the program does, by the words of its command line. It starts the workers, serves so
+/// many connections as the words say, or all that there are, each by a job of its own, and takes in
+/// all that it started: the links first, and the workers after the server was closed. The boot word
+/// is that of the ids of operations. It gives the exit status, and the keeper back where no server
+/// was begun.
+pub fn serve_main<R, H, C, L, T, D, P>(
+    rt: T,
+    alloc: Global,
+    words: &[String],
+    doors: &mut D,
+    spawner: &mut P,
+    keeper: R,
+    host: H,
+    clock: C,
+    boot: u64,
+    blank: Blank,
+) -> (u8, Option<R>)
+where
+    R: Keeper + Drop,
+    H: Host + Drop,
+    C: Clock + Drop,
+    L: Ledger,
+    T: Wait + time::Clock + Copy + Drop,
+    D: Doors,
+    P: Spawner<ServerJob<D::Source, D::Sink, R, H, C, L, T>>,
+    // The ledger counts the turns of the server, in a part for each pass that the words ask for.
+    requires name { blank.name ≡ L.name }
+    requires parts { (blank.parts ≡ L.parts)
+        × (blank.parts ≡ (serve_setup_of (map (λ w. string_bytes w) words.now)).passes) }
+    // Nothing was begun yet.
+    requires doors { (D.seen doors.old).given ≡ 0 }
+    requires idle { P.counts spawner.old ≡ none_begun }
+    requires ready { P.ready spawner.old }
+
+    // A server was begun, and ended as the status says; or none was begun.
+    ensures serves { Serves (map (λ w. string_bytes w) words.now)
+        (R.store keeper) (option_map R.store result.1)
+        (outside (D.seen doors.old) (P.counts spawner.old) (P.failures spawner.old))
+        (outside (D.seen doors.new) (P.counts spawner.new) (P.failures spawner.new)) result.0 }
+
+    // Of every end: a job was begun for each link that was given, which were the first of those that
+    // the doors told, and nothing that was started is left.
+    ensures begun { (P.counts spawner.new).links ≡ (D.seen doors.new).given }
+    ensures first { GivesFirst 0 (D.seen doors.new).given (D.left doors.old) (D.left doors.new) }
+    ensures out { (P.counts spawner.new).out ≡ 0 }
+
+    // What each status says.
+    ensures served { result.0 ≡ 0 → ServesAll (map (λ w. string_bytes w) words.now)
+        (outside (D.seen doors.new) (P.counts spawner.new) (P.failures spawner.new)) }
+    ensures keeper_fault { result.0 ≡ 6 → GivesBack (option_map R.store result.1)
+        (λ left. Rose (R.store keeper).failures left.failures) }
+    ensures unopened { result.0 ≡ 7 → GivesBack (option_map R.store result.1)
+        (IsUnopened (R.store keeper)) }
+    ensures words { result.0 ≡ 8 → serve_words_of (map (λ w. string_bytes w) words.now) ≡ None }
+    ensures accept_fault { result.0 ≡ 11 → Rose (D.seen doors.old).failed (D.seen doors.new).failed }
+    ensures start_fault { result.0 ≡ 12 → Rose (P.failures spawner.old) (P.failures spawner.new) }
+
+    // Words that are not read, and entries that open to no rows: no server is begun.
+    ensures not_read { serve_words_of (map (λ w. string_bytes w) words.now) ≡ None
+        → (result.0 ≡ 8) ⊎ (result.0 ≡ 9) }
+    ensures refused { IfSome (R.store keeper).told (λ entries.
+        is_refused (opening_of entries) ≡ true
+        → is_some (serve_words_of (map (λ w. string_bytes w) words.now)) ≡ true
+        → (result.0 ≡ 6) ⊎ ((result.0 ≡ 7) ⊎ (result.0 ≡ 9))) }
+
+    // Words that are read, entries that open to rows, and no fault of keeper, doors and spawner: the
+    // links are served, or memory was refused.
+    ensures complete { IfSome (R.store keeper).told (λ entries. (s : State)
+        → opening_of entries ≡ opened s
+        → is_some (serve_words_of (map (λ w. string_bytes w) words.now)) ≡ true
+        → (result.0 ≡ 0) ⊎ ((result.0 ≡ 6) ⊎ ((result.0 ≡ 9) ⊎ ((result.0 ≡ 11) ⊎ (result.0 ≡ 12))))) }
+{
+    serve_any::<R, H, C, L, T, D, P>(
+        rt, alloc, words, doors, spawner, keeper, host, clock, boot, blank,
+    )
+}
