@@ -1,8 +1,8 @@
 -- A server that is begun, and one that is not.
-use Rattle.std.proofs.Common.{◌≡◌, ◌+◌, ◌++◌, ℕ, true, List, [], length, Option, Some, None, Result, Ok, Err, IfErr, OnOk}
+use Rattle.std.proofs.Common.{◌≡◌, ℕ, true, List, [], Option, Some, None, Result, Ok, Err, IfErr, OnOk}
 use Rattle.std.proofs.Common.{refl, ap, sym, inl, inr}
 use Rattle.std.proofs.lemmas.Iterator.Adapters.{option_map_id}
-use Rattle.std.specs.Option.{is_some, option_map}
+use Rattle.std.specs.Option.{is_some}
 use Rattle.record_keeper.specs.Store.{Store}
 use Rattle.row_machine.specs.machine.State.{State}
 use Rattle.row_machine.specs.opening.Opening.{damaged, broken}

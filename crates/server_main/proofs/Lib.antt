@@ -1,3 +1,2 @@
 mod Beginning
 mod Tops
-mod Words

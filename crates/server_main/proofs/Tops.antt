@@ -1,5 +1,5 @@
 -- The clauses of the top call, from what a server comes to.
-use Rattle.std.proofs.Common.{◌≡◌, ◌≢◌, ◌<◌, ◌⊎◌, ℕ, List, Bool, true, false, Option, Some, None, IfSome}
+use Rattle.std.proofs.Common.{◌≡◌, ◌<◌, ◌⊎◌, ℕ, List, true, false, Option, Some, None, IfSome}
 use Rattle.std.proofs.Common.{Result, Ok, Err, refl, ap, sym, ◌∙◌, subst, arith, inl, inr}
 use Rattle.std.proofs.lemmas.Bool.{false≢true}
 use Rattle.std.specs.Option.{is_some}
@@ -8,17 +8,16 @@ use Rattle.size_values.specs.declared.entry.Entry.{Entry}
 use Rattle.record_keeper.specs.Store.{Store}
 use Rattle.row_machine.specs.machine.State.{State}
 use Rattle.row_machine.specs.opening.Opening.{Opening, opened, opening_of}
-use Rattle.core_rows.specs.Opening.{OpensTo, OpensToNone, Refuses, is_refused}
+use Rattle.core_rows.specs.Opening.{OpensToNone, Refuses, is_refused}
 use Rattle.core_rows.specs.declared.opening.OpenFault.TheVariants as fault
 use Rattle.serving.specs.Troubles.{status_of}
 use Rattle.serving.specs.declared.trouble.Trouble.{Trouble}
 use Rattle.serving.specs.declared.trouble.Trouble.TheVariants as trouble
 use Rattle.serve_words.specs.Words.{serve_words_of}
-use Rattle.serve_words.specs.declared.words.ServeWords.{ServeWords}
 use Rattle.start_faults.specs.Starts.{IsUnopened, start_status}
 use Rattle.start_faults.specs.declared.fault.StartFault.{StartFault}
 use Rattle.start_faults.specs.declared.fault.StartFault.TheVariants as start
-use Rattle.server_main.specs.Servers.{Begun, EndsBy, GivesBack, HasCauseToRefuse, NotBegun, Outside, Serves, ServesAll}
+use Rattle.server_main.specs.Servers.{EndsBy, GivesBack, HasCauseToRefuse, Outside, Serves, ServesAll}
 
 -- ---- statuses that are not these
 
@@ -187,8 +186,8 @@ module _ (words : List (List ℕ)) (keeper : Store) (back : Option Store) (befor
     by (Err trouble.Start) is = inr (inr (inr (inr is)))
   complete_entries (inr not) entries told s opens read = by not.why not.cause not.status_is where
     never : (opening : Opening) → is_refused opening ≡ true → OpensToNone opening keeper not.left → ⊥
-    never opening refused none = false≢true (sym (ap is_refused (sym opens
-        ∙ (ap opening_of (subst (λ o. IfSome o (λ es. es ≡ none.entries)) told none.told) ∙ none.opens))) ∙ refused)
+    never opening refused none = false≢true (ap is_refused (sym opens
+        ∙ (ap opening_of (subst (λ o. IfSome o (λ es. es ≡ none.entries)) told none.told) ∙ none.opens)) ∙ refused)
 
     by : (why : StartFault) → HasCauseToRefuse why words keeper not.left → status ≡ start_status why
         → (status ≡ 0) ⊎ ((status ≡ 6) ⊎ ((status ≡ 9) ⊎ ((status ≡ 11) ⊎ (status ≡ 12))))

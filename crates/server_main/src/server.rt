@@ -1,4 +1,4 @@
-ghost use Rattle.std.specs.Prelude.{◌≡◌, ◌+◌, ◌⊎◌, ◌≤◌, List, map, option_map, Some, None, IfSome};
+ghost use Rattle.std.specs.Prelude.{◌≡◌, ℕ, ◌+◌, ◌⊎◌, ◌≤◌, List, map, option_map, Some, None, IfSome};
 ghost use Rattle.std.specs.Prelude.{is_some, string_bytes, true};
 ghost use Rattle.size_values.specs.Causes.{Rose};
 ghost use Rattle.row_machine.specs.machine.State.{State};
@@ -129,7 +129,7 @@ where
 }
 
 /// Reads the words, and serves what they ask for.
-#[tactic(auto, using(crate::proofs::Words::passes_said, crate::proofs::Beginning::words_unread, crate::proofs::Beginning::words_refused, crate::proofs::Beginning::gives_none,))]
+#[tactic(auto, using(crate::proofs::Beginning::words_unread, crate::proofs::Beginning::words_refused, crate::proofs::Beginning::gives_none,))]
 fn serve_any<R, H, C, L, T, D, P>(
     rt: T,
     alloc: Global,

@@ -1,4 +1,3 @@
-use Rattle.std.proofs.Common.{refl}
 use Rattle.server_main.proofs.Tops.{top_accept_fault, top_complete, top_keeper_fault, top_not_read, top_refused}
 use Rattle.server_main.proofs.Tops.{top_served, top_start_fault, top_unopened, top_words}
 use Rattle.server_main.proofs.server.serve_main.Goals as goal
