@@ -3,7 +3,9 @@
 #![tactic(auto)]
 
 mod keeper;
+mod order;
 mod rows_file;
+mod trouble;
 
 pub use keeper::SqliteKeeper;
-pub use sqlite_tables::Trouble;
+pub use trouble::Trouble;
