@@ -1,7 +1,7 @@
 #!/usr/bin/env python3
 """Kills incus_run over a file of rows at random moments, and compares what it then opens with what it had answered.
 
-    tests/kept_rows.py [--program FILE] [--kills N] [--rows N] [--seed N] [--run-alone] [--figures]
+    tests/kept_rows.py [--program FILE] [--kills N] [--rows N] [--seed N] [--run-alone]
 
 The program is crates/incus_run/out/incus_run without `--program` (`bin/incus_run --prove` makes it).
 
@@ -9,7 +9,6 @@ The program is crates/incus_run/out/incus_run without `--program` (`bin/incus_ru
    is killed by SIGKILL at a random moment. It is then opened again: every change that was answered has to be there, the one that was
    under way is there whole or not at all, and nothing else has changed. The stock SQLite finds the file sound.
 2. `drill 7 N` (10,000) over a new file, and then `check`, which has to print the same counts.
-3. With `--figures`: the time of the opening of 65,536 rows, creations a second over a file and in memory, and bytes of the file a row.
 
 With `--run-alone` the commands `drill` and `check` are not used. It ends with status 1 where something is otherwise.
 """
@@ -237,37 +236,6 @@ def try_drill(program, folder, arguments):
     print(f"drill of {arguments.rows} in {took:.1f} s, and check prints the same: {', '.join(counts)}")
 
 
-def stream(*words):
-    return subprocess.run([sys.executable, TOP / "bench/stream.py", *map(str, words)], capture_output=True, check=True).stdout
-
-
-def timed(program, words, text):
-    began = time.monotonic()
-    ran = subprocess.run([program, "run", *WORDS, *words], input=text, capture_output=True, check=False)
-    took = time.monotonic() - began
-    if ran.returncode != 0:
-        sys.exit(f"{words}: status {ran.returncode}: {ran.stderr.decode()}")
-    return took, ran.stdout
-
-
-def size_of(file):
-    return sum(name.stat().st_size for name in (file, Path(f"{file}-wal")) if name.exists())
-
-
-def show_figures(program, folder):
-    file = Path(folder, "many.db")
-    text = stream("pools", 1, 1) + stream("volumes", stream("name", "s", 1).decode().strip(), 1, 65_536)
-    took, said = timed(program, ["--db", str(file)], text)
-    made = said.count(b'"status_code":200')
-    print(f"{made} rows made in {took:.1f} s over a file: {made / took:.0f} a second, {size_of(file) / made:.0f} bytes a row")
-    took, _ = timed(program, ["--db", str(file)], b"")
-    print(f"opening of {made} rows: {took:.2f} s")
-    text = stream("tenant", "lab") + stream("made", "lab", 1, 1000, 1)
-    for place, words in (("in memory", []), ("over a file", ["--db", str(Path(folder, "made.db"))])):
-        took, said = timed(program, words, text)
-        print(f"1000 instances {place}: {1000 / took:.0f} creations a second")
-
-
 def main():
     parser = argparse.ArgumentParser()
     parser.add_argument("--program", default=TOP / "crates/incus_run/out/incus_run")
@@ -275,7 +243,6 @@ def main():
     parser.add_argument("--rows", type=int, default=10_000)
     parser.add_argument("--seed", type=int, default=7)
     parser.add_argument("--run-alone", action="store_true")
-    parser.add_argument("--figures", action="store_true")
     arguments = parser.parse_args()
     program = Path(arguments.program).resolve()
     if not program.exists():
@@ -284,8 +251,6 @@ def main():
         try_kills(program, folder, arguments)
         if not arguments.run_alone:
             try_drill(program, folder, arguments)
-        if arguments.figures:
-            show_figures(program, folder)
 
 
 main()

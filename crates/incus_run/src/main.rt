@@ -2,38 +2,20 @@
 //! memory or in a file, by the clock of the system; or writes, drills or checks (`run_words::usage`).
 #![tactic(auto)]
 
-mod telling;
-
-use crate::telling::{tell_fault, tell_trouble, tell_usage};
+use file_telling::tell_trouble;
 use host_model::ModelHost;
 use http_front::{Clock, ReaderSource, SystemClock, WriterSink};
 use record_keeper::{Keeper, MapKeeper};
-use run_words::{Setup, setup_of};
+use run_words::{Setup, setup_of, usage};
 use serial_run::run_main;
 use size_values::Seq;
 use sqlite_keeper::SqliteKeeper;
 use start_faults::StartFault;
-use std::io::ErrorKind;
+use start_telling::{fault_of, tell, tell_fault, words_of};
 use std::process::ExitCode;
-use std::{env, io};
 
-/// Why the words could not be taken: one is no UTF-8, which is not read, or there was no memory for
-/// them.
-fn fault_of(error: &io::Error) -> StartFault {
-    match error.kind() {
-        ErrorKind::InvalidData => StartFault::Words,
-        _ => StartFault::NoMemory,
-    }
-}
-
-/// The words after the program's own name.
-fn words_of(rt: &HostRuntime) -> io::Result<Vec<String>> {
-    let mut words = Vec::new(rt.alloc());
-    for word in env::args(rt)?.skip(1) {
-        words.push(word)?;
-    }
-    Ok(words)
-}
+/// The name of the program.
+const PROGRAM: &str = "incus_run";
 
 /// All that the program does, over a keeper.
 fn run_over<R: Keeper>(
@@ -72,10 +54,10 @@ fn run_over_file(rt: HostRuntime, words: &[String], setup: Setup) -> u8 {
     let keeper = SqliteKeeper::at(rt, setup.db);
     let (status, mut keeper) = run_over(rt, words, setup.fail_host, keeper);
     if status == StartFault::KeeperFailed.status() {
-        tell_trouble(rt, &keeper);
+        tell_trouble(rt, PROGRAM, &keeper);
     }
     if status == StartFault::Unopened.status() {
-        tell_fault(rt, &mut keeper);
+        tell_fault(rt, PROGRAM, &mut keeper);
     }
     drop(keeper);
     status
@@ -99,7 +81,7 @@ fn main(rt: HostRuntime) -> ExitCode {
         Err(error) => fault_of(&error).status(),
     };
     if status == StartFault::Words.status() {
-        tell_usage(rt);
+        tell(rt, usage());
     }
     ExitCode::from(status)
 }

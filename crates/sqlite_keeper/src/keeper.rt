@@ -4,12 +4,12 @@ ghost use Rattle.size_values.specs.CallCounts.{CountsFailure, called};
 ghost use Rattle.size_values.specs.Calls.{has_failed};
 ghost use Rattle.record_keeper.specs.Entries.{IsOrderedEntries};
 ghost use Rattle.sqlite_keeper.specs.Kept.{SaysWhy, after_refusal};
-ghost use Rattle.sqlite_keeper.specs.declared.trouble.Trouble.TheVariants.{NotLoaded};
+ghost use Rattle.sqlite_tables.specs.declared.trouble.Trouble.TheVariants.{NotLoaded};
 
 use crate::rows_file::RowsFile;
-use crate::trouble::Trouble;
 use record_keeper::{Keeper, KeeperFailed};
 use size_values::{Entry, EntryChange, Or, Seq, Text};
+use sqlite_tables::Trouble;
 use std::marker::Model;
 
 /// A keeper whose entries are the rows of the table `records` of an SQLite file. It tells no entries.

@@ -3,9 +3,7 @@
 #![tactic(auto)]
 
 mod keeper;
-mod order;
 mod rows_file;
-mod trouble;
 
 pub use keeper::SqliteKeeper;
-pub use trouble::Trouble;
+pub use sqlite_tables::Trouble;

@@ -1,7 +1,8 @@
-ghost use Rattle.std.specs.Prelude.{◌≡◌, ◌↔◌};
+ghost use Rattle.std.specs.Prelude.{◌≡◌, ◌↔◌, true};
 ghost use Rattle.size_values.specs.declared.memory.Or.TheVariants.{NoMemory as no_memory};
+ghost use Rattle.sqlite_tables.specs.Troubles.{is_failure, is_refusal};
 
-use crate::rows_file::VERSION;
+use crate::content::VERSION;
 use size_values::Or;
 use sqlite::{Error, ErrorCode};
 use std::fmt;
@@ -24,29 +25,40 @@ pub enum Trouble {
     Failed,
 }
 
-impl fmt::Display for Trouble {
-    fn fmt<W: fmt::Write>(&self, f: &mut fmt::Formatter<W>) -> fmt::Result {
-        f.write_str(match self {
+impl Trouble {
+    /// What a person is told, but for the number of a newer version.
+    fn sentence(&self) -> &'static str {
+        match self {
             Trouble::CannotOpen => "the file cannot be opened for reading and writing, or made",
             Trouble::InUse => "another program has the file open",
             Trouble::NotADatabase => "the file is not a whole SQLite database",
             Trouble::OtherTables => "the file is a database of another program",
-            Trouble::NewerVersion(version) => return write!(
-                f,
-                "the file was made by a newer version of this program (format {version}, \
-                this one reads {VERSION})"
-            ),
+            Trouble::NewerVersion(_) => "the file was made by a newer version of this program",
             Trouble::NotAnEntry => "a row of the table records is not one that this program writes",
             Trouble::NotLoaded => "rows were to be written before they were read",
             Trouble::DiskFull => "the disk is full",
             Trouble::Failed => "the file could not be read or written",
-        })
+        }
+    }
+}
+
+impl fmt::Display for Trouble {
+    fn fmt<W: fmt::Write>(&self, f: &mut fmt::Formatter<W>) -> fmt::Result {
+        f.write_str(self.sentence())?;
+        match self {
+            Trouble::NewerVersion(version) => {
+                write!(f, " (format {version}, this one reads {VERSION})")
+            }
+            _ => Ok(()),
+        }
     }
 }
 
 /// What an error of the database is: out of memory, or the trouble.
-pub(crate) fn trouble_of(error: Error) -> Or<Trouble>
-    ensures { (result ≡ no_memory) ↔ (error ≡ Error.SqliteFailure ErrorCode.OutOfMemory) }
+pub fn trouble_of(error: Error) -> Or<Trouble>
+    ensures memory { (result ≡ no_memory) ↔ (error ≡ Error.SqliteFailure ErrorCode.OutOfMemory) }
+    ensures refusal { is_refusal result ≡ true }
+    ensures failure { is_failure result ≡ true }
 {
     match error {
         Error::SqliteFailure(ErrorCode::OutOfMemory) => Or::NoMemory,

@@ -1,7 +1,7 @@
 use Rattle.std.proofs.Common.{rules, of_calls}
 use Rattle.std.proofs.lemmas.Fn.{always_returns_same}
-use Rattle.sqlite_keeper.proofs.Rising.{judged, stands_before}
-use Rattle.sqlite_keeper.proofs.order.are_ordered.Goals as goal
+use Rattle.sqlite_rows.proofs.Rising.{judged, stands_before}
+use Rattle.sqlite_rows.proofs.order.are_ordered.Goals as goal
 
 pub returns : goal.returns
 returns c =

@@ -1,0 +1,210 @@
+//! Links and a worker over a gate of one's own.
+ghost use Rattle.std.specs.Prelude.{◌≤◌};
+
+use core_turns::Daemon;
+use gate_trails::Gate;
+use gates::AloneGate;
+use host_model::ModelHost;
+use http_front::{ByteSink, ByteSource, HeadFault, StillClock};
+use record_keeper::MapKeeper;
+use row_machine::{Answer, Event};
+use serve_loop::{LinkEnd, serve_link, work};
+use size_values::{NoMemory, Seq};
+use std::alloc::Global;
+use std::sync::Wait;
+
+const TWICE: &str =
+    "POST /1.0/projects HTTP/1.1\r\nHost: localhost\r\nContent-Length: 14\r\n\r\n{\"name\":\"lab\"}POST /1.0/projects HTTP/1.1\r\nHost: localhost\r\nContent-Length: 14\r\n\r\n{\"name\":\"lab\"}";
+
+const TWICE_REPLIES: &str =
+    "HTTP/1.1 200 OK\r\nContent-Type: application/json\r\nContent-Length: 66\r\n\r\n{\"metadata\":{},\"status\":\"Success\",\"status_code\":200,\"type\":\"sync\"}HTTP/1.1 409 Conflict\r\nContent-Type: application/json\r\nContent-Length: 112\r\n\r\n{\"error\":\"name is taken\",\"error_code\":409,\"metadata\":{\"kind\":\"project\",\"name\":\"lab\",\"rule\":\"N4\"},\"type\":\"error\"}";
+
+const WAITED: &str =
+    "POST /1.0/storage-pools HTTP/1.1\r\nHost: localhost\r\nContent-Length: 28\r\n\r\n{\"driver\":\"dir\",\"name\":\"p0\"}PUT /1.0/profiles/default HTTP/1.1\r\nHost: localhost\r\nContent-Length: 73\r\n\r\n{\"devices\":{\"root\":{\"path\":\"/\",\"pool\":\"p0\",\"size\":\"1GiB\",\"type\":\"disk\"}}}POST /1.0/instances HTTP/1.1\r\nHost: localhost\r\nContent-Length: 37\r\n\r\n{\"name\":\"a\",\"source\":{\"type\":\"none\"}}GET /1.0/operations/00000000-0001-8000-8000-000000000001/wait HTTP/1.1\r\nHost: localhost\r\n\r\n";
+
+const WAITED_REPLIES: &str =
+    "HTTP/1.1 200 OK\r\nContent-Type: application/json\r\nContent-Length: 66\r\n\r\n{\"metadata\":{},\"status\":\"Success\",\"status_code\":200,\"type\":\"sync\"}HTTP/1.1 200 OK\r\nContent-Type: application/json\r\nContent-Length: 66\r\n\r\n{\"metadata\":{},\"status\":\"Success\",\"status_code\":200,\"type\":\"sync\"}HTTP/1.1 202 Accepted\r\nContent-Type: application/json\r\nContent-Length: 401\r\nLocation: /1.0/operations/00000000-0001-8000-8000-000000000001\r\n\r\n{\"metadata\":{\"class\":\"task\",\"created_at\":\"1970-01-01T00:00:00Z\",\"err\":\"\",\"id\":\"00000000-0001-8000-8000-000000000001\",\"may_cancel\":true,\"metadata\":null,\"resources\":{\"instances\":[\"/1.0/instances/a\"]},\"status\":\"Pending\",\"status_code\":105,\"updated_at\":\"1970-01-01T00:00:00Z\"},\"operation\":\"/1.0/operations/00000000-0001-8000-8000-000000000001\",\"status\":\"Operation created\",\"status_code\":100,\"type\":\"async\"}HTTP/1.1 200 OK\r\nContent-Type: application/json\r\nContent-Length: 324\r\n\r\n{\"metadata\":{\"class\":\"task\",\"created_at\":\"1970-01-01T00:00:00Z\",\"err\":\"\",\"id\":\"00000000-0001-8000-8000-000000000001\",\"may_cancel\":false,\"metadata\":null,\"resources\":{\"instances\":[\"/1.0/instances/a\"]},\"status\":\"Success\",\"status_code\":200,\"updated_at\":\"1970-01-01T00:00:00Z\"},\"status\":\"Success\",\"status_code\":200,\"type\":\"sync\"}";
+
+const WAITED_TEN: &str =
+    "POST /1.0/storage-pools HTTP/1.1\r\nHost: localhost\r\nContent-Length: 28\r\n\r\n{\"driver\":\"dir\",\"name\":\"p0\"}PUT /1.0/profiles/default HTTP/1.1\r\nHost: localhost\r\nContent-Length: 73\r\n\r\n{\"devices\":{\"root\":{\"path\":\"/\",\"pool\":\"p0\",\"size\":\"1GiB\",\"type\":\"disk\"}}}POST /1.0/instances HTTP/1.1\r\nHost: localhost\r\nContent-Length: 37\r\n\r\n{\"name\":\"a\",\"source\":{\"type\":\"none\"}}GET /1.0/operations/00000000-0001-8000-8000-000000000001/wait?timeout=10 HTTP/1.1\r\nHost: localhost\r\n\r\n";
+
+const WAITED_TEN_REPLIES: &str =
+    "HTTP/1.1 200 OK\r\nContent-Type: application/json\r\nContent-Length: 66\r\n\r\n{\"metadata\":{},\"status\":\"Success\",\"status_code\":200,\"type\":\"sync\"}HTTP/1.1 200 OK\r\nContent-Type: application/json\r\nContent-Length: 66\r\n\r\n{\"metadata\":{},\"status\":\"Success\",\"status_code\":200,\"type\":\"sync\"}HTTP/1.1 202 Accepted\r\nContent-Type: application/json\r\nContent-Length: 401\r\nLocation: /1.0/operations/00000000-0001-8000-8000-000000000001\r\n\r\n{\"metadata\":{\"class\":\"task\",\"created_at\":\"1970-01-01T00:00:00Z\",\"err\":\"\",\"id\":\"00000000-0001-8000-8000-000000000001\",\"may_cancel\":true,\"metadata\":null,\"resources\":{\"instances\":[\"/1.0/instances/a\"]},\"status\":\"Pending\",\"status_code\":105,\"updated_at\":\"1970-01-01T00:00:00Z\"},\"operation\":\"/1.0/operations/00000000-0001-8000-8000-000000000001\",\"status\":\"Operation created\",\"status_code\":100,\"type\":\"async\"}HTTP/1.1 200 OK\r\nContent-Type: application/json\r\nContent-Length: 324\r\n\r\n{\"metadata\":{\"class\":\"task\",\"created_at\":\"1970-01-01T00:00:00Z\",\"err\":\"\",\"id\":\"00000000-0001-8000-8000-000000000001\",\"may_cancel\":false,\"metadata\":null,\"resources\":{\"instances\":[\"/1.0/instances/a\"]},\"status\":\"Success\",\"status_code\":200,\"updated_at\":\"1970-01-01T00:00:00Z\"},\"status\":\"Success\",\"status_code\":200,\"type\":\"sync\"}";
+
+const CANCELLED: &str =
+    "POST /1.0/storage-pools HTTP/1.1\r\nHost: localhost\r\nContent-Length: 28\r\n\r\n{\"driver\":\"dir\",\"name\":\"p0\"}PUT /1.0/profiles/default HTTP/1.1\r\nHost: localhost\r\nContent-Length: 73\r\n\r\n{\"devices\":{\"root\":{\"path\":\"/\",\"pool\":\"p0\",\"size\":\"1GiB\",\"type\":\"disk\"}}}POST /1.0/instances HTTP/1.1\r\nHost: localhost\r\nContent-Length: 37\r\n\r\n{\"name\":\"a\",\"source\":{\"type\":\"none\"}}DELETE /1.0/operations/00000000-0001-8000-8000-000000000001 HTTP/1.1\r\nHost: localhost\r\n\r\nGET /1.0/operations/00000000-0001-8000-8000-000000000001/wait HTTP/1.1\r\nHost: localhost\r\n\r\n";
+
+const CANCELLED_REPLIES: &str =
+    "HTTP/1.1 200 OK\r\nContent-Type: application/json\r\nContent-Length: 66\r\n\r\n{\"metadata\":{},\"status\":\"Success\",\"status_code\":200,\"type\":\"sync\"}HTTP/1.1 200 OK\r\nContent-Type: application/json\r\nContent-Length: 66\r\n\r\n{\"metadata\":{},\"status\":\"Success\",\"status_code\":200,\"type\":\"sync\"}HTTP/1.1 202 Accepted\r\nContent-Type: application/json\r\nContent-Length: 401\r\nLocation: /1.0/operations/00000000-0001-8000-8000-000000000001\r\n\r\n{\"metadata\":{\"class\":\"task\",\"created_at\":\"1970-01-01T00:00:00Z\",\"err\":\"\",\"id\":\"00000000-0001-8000-8000-000000000001\",\"may_cancel\":true,\"metadata\":null,\"resources\":{\"instances\":[\"/1.0/instances/a\"]},\"status\":\"Pending\",\"status_code\":105,\"updated_at\":\"1970-01-01T00:00:00Z\"},\"operation\":\"/1.0/operations/00000000-0001-8000-8000-000000000001\",\"status\":\"Operation created\",\"status_code\":100,\"type\":\"async\"}HTTP/1.1 200 OK\r\nContent-Type: application/json\r\nContent-Length: 66\r\n\r\n{\"metadata\":{},\"status\":\"Success\",\"status_code\":200,\"type\":\"sync\"}HTTP/1.1 200 OK\r\nContent-Type: application/json\r\nContent-Length: 326\r\n\r\n{\"metadata\":{\"class\":\"task\",\"created_at\":\"1970-01-01T00:00:00Z\",\"err\":\"\",\"id\":\"00000000-0001-8000-8000-000000000001\",\"may_cancel\":false,\"metadata\":null,\"resources\":{\"instances\":[\"/1.0/instances/a\"]},\"status\":\"Cancelled\",\"status_code\":401,\"updated_at\":\"1970-01-01T00:00:00Z\"},\"status\":\"Success\",\"status_code\":200,\"type\":\"sync\"}";
+
+const MALFORMED: &str = "GARBAGE\r\n\r\n";
+
+const MALFORMED_REPLIES: &str =
+    "HTTP/1.1 400 Bad Request\r\nContent-Type: application/json\r\nContent-Length: 86\r\nConnection: close\r\n\r\n{\"error\":\"head is malformed\",\"error_code\":400,\"metadata\":{\"rule\":\"H1\"},\"type\":\"error\"}";
+
+const CUT: &str =
+    "POST /1.0/projects HTTP/1.1\r\nHost: localhost\r\nContent-Length: 14\r\n\r\n{\"name\":\"lab\"}POST /1.0/pro";
+
+const CUT_REPLIES: &str =
+    "HTTP/1.1 200 OK\r\nContent-Type: application/json\r\nContent-Length: 66\r\n\r\n{\"metadata\":{},\"status\":\"Success\",\"status_code\":200,\"type\":\"sync\"}";
+
+const LAST: &str =
+    "POST /1.0/projects HTTP/1.1\r\nHost: localhost\r\nConnection: close\r\nContent-Length: 14\r\n\r\n{\"name\":\"lab\"}POST /1.0/projects HTTP/1.1\r\nHost: localhost\r\nContent-Length: 14\r\n\r\n{\"name\":\"lab\"}";
+
+const LAST_REPLIES: &str =
+    "HTTP/1.1 200 OK\r\nContent-Type: application/json\r\nContent-Length: 66\r\nConnection: close\r\n\r\n{\"metadata\":{},\"status\":\"Success\",\"status_code\":200,\"type\":\"sync\"}";
+
+const BEGUN: &str =
+    "POST /1.0/storage-pools HTTP/1.1\r\nHost: localhost\r\nContent-Length: 28\r\n\r\n{\"driver\":\"dir\",\"name\":\"p0\"}PUT /1.0/profiles/default HTTP/1.1\r\nHost: localhost\r\nContent-Length: 73\r\n\r\n{\"devices\":{\"root\":{\"path\":\"/\",\"pool\":\"p0\",\"size\":\"1GiB\",\"type\":\"disk\"}}}POST /1.0/instances HTTP/1.1\r\nHost: localhost\r\nContent-Length: 37\r\n\r\n{\"name\":\"a\",\"source\":{\"type\":\"none\"}}";
+
+const BEGUN_REPLIES: &str =
+    "HTTP/1.1 200 OK\r\nContent-Type: application/json\r\nContent-Length: 66\r\n\r\n{\"metadata\":{},\"status\":\"Success\",\"status_code\":200,\"type\":\"sync\"}HTTP/1.1 200 OK\r\nContent-Type: application/json\r\nContent-Length: 66\r\n\r\n{\"metadata\":{},\"status\":\"Success\",\"status_code\":200,\"type\":\"sync\"}HTTP/1.1 202 Accepted\r\nContent-Type: application/json\r\nContent-Length: 401\r\nLocation: /1.0/operations/00000000-0001-8000-8000-000000000001\r\n\r\n{\"metadata\":{\"class\":\"task\",\"created_at\":\"1970-01-01T00:00:00Z\",\"err\":\"\",\"id\":\"00000000-0001-8000-8000-000000000001\",\"may_cancel\":true,\"metadata\":null,\"resources\":{\"instances\":[\"/1.0/instances/a\"]},\"status\":\"Pending\",\"status_code\":105,\"updated_at\":\"1970-01-01T00:00:00Z\"},\"operation\":\"/1.0/operations/00000000-0001-8000-8000-000000000001\",\"status\":\"Operation created\",\"status_code\":100,\"type\":\"async\"}";
+
+const SHOWN: &str =
+    "GET /1.0/operations/00000000-0001-8000-8000-000000000001 HTTP/1.1\r\nHost: localhost\r\n\r\n";
+
+const SHOWN_REPLIES: &str =
+    "HTTP/1.1 200 OK\r\nContent-Type: application/json\r\nContent-Length: 324\r\n\r\n{\"metadata\":{\"class\":\"task\",\"created_at\":\"1970-01-01T00:00:00Z\",\"err\":\"\",\"id\":\"00000000-0001-8000-8000-000000000001\",\"may_cancel\":false,\"metadata\":null,\"resources\":{\"instances\":[\"/1.0/instances/a\"]},\"status\":\"Success\",\"status_code\":200,\"updated_at\":\"1970-01-01T00:00:00Z\"},\"status\":\"Success\",\"status_code\":200,\"type\":\"sync\"}";
+
+type OwnGate = AloneGate<MapKeeper, ModelHost, StillClock>;
+
+/// A gate over a new server, whose clock stands still.
+fn new_gate(alloc: Global) -> Option<OwnGate> {
+    let mut keeper = MapKeeper::new(alloc, Seq::new(alloc));
+    let daemon = match Daemon::begin(alloc, &mut keeper) {
+        Ok(daemon) => daemon,
+        Err(_) => return None,
+    };
+    let host = ModelHost::new(alloc, Seq::new(alloc));
+    Some(AloneGate::new(alloc, daemon, keeper, host, StillClock::new(0)))
+}
+
+/// Whether a link of these bytes, at most `piece` at each read, ends so and has these replies.
+fn serves<T: Wait>(
+    rt: &T,
+    alloc: Global,
+    gate: &mut OwnGate,
+    bytes: Seq<u8>,
+    piece: usize,
+    ends: LinkEnd,
+    replies: &str,
+) -> bool
+    requires { 1 ≤ piece }
+{
+    let mut source = ByteSource::new(bytes, piece, Seq::new(alloc));
+    let mut sink = ByteSink::new(alloc, Seq::new(alloc));
+    let mut clock = StillClock::new(0);
+    let ended = serve_link(rt, alloc, gate, &mut source, &mut sink, &mut clock, 1);
+    drop(source);
+    let is_so = ended == ends && sink.bytes() == replies.as_bytes();
+    drop(sink);
+    is_so
+}
+
+/// Whether a link over a new server ends so and has these replies.
+fn is_served<T: Wait>(
+    rt: &T,
+    alloc: Global,
+    text: &str,
+    piece: usize,
+    ends: LinkEnd,
+    replies: &str,
+) -> Result<bool, NoMemory>
+    requires { 1 ≤ piece }
+{
+    let bytes = Seq::of_bytes(alloc, text.as_bytes())?;
+    match new_gate(alloc) {
+        Some(mut gate) => {
+            let is_so = serves(rt, alloc, &mut gate, bytes, piece, ends, replies);
+            drop(gate);
+            Ok(is_so)
+        }
+        None => {
+            drop(bytes);
+            Ok(false)
+        }
+    }
+}
+
+/// The bytes of a link, how it ends, and its replies.
+const LINKS: &[(&str, LinkEnd, &str)] = &[
+    (TWICE, LinkEnd::Ended, TWICE_REPLIES),
+    (WAITED, LinkEnd::Ended, WAITED_REPLIES),
+    (WAITED_TEN, LinkEnd::Ended, WAITED_TEN_REPLIES),
+    (CANCELLED, LinkEnd::Ended, CANCELLED_REPLIES),
+    (
+        MALFORMED,
+        LinkEnd::Malformed(HeadFault::H1),
+        MALFORMED_REPLIES,
+    ),
+    (CUT, LinkEnd::Cut, CUT_REPLIES),
+    (LAST, LinkEnd::Ended, LAST_REPLIES),
+    ("", LinkEnd::Ended, ""),
+];
+
+#[test]
+fn links_are_served(rt: HostRuntime) {
+    for (text, ends, replies) in LINKS {
+        assert!(rt;
+            is_served(&rt, rt.alloc(), text, 7, *ends, replies) == Ok(true),
+            "{text}"
+        );
+        assert!(rt;
+            is_served(&rt, rt.alloc(), text, 4096, *ends, replies) == Ok(true),
+            "{text}"
+        );
+    }
+}
+
+/// Closes the server of a gate.
+fn close(gate: &mut OwnGate) -> bool {
+    match gate.turn(Event::Close) {
+        Answer::Closed => true,
+        _ => false,
+    }
+}
+
+/// Whether a worker makes the creation that a link began, on a host of its own, before it returns at the close.
+fn is_worked<T: Wait>(rt: &T, alloc: Global) -> Result<bool, NoMemory> {
+    let begun = Seq::of_bytes(alloc, BEGUN.as_bytes())?;
+    let shown = Seq::of_bytes(alloc, SHOWN.as_bytes())?;
+    match new_gate(alloc) {
+        Some(mut gate) => {
+            let first = serves(
+                rt,
+                alloc,
+                &mut gate,
+                begun,
+                100,
+                LinkEnd::Ended,
+                BEGUN_REPLIES,
+            );
+            let closed = close(&mut gate);
+            let mut host = ModelHost::new(alloc, Seq::new(alloc));
+            work(rt, &mut gate, &mut host, &mut StillClock::new(0));
+            let made = host.roots().len() == 1;
+            drop(host);
+            let last = serves(
+                rt,
+                alloc,
+                &mut gate,
+                shown,
+                100,
+                LinkEnd::Ended,
+                SHOWN_REPLIES,
+            );
+            drop(gate);
+            Ok(first && closed && made && last)
+        }
+        None => {
+            drop(begun);
+            drop(shown);
+            Ok(false)
+        }
+    }
+}
+
+#[test]
+fn a_worker_makes_what_was_begun(rt: HostRuntime) {
+    assert!(rt; is_worked(&rt, rt.alloc()) == Ok(true));
+}

@@ -1,0 +1,140 @@
+//! Two links that meet in an operation whose call of the host is held.
+ghost use Rattle.std.specs.Prelude.{◌≡◌, None};
+
+use crate::links::{INSTANCES, POOL, count_in_replies, is_answered, new_machine, replies_to};
+use gate_trails::Gate;
+use gates::{DaemonMachine, LockedGate};
+use host_model::{Host, HostCall, HostFailed, ModelHost};
+use http_front::StillClock;
+use record_keeper::MapKeeper;
+use row_machine::Event;
+use serve_loop::work;
+use size_values::{Or, Seq};
+use std::alloc::Global;
+use std::marker::Brand;
+use std::sync::atomic::{AtomicU64, Ordering};
+use std::sync::ledger::{Blank, Ledger};
+use std::sync::{Arc, Wait};
+use std::thread;
+use std::thread::{Threads, join};
+use std::time::{Clock, Duration};
+use turnstile::Turnstile;
+
+/// How often a link looks at the operation, and how many hundredths of a second a call is held, at the most.
+const LOOKS: u32 = 1000;
+
+/// A creation, and a wait for it.
+const CREATED: &str =
+    "POST /1.0/instances HTTP/1.1\r\nHost: localhost\r\nContent-Length: 37\r\n\r\n{\"name\":\"a\",\"source\":{\"type\":\"none\"}}GET /1.0/operations/00000000-0001-8000-8000-000000000001/wait HTTP/1.1\r\nHost: localhost\r\n\r\n";
+
+const SHOWN: &str =
+    "GET /1.0/operations/00000000-0001-8000-8000-000000000001 HTTP/1.1\r\nHost: localhost\r\n\r\n";
+
+const CANCELLED: &str =
+    "DELETE /1.0/operations/00000000-0001-8000-8000-000000000001 HTTP/1.1\r\nHost: localhost\r\n\r\n";
+
+const CANCELLED_REPLIES: &str =
+    "HTTP/1.1 200 OK\r\nContent-Type: application/json\r\nContent-Length: 66\r\n\r\n{\"metadata\":{},\"status\":\"Success\",\"status_code\":200,\"type\":\"sync\"}";
+
+const NO_INSTANCES: &str =
+    "HTTP/1.1 200 OK\r\nContent-Type: application/json\r\nContent-Length: 66\r\n\r\n{\"metadata\":[],\"status\":\"Success\",\"status_code\":200,\"type\":\"sync\"}";
+
+/// A host whose calls are held until they are let go.
+#[derive(Drop)]
+struct HeldHost<H, T> {
+    rt: T,
+    let_go: Arc<AtomicU64, Global>,
+    host: H,
+}
+
+impl<H: Host, T: Wait + Clock> Host for HeldHost<H, T> {
+    ghost told = { λ _. None };
+
+    ghost failures = { λ h. H.failures h.host };
+
+    fn call(&mut self, call: &HostCall) -> Result<(), Or<HostFailed>> {
+        for _ in 0..LOOKS {
+            if self.let_go.load(Ordering::SeqCst) != 0 {
+                break;
+            }
+            let _ = thread::sleep(&self.rt, Duration::from_millis(10));
+        }
+        self.host.call(call)
+    }
+
+    fn faults(&self) -> u64 {
+        self.host.faults()
+    }
+}
+
+/// Looks at the operation until it is Running, cancels it, and lets the call go. Whether all that was so.
+fn cancels<T: Wait + Clock, G: Gate>(
+    rt: &T,
+    alloc: Global,
+    gate: &mut G,
+    let_go: &AtomicU64,
+) -> bool {
+    let mut is_running = false;
+    for _ in 0..LOOKS {
+        if count_in_replies(rt, alloc, gate, SHOWN, "\"status\":\"Running\"") == 1 {
+            is_running = true;
+            break;
+        }
+        gate.rest();
+    }
+    let is_cancelled = is_answered(rt, alloc, gate, CANCELLED, CANCELLED_REPLIES);
+    let_go.store(1, Ordering::SeqCst);
+    is_running && is_cancelled
+}
+
+/// Creates an instance and waits for it, and closes the server then. Whether the wait tells that it was cancelled.
+fn waits<T: Wait, G: Gate>(rt: &T, alloc: Global, gate: &mut G) -> bool {
+    let told = count_in_replies(rt, alloc, gate, CREATED, "\"status\":\"Cancelled\"");
+    drop(gate.turn(Event::Close));
+    told == 1
+}
+
+/// Whether two links meet in one operation, and a third one finds that nothing was made.
+fn meet<L: Ledger + Send + Sync, T: Threads + Wait + Clock + Copy + Send + Sync + Drop>(
+    rt: T,
+    alloc: Global,
+    blank: Blank,
+) -> Option<bool>
+    requires name { blank.name ≡ L.name }
+    requires parts { (blank.parts ≡ L.parts) × (blank.parts ≡ 4) }
+{
+    let machine = new_machine(alloc)?;
+    let (turnstile, mut passes) = Turnstile::<DaemonMachine<MapKeeper>, L>::new(
+        alloc, machine, 4, blank,
+    ).ok()?;
+    let shared = Arc::new(alloc, turnstile).ok()?;
+    let mut first = LockedGate::new(rt, Arc::try_clone(&shared).ok()?, passes.pop()?);
+    let mut second = LockedGate::new(rt, Arc::try_clone(&shared).ok()?, passes.pop()?);
+    let mut third = LockedGate::new(rt, Arc::try_clone(&shared).ok()?, passes.pop()?);
+    let mut worker = LockedGate::new(rt, shared, passes.pop()?);
+    drop(replies_to(&rt, alloc, &mut third, POOL)?);
+    let let_go = Arc::new(alloc, AtomicU64::new(0)).ok()?;
+    let mut host = HeldHost {
+        rt,
+        let_go: Arc::try_clone(&let_go).ok()?,
+        host: ModelHost::new(alloc, Seq::new(alloc)),
+    };
+    let (is_told, (is_cancelled, ())) = join(
+        &rt,
+        move || waits(&rt, alloc, &mut first),
+        move || {
+            join(
+                &rt,
+                move || cancels(&rt, alloc, &mut second, &let_go),
+                move || work(&rt, &mut worker, &mut host, &mut StillClock::new(0)),
+            )
+        },
+    );
+    let is_empty = is_answered(&rt, alloc, &mut third, INSTANCES, NO_INSTANCES);
+    Some(is_told && is_cancelled && is_empty)
+}
+
+#[test]
+fn two_links_meet(rt: HostRuntime) {
+    assert!(rt; meet::<Brand, _>(rt, rt.alloc(), Blank::new(4)) == Some(true));
+}

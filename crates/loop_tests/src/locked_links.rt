@@ -1,0 +1,47 @@
+//! Links over two gates to one server under a lock.
+ghost use Rattle.std.specs.Prelude.{◌≡◌, ◌≤◌};
+
+use crate::links::{is_answered, new_machine};
+use gate_trails::Gate;
+use gates::{DaemonMachine, LockedGate};
+use record_keeper::MapKeeper;
+use std::alloc::Global;
+use std::marker::Brand;
+use std::sync::ledger::{Blank, Ledger};
+use std::sync::{Arc, Wait};
+use std::time::Clock;
+use turnstile::Turnstile;
+
+const CREATION: &str =
+    "POST /1.0/projects HTTP/1.1\r\nHost: localhost\r\nContent-Length: 14\r\n\r\n{\"name\":\"lab\"}";
+
+const TWICE: &str =
+    "POST /1.0/projects HTTP/1.1\r\nHost: localhost\r\nContent-Length: 14\r\n\r\n{\"name\":\"lab\"}POST /1.0/projects HTTP/1.1\r\nHost: localhost\r\nContent-Length: 14\r\n\r\n{\"name\":\"lab\"}";
+
+const MADE_AND_TAKEN: &str =
+    "HTTP/1.1 200 OK\r\nContent-Type: application/json\r\nContent-Length: 66\r\n\r\n{\"metadata\":{},\"status\":\"Success\",\"status_code\":200,\"type\":\"sync\"}HTTP/1.1 409 Conflict\r\nContent-Type: application/json\r\nContent-Length: 112\r\n\r\n{\"error\":\"name is taken\",\"error_code\":409,\"metadata\":{\"kind\":\"project\",\"name\":\"lab\",\"rule\":\"N4\"},\"type\":\"error\"}";
+
+const TAKEN: &str =
+    "HTTP/1.1 409 Conflict\r\nContent-Type: application/json\r\nContent-Length: 112\r\n\r\n{\"error\":\"name is taken\",\"error_code\":409,\"metadata\":{\"kind\":\"project\",\"name\":\"lab\",\"rule\":\"N4\"},\"type\":\"error\"}";
+
+/// Whether the project that one link makes is there for the other.
+fn meet<L: Ledger, T: Wait + Clock + Copy>(rt: T, alloc: Global, blank: Blank) -> Option<bool>
+    requires name { blank.name ≡ L.name }
+    requires parts { (blank.parts ≡ L.parts) × (blank.parts ≡ 2) }
+{
+    let machine = new_machine(alloc)?;
+    let (turnstile, mut passes) = Turnstile::<DaemonMachine<MapKeeper>, L>::new(
+        alloc, machine, 2, blank,
+    ).ok()?;
+    let shared = Arc::new(alloc, turnstile).ok()?;
+    let mut first = LockedGate::new(rt, Arc::try_clone(&shared).ok()?, passes.pop()?);
+    let mut second = LockedGate::new(rt, shared, passes.pop()?);
+    let made = is_answered(&rt, alloc, &mut first, TWICE, MADE_AND_TAKEN);
+    let taken = is_answered(&rt, alloc, &mut second, CREATION, TAKEN);
+    Some(made && taken && first.made() == 2 && second.made() == 1)
+}
+
+#[test]
+fn two_links_meet_in_one_server(rt: HostRuntime) {
+    assert!(rt; meet::<Brand, _>(rt, rt.alloc(), Blank::new(2)) == Some(true));
+}

@@ -1,0 +1,158 @@
+//! Four links that create instances beside four workers that make them.
+ghost use Rattle.std.specs.Prelude.{◌≡◌};
+
+use crate::links::{INSTANCES, POOL, count_in_replies, new_machine, replies_to};
+use gate_trails::Gate;
+use gates::{DaemonMachine, LockedGate};
+use host_lock::LockedHost;
+use host_model::ModelHost;
+use http_front::StillClock;
+use record_keeper::MapKeeper;
+use row_machine::Event;
+use serve_loop::work;
+use size_values::Seq;
+use std::alloc::Global;
+use std::marker::Brand;
+use std::sync::atomic::{AtomicU64, Ordering};
+use std::sync::ledger::{Blank, Ledger};
+use std::sync::{Arc, Wait};
+use std::thread;
+use std::thread::Threads;
+use std::time::Clock;
+use turnstile::{Pass, Turnstile};
+
+/// How many instances each link creates.
+const CREATIONS: u32 = 10;
+
+/// What the links and workers share.
+struct Floor<L: Ledger, T: Wait + Clock> {
+    rt: T,
+    alloc: Global,
+    turnstile: Arc<Turnstile<DaemonMachine<MapKeeper>, L>, Global>,
+    host: LockedHost<ModelHost, T>,
+    /// How many of them were begun, and how many links have ended.
+    begun: AtomicU64,
+    ended: AtomicU64,
+}
+
+/// What became of it: the turns that the passes counted, those of the server, and the instances.
+#[derive(Clone, Copy, PartialEq, Eq)]
+struct Told {
+    made: u64,
+    turns: u64,
+    instances: usize,
+}
+
+type Locked<L, T> = LockedGate<MapKeeper, L, T>;
+
+/// The request that creates an instance.
+fn creation(alloc: Global, link: u64, number: u32) -> Option<String> {
+    format!(in alloc;
+        "POST /1.0/instances HTTP/1.1\r\nHost: localhost\r\nContent-Length: 39\r\n\r\n{{\"name\":\"i{link}-{number}\",\"source\":{{\"type\":\"none\"}}}}"
+    ).ok()
+}
+
+/// Creates the instances of one link.
+fn creates<L: Ledger, T: Wait + Clock>(floor: &Floor<L, T>, gate: &mut Locked<L, T>, link: u64) {
+    for number in 0..CREATIONS {
+        if let Some(text) = creation(floor.alloc, link, number) {
+            drop(replies_to(&floor.rt, floor.alloc, gate, &text));
+            drop(text);
+        }
+    }
+    floor.ended.fetch_add(1, Ordering::SeqCst);
+}
+
+/// Makes the calls of one worker.
+fn works<L: Ledger, T: Wait + Clock + Copy>(floor: &Floor<L, T>, gate: &mut Locked<L, T>) {
+    if let Ok(mut host) = floor.host.share() {
+        work(&floor.rt, gate, &mut host, &mut StillClock::new(0));
+    }
+}
+
+/// Closes the server once all links have ended.
+fn closes<L: Ledger, T: Wait + Clock>(floor: &Floor<L, T>, gate: &mut Locked<L, T>) {
+    for _ in floor.rt.forever() {
+        if floor.ended.load(Ordering::SeqCst) >= 4 {
+            drop(gate.turn(Event::Close));
+            return;
+        }
+        thread::yield_now();
+    }
+    unreachable!()
+}
+
+/// Plays the next part by this pass, and gives it back: the first four are links, the next four workers.
+fn plays<L: Ledger, T: Wait + Clock + Copy + Drop>(floor: &Floor<L, T>, pass: Pass<L>) -> Pass<L> {
+    let Ok(turnstile) = Arc::try_clone(&floor.turnstile) else {
+        return pass;
+    };
+    let mut gate = LockedGate::new(floor.rt, turnstile, pass);
+    let part = floor.begun.fetch_add(1, Ordering::SeqCst);
+    match part {
+        0..4 => creates(floor, &mut gate, part),
+        4..8 => works(floor, &mut gate),
+        _ => closes(floor, &mut gate),
+    }
+    gate.into_pass()
+}
+
+/// Nine parts at once, after the pool was made and before the instances are counted.
+fn meet<L: Ledger + Send + Sync, T: Threads + Wait + Clock + Copy + Send + Sync + Drop>(
+    rt: T,
+    alloc: Global,
+    blank: Blank,
+) -> Option<Told>
+    requires name { blank.name ≡ L.name }
+    requires parts { (blank.parts ≡ L.parts) × (blank.parts ≡ 9) }
+{
+    let machine = new_machine(alloc)?;
+    let host = LockedHost::new(rt, alloc, ModelHost::new(alloc, Seq::new(alloc))).ok()?;
+    let (turnstile, mut passes) = Turnstile::<DaemonMachine<MapKeeper>, L>::new(
+        alloc, machine, 9, blank,
+    ).ok()?;
+    let floor = Floor {
+        rt,
+        alloc,
+        turnstile: Arc::new(alloc, turnstile).ok()?,
+        host,
+        begun: AtomicU64::new(0),
+        ended: AtomicU64::new(0),
+    };
+    let (first, _) = with_replies(&floor, passes.pop()?, POOL, "\"Success\"");
+    passes.push(first).ok()?;
+    let shared = &floor;
+    let mut passes = thread::map_vec(&rt, passes, &|pass| plays(shared, pass)).ok()?;
+    let (last, instances) = with_replies(&floor, passes.pop()?, INSTANCES, "/1.0/instances/");
+    passes.push(last).ok()?;
+    let made = passes
+        .iter()
+        .fold(0u64, |sum, pass| sum.wrapping_add(pass.made()));
+    let turns = floor.turnstile.close(&rt, passes);
+    Some(Told {
+        made,
+        turns,
+        instances,
+    })
+}
+
+/// How often a text stands in the replies to another one that a link by this pass sends. It gives the pass back.
+fn with_replies<L: Ledger, T: Wait + Clock + Copy + Drop>(
+    floor: &Floor<L, T>,
+    pass: Pass<L>,
+    text: &str,
+    part: &str,
+) -> (Pass<L>, usize) {
+    let Ok(turnstile) = Arc::try_clone(&floor.turnstile) else {
+        return (pass, 0);
+    };
+    let mut gate = LockedGate::new(floor.rt, turnstile, pass);
+    let count = count_in_replies(&floor.rt, floor.alloc, &mut gate, text, part);
+    (gate.into_pass(), count)
+}
+
+#[test]
+fn four_links_beside_four_workers(rt: HostRuntime) {
+    let told = meet::<Brand, _>(rt, rt.alloc(), Blank::new(9));
+    assert!(rt; told.is_some_and(|told| told.made == told.turns && told.instances == 40));
+}
