@@ -1,2 +1,3 @@
 mod ExampleLemmas
 mod FilterLemmas
+mod SubscriptionLemmas

@@ -1,3 +1,4 @@
 pub mod Accepting
 pub mod Examples
 pub mod Filters
+pub mod Subscriptions

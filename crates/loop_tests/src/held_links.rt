@@ -8,7 +8,7 @@ use host_model::{Host, HostCall, HostFailed, ModelHost};
 use http_front::StillClock;
 use record_keeper::MapKeeper;
 use row_machine::Event;
-use serve_loop::work;
+use workers::work;
 use size_values::{Or, Seq};
 use std::alloc::Global;
 use std::marker::Brand;

@@ -1,5 +1,2 @@
-mod Answering
 mod Linking
 mod Served
-mod Waiting
-mod Working

@@ -1,20 +1,14 @@
 -- A link, from what its parts ensure.
 use Rattle.std.proofs.Common.{◌≡◌, ◌≢◌, ◌≤◌, ◌⊎◌, ◌++◌, ℕ, List, [], ◌∷◌, length, Bool, true, false, refl, ap, sym, subst}
-use Rattle.std.proofs.Common.{inl, inr, Result, Err, Ok, arith}
+use Rattle.std.proofs.Common.{None, inl, inr, arith}
 use Rattle.size_values.specs.Causes.{Rose}
-use Rattle.size_values.specs.declared.memory.Or.{Or}
-use Rattle.size_values.specs.declared.memory.Or.TheVariants as or
 use Rattle.http_heads.specs.declared.request.HeadFault.{HeadFault}
 use Rattle.http_heads.specs.declared.request.Request.{Request}
-use Rattle.http_front.specs.Clocks.{Readings}
 use Rattle.http_front.specs.Held.{most_held}
 use Rattle.http_front.specs.declared.read.Got.TheVariants as got
-use Rattle.records.specs.declared.commands.Command.{Command}
-use Rattle.records.specs.declared.refusals.Refusal.{Refusal}
 use Rattle.records.specs.declared.replies.Reply.{Reply}
 use Rattle.records.specs.declared.replies.Reply.TheVariants as reply
-use Rattle.judged_changes.specs.Judged.{reply_for}
-use Rattle.gate_trails.specs.Gates.{Between, Seen, Walk}
+use Rattle.gate_trails.specs.Gates.{Between}
 use Rattle.gate_trails.specs.Trails.{Item}
 use Rattle.gate_trails.proofs.Trailing.{between-append, between-none}
 use Rattle.rest_answers.specs.Links.{BreaksOff, Takes}
@@ -24,61 +18,31 @@ use Rattle.rest_answers.specs.declared.answers.Answered.{Answered}
 use Rattle.rest_answers.specs.declared.writing.Written.{Written}
 use Rattle.rest_answers.specs.declared.writing.Written.TheVariants as ended
 use Rattle.rest_answers.proofs.Printing.{takes_memory, text_is}
-use Rattle.rest_paths.specs.Answers.{IsDue}
 use Rattle.rest_routes.specs.Commands.{command_of}
-use Rattle.serve_loop.specs.Serving.{Asks, CarriesOut, Exchange, Handles, KeepsGate, Line, Reaches, Serves, ServesAll}
-use Rattle.serve_loop.specs.Serving.{Serving, Stops, Turns, end_after, turn_after}
-use Rattle.serve_loop.specs.Waits.{ServeBy, replied, stand, unasked}
+use Rattle.gate_replies.specs.Replying.{Reaches}
+use Rattle.serve_loop.specs.Serving.{Asks, CarriesOut, Exchange, KeepsGate, Line, Serves, ServesAll}
+use Rattle.serve_loop.specs.Serving.{Meets, Serving, Stops, Turns, end_after, turn_after}
+use Rattle.event_texts.specs.Subscriptions.{subscription_of}
+use Rattle.serve_loop.specs.Waits.{replied}
 use Rattle.serve_loop.specs.declared.link.LinkEnd.{LinkEnd}
 use Rattle.serve_loop.specs.declared.link.LinkEnd.TheVariants as end
-use Rattle.serve_loop.specs.declared.link.Turn.{Turn}
 use Rattle.serve_loop.specs.declared.link.Turn.TheVariants as turn
-
--- ---- one request
-
--- a command that was asked
-pub asked_reaches : {before after : Seen} {told told' : Readings} {r : Reply} (c : Command)
-    → Walk (ServeBy c) before after (stand unasked told) (stand (replied r) told')
-    → Reaches (Ok c) before after told told' r
-asked_reaches c walk = record {
-  trail = walk.trail;
-  gate = walk.gate;
-  handles = inr (record { command = c; is = refl; due = walk.due });
-}
-
--- memory was refused before a command was asked
-pub refused_memory : (asks : Result Command Refusal) (s : Seen) (told : Readings)
-    → Reaches asks s s told told reply.NoMemory
-refused_memory asks s told = record {
-  trail = [];
-  gate = between-none s;
-  handles = inl (record { nothing = refl; unread = refl; why = inl refl });
-}
-
--- a request that asks for no command
-pub unrouted : (asks : Result Command Refusal) (why : Or Refusal) (s : Seen) (told : Readings) → IsDue why asks
-    → Reaches asks s s told told (reply_for why)
-unrouted asks or.NoMemory s told due = refused_memory asks s told
-unrouted asks (or.Why refusal) s told due = record {
-  trail = [];
-  gate = between-none s;
-  handles = inl (record { nothing = refl; unread = refl; why = inr (refusal, due, refl) });
-}
 
 -- ---- one turn
 
 -- A turn that takes the next request and has it answered goes on after its reply, or it is the final one, or the link
 -- ends at a failed write, or where memory for the reply was refused.
-pub turn_answers : (boot : ℕ) (w w' : Line) (request : Request) (r : Reply) (a : Answered) (how : Written)
-    → Asks w w' (got.Request request) → Reaches (command_of request boot) w.gate w'.gate w.clock w'.clock r
+turn_answers : (boot : ℕ) (w w' : Line) (request : Request) (r : Reply) (a : Answered) (how : Written)
+    → Asks w w' (got.Request request) → subscription_of request ≡ None
+    → Reaches (command_of request boot) w.gate w'.gate w.clock w'.clock r
     → HasText a r boot request.last → WritesAnswer how a request.last w.sink w'.sink
     → Turns boot (turn_after how request.last) w w'
-turn_answers boot w w' request r a how asks reaches text writes = by how writes where
+turn_answers boot w w' request r a how asks plain reaches text writes = by how writes where
   e : Exchange
   e = record { request = request; trail = reaches.trail; reply = r }
 
   carried : CarriesOut boot w w' e
-  carried = record { asked = asks; gate = reaches.gate; handles = reaches.handles }
+  carried = record { asked = asks; plain = plain; gate = reaches.gate; handles = reaches.handles }
 
   is : ¬ IsUnprinted a → text_for a request.last ≡ printed r boot request.last
   is has = text_is a r boot request.last text has
@@ -92,7 +56,21 @@ turn_answers boot w w' request r a how asks reaches text writes = by how writes 
   by ended.Whole writes = whole request.last refl writes.0 writes.1
   by ended.WriteFault writes = inl (e, carried, subst (BreaksOff w.sink w'.sink) (is writes.0) writes.1)
   by ended.NoMemory writes =
-      inr (inr (inr (e, carried, takes_memory a r boot request.last text writes.0, writes.1)))
+      inr (inr (inr (inl (e, carried, takes_memory a r boot request.last text writes.0, writes.1))))
+
+-- a turn at a request: it is answered, or it stops the link
+pub turn_meets : (boot : ℕ) (w w' : Line) (request : Request) (next : Turn) → Asks w w' (got.Request request)
+    → Meets boot request next w.sink w'.sink w.gate w'.gate w.clock w'.clock → Turns boot next w w'
+turn_meets boot w w' request next asks (inl (plain, replies)) =
+    subst (λ t. Turns boot t w w') (sym replies.next_is)
+    (turn_answers boot w w' request replies.reply replies.answered replies.how asks plain replies.reaches replies.text
+    replies.writes)
+turn_meets boot w w' request next asks (inr (inl (wanted, is, subscribes, same))) =
+    subst (λ t. Turns boot t w w') (sym is)
+    (request, asks, subscribes, record { gate = same.gate_is; clock = same.clock_is }, same.sink_is)
+turn_meets boot w w' request next asks (inr (inr (is, same))) =
+    subst (λ t. Turns boot t w w') (sym is)
+    (inr (inr (inr (inr (request, asks, record { gate = same.gate_is; clock = same.clock_is }, same.sink_is)))))
 
 -- a turn that refuses a malformed place
 pub turn_refuses : (boot : ℕ) (w w' : Line) (fault : HeadFault) (how : Written) → Asks w w' (got.Malformed fault)
@@ -168,7 +146,9 @@ stop_goes boot end.WriteFault w w' (inr stops) = goes_along w w' stops.2.gate
 stop_goes boot end.NoMemory w w' (inl same) = goes_along w w' (ap (λ v. v.gate) same)
 stop_goes boot end.NoMemory w w' (inr (inl stops)) = goes_along w w' stops.1.gate
 stop_goes boot end.NoMemory w w' (inr (inr (inl stops))) = goes_along w w' stops.2.gate
-stop_goes boot end.NoMemory w w' (inr (inr (inr stops))) = (stops.0.trail, stops.1.gate)
+stop_goes boot end.NoMemory w w' (inr (inr (inr (inl stops)))) = (stops.0.trail, stops.1.gate)
+stop_goes boot end.NoMemory w w' (inr (inr (inr (inr stops)))) = goes_along w w' stops.2.gate
+stop_goes boot (end.Events wanted) w w' stops = goes_along w w' stops.3.gate
 
 -- what was done at the gate is one trail
 pub link_goes : (boot : ℕ) (w w' : Line) (ends : LinkEnd) → Serving boot w w' ends → Goes w w'
@@ -194,7 +174,9 @@ few_at boot end.WriteFault w w' (inr stops) few = stops.1.few
 few_at boot end.NoMemory w w' (inl same) few = subst (λ v. length v.held ≤ most_held) (sym same) few
 few_at boot end.NoMemory w w' (inr (inl stops)) few = stops.0.few
 few_at boot end.NoMemory w w' (inr (inr (inl stops))) few = stops.1.few
-few_at boot end.NoMemory w w' (inr (inr (inr stops))) few = stops.1.asked.few
+few_at boot end.NoMemory w w' (inr (inr (inr (inl stops)))) few = stops.1.asked.few
+few_at boot end.NoMemory w w' (inr (inr (inr (inr stops)))) few = stops.1.few
+few_at boot (end.Events wanted) w w' stops few = stops.1.few
 
 pub link_few : (boot : ℕ) (w w' : Line) (ends : LinkEnd) → length w.held ≤ most_held → Serving boot w w' ends
     → length w'.held ≤ most_held

@@ -1,24 +1,21 @@
 -- A link over a text that is known whole.
-use Rattle.std.proofs.Common.{◌≡◌, ◌≢◌, ◌⊎◌, ◌++◌, ◌||◌, ℕ, List, [], ◌∷◌, length, Bool, true, false, Option, Some, None}
+use Rattle.std.proofs.Common.{◌≡◌, ◌⊎◌, ◌++◌, ◌||◌, ℕ, List, [], ◌∷◌, true, false, Option, Some, None}
 use Rattle.std.proofs.Common.{IfSome, if◌then◌else◌, refl, ap, sym, ◌∙◌, subst, inl, inr, append_assoc}
 use Rattle.std.proofs.lemmas.List.{append-nil}
 use Rattle.std.specs.Io.KnownBytes.{Appends, prepend_known}
 use Rattle.http_heads.specs.Messages.{Begins, Splits, Ending, ended, cut, malformed, EndsAs}
-use Rattle.http_heads.specs.declared.request.HeadFault.{HeadFault}
 use Rattle.http_heads.specs.declared.request.Request.{Request}
-use Rattle.http_front.specs.Clocks.{Readings}
 use Rattle.http_front.specs.Reading.{ReadsNext}
-use Rattle.http_front.specs.declared.read.Got.{Got}
 use Rattle.http_front.specs.declared.read.Got.TheVariants as got
 use Rattle.gate_trails.specs.Gates.{Between}
 use Rattle.gate_trails.proofs.Trailing.{between-append, between-none}
-use Rattle.rest_answers.specs.Lasts.{has_last, through_last}
-use Rattle.rest_answers.specs.Texts.{malformed_text, printed}
+use Rattle.event_texts.specs.Subscriptions.{subscription_of}
+use Rattle.event_texts.specs.declared.subscriptions.Subscription.{Subscription}
+use Rattle.rest_answers.specs.Texts.{printed}
 use Rattle.rest_answers.proofs.Linking.{appends_nothing, appends_twice}
 use Rattle.rest_answers.proofs.Splitting.{GoesOn, none_more, splits_behind}
-use Rattle.rest_routes.specs.Commands.{command_of}
-use Rattle.serve_loop.specs.Serving.{Exchange, Handles, Line, Serves, ServesAll, Serving, Stops, Turns}
-use Rattle.serve_loop.specs.Texts.{HandlesAll, IsFault, ServesText, Sides, end_at, end_due, printed_replies}
+use Rattle.serve_loop.specs.Serving.{Exchange, Line, Serves, ServesAll, Serving, Stops, Turns}
+use Rattle.serve_loop.specs.Texts.{HandlesAll, IsFault, ServesText, Sides, end_at, printed_replies}
 use Rattle.serve_loop.specs.Texts.{requests_of, sides}
 use Rattle.serve_loop.specs.Texts.{text_at, trail_of}
 use Rattle.serve_loop.specs.declared.link.LinkEnd.{LinkEnd}
@@ -89,36 +86,57 @@ all_together boot w v w' (e ∷ xs) ys serves follows =
 
 -- ---- the last request
 
--- none of these is the last on its connection
+-- none of these subscribes to events, and none is the last on its connection
 abbrev AreGoing : List Request → Type 0
 AreGoing [] = Unit {0}
-AreGoing (m ∷ more) = (m.last ≡ false) × AreGoing more
+AreGoing (m ∷ more) = (subscription_of m ≡ None) × (m.last ≡ false) × AreGoing more
 
 served_going : (boot : ℕ) (w w' : Line) (xs : List Exchange) → ServesAll boot w xs w' → AreGoing (requests_of xs)
 served_going boot w w' [] same = tt
-served_going boot w w' (e ∷ more) serves = (serves.2, served_going boot serves.0 w' more serves.3)
+served_going boot w w' (e ∷ more) serves =
+    (serves.1.carries.plain, serves.2, served_going boot serves.0 w' more serves.3)
 
-through_going : (ms more : List Request) → AreGoing ms → through_last (ms ++ more) ≡ ms ++ through_last more
-through_going [] more going = refl
-through_going (m ∷ ms) more going =
-    ap (λ last. m ∷ (if last then [] else through_last (ms ++ more))) going.0
-    ∙ ap (λ xs. m ∷ xs) (through_going ms more going.1)
+answered_going : (ms more : List Request) → AreGoing ms → answered (ms ++ more) ≡ ms ++ answered more
+answered_going [] more going = refl
+answered_going (m ∷ ms) more going =
+    ap (λ s. answered_by s m (answered (ms ++ more))) going.0
+    ∙ ap (λ last. m ∷ (if last then [] else answered (ms ++ more))) going.1
+    ∙ ap (λ xs. m ∷ xs) (answered_going ms more going.2)
 
-has_going : (ms : List Request) → AreGoing ms → has_last ms ≡ false
-has_going [] going = refl
-has_going (m ∷ ms) going = ap (λ last. last || has_last ms) going.0 ∙ has_going ms going.1
+due_going : (ms more : List Request) (ending : Ending) → AreGoing ms → end_due (ms ++ more) ending ≡ end_due more ending
+due_going [] more ending going = refl
+due_going (m ∷ ms) more ending going =
+    ap (λ s. end_by s m (end_due (ms ++ more) ending)) going.0
+    ∙ ap (λ last. if last then end.Ended else end_due (ms ++ more) ending) going.1
+    ∙ due_going ms more ending going.2
 
-has_final : (ms : List Request) (m : Request) (more : List Request) → AreGoing ms → m.last ≡ true
-    → has_last (ms ++ m ∷ more) ≡ true
-has_final [] m more going last = ap (λ l. l || has_last more) last
-has_final (x ∷ ms) m more going last =
-    ap (λ l. l || has_last (ms ++ m ∷ more)) going.0 ∙ has_final ms m more going.1 last
+-- behind these comes a request that is the last on its connection
+answered_final : (ms : List Request) (m : Request) (more : List Request) → AreGoing ms → subscription_of m ≡ None
+    → m.last ≡ true → answered (ms ++ m ∷ more) ≡ ms ++ m ∷ []
+answered_final ms m more going plain last =
+    answered_going ms (m ∷ more) going
+    ∙ ap (λ s. ms ++ answered_by s m (answered more)) plain
+    ∙ ap (λ l. ms ++ m ∷ (if l then [] else answered more)) last
 
-through_final : (ms : List Request) (m : Request) (more : List Request) → AreGoing ms → m.last ≡ true
-    → through_last (ms ++ m ∷ more) ≡ ms ++ m ∷ []
-through_final ms m more going last =
-    through_going ms (m ∷ more) going
-    ∙ ap (λ l. ms ++ m ∷ (if l then [] else through_last more)) last
+due_final : (ms : List Request) (m : Request) (more : List Request) (ending : Ending) → AreGoing ms
+    → subscription_of m ≡ None → m.last ≡ true → end_due (ms ++ m ∷ more) ending ≡ end.Ended
+due_final ms m more ending going plain last =
+    due_going ms (m ∷ more) ending going
+    ∙ ap (λ s. end_by s m (end_due more ending)) plain
+    ∙ ap (λ l. if l then end.Ended else end_due more ending) last
+
+-- behind these comes a request that subscribes to events
+answered_events : (ms : List Request) (m : Request) (more : List Request) (wanted : Subscription) → AreGoing ms
+    → subscription_of m ≡ Some wanted → answered (ms ++ m ∷ more) ≡ ms
+answered_events ms m more wanted going is =
+    answered_going ms (m ∷ more) going
+    ∙ ap (λ s. ms ++ answered_by s m (answered more)) is
+    ∙ append-nil ms
+
+due_events : (ms : List Request) (m : Request) (more : List Request) (wanted : Subscription) (ending : Ending)
+    → AreGoing ms → subscription_of m ≡ Some wanted → end_due (ms ++ m ∷ more) ending ≡ end.Events wanted
+due_events ms m more wanted ending going is =
+    due_going ms (m ∷ more) ending going ∙ ap (λ s. end_by s m (end_due more ending)) is
 
 requests-append : (xs ys : List Exchange) → requests_of (xs ++ ys) ≡ requests_of xs ++ requests_of ys
 requests-append [] ys = refl
@@ -159,12 +177,13 @@ text_at_end boot w v w' xs text messages ending other all going is splits gate c
     far.goes_on.messages_are ∙ ap (λ ms. requests_of xs ++ ms) none.0 ∙ append-nil (requests_of xs) in
     record {
       exchanges = xs;
-      requests_are = sym (ap through_last (are ∙ sym (append-nil (requests_of xs)))
-          ∙ through_going (requests_of xs) [] going ∙ append-nil (requests_of xs));
+      requests_are = sym (ap answered (are ∙ sym (append-nil (requests_of xs)))
+          ∙ answered_going (requests_of xs) [] going ∙ append-nil (requests_of xs));
       gate = subst (λ g. Between (trail_of xs) w.gate g) (sym gate) all.gate;
       handles = subst (λ told. HandlesAll boot w.clock xs told) (sym clock) all.handles;
       end_is = ap end_at (sym none.1)
-          ∙ ap (λ l. if l then end.Ended else end_at ending) (sym (ap has_last are ∙ has_going (requests_of xs) going));
+          ∙ sym (ap (λ ms. end_due ms ending) (are ∙ sym (append-nil (requests_of xs)))
+          ∙ due_going (requests_of xs) [] ending going);
       written = appends_twice w.sink.held v.sink.held w'.sink.held (printed_replies boot xs) (text_at (end_at other))
           all.written written;
     }
@@ -186,12 +205,12 @@ text_at_final boot w v w' xs text messages ending serves final is splits =
     record {
       exchanges = xs ++ final.0 ∷ [];
       requests_are = requests-append xs (final.0 ∷ [])
-          ∙ sym (ap through_last are
-          ∙ through_final (requests_of xs) final.0.request far.goes_on.more going final.2);
+          ∙ sym (ap answered are
+          ∙ answered_final (requests_of xs) final.0.request far.goes_on.more going final.1.carries.plain final.2);
       gate = all.gate;
       handles = all.handles;
-      end_is = ap (λ l. if l then end.Ended else end_at ending)
-          (sym (ap has_last are ∙ has_final (requests_of xs) final.0.request far.goes_on.more going final.2));
+      end_is = sym (ap (λ ms. end_due ms ending) are
+          ∙ due_final (requests_of xs) final.0.request far.goes_on.more ending going final.1.carries.plain final.2);
       written = subst (Appends w.sink.held w'.sink.held)
           (sym (append-nil (printed_replies boot (xs ++ final.0 ∷ [])))) all.written;
     }
@@ -204,6 +223,33 @@ at_known P known holds rest is = subst (λ k. IfSome k P) is holds
 -- a link that took nothing more
 same_sink : (v w' : Line) → w'.sink ≡ v.sink → Appends v.sink.held w'.sink.held []
 same_sink v w' same = subst (λ s. Appends v.sink.held s.held []) (sym same) (appends_nothing v.sink.held)
+
+-- a link that ends at a request that subscribes to events
+text_at_events : (boot : ℕ) (w v w' : Line) (xs : List Exchange) (text : List ℕ) (messages : List Request)
+    (ending : Ending) (wanted : Subscription) → Together boot w xs v → AreGoing (requests_of xs)
+    → Stops boot (end.Events wanted) v w' → input w ≡ Some text → Splits text messages ending
+    → ServesText boot messages ending (end.Events wanted) (sides_of w) (sides_of w')
+text_at_events boot w v w' xs text messages ending wanted all going stops is splits =
+    let far : Behind text xs v messages ending = behind boot w v xs text messages ending all is splits in
+    let taken : ReadsNext far.rest (input w') w'.held (got.Request stops.0) =
+    at_known (λ bytes. ReadsNext bytes (input w') w'.held (got.Request stops.0)) (input v) stops.1.next far.rest
+    far.input_is in
+    let next : GoesOn taken.0 (stops.0 ∷ []) far.goes_on.more ending =
+    splits_behind far.rest taken.0 (stops.0 ∷ []) far.goes_on.more ending (taken.0, taken.1, refl)
+    far.goes_on.rest_splits in
+    let are : messages ≡ requests_of xs ++ stops.0 ∷ next.more =
+    far.goes_on.messages_are ∙ ap (λ ms. requests_of xs ++ ms) next.messages_are in
+    record {
+      exchanges = xs;
+      requests_are = sym (ap answered are
+          ∙ answered_events (requests_of xs) stops.0 next.more wanted going stops.2);
+      gate = subst (λ g. Between (trail_of xs) w.gate g) (sym stops.3.gate) all.gate;
+      handles = subst (λ told. HandlesAll boot w.clock xs told) (sym stops.3.clock) all.handles;
+      end_is = sym (ap (λ ms. end_due ms ending) are
+          ∙ due_events (requests_of xs) stops.0 next.more wanted ending going stops.2);
+      written = appends_twice w.sink.held v.sink.held w'.sink.held (printed_replies boot xs) [] all.written
+          (same_sink v w' stops.4);
+    }
 
 -- a link did what its input asks, or ended by a fault
 pub link_text : (boot : ℕ) (w w' : Line) (ends : LinkEnd) (text : List ℕ) (messages : List Request) (ending : Ending)
@@ -246,6 +292,10 @@ link_text boot w w' ends text messages ending s is splits = by ends s.stops wher
       (λ rest known. (at_known (λ bytes. ReadsNext bytes (input w') w'.held (got.Malformed fault)) (input s.behind)
       stops.0.next rest known).0)
       stops.2.written
+      )
+  by (end.Events wanted) (inl (same, final)) = cc
+  by (end.Events wanted) (inr stops) = inr (
+      text_at_events boot w s.behind w' s.exchanges text messages ending wanted whole going stops is splits
       )
   by end.ReadFault stops = inl tt
   by end.WriteFault stops = inl tt

@@ -1,58 +1,30 @@
 -- A link: its requests are taken one after the other, each comes to its reply at a gate, and then the link ends for one
 -- reason. The boot word is that of the ids of operations.
-use Rattle.std.specs.Prelude.{◌≡◌, ◌≢◌, ◌≤◌, ◌⊎◌, ℕ, List, [], ◌∷◌, Bool, true, false, length, Result, Err, Ok}
+use Rattle.std.specs.Prelude.{◌≡◌, ◌≢◌, ◌≤◌, ◌⊎◌, ℕ, List, [], ◌∷◌, Bool, true, false, length, Option, Some, None}
 use Rattle.http_heads.specs.declared.request.HeadFault.{HeadFault}
 use Rattle.http_heads.specs.declared.request.Request.{Request}
 use Rattle.http_front.specs.Clocks.{Readings}
 use Rattle.http_front.specs.Held.{most_held}
 use Rattle.http_front.specs.declared.read.Got.{Got}
 use Rattle.http_front.specs.declared.read.Got.TheVariants as got
-use Rattle.records.specs.declared.commands.Command.{Command}
-use Rattle.records.specs.declared.refusals.Refusal.{Refusal}
 use Rattle.records.specs.declared.replies.Reply.{Reply}
 use Rattle.records.specs.declared.replies.Reply.TheVariants as reply
-use Rattle.gate_trails.specs.Chains.{Chain}
 use Rattle.gate_trails.specs.Gates.{Between, Seen}
 use Rattle.gate_trails.specs.Trails.{Item}
 use Rattle.rest_answers.specs.Links.{BreaksOff, Inlet, Outlet, ReadsFrom, Takes}
-use Rattle.rest_answers.specs.Texts.{malformed_text, printed}
+use Rattle.rest_answers.specs.Texts.{HasText, malformed_text, printed}
+use Rattle.rest_answers.specs.Writing.{WritesAnswer}
+use Rattle.rest_answers.specs.declared.answers.Answered.{Answered}
 use Rattle.rest_answers.specs.declared.writing.Written.{Written}
 use Rattle.rest_answers.specs.declared.writing.Written.TheVariants as ended
 use Rattle.rest_routes.specs.Commands.{command_of}
-use Rattle.serve_loop.specs.Waits.{ServeBy, replied, stand, unasked}
+use Rattle.gate_replies.specs.Replying.{Handles, Reaches}
+use Rattle.event_texts.specs.Subscriptions.{subscription_of}
+use Rattle.event_texts.specs.declared.subscriptions.Subscription.{Subscription}
 use Rattle.serve_loop.specs.declared.link.LinkEnd.{LinkEnd}
 use Rattle.serve_loop.specs.declared.link.LinkEnd.TheVariants as end
 use Rattle.serve_loop.specs.declared.link.Turn.{Turn}
 use Rattle.serve_loop.specs.declared.link.Turn.TheVariants as turn
-
--- ---- one request
-
--- It asks for no command, by its form; or memory was refused before its command was asked. No turn and no rest was made,
--- and the clock was not read.
-pub record IsUnasked (asks : Result Command Refusal) (told : Readings) (trail : List Item) (r : Reply)
-    (told' : Readings)
-    : Type 0 where
-  pub nothing : trail ≡ []
-  pub unread : told' ≡ told
-  pub why : (r ≡ reply.NoMemory) ⊎ ((refusal : Refusal) × (asks ≡ Err refusal) × (r ≡ reply.Refused refusal))
-
--- Its command was asked, and came to this reply. Each turn and rest of the trail is the one that was due.
-pub record IsAsked (asks : Result Command Refusal) (told : Readings) (trail : List Item) (r : Reply) (told' : Readings)
-    : Type 0 where
-  pub command : Command
-  pub is : asks ≡ Ok command
-  pub due : Chain (ServeBy command) trail (stand unasked told) (stand (replied r) told')
-
--- What was asked for came to this reply by these turns and rests, between these readings of the clock.
-abbrev pub Handles : Result Command Refusal → Readings → List Item → Reply → Readings → Type 0
-Handles asks told trail r told' = IsUnasked asks told trail r told' ⊎ IsAsked asks told trail r told'
-
--- between two moments of a gate and of a clock, what was asked for came to this reply
-pub record Reaches (asks : Result Command Refusal) (before after : Seen) (told told' : Readings) (r : Reply)
-    : Type 0 where
-  pub trail : List Item
-  pub gate : Between trail before after
-  pub handles : Handles asks told trail r told'
 
 -- ---- requests
 
@@ -83,9 +55,10 @@ pub record KeepsGate (w w' : Line) : Type 0 where
   pub gate : w'.gate ≡ w.gate
   pub clock : w'.clock ≡ w.clock
 
--- The next request was taken and came to its reply.
+-- The next request was taken, subscribes to no events, and came to its reply.
 pub record CarriesOut (boot : ℕ) (w w' : Line) (e : Exchange) : Type 0 where
   pub asked : Asks w w' (got.Request e.request)
+  pub plain : subscription_of e.request ≡ None
   pub gate : Between e.trail w.gate w'.gate
   pub handles : Handles (command_of e.request boot) w.clock e.trail e.reply w'.clock
 
@@ -98,7 +71,8 @@ pub record Serves (boot : ℕ) (w w' : Line) (e : Exchange) : Type 0 where
 
 -- What stands next where a link ends before another request was answered whole, and what was done of it: nothing after
 -- the end of the source and at a failed read; its reply at a malformed place; a part of a reply where a write failed;
--- and where memory was refused, nothing is written, after a request was carried out, before, or before any was read.
+-- where memory was refused, nothing is written, after a request was carried out, before, or before any was read; and at
+-- a request that subscribes to events, nothing was done of it.
 abbrev pub Stops : ℕ → LinkEnd → Line → Line → Type 0
 Stops boot end.Ended w w' = Asks w w' got.End × KeepsGate w w' × (w'.sink ≡ w.sink)
 Stops boot end.Cut w w' = (count : ℕ) × Asks w w' (got.Cut count) × KeepsGate w w' × (w'.sink ≡ w.sink)
@@ -114,6 +88,9 @@ Stops boot end.NoMemory w w' =
     ⊎ (Asks w w' got.NoMemory × KeepsGate w w' × (w'.sink ≡ w.sink))
     ⊎ ((fault : HeadFault) × Asks w w' (got.Malformed fault) × KeepsGate w w' × (w'.sink ≡ w.sink))
     ⊎ ((e : Exchange) × CarriesOut boot w w' e × (e.reply ≢ reply.NoMemory) × (w'.sink ≡ w.sink))
+    ⊎ ((request : Request) × Asks w w' (got.Request request) × KeepsGate w w' × (w'.sink ≡ w.sink))
+Stops boot (end.Events wanted) w w' = (request : Request) × Asks w w' (got.Request request)
+    × (subscription_of request ≡ Some wanted) × KeepsGate w w' × (w'.sink ≡ w.sink)
 
 -- one turn of a link: the next request was answered, or the link ends
 abbrev pub Turns : ℕ → Turn → Line → Line → Type 0
@@ -146,6 +123,32 @@ pub record ServingFrom (boot : ℕ) (w : Line) (source : Inlet) (sink : Outlet) 
   pub serving : Serving boot w (line held source sink gate clock) ends
 
 -- ---- the parts of a turn
+
+-- a request that subscribes to no events was answered, and so the link goes on
+pub record Replies (boot : ℕ) (request : Request) (next : Turn) (sink sink' : Outlet) (gate gate' : Seen)
+    (clock clock' : Readings) : Type 0 where
+  pub reply : Reply
+  pub answered : Answered
+  pub how : Written
+  pub reaches : Reaches (command_of request boot) gate gate' clock clock' reply
+  pub text : HasText answered reply boot request.last
+  pub writes : WritesAnswer how answered request.last sink sink'
+  pub next_is : next ≡ turn_after how request.last
+
+-- what is seen of a sink, of a gate and of a clock is as it was
+pub record Untouched (sink sink' : Outlet) (gate gate' : Seen) (clock clock' : Readings) : Type 0 where
+  pub sink_is : sink' ≡ sink
+  pub gate_is : gate' ≡ gate
+  pub clock_is : clock' ≡ clock
+
+-- A request was answered where it subscribes to no events; it stops the link where it does, and where memory was
+-- refused, and nothing was done of it.
+abbrev pub Meets : ℕ → Request → Turn → Outlet → Outlet → Seen → Seen → Readings → Readings → Type 0
+Meets boot request next sink sink' gate gate' clock clock' =
+    ((subscription_of request ≡ None) × Replies boot request next sink sink' gate gate' clock clock')
+    ⊎ ((wanted : Subscription) × (next ≡ turn.Stop (end.Events wanted)) × (subscription_of request ≡ Some wanted)
+    × Untouched sink sink' gate gate' clock clock')
+    ⊎ ((next ≡ turn.Stop end.NoMemory) × Untouched sink sink' gate gate' clock clock')
 
 -- how a turn goes on after a reply, from how its writing ended and whether its request is the last on its connection
 abbrev pub turn_after : Written → Bool → Turn

@@ -1,6 +1,6 @@
 -- What a link comes to, told of its whole input: the requests that are answered, how it ends, and the bytes that are
 -- written.
-use Rattle.std.specs.Prelude.{◌≡◌, ◌++◌, ℕ, List, [], ◌∷◌, map, if◌then◌else◌}
+use Rattle.std.specs.Prelude.{◌≡◌, ◌++◌, ℕ, List, [], ◌∷◌, map, Option, Some, None, if◌then◌else◌}
 use Rattle.std.specs.List.{flat_map}
 use Rattle.std.specs.Io.KnownBytes.{Appends}
 use Rattle.http_heads.specs.Messages.{Ending, ended, cut, malformed}
@@ -9,10 +9,12 @@ use Rattle.http_front.specs.Clocks.{Readings}
 use Rattle.gate_trails.specs.Gates.{Between, Seen}
 use Rattle.gate_trails.specs.Trails.{Item}
 use Rattle.rest_answers.specs.Links.{Outlet}
-use Rattle.rest_answers.specs.Lasts.{has_last, through_last}
 use Rattle.rest_answers.specs.Texts.{malformed_text, printed}
 use Rattle.rest_routes.specs.Commands.{command_of}
-use Rattle.serve_loop.specs.Serving.{Exchange, Handles}
+use Rattle.gate_replies.specs.Replying.{Handles}
+use Rattle.event_texts.specs.Subscriptions.{subscription_of}
+use Rattle.event_texts.specs.declared.subscriptions.Subscription.{Subscription}
+use Rattle.serve_loop.specs.Serving.{Exchange}
 use Rattle.serve_loop.specs.declared.link.LinkEnd.{LinkEnd}
 use Rattle.serve_loop.specs.declared.link.LinkEnd.TheVariants as end
 
@@ -41,9 +43,24 @@ end_at ended = end.Ended
 end_at (cut held) = end.Cut
 end_at (malformed fault) = end.Malformed fault
 
+-- The requests that are answered: those up to and with the first that is the last on its connection, or before the
+-- first that subscribes to events.
+abbrev pub answered_by : Option Subscription → Request → List Request → List Request
+answered_by (Some wanted) m others = []
+answered_by None m others = m ∷ (if m.last then [] else others)
+
+abbrev pub answered : List Request → List Request
+answered [] = []
+answered (m ∷ more) = answered_by (subscription_of m) m (answered more)
+
 -- how a link ends over an input with these messages and this ending, where nothing fails
+abbrev pub end_by : Option Subscription → Request → LinkEnd → LinkEnd
+end_by (Some wanted) m other = end.Events wanted
+end_by None m other = if m.last then end.Ended else other
+
 abbrev pub end_due : List Request → Ending → LinkEnd
-end_due messages ending = if has_last messages then end.Ended else end_at ending
+end_due [] ending = end_at ending
+end_due (m ∷ more) ending = end_by (subscription_of m) m (end_due more ending)
 
 -- the text that is written after the replies
 abbrev pub text_at : LinkEnd → List ℕ
@@ -67,12 +84,12 @@ abbrev pub sides : Outlet → Seen → Readings → Sides
 sides sink gate clock = record { sink = sink; gate = gate; clock = clock }
 
 -- The link did what its input asks, and nothing else. The requests up to and with the first that is the last on its
--- connection are answered, each by the turns and rests that it is due. These are all that was done at the gate, and the
--- clock was read for nothing else. The end is the one that is due, and the sink took the replies in their order.
+-- connection, or before the first that subscribes to events, are answered, each by the turns and rests that it is due.
+-- These are all that was done at the gate, and the clock was read for nothing else. The end is the one that is due, and the sink took the replies in their order.
 pub record ServesText (boot : ℕ) (messages : List Request) (ending : Ending) (ends : LinkEnd) (w w' : Sides)
     : Type 0 where
   pub exchanges : List Exchange
-  pub requests_are : requests_of exchanges ≡ through_last messages
+  pub requests_are : requests_of exchanges ≡ answered messages
   pub gate : Between (trail_of exchanges) w.gate w'.gate
   pub handles : HandlesAll boot w.clock exchanges w'.clock
   pub end_is : ends ≡ end_due messages ending

@@ -1,11 +1,7 @@
-//! What goes on at a gate to the server: a worker that makes the calls of background operations on
-//! a host, and a link whose requests are answered one after the other.
+//! A link: its requests are answered one after the other at a gate to the server, until it ends or
+//! asks for events.
 #![tactic(auto)]
 
 mod link;
-mod reply;
-mod wait;
-mod worker;
 
 pub use link::{LinkEnd, serve_link};
-pub use worker::work;

@@ -6,20 +6,22 @@ ghost use Rattle.size_values.specs.Causes.{Rose};
 ghost use Rattle.rest_answers.specs.Links.{inlet, outlet};
 ghost use Rattle.gate_trails.specs.Gates.{Between, seen};
 ghost use Rattle.gate_trails.specs.Trails.{Item};
-ghost use Rattle.serve_loop.specs.Serving.{Serving, ServingFrom, Turns, end_after, line, turn_after};
+ghost use Rattle.serve_loop.specs.Serving.{Meets, Replies, Serving, ServingFrom, Turns, end_after, line, turn_after};
 ghost use Rattle.serve_loop.specs.Texts.{IsFault, ServesText, sides};
 ghost use Rattle.serve_loop.specs.declared.link.LinkEnd.TheVariants as end;
 
-use crate::reply::reply_to;
+use event_texts::{Subscription, subscription_of};
+use gate_replies::reply_to;
 use gate_trails::Gate;
-use http_front::{Buffer, Clock, Got, HeadFault, Sink, Source, read_request};
+use http_front::{Buffer, Clock, Got, HeadFault, Request, Sink, Source, read_request};
 use rest_answers::{Written, answer_for, write_answer, write_refusal};
 use rest_routes::Router;
+use size_values::NoMemory;
 use std::alloc::Global;
 use std::sync::Wait;
 
 /// Why a link ends.
-#[derive(Clone, Copy, PartialEq, Eq)]
+#[derive(Drop)]
 pub enum LinkEnd {
     /// The source has ended between two requests, or a request was answered after which the
     /// connection ends.
@@ -34,10 +36,12 @@ pub enum LinkEnd {
     WriteFault,
     /// Memory was refused outside a request.
     NoMemory,
+    /// A request subscribes to events. It was not answered.
+    Events(Subscription),
 }
 
 /// What one turn of a link comes to.
-#[derive(Clone, Copy, PartialEq, Eq)]
+#[derive(Drop)]
 pub enum Turn {
     /// A request was answered, and the next one may come.
     GoOn,
@@ -70,6 +74,59 @@ fn end_after(written: Written, fault: HeadFault) -> LinkEnd
     }
 }
 
+/// Answers a request that subscribes to no events.
+fn answer_request<G: Gate, K: Sink, C: Clock>(
+    alloc: Global,
+    router: &Router,
+    gate: &mut G,
+    sink: &mut K,
+    clock: &mut C,
+    request: &Request,
+    boot: u64,
+) -> Turn
+    ensures { Replies boot request.now result (outlet K.held K.failures sink.old)
+        (outlet K.held K.failures sink.new) (seen G.told G.turned G.rested gate.old)
+        (seen G.told G.turned G.rested gate.new) (C.readings clock.old) (C.readings clock.new) }
+{
+    let reply = reply_to(alloc, router, gate, clock, request, boot);
+    let answered = answer_for(alloc, &reply, boot, request.last);
+    drop(reply);
+    let written = write_answer(sink, &answered, request.last);
+    drop(answered);
+    turn_after(written, request.last)
+}
+
+/// A turn of a link at a request: it subscribes to events, or is answered.
+fn serve_request<G: Gate, K: Sink, C: Clock>(
+    alloc: Global,
+    router: &Router,
+    gate: &mut G,
+    sink: &mut K,
+    clock: &mut C,
+    request: Request,
+    boot: u64,
+) -> Turn
+    ensures { Meets boot request result (outlet K.held K.failures sink.old)
+        (outlet K.held K.failures sink.new) (seen G.told G.turned G.rested gate.old)
+        (seen G.told G.turned G.rested gate.new) (C.readings clock.old) (C.readings clock.new) }
+{
+    match subscription_of(alloc, &request) {
+        Ok(Some(subscription)) => {
+            drop(request);
+            Turn::Stop(LinkEnd::Events(subscription))
+        }
+        Ok(None) => {
+            let next = answer_request(alloc, router, gate, sink, clock, &request, boot);
+            drop(request);
+            next
+        }
+        Err(NoMemory) => {
+            drop(request);
+            Turn::Stop(LinkEnd::NoMemory)
+        }
+    }
+}
+
 /// One turn of a link: takes the next message and answers it.
 fn serve_next<G: Gate, S: Source, K: Sink, C: Clock>(
     alloc: Global,
@@ -90,16 +147,7 @@ fn serve_next<G: Gate, S: Source, K: Sink, C: Clock>(
         (C.readings clock.new)) }
 {
     match read_request(alloc, buffer, source) {
-        Got::Request(request) => {
-            let reply = reply_to(alloc, router, gate, clock, &request, boot);
-            let answered = answer_for(alloc, &reply, boot, request.last);
-            drop(reply);
-            let written = write_answer(sink, &answered, request.last);
-            drop(answered);
-            let last = request.last;
-            drop(request);
-            turn_after(written, last)
-        }
+        Got::Request(request) => serve_request(alloc, router, gate, sink, clock, request, boot),
         Got::End => Turn::Stop(LinkEnd::Ended),
         Got::Cut(_) => Turn::Stop(LinkEnd::Cut),
         Got::Malformed(fault) => { Turn::Stop(end_after(write_refusal(alloc, sink, fault), fault)) }
@@ -179,7 +227,8 @@ fn serve_from_empty<T: Wait, G: Gate, S: Source, K: Sink, C: Clock>(
 }
 
 /// Answers the requests of a connection one after the other, each at the gate, and writes their
-/// replies (HTTP/1.1, RFC 9112, section 9). There is no limit to their number. A request asks for
+/// replies (HTTP/1.1, RFC 9112, section 9), until one subscribes to events. There is no limit to
+/// their number. A request asks for
 /// its command once, and a wait is looked at, and followed by one rest after each look that shows
 /// its operation live: until it has ended, until the clock is at the deadline, or a million times.
 /// The boot word is that of the ids of operations.

@@ -3,9 +3,10 @@ ghost use Rattle.server_jobs.specs.Jobs.{is_link};
 use gates::LockedGate;
 use host_lock::LockedHost;
 use host_model::Host;
+use connections::{ConnectionEnd, serve_connection};
 use http_front::{Clock, Sink, Source};
 use record_keeper::Keeper;
-use serve_loop::{LinkEnd, serve_link, work};
+use workers::work;
 use spawners::Job;
 use std::alloc::Global;
 use std::sync::Wait;
@@ -34,10 +35,10 @@ pub enum ServerJob<S, K, R: Keeper, H: Host, C, L: Ledger, T: Wait + time::Clock
     },
 }
 
-/// What is left of a job: its gate, with the pass that the close wants back, and why a link ended.
+/// What is left of a job: its gate, with the pass that the close wants back, and why a connection ended.
 #[derive(Drop)]
 pub enum JobEnd<R: Keeper, L: Ledger, T: Wait + time::Clock> {
-    Link(LinkEnd, LockedGate<R, L, T>),
+    Link(ConnectionEnd, LockedGate<R, L, T>),
     Worker(LockedGate<R, L, T>),
 }
 
@@ -72,7 +73,7 @@ impl<
                 mut clock,
                 boot,
             } => {
-                let ends = serve_link(
+                let ends = serve_connection(
                     &rt,
                     alloc,
                     &mut gate,

@@ -1,23 +1,20 @@
 use Rattle.std.proofs.Common.{refl, inl, inr}
 use Rattle.rest_answers.specs.Links.{inlet}
 use Rattle.rest_answers.proofs.Linking.{unread}
-use Rattle.serve_loop.proofs.Linking.{turn_answers, turn_refuses}
+use Rattle.serve_loop.proofs.Linking.{turn_meets, turn_refuses}
 use Rattle.serve_loop.proofs.link.serve_next.Goals as goal
 
 pub returns-in-Request : goal.returns-in-Request
-returns-in-Request g c = rw c.turn_after.ensures (
-    turn_answers _ _ _ c.in-Request.request c.reply_to-reply.result c.answer_for-answered.result
-    c.write_answer-written.result (record {
-      next = c.in-Request.ensures.next;
-      held = c.in-Request.ensures.held;
-      ahead = unread (inlet g.S.Source.left g.S.Source.ended g.S.Source.failures) _ _ _ c.in-Request.ensures.ahead;
-      few = c.in-Request.ensures.few;
-      later = c.in-Request.ensures.later;
-      fault = c.in-Request.ensures.fault;
-      ended = c.in-Request.ensures.ended;
-    })
-    c.reply_to-reply.ensures c.answer_for-answered.ensures c.write_answer-written.ensures
-    )
+returns-in-Request g c = turn_meets _ _ _ c.in-Request.request _ (record {
+    next = c.in-Request.ensures.next;
+    held = c.in-Request.ensures.held;
+    ahead = unread (inlet g.S.Source.left g.S.Source.ended g.S.Source.failures) _ _ _ c.in-Request.ensures.ahead;
+    few = c.in-Request.ensures.few;
+    later = c.in-Request.ensures.later;
+    fault = c.in-Request.ensures.fault;
+    ended = c.in-Request.ensures.ended;
+  })
+  c.serve_request.ensures
 
 pub returns-in-Malformed : goal.returns-in-Malformed
 returns-in-Malformed g c = rw c.end_after.ensures (

@@ -1,0 +1,4 @@
+pub mod Frames
+pub mod Listening
+pub mod Sending
+pub mod Sessions

@@ -1,0 +1,68 @@
+-- The parts of a session: what was heard from one moment to another, and how it ended from there on.
+use Rattle.std.specs.Prelude.{◌<◌, ◌++◌, ℕ, List, [], ◌∷◌}
+use Rattle.records.specs.declared.notices.Filter.{Filter}
+use Rattle.records.specs.declared.notices.Notice.{Notice}
+use Rattle.row_machine.specs.declared.events.Answer.{Answer}
+use Rattle.row_machine.specs.declared.events.Event.TheVariants as event
+use Rattle.row_machine.specs.declared.events.Fetched.{Fetched}
+use Rattle.row_machine.specs.declared.events.Fetched.TheVariants as fetched
+use Rattle.row_machine.specs.machine.Step.{Outcome}
+use Rattle.gate_trails.specs.Chains.{Chain}
+use Rattle.gate_trails.specs.Gates.{Between, Seen}
+use Rattle.gate_trails.specs.Trails.{Item, turn}
+use Rattle.gate_replies.specs.Waits.{most_rests}
+use Rattle.rest_answers.specs.Links.{Outlet, Takes}
+use Rattle.rest_answers.specs.declared.writing.Written.{Written}
+use Rattle.rest_answers.specs.declared.writing.Written.TheVariants as ended
+use Rattle.event_sessions.specs.Sessions.{Ends, ListenAt, Place, asking, close_at, frames_of, got}
+use Rattle.event_sessions.specs.declared.listening.Post.{Post}
+use Rattle.event_sessions.specs.declared.listening.Post.TheVariants as post
+use Rattle.event_sessions.specs.declared.session.SessionEnd.{SessionEnd}
+use Rattle.event_sessions.specs.declared.session.SessionEnd.TheVariants as end
+
+-- a session at one moment: where it stands, its gate and its sink
+pub record Ear : Type 0 where
+  pub place : Place
+  pub gate : Seen
+  pub sink : Outlet
+
+abbrev pub ear : Place → Seen → Outlet → Ear
+ear place gate sink = record { place = place; gate = gate; sink = sink }
+
+-- the events of an answer
+abbrev pub notices_in : Fetched → List Notice
+notices_in (fetched.Notices notices next) = notices
+notices_in (fetched.Lagged cursor oldest) = []
+
+-- the events of this filter were asked for once, from this number on
+pub record Asks (filter : Filter) (cursor : ℕ) (a : Answer) (before after : Seen) : Type 0 where
+  pub outcome : Outcome
+  pub gate : Between (turn (event.Fetch cursor filter) outcome a ∷ []) before after
+
+-- from one moment to another, what was still to be sent at first, and then what was heard, was sent
+pub record Hears (boot : ℕ) (filter : Filter) (owed : List Notice) (w w' : Ear) : Type 0 where
+  pub trail : List Item
+  pub gate : Between trail w.gate w'.gate
+  pub due : Chain (ListenAt filter) trail w.place w'.place
+  pub sent : Takes w.sink w'.sink (frames_of boot (owed ++ got trail))
+
+-- from this moment on, with so much still to be sent at first, a session ended so
+pub record Leaves (boot : ℕ) (filter : Filter) (owed : List Notice) (w : Ear) (gate : Seen) (sink : Outlet)
+    (ends : SessionEnd) : Type 0 where
+  pub trail : List Item
+  pub place : Place
+  pub gate_is : Between trail w.gate gate
+  pub due : Chain (ListenAt filter) trail w.place place
+  pub ended : Ends ends place w.sink sink (frames_of boot (owed ++ got trail) ++ close_at place)
+
+-- from this moment on, a session goes on to ask, or has ended
+abbrev pub GoesOn : ℕ → Filter → List Notice → Ear → Post → Seen → Outlet → Type 0
+GoesOn boot filter owed w (post.Asking cursor rests) gate sink =
+    (rests < most_rests) × Hears boot filter owed w (ear (asking cursor rests) gate sink)
+GoesOn boot filter owed w (post.Over ends) gate sink = Leaves boot filter owed w gate sink ends
+
+-- what a session has to do next after events were sent
+abbrev pub after_sending : Written → ℕ → Post
+after_sending ended.Whole next = post.Asking next 0
+after_sending ended.WriteFault next = post.Over end.WriteFault
+after_sending ended.NoMemory next = post.Over end.NoMemory
