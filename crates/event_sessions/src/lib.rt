@@ -9,5 +9,5 @@ mod listening;
 mod session;
 
 pub use frames::{send_close, send_text};
-pub use laws::{a_close_frame_has_two_bytes, a_short_text_frame};
+pub use laws::{a_close_frame_has_two_bytes, a_short_text_frame, notices_by_example};
 pub use session::{SessionEnd, event_session};

@@ -25,6 +25,19 @@ pub(crate) fn new_machine(alloc: Global) -> Option<DaemonMachine<MapKeeper>> {
     }
 }
 
+/// How a link ended, in words.
+pub(crate) fn name_of(ends: &LinkEnd) -> &'static str {
+    match ends {
+        LinkEnd::Ended => "ended",
+        LinkEnd::Cut => "cut",
+        LinkEnd::Malformed(_) => "malformed",
+        LinkEnd::ReadFault => "read fault",
+        LinkEnd::WriteFault => "write fault",
+        LinkEnd::NoMemory => "no memory",
+        LinkEnd::Events(_) => "events",
+    }
+}
+
 /// What a link of this text gets written, where it ends with its text.
 pub(crate) fn replies_to<T: Wait, G: Gate>(
     rt: &T,
@@ -38,7 +51,7 @@ pub(crate) fn replies_to<T: Wait, G: Gate>(
     let mut clock = StillClock::new(0);
     let ends = serve_link(rt, alloc, gate, &mut source, &mut sink, &mut clock, 1);
     drop(source);
-    if ends == LinkEnd::Ended {
+    if name_of(&ends) == "ended" {
         Some(sink)
     } else {
         drop(sink);

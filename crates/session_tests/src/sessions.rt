@@ -1,0 +1,131 @@
+//! What a session of events sends.
+use crate::busy_gate::{BusyGate, new_gate, request};
+use event_sessions::{SessionEnd, event_session};
+use http_front::ByteSink;
+use records::Filter;
+use size_values::{NoMemory, Seq, Text};
+use std::alloc::Global;
+use std::sync::Wait;
+
+/// The head that accepts the key of RFC 6455, section 1.3.
+const HEAD: &str =
+    "HTTP/1.1 101 Switching Protocols\r\nUpgrade: websocket\r\nConnection: Upgrade\r\nSec-WebSocket-Accept: s3pPLMBiTxaQ9kYGzzhZRbK+xOo=\r\n\r\n";
+
+const KEY: &str = "dGhlIHNhbXBsZSBub25jZQ==";
+
+/// A pool, and the root disk of all instances in it.
+const POOL: &str =
+    "POST /1.0/storage-pools HTTP/1.1\r\nHost: localhost\r\nContent-Length: 28\r\n\r\n{\"driver\":\"dir\",\"name\":\"p0\"}PUT /1.0/profiles/default HTTP/1.1\r\nHost: localhost\r\nContent-Length: 73\r\n\r\n{\"devices\":{\"root\":{\"path\":\"/\",\"pool\":\"p0\",\"size\":\"1GiB\",\"type\":\"disk\"}}}";
+
+const NOTHING: &str = "";
+
+const CREATION: &str =
+    "POST /1.0/instances HTTP/1.1\r\nHost: localhost\r\nContent-Length: 37\r\n\r\n{\"name\":\"a\",\"source\":{\"type\":\"none\"}}";
+
+const CANCELLED_CREATION: &str =
+    "POST /1.0/instances HTTP/1.1\r\nHost: localhost\r\nContent-Length: 37\r\n\r\n{\"name\":\"a\",\"source\":{\"type\":\"none\"}}DELETE /1.0/operations/00000000-0001-8000-8000-000000000001 HTTP/1.1\r\nHost: localhost\r\n\r\n";
+
+const PENDING: &str =
+    "{\"metadata\":{\"class\":\"task\",\"created_at\":\"1970-01-01T00:00:00Z\",\"err\":\"\",\"id\":\"00000000-0001-8000-8000-000000000001\",\"may_cancel\":true,\"metadata\":null,\"resources\":{\"instances\":[\"/1.0/instances/a\"]},\"status\":\"Pending\",\"status_code\":105,\"updated_at\":\"1970-01-01T00:00:00Z\"},\"project\":\"default\",\"timestamp\":\"1970-01-01T00:00:00Z\",\"type\":\"operation\"}";
+
+const RUNNING: &str =
+    "{\"metadata\":{\"class\":\"task\",\"created_at\":\"1970-01-01T00:00:00Z\",\"err\":\"\",\"id\":\"00000000-0001-8000-8000-000000000001\",\"may_cancel\":true,\"metadata\":null,\"resources\":{\"instances\":[\"/1.0/instances/a\"]},\"status\":\"Running\",\"status_code\":103,\"updated_at\":\"1970-01-01T00:00:00Z\"},\"project\":\"default\",\"timestamp\":\"1970-01-01T00:00:00Z\",\"type\":\"operation\"}";
+
+const SUCCESS: &str =
+    "{\"metadata\":{\"class\":\"task\",\"created_at\":\"1970-01-01T00:00:00Z\",\"err\":\"\",\"id\":\"00000000-0001-8000-8000-000000000001\",\"may_cancel\":false,\"metadata\":null,\"resources\":{\"instances\":[\"/1.0/instances/a\"]},\"status\":\"Success\",\"status_code\":200,\"updated_at\":\"1970-01-01T00:00:00Z\"},\"project\":\"default\",\"timestamp\":\"1970-01-01T00:00:00Z\",\"type\":\"operation\"}";
+
+const CANCELLED: &str =
+    "{\"metadata\":{\"class\":\"task\",\"created_at\":\"1970-01-01T00:00:00Z\",\"err\":\"\",\"id\":\"00000000-0001-8000-8000-000000000001\",\"may_cancel\":false,\"metadata\":null,\"resources\":{\"instances\":[\"/1.0/instances/a\"]},\"status\":\"Cancelled\",\"status_code\":401,\"updated_at\":\"1970-01-01T00:00:00Z\"},\"project\":\"default\",\"timestamp\":\"1970-01-01T00:00:00Z\",\"type\":\"operation\"}";
+
+const CREATED: &str =
+    "{\"metadata\":{\"action\":\"instance-created\",\"source\":\"/1.0/instances/a\"},\"project\":\"default\",\"timestamp\":\"1970-01-01T00:00:00Z\",\"type\":\"lifecycle\"}";
+
+/// What happens while a session listens: the requests that are made, whether it takes lifecycle events and whether
+/// operation events; and what it sends before it lags, with the number that it asks for then.
+const SESSIONS: &[(&str, bool, bool, &[&str], u64)] = &[
+    (NOTHING, true, true, &[], 3),
+    (CREATION, false, true, &[PENDING, RUNNING, SUCCESS], 7),
+    (CREATION, true, true, &[PENDING, RUNNING, CREATED, SUCCESS], 7),
+    (CREATION, true, false, &[CREATED], 7),
+    (CANCELLED_CREATION, false, true, &[PENDING, CANCELLED], 5),
+];
+
+/// A text message of 126 to 65,535 bytes as a frame, by hand (RFC 6455, section 5.2).
+fn push_frame(bytes: &mut Vec<u8>, text: &str) -> Result<(), NoMemory> {
+    let length = text.len();
+    bytes.push(0x81)?;
+    bytes.push(126)?;
+    bytes.push((length / 256 % 256) as u8)?;
+    bytes.push((length % 256) as u8)?;
+    bytes.extend_from_slice(text.as_bytes())?;
+    Ok(())
+}
+
+/// The head, these messages, and a close frame.
+fn sent(alloc: Global, texts: &[&str]) -> Result<Vec<u8>, NoMemory> {
+    let mut bytes = Vec::new(alloc);
+    bytes.extend_from_slice(HEAD.as_bytes())?;
+    for text in texts {
+        push_frame(&mut bytes, text)?;
+    }
+    bytes.extend_from_slice(&[0x88, 0])?;
+    Ok(bytes)
+}
+
+/// How a session ends, and what it sends.
+fn listened<T: Wait + Copy>(
+    rt: T,
+    alloc: Global,
+    requests: &'static str,
+    life: bool,
+    op: bool,
+) -> Result<Option<(SessionEnd, ByteSink)>, NoMemory> {
+    let project = Text::from_text(alloc, "default")?;
+    let Some(mut inner) = new_gate(alloc) else {
+        return Ok(None);
+    };
+    request(&rt, alloc, &mut inner, POOL)?;
+    let mut gate = BusyGate {
+        rt,
+        alloc,
+        inner,
+        requests,
+        made: 0,
+        rests: 0,
+    };
+    let mut sink = ByteSink::new(alloc, Seq::new(alloc));
+    let filter = Filter { life, op, project };
+    let ends = event_session(&rt, alloc, &mut gate, &mut sink, KEY, &filter, 1);
+    drop(gate);
+    Ok(Some((ends, sink)))
+}
+
+/// Whether a session sends these messages and then lags so.
+fn sends<T: Wait + Copy>(
+    rt: T,
+    alloc: Global,
+    requests: &'static str,
+    life: bool,
+    op: bool,
+    texts: &[&str],
+    cursor: u64,
+) -> Result<bool, NoMemory> {
+    let due = sent(alloc, texts)?;
+    let Some((ends, sink)) = listened(rt, alloc, requests, life, op)? else {
+        return Ok(false);
+    };
+    let oldest = cursor.wrapping_add(1100 - 1024);
+    let is_so = ends == SessionEnd::Lagged { cursor, oldest } && sink.bytes() == due.as_slice();
+    drop(sink);
+    Ok(is_so)
+}
+
+#[test]
+fn sessions_send_what_is_told(rt: HostRuntime) {
+    for (requests, life, op, texts, cursor) in SESSIONS {
+        assert!(rt;
+            sends(rt, rt.alloc(), requests, *life, *op, texts, *cursor) == Ok(true),
+            "{requests} {life} {op}"
+        );
+    }
+}
