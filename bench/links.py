@@ -70,12 +70,12 @@ def creations(program, links, count):
 
 
 def create(server, number, count, wrong):
-    """Creates instances one after the other on one connection. Where the table of operations is full, it asks again."""
+    """Creates instances one after the other on one connection. Where too many operations are live, it asks again."""
     with server.connect() as link:
         for made in range(count):
             body = {"name": f"i{number}-{made}", "source": {"type": "none"}}
             reply = ask(link, "POST", "/1.0/instances?project=lab", body)
-            while reply[0] == 503:
+            while reply[0] == 409 and reply[1]["metadata"]["rule"] == "O4":
                 time.sleep(0.001)
                 reply = ask(link, "POST", "/1.0/instances?project=lab", body)
             if reply[0] != 202:
