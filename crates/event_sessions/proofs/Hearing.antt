@@ -188,19 +188,24 @@ rests_out {boot} {filter} {a} {b} s next rests t turned rested_is last = record 
 pub sends_goes : (boot : ℕ) (filter : Filter) (n : Notice) (ns : List Notice) (next rests : ℕ) (g : Seen)
     (s s' : Outlet) (how : Written) → SendsFront how (frames_of boot (n ∷ ns)) s s'
     → GoesOn boot filter (n ∷ ns) (ear (after_notices (n ∷ ns) next rests) g s) (after_sending how next) g s'
-sends_goes boot filter n ns next rests g s s' ended.Whole takes = (omega arith, record {
-  trail = [];
-  gate = between-none g;
-  due = none;
-  sent = subst (λ l. Takes s s' (frames_of boot l)) (sym (append-nil (n ∷ ns))) takes;
-})
+sends_goes boot filter n ns next rests g s s' ended.Whole takes = (
+  omega arith,
+  record {
+    trail = [];
+    gate = between-none g;
+    due = none;
+    sent = subst (λ l. Takes s s' (frames_of boot l)) (sym (append-nil (n ∷ ns))) takes;
+  },
+)
 sends_goes boot filter n ns next rests g s s' ended.WriteFault front = record {
   trail = [];
   place = asking next 0;
   gate_is = between-none g;
   due = none;
-  ended = (subst (λ l. TakesFront s s' (frames_of boot l ++ [])) (sym (append-nil (n ∷ ns))) (front_more [] front.0),
-      front.1);
+  ended = (
+    subst (λ l. TakesFront s s' (frames_of boot l ++ [])) (sym (append-nil (n ∷ ns))) (front_more [] front.0),
+    front.1,
+  );
 }
 sends_goes boot filter n ns next rests g s s' ended.NoMemory front = record {
   trail = [];

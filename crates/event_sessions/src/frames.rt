@@ -48,7 +48,11 @@ pub fn send_text<K: Sink>(alloc: Global, sink: &mut K, text: &str) -> Written
     ensures { Sends result (text_frame text.now) (outlet K.held K.failures sink.old)
         (outlet K.held K.failures sink.new) }
 {
-    match frame_of(alloc, FrameHeader::new(OpCode::Data(Data::Text), None), text.as_bytes()) {
+    match frame_of(
+        alloc,
+        FrameHeader::new(OpCode::Data(Data::Text), None),
+        text.as_bytes(),
+    ) {
         Ok(frame) => {
             let written = send(sink, &frame);
             drop(frame);
@@ -64,7 +68,11 @@ pub fn send_close<K: Sink>(alloc: Global, sink: &mut K) -> Written
     ensures { Sends result close_frame (outlet K.held K.failures sink.old)
         (outlet K.held K.failures sink.new) }
 {
-    match frame_of(alloc, FrameHeader::new(OpCode::Control(Control::Close), None), &[]) {
+    match frame_of(
+        alloc,
+        FrameHeader::new(OpCode::Control(Control::Close), None),
+        &[],
+    ) {
         Ok(frame) => {
             let written = send(sink, &frame);
             drop(frame);

@@ -9,5 +9,8 @@ mod subscriptions;
 
 pub use accepting::accept_text;
 pub use filters::event_filter;
-pub use laws::{accepts_the_example, filters_by_example, no_filter_where_none_is_asked, subscribes_by_the_filter};
+pub use laws::{
+    accepts_the_example, filters_by_example, no_filter_where_none_is_asked,
+    subscribes_by_the_filter,
+};
 pub use subscriptions::{Subscription, subscription_of};

@@ -44,10 +44,7 @@ fn subscribed(
 /// The subscription of a request: none where it is no GET of `/1.0/events` with a WebSocket
 /// handshake, and where its query is refused.
 #[tactic(auto, unfolding(crate::specs::Subscriptions::subscription_of))]
-pub fn subscription_of(
-    alloc: Global,
-    request: &Request,
-) -> Result<Option<Subscription>, NoMemory>
+pub fn subscription_of(alloc: Global, request: &Request) -> Result<Option<Subscription>, NoMemory>
     ensures { IfOk result (λ s. s ≡ subscription_of request.now) }
 {
     match event_filter(alloc, request) {

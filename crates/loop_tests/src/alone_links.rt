@@ -10,10 +10,10 @@ use http_front::{ByteSink, ByteSource, StillClock};
 use record_keeper::MapKeeper;
 use row_machine::{Answer, Event};
 use serve_loop::serve_link;
-use workers::work;
 use size_values::{NoMemory, Seq};
 use std::alloc::Global;
 use std::sync::Wait;
+use workers::work;
 
 const TWICE: &str =
     "POST /1.0/projects HTTP/1.1\r\nHost: localhost\r\nContent-Length: 14\r\n\r\n{\"name\":\"lab\"}POST /1.0/projects HTTP/1.1\r\nHost: localhost\r\nContent-Length: 14\r\n\r\n{\"name\":\"lab\"}";
@@ -173,29 +173,13 @@ fn is_worked<T: Wait>(rt: &T, alloc: Global) -> Result<bool, NoMemory> {
     let shown = Seq::of_bytes(alloc, SHOWN.as_bytes())?;
     match new_gate(alloc) {
         Some(mut gate) => {
-            let first = serves(
-                rt,
-                alloc,
-                &mut gate,
-                begun,
-                100,
-                "ended",
-                BEGUN_REPLIES,
-            );
+            let first = serves(rt, alloc, &mut gate, begun, 100, "ended", BEGUN_REPLIES);
             let closed = close(&mut gate);
             let mut host = ModelHost::new(alloc, Seq::new(alloc));
             work(rt, &mut gate, &mut host, &mut StillClock::new(0));
             let made = host.roots().len() == 1;
             drop(host);
-            let last = serves(
-                rt,
-                alloc,
-                &mut gate,
-                shown,
-                100,
-                "ended",
-                SHOWN_REPLIES,
-            );
+            let last = serves(rt, alloc, &mut gate, shown, 100, "ended", SHOWN_REPLIES);
             drop(gate);
             Ok(first && closed && made && last)
         }

@@ -8,7 +8,6 @@ use host_model::{Host, HostCall, HostFailed, ModelHost};
 use http_front::StillClock;
 use record_keeper::MapKeeper;
 use row_machine::Event;
-use workers::work;
 use size_values::{Or, Seq};
 use std::alloc::Global;
 use std::marker::Brand;
@@ -19,6 +18,7 @@ use std::thread;
 use std::thread::{Threads, join};
 use std::time::{Clock, Duration};
 use turnstile::Turnstile;
+use workers::work;
 
 /// How often a link looks at the operation, and how many hundredths of a second a call is held, at the most.
 const LOOKS: u32 = 1000;

@@ -9,7 +9,6 @@ use host_model::ModelHost;
 use http_front::StillClock;
 use record_keeper::MapKeeper;
 use row_machine::Event;
-use workers::work;
 use size_values::Seq;
 use std::alloc::Global;
 use std::marker::Brand;
@@ -20,6 +19,7 @@ use std::thread;
 use std::thread::Threads;
 use std::time::Clock;
 use turnstile::{Pass, Turnstile};
+use workers::work;
 
 /// How many instances each link creates.
 const CREATIONS: u32 = 10;

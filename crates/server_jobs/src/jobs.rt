@@ -1,17 +1,17 @@
 ghost use Rattle.server_jobs.specs.Jobs.{is_link};
 
+use connections::{ConnectionEnd, serve_connection};
 use gates::LockedGate;
 use host_lock::LockedHost;
 use host_model::Host;
-use connections::{ConnectionEnd, serve_connection};
 use http_front::{Clock, Sink, Source};
 use record_keeper::Keeper;
-use workers::work;
 use spawners::Job;
 use std::alloc::Global;
 use std::sync::Wait;
 use std::sync::ledger::Ledger;
 use std::time;
+use workers::work;
 
 /// What a server begins beside its other work.
 #[derive(Drop)]

@@ -45,7 +45,13 @@ const CREATED: &str =
 const SESSIONS: &[(&str, bool, bool, &[&str], u64)] = &[
     (NOTHING, true, true, &[], 3),
     (CREATION, false, true, &[PENDING, RUNNING, SUCCESS], 7),
-    (CREATION, true, true, &[PENDING, RUNNING, CREATED, SUCCESS], 7),
+    (
+        CREATION,
+        true,
+        true,
+        &[PENDING, RUNNING, CREATED, SUCCESS],
+        7,
+    ),
     (CREATION, true, false, &[CREATED], 7),
     (CANCELLED_CREATION, false, true, &[PENDING, CANCELLED], 5),
 ];
