@@ -1,5 +1,5 @@
 -- A connection: a link, and then a session where a request subscribes to events.
-use Rattle.std.specs.Prelude.{◌≡◌, ℕ}
+use Rattle.std.specs.Prelude.{ℕ}
 use Rattle.http_front.specs.Clocks.{Readings}
 use Rattle.gate_trails.specs.Gates.{Seen}
 use Rattle.rest_answers.specs.Links.{Inlet, Outlet}

@@ -1,7 +1,6 @@
 -- What a sink took of texts that were written one after the other.
-use Rattle.std.proofs.Common.{◌≡◌, ◌≤◌, ◌++◌, ℕ, List, [], ◌∷◌, take, drop, refl, ap, sym, ◌∙◌, subst, arith, append_assoc}
-use Rattle.std.proofs.lemmas.List.{append-nil, take-append-drop}
-use Rattle.std.specs.Io.KnownBytes.{Appends}
+use Rattle.std.proofs.Common.{◌≡◌, ◌≤◌, ◌++◌, ℕ, List, [], take, drop, refl, ap, sym, ◌∙◌, subst, arith, append_assoc}
+use Rattle.std.proofs.lemmas.List.{take-append-drop}
 use Rattle.size_values.specs.Causes.{Rose}
 use Rattle.rest_answers.specs.Links.{BreaksOff, Outlet, Takes}
 use Rattle.rest_answers.proofs.Linking.{appends_nothing, appends_twice}
@@ -68,14 +67,14 @@ front_after {a} {b} {c} {t} {u} takes front = record {
       omega (arith, before, after);
 }
 
-rose_after : {a b c : Outlet} → a.failures ≤ b.failures → Rose b.failures c.failures → Rose a.failures c.failures
-rose_after later rose = omega (arith, later, rose)
+pub rose_after : (a b c : ℕ) → a ≤ b → Rose b c → Rose a c
+rose_after a b c later rose = omega (arith, later, rose)
 
 -- one text, and then a session that ended so
-pub ends_after : {a b c : Outlet} {t u : List ℕ} {p : Place} (ends : SessionEnd) → Takes a b t → Ends ends p b c u
+pub ends_after : (a b c : Outlet) (t u : List ℕ) (p : Place) (ends : SessionEnd) → Takes a b t → Ends ends p b c u
     → Ends ends p a c (t ++ u)
-ends_after (end.Lagged cursor oldest) takes ended = (ended.0, takes_twice takes ended.1)
-ends_after end.Rested takes ended = (ended.0, takes_twice takes ended.1)
-ends_after {a} {b} {c} end.WriteFault takes ended =
-    (front_after takes ended.0, rose_after {a} {b} {c} takes.later ended.1)
-ends_after end.NoMemory takes ended = front_after takes ended
+ends_after a b c t u p (end.Lagged cursor oldest) takes ended = (ended.0, takes_twice takes ended.1)
+ends_after a b c t u p end.Rested takes ended = (ended.0, takes_twice takes ended.1)
+ends_after a b c t u p end.WriteFault takes ended =
+    (front_after takes ended.0, rose_after a.failures b.failures c.failures takes.later ended.1)
+ends_after a b c t u p end.NoMemory takes ended = front_after takes ended

@@ -4,7 +4,7 @@ use Rattle.std.specs.Prelude.{ℕ, List, [], ◌++◌, None, codes}
 use Rattle.websocket.specs.Connection.{whole_header}
 use Rattle.websocket.specs.Frame.{encode_frame}
 use Rattle.websocket.specs.declared.protocol.frame.coding.OpCode.TheVariants as opcode
-use Rattle.websocket.specs.declared.protocol.frame.coding.Data.TheVariants as data
+use Rattle.websocket.specs.declared.protocol.frame.coding.Data.TheVariants as message
 use Rattle.websocket.specs.declared.protocol.frame.coding.Control.TheVariants as control
 use Rattle.event_texts.specs.Accepting.{accept_text}
 
@@ -16,7 +16,7 @@ accepting_head key =
 
 -- a text message in one frame
 unfoldable pub text_frame : List ℕ → List ℕ
-text_frame text = encode_frame (whole_header (opcode.Data data.Text) None) text
+text_frame text = encode_frame (whole_header (opcode.Data message.Text) None) text
 
 -- a close frame without a code
 unfoldable pub close_frame : List ℕ

@@ -1,5 +1,5 @@
 -- How the sending of a text ended, and what the sink took of it.
-use Rattle.std.specs.Prelude.{◌≡◌, ℕ, List, Result, Ok, Err, Vec}
+use Rattle.std.specs.Prelude.{◌≡◌, ℕ, List}
 use Rattle.size_values.specs.Causes.{Rose}
 use Rattle.size_values.specs.declared.memory.NoMemory.{NoMemory}
 use Rattle.rest_answers.specs.Links.{BreaksOff, Outlet, Takes}

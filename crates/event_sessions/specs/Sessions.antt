@@ -8,7 +8,6 @@ use Rattle.records.specs.declared.notices.Filter.{Filter}
 use Rattle.records.specs.declared.notices.Notice.{Notice}
 use Rattle.row_machine.specs.declared.events.Answer.{Answer}
 use Rattle.row_machine.specs.declared.events.Answer.TheVariants as answer
-use Rattle.row_machine.specs.declared.events.Event.{Event}
 use Rattle.row_machine.specs.declared.events.Event.TheVariants as event
 use Rattle.row_machine.specs.declared.events.Fetched.{Fetched}
 use Rattle.row_machine.specs.declared.events.Fetched.TheVariants as fetched

@@ -43,12 +43,12 @@ fn copied(alloc: Global, filter: &Filter) -> Result<Filter, NoMemory>
 }
 
 /// The events of an answer to a listener.
-fn fetched_in(answer: Answer) -> Result<Fetched, NoMemory>
-    requires { IsForListener answer }
-    ensures ok { IfOk result (λ f. answer.Fetched f ≡ answer) }
-    ensures err { OnErr result (answer.NoMemory ≡ answer) }
+fn fetched_in(given: Answer) -> Result<Fetched, NoMemory>
+    requires { IsForListener given }
+    ensures ok { IfOk result (λ f. answer.Fetched f ≡ given) }
+    ensures err { OnErr result (answer.NoMemory ≡ given) }
 {
-    match answer {
+    match given {
         Answer::Fetched(fetched) => Ok(fetched),
         Answer::NoMemory => Err(NoMemory),
         _ => unreachable!(),
@@ -70,8 +70,8 @@ pub(crate) fn ask<G: Gate>(
         (seen G.told G.turned G.rested gate.new)) }
 {
     let filter = copied(alloc, filter)?;
-    let answer = gate.turn(Event::Fetch(cursor, filter));
-    fetched_in(answer)
+    let given = gate.turn(Event::Fetch(cursor, filter));
+    fetched_in(given)
 }
 
 /// One rest after an answer without events.

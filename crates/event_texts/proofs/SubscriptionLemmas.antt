@@ -1,5 +1,5 @@
 -- Requests that subscribe.
-use Rattle.std.proofs.Common.{◌≡◌, ◌&&◌, ℕ, List, Bool, true, false, cond, Option, Some, None, Result, Ok, Err, is_some, refl, sym, subst}
+use Rattle.std.proofs.Common.{◌≡◌, ◌&&◌, ℕ, List, Bool, true, false, cond, Option, Some, None, Result, Ok, is_some, refl, sym, subst}
 use Rattle.std.specs.Prelude.{codes}
 use Rattle.std.specs.Str.{bytes_eq}
 use Rattle.http_heads.specs.declared.request.Request.{Request}

@@ -1,5 +1,5 @@
 -- How a command comes to its reply, from what its parts ensure.
-use Rattle.std.proofs.Common.{◌≡◌, ◌==◌, ◌≢◌, ◌<◌, ◌≤◌, ◌+◌, ℕ, ℤ, Bool, true, false, cond, List, [], ◌∷◌, Option, Some, None}
+use Rattle.std.proofs.Common.{◌≡◌, ◌==◌, ◌<◌, ◌≤◌, ◌+◌, ℕ, Bool, true, false, cond, List, [], ◌∷◌, Option, Some}
 use Rattle.std.proofs.Common.{refl, ap, sym, ◌∙◌, subst, arith}
 use Rattle.std.proofs.lemmas.Bool.Decides.{nat_tests}
 use Rattle.size_values.specs.Moments.{moment_limit}
@@ -15,10 +15,7 @@ use Rattle.row_machine.specs.declared.events.Event.TheVariants as event
 use Rattle.core_rows.specs.Asked.{answered}
 use Rattle.gate_trails.specs.Gates.{Seen, Walk}
 use Rattle.gate_trails.specs.Trails.{RestsTold, TurnsTold, capped}
-use Rattle.gate_trails.proofs.Walking.{walk-append, walk-none, walk-rest, walk-turn}
-use Rattle.rest_answers.specs.Asked.{answer_of, showing}
-use Rattle.rest_answers.specs.declared.asked.Asked.{Asked}
-use Rattle.rest_answers.specs.declared.asked.Asked.TheVariants as asked
+use Rattle.gate_trails.proofs.Walking.{walk-append, walk-rest, walk-turn}
 use Rattle.gate_replies.specs.Moments.{IsLate, deadline_by, deadline_of}
 use Rattle.gate_replies.specs.Waits.{Brings, Looked, Place, Sees, ServeBy, Stand, after_rest, due, looking}
 use Rattle.gate_replies.specs.Waits.{most_rests, replied}

@@ -23,9 +23,9 @@ use Rattle.gate_replies.specs.Replying.{Reaches}
 use Rattle.serve_loop.specs.Serving.{Asks, CarriesOut, Exchange, KeepsGate, Line, Serves, ServesAll}
 use Rattle.serve_loop.specs.Serving.{Meets, Serving, Stops, Turns, end_after, turn_after}
 use Rattle.event_texts.specs.Subscriptions.{subscription_of}
-use Rattle.serve_loop.specs.Waits.{replied}
 use Rattle.serve_loop.specs.declared.link.LinkEnd.{LinkEnd}
 use Rattle.serve_loop.specs.declared.link.LinkEnd.TheVariants as end
+use Rattle.serve_loop.specs.declared.link.Turn.{Turn}
 use Rattle.serve_loop.specs.declared.link.Turn.TheVariants as turn
 
 -- ---- one turn

@@ -1,5 +1,5 @@
 -- A link over a text that is known whole.
-use Rattle.std.proofs.Common.{◌≡◌, ◌⊎◌, ◌++◌, ◌||◌, ℕ, List, [], ◌∷◌, true, false, Option, Some, None}
+use Rattle.std.proofs.Common.{◌≡◌, ◌⊎◌, ◌++◌, ℕ, List, [], ◌∷◌, true, false, Option, Some, None}
 use Rattle.std.proofs.Common.{IfSome, if◌then◌else◌, refl, ap, sym, ◌∙◌, subst, inl, inr, append_assoc}
 use Rattle.std.proofs.lemmas.List.{append-nil}
 use Rattle.std.specs.Io.KnownBytes.{Appends, prepend_known}
@@ -15,7 +15,8 @@ use Rattle.rest_answers.specs.Texts.{printed}
 use Rattle.rest_answers.proofs.Linking.{appends_nothing, appends_twice}
 use Rattle.rest_answers.proofs.Splitting.{GoesOn, none_more, splits_behind}
 use Rattle.serve_loop.specs.Serving.{Exchange, Line, Serves, ServesAll, Serving, Stops, Turns}
-use Rattle.serve_loop.specs.Texts.{HandlesAll, IsFault, ServesText, Sides, end_at, printed_replies}
+use Rattle.serve_loop.specs.Texts.{HandlesAll, IsFault, ServesText, Sides, answered, answered_by, end_at, end_by}
+use Rattle.serve_loop.specs.Texts.{end_due, printed_replies}
 use Rattle.serve_loop.specs.Texts.{requests_of, sides}
 use Rattle.serve_loop.specs.Texts.{text_at, trail_of}
 use Rattle.serve_loop.specs.declared.link.LinkEnd.{LinkEnd}

@@ -1,6 +1,6 @@
 -- A link: its requests are taken one after the other, each comes to its reply at a gate, and then the link ends for one
 -- reason. The boot word is that of the ids of operations.
-use Rattle.std.specs.Prelude.{◌≡◌, ◌≢◌, ◌≤◌, ◌⊎◌, ℕ, List, [], ◌∷◌, Bool, true, false, length, Option, Some, None}
+use Rattle.std.specs.Prelude.{◌≡◌, ◌≢◌, ◌≤◌, ◌⊎◌, ℕ, List, [], ◌∷◌, Bool, true, false, length, Some, None}
 use Rattle.http_heads.specs.declared.request.HeadFault.{HeadFault}
 use Rattle.http_heads.specs.declared.request.Request.{Request}
 use Rattle.http_front.specs.Clocks.{Readings}
@@ -124,6 +124,19 @@ pub record ServingFrom (boot : ℕ) (w : Line) (source : Inlet) (sink : Outlet) 
 
 -- ---- the parts of a turn
 
+-- how a turn goes on after a reply, from how its writing ended and whether its request is the last on its connection
+abbrev pub turn_after : Written → Bool → Turn
+turn_after ended.Whole true = turn.Final
+turn_after ended.Whole false = turn.GoOn
+turn_after ended.WriteFault last = turn.Stop end.WriteFault
+turn_after ended.NoMemory last = turn.Stop end.NoMemory
+
+-- how a link ends at a malformed place, from how the writing of its reply ended
+abbrev pub end_after : Written → HeadFault → LinkEnd
+end_after ended.Whole fault = end.Malformed fault
+end_after ended.WriteFault fault = end.WriteFault
+end_after ended.NoMemory fault = end.NoMemory
+
 -- a request that subscribes to no events was answered, and so the link goes on
 pub record Replies (boot : ℕ) (request : Request) (next : Turn) (sink sink' : Outlet) (gate gate' : Seen)
     (clock clock' : Readings) : Type 0 where
@@ -149,16 +162,3 @@ Meets boot request next sink sink' gate gate' clock clock' =
     ⊎ ((wanted : Subscription) × (next ≡ turn.Stop (end.Events wanted)) × (subscription_of request ≡ Some wanted)
     × Untouched sink sink' gate gate' clock clock')
     ⊎ ((next ≡ turn.Stop end.NoMemory) × Untouched sink sink' gate gate' clock clock')
-
--- how a turn goes on after a reply, from how its writing ended and whether its request is the last on its connection
-abbrev pub turn_after : Written → Bool → Turn
-turn_after ended.Whole true = turn.Final
-turn_after ended.Whole false = turn.GoOn
-turn_after ended.WriteFault last = turn.Stop end.WriteFault
-turn_after ended.NoMemory last = turn.Stop end.NoMemory
-
--- how a link ends at a malformed place, from how the writing of its reply ended
-abbrev pub end_after : Written → HeadFault → LinkEnd
-end_after ended.Whole fault = end.Malformed fault
-end_after ended.WriteFault fault = end.WriteFault
-end_after ended.NoMemory fault = end.NoMemory

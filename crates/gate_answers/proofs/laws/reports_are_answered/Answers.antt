@@ -2,4 +2,4 @@ use Rattle.gate_answers.proofs.Answering.{for_reporter}
 use Rattle.gate_answers.proofs.laws.reports_are_answered.Goals as goal
 
 pub returns : goal.returns
-returns g c = for_reporter
+returns c = for_reporter

@@ -1,4 +1,4 @@
-use Rattle.std.proofs.Common.{◌≡◌, SFits, rules, w64}
+use Rattle.std.proofs.Common.{SFits, rules, w64}
 use Rattle.std.proofs.lemmas.Int.{to_z-of_z}
 use Rattle.gate_replies.proofs.Waiting.{held_back}
 use Rattle.gate_replies.proofs.wait.wait_and_show.Goals as goal

@@ -1,14 +1,14 @@
-use Rattle.std.proofs.Common.{inl, inr, refl, sym}
+use Rattle.std.proofs.Common.{inl, inr, refl, sym, ◌∙◌}
 use Rattle.serve_loop.proofs.link.serve_request.Goals as goal
 
-pub returns-in-None : goal.returns-in-None
-returns-in-None g c = inl (sym c.in-None.ensures, c.answer_request-next.ensures)
+pub returns-in-Ok-None : goal.returns-in-Ok-None
+returns-in-Ok-None g c = inl (sym c.in-Ok-None.ensures ∙ c.in-Ok-None.field-0-is, c.answer_request-next.ensures)
 
-pub returns-in-Some : goal.returns-in-Some
-returns-in-Some g c = inr (inl (
-  c.in-Some.subscription,
+pub returns-in-Ok-Some : goal.returns-in-Ok-Some
+returns-in-Ok-Some g c = inr (inl (
+  c.in-Ok-Some.subscription,
   refl,
-  sym c.in-Some.ensures,
+  sym c.in-Ok-Some.ensures ∙ c.in-Ok-Some.field-0-is,
   record { sink_is = refl; gate_is = refl; clock_is = refl },
 ))
 
