@@ -25,6 +25,7 @@ use workers::work;
 const CREATIONS: u32 = 10;
 
 /// What the links and workers share.
+#[derive(Drop)]
 struct Floor<L: Ledger, T: Wait + Clock> {
     rt: T,
     alloc: Global,

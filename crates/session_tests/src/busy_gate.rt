@@ -54,6 +54,13 @@ pub(crate) fn request<T: Wait, G: Gate>(
     Ok(())
 }
 
+/// Changes a project more often than events are kept.
+fn change<T: Wait, G: Gate>(rt: &T, alloc: Global, gate: &mut G) {
+    for _ in 0..CHANGES {
+        let _ = request(rt, alloc, gate, CHANGE);
+    }
+}
+
 /// A gate beside whose turns a link makes these requests.
 #[derive(Drop)]
 pub(crate) struct BusyGate<T> {
@@ -84,9 +91,7 @@ impl<T: Wait> Gate for BusyGate<T> {
         } else if self.rests < WORKED {
             self.inner.rest();
         } else {
-            for _ in 0..CHANGES {
-                let _ = request(&self.rt, self.alloc, &mut self.inner, CHANGE);
-            }
+            change(&self.rt, self.alloc, &mut self.inner);
         }
         self.rests = self.rests.saturating_add(1);
     }
