@@ -21,7 +21,7 @@ const WORKED: u64 = 20;
 const CHANGES: u32 = 1100;
 
 const CHANGE: &str =
-    "PATCH /1.0/projects/default HTTP/1.1\r\nHost: localhost\r\nContent-Length: 23\r\n\r\n{\"config\":{\"user.a\":\"\"}}";
+    "PATCH /1.0/projects/default HTTP/1.1\r\nHost: localhost\r\nContent-Length: 25\r\n\r\n{\"description\":\"touched\"}";
 
 pub(crate) type OwnGate = AloneGate<MapKeeper, ModelHost, StillClock>;
 
