@@ -21,7 +21,7 @@ pub(crate) fn tell_address(rt: HostRuntime, port: u16, is_listening: bool) {
 }
 
 /// Why a server ended with this status, where nothing was told of it yet.
-pub(crate) fn tell_end(rt: HostRuntime, status: u8) {
+pub fn tell_end(rt: HostRuntime, status: u8) {
     match status {
         9 => tell(rt, "incusd: out of memory\n"),
         11 => tell(rt, "incusd: the next connection could not be accepted\n"),

@@ -1,4 +1,4 @@
-use Rattle.incusd.proofs.listening.serve_over.Given as goal
+use Rattle.threaded_server.proofs.listening.serve_over.Given as goal
 
 -- the ledger is that of the blank
 abbrev pub ghosts-serve_at : goal.ghosts-serve_at
