@@ -3,8 +3,8 @@
 #![tactic(auto)]
 
 mod listening;
-mod serving;
+mod starting;
 mod telling;
 
-pub use serving::serve;
+pub use starting::serve;
 pub use telling::tell_end;
