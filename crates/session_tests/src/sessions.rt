@@ -35,7 +35,7 @@ const SUCCESS: &str =
     "{\"metadata\":{\"class\":\"task\",\"created_at\":\"1970-01-01T00:00:00Z\",\"err\":\"\",\"id\":\"00000000-0001-8000-8000-000000000001\",\"may_cancel\":false,\"metadata\":null,\"resources\":{\"instances\":[\"/1.0/instances/a\"]},\"status\":\"Success\",\"status_code\":200,\"updated_at\":\"1970-01-01T00:00:00Z\"},\"project\":\"default\",\"timestamp\":\"1970-01-01T00:00:00Z\",\"type\":\"operation\"}";
 
 const CANCELLED: &str =
-    "{\"metadata\":{\"class\":\"task\",\"created_at\":\"1970-01-01T00:00:00Z\",\"err\":\"\",\"id\":\"00000000-0001-8000-8000-000000000001\",\"may_cancel\":false,\"metadata\":null,\"resources\":{\"instances\":[\"/1.0/instances/a\"]},\"status\":\"Cancelled\",\"status_code\":401,\"updated_at\":\"1970-01-01T00:00:00Z\"},\"project\":\"default\",\"timestamp\":\"1970-01-01T00:00:00Z\",\"type\":\"operation\"}";
+    "{\"metadata\":{\"class\":\"task\",\"created_at\":\"1970-01-01T00:00:00Z\",\"err\":\"operation was cancelled\",\"id\":\"00000000-0001-8000-8000-000000000001\",\"may_cancel\":false,\"metadata\":null,\"resources\":{\"instances\":[\"/1.0/instances/a\"]},\"status\":\"Cancelled\",\"status_code\":401,\"updated_at\":\"1970-01-01T00:00:00Z\"},\"project\":\"default\",\"timestamp\":\"1970-01-01T00:00:00Z\",\"type\":\"operation\"}";
 
 const CREATED: &str =
     "{\"metadata\":{\"action\":\"instance-created\",\"source\":\"/1.0/instances/a\"},\"project\":\"default\",\"timestamp\":\"1970-01-01T00:00:00Z\",\"type\":\"lifecycle\"}";
