@@ -126,10 +126,24 @@ fn meet<L: Ledger + Send + Sync, T: Threads + Wait + Clock + Copy + Send + Sync 
     let mut passes = thread::map_vec(&rt, passes, &|pass| plays(shared, pass)).ok()?;
     let (last, instances) = with_replies(&floor, passes.pop()?, INSTANCES, "/1.0/instances/");
     passes.push(last).ok()?;
+    close_all(&floor, passes, instances)
+}
+
+/// Closes the server with all of its passes, after the instances were counted.
+fn close_all<L: Ledger, T: Wait + Clock>(
+    floor: &Floor<L, T>,
+    passes: Vec<Pass<L>>,
+    instances: usize,
+) -> Option<Told>
+    requires { L.parts ≡ 9 }
+{
+    if passes.len() != 9 {
+        return None;
+    }
     let made = passes
         .iter()
         .fold(0u64, |sum, pass| sum.wrapping_add(pass.made()));
-    let turns = floor.turnstile.close(&rt, passes);
+    let turns = floor.turnstile.close(&floor.rt, passes);
     Some(Told {
         made,
         turns,

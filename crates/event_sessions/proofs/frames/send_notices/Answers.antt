@@ -8,10 +8,11 @@ use Rattle.event_sessions.proofs.frames.send_notices.Goals as goal
 pub returns-in-WriteFault : goal.returns-in-WriteFault
 returns-in-WriteFault g c =
     let item = c.notice-item.result in
-    let at : item ≡ get_or c.args.notices.now c.notices.notice-index item = search rules in
-    (front_at c.args.boot c.args.notices.now c.notices.notice-index item c.notices-test.true at c.notices.invariant
-    (front_broken c.in-WriteFault.ensures),
-    rose_after _ _ _ c.notices.invariant.later c.in-WriteFault.ensures.rose)
+    let at : item ≡ get_or c.args.notices.now c.notices.notice-index item = search rules in (
+      front_at c.args.boot c.args.notices.now c.notices.notice-index item c.notices-test.true at c.notices.invariant
+          (front_broken c.in-WriteFault.ensures),
+      rose_after _ _ _ c.notices.invariant.later c.in-WriteFault.ensures.rose,
+    )
 
 pub returns-in-NoMemory : goal.returns-in-NoMemory
 returns-in-NoMemory g c =
