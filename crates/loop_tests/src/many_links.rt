@@ -49,7 +49,7 @@ type Locked<L, T> = LockedGate<MapKeeper, L, T>;
 /// The request that creates an instance.
 fn creation(alloc: Global, link: u64, number: u32) -> Option<String> {
     format!(in alloc;
-        "POST /1.0/instances HTTP/1.1\r\nHost: localhost\r\nContent-Length: 39\r\n\r\n{{\"name\":\"i{link}-{number}\",\"source\":{{\"type\":\"none\"}}}}"
+        "POST /1.0/instances HTTP/1.1\r\nHost: localhost\r\nContent-Length: 40\r\n\r\n{{\"name\":\"i{link}-{number}\",\"source\":{{\"type\":\"none\"}}}}"
     ).ok()
 }
 

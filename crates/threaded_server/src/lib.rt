@@ -5,6 +5,7 @@
 mod listening;
 mod starting;
 mod telling;
+mod threads;
 
 pub use starting::serve;
 pub use telling::tell_end;
