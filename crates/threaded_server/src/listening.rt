@@ -52,7 +52,7 @@ where
     type Out = (u8, Option<R>);
 
     ghost is_sound = { λ b. ((D.seen b.doors).given ≡ 0) × (b.blank.name ≡ L.name) × (b.blank.parts ≡ L.parts)
-        × (b.blank.parts ≡ (serve_setup_of (map (λ w. string_bytes w) b.words)).passes) };
+        × (b.blank.parts ≡ (serve_setup_of (map (λ w. string_bytes w) b.words.now)).passes) };
 
     fn run<P: Spawner<Job<D, R, L, T>>>(self, spawner: &mut P) -> (u8, Option<R>) {
         let Beginning {
