@@ -7,7 +7,8 @@ The program is crates/incus_run/out/incus_run without `--program` (`bin/incus_ru
 
 1. A file gets N rows (65,536) by the stock SQLite: volumes with a description and two settings, in one pool and in four projects. Told are
    the bytes of the file a row, and the time of `check --db`, which opens them: the shortest and the longest of a number of runs (3).
-2. `drill 7 N` (10,000) makes instances in memory, and then over a file: creations a second, and bytes of the file for each row that it has.
+2. N instances (2,000) are created in a project without limits, each waited for, in memory and then over a file: creations a second, and
+   the bytes of the file with its log.
 
 It ends with status 1 where a command does not end well, or the file has other rows.
 """
@@ -65,21 +66,34 @@ def show_opening(program, folder, count, runs):
     print(f"opening of {count} volumes in {len(PROJECTS)} projects: {min(times):.2f} to {max(times):.2f} s; {held / count:.0f} bytes of the file a row")
 
 
+def stream(*words):
+    return subprocess.run([TOP / "bench/stream.py", *map(str, words)], capture_output=True, check=True).stdout
+
+
+def create(program, requests, count, *words):
+    """Creates so many instances one after the other, each waited for, and gives the seconds that took."""
+    began = time.monotonic()
+    ran = subprocess.run([program, "run", "--now", "0", "--boot", "0", *map(str, words)], input=requests, capture_output=True, check=False)
+    took = time.monotonic() - began
+    if ran.returncode != 0 or ran.stdout.count(b"HTTP/1.1 202 ") != count or b'"error_code"' in ran.stdout:
+        sys.exit(f"not all of {count} instances were created: status {ran.returncode}")
+    return took
+
+
 def show_creations(program, folder, count):
     file = Path(folder, "made.db")
-    took, _ = run(program, "drill", 7, count)
-    print(f"drill of {count} creations in memory: {took:.2f} s, {count / took:.0f} a second")
-    took, lines = run(program, "drill", 7, count, "--db", file)
-    kinds = ("projects", "profiles", "networks", "pools", "volumes", "instances", "snapshots")
-    rows = sum(int(line.split()[1]) for line in lines if line.split()[0] in kinds)
-    print(f"the same over a file: {took:.2f} s, {count / took:.0f} a second; {rows} rows, {size_of(file) / rows:.0f} bytes of the file and its log a row")
+    requests = stream("tenant", "lab") + stream("made", "lab", 1, count, 1)
+    took = create(program, requests, count)
+    print(f"{count} creations in memory, each with a wait: {took:.2f} s, {count / took:.0f} a second")
+    took = create(program, requests, count, "--db", file)
+    print(f"the same over a file: {took:.2f} s, {count / took:.0f} a second; {size_of(file) / count:.0f} bytes of the file and its log for each instance")
 
 
 def main():
     parser = argparse.ArgumentParser()
     parser.add_argument("--program", default=TOP / "crates/incus_run/out/incus_run")
     parser.add_argument("--rows", type=int, default=65_536)
-    parser.add_argument("--creations", type=int, default=10_000)
+    parser.add_argument("--creations", type=int, default=2_000)
     parser.add_argument("--runs", type=int, default=3)
     arguments = parser.parse_args()
     program = Path(arguments.program).resolve()
