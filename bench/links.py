@@ -35,8 +35,8 @@ def memory(server):
 
 def reads(program, links, seconds):
     """GET /1.0 a second, and the memory of the server meanwhile."""
-    # One connection more keeps the server until its memory was read.
-    with Server(program, links + 1) as server, server.connect() as kept:
+    # `wrk` makes one more connection to look whether there is a server, and one keeps it until its memory was read.
+    with Server(program, links + 2) as server, server.connect() as kept:
         ran = subprocess.run(
             ["wrk", "-t", str(min(links, 2)), "-c", str(links), "-d", f"{seconds}s", f"http://127.0.0.1:{server.port}/1.0"],
             capture_output=True, text=True, check=True)
