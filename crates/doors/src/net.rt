@@ -105,6 +105,9 @@ where
 {
     let stream = next_stream(listener.as_ref()?)?;
     stream.set_write_timeout(Some(patience)).ok()?;
+    // Each reply and each event is one write, which is not to wait for the client's answer to the one
+    // before. Where this can't be had, they are slower.
+    let _at_once = stream.set_nodelay(true);
     let twin = stream.try_clone().ok()?;
     Some(Link {
         source: ReaderSource::new(twin),
