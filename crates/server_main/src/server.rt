@@ -1,5 +1,5 @@
 ghost use Rattle.std.specs.Prelude.{◌≡◌, ℕ, ◌+◌, ◌⊎◌, ◌≤◌, List, map, option_map, Some, None, IfSome};
-ghost use Rattle.std.specs.Prelude.{is_some, string_bytes, true};
+ghost use Rattle.std.specs.Prelude.{is_some, string_bytes, true, false};
 ghost use Rattle.size_values.specs.Causes.{Rose};
 ghost use Rattle.row_machine.specs.machine.State.{State};
 ghost use Rattle.row_machine.specs.opening.Opening.{opened, opening_of};
@@ -60,6 +60,7 @@ where
         (outside (D.seen doors.new) (P.counts spawner.new) (P.failures spawner.new)) }
     ensures begun { (P.counts spawner.new).links ≡ (D.seen doors.new).given }
     ensures first { GivesFirst 0 (D.seen doors.new).given (D.left doors.old) (D.left doors.new) }
+    ensures beside { (P.counts spawner.new).late ≡ false }
     ensures out { (P.counts spawner.new).out ≡ 0 }
 {
     let passes = said.connections + said.workers + 1;
@@ -114,6 +115,7 @@ where
         (outside (D.seen doors.new) (P.counts spawner.new) (P.failures spawner.new)) result.0 }
     ensures begun { (P.counts spawner.new).links ≡ (D.seen doors.new).given }
     ensures first { GivesFirst 0 (D.seen doors.new).given (D.left doors.old) (D.left doors.new) }
+    ensures beside { (P.counts spawner.new).late ≡ false }
     ensures out { (P.counts spawner.new).out ≡ 0 }
 {
     match Daemon::begin(alloc, &mut keeper) {
@@ -162,6 +164,7 @@ where
         (outside (D.seen doors.new) (P.counts spawner.new) (P.failures spawner.new)) result.0 }
     ensures begun { (P.counts spawner.new).links ≡ (D.seen doors.new).given }
     ensures first { GivesFirst 0 (D.seen doors.new).given (D.left doors.old) (D.left doors.new) }
+    ensures beside { (P.counts spawner.new).late ≡ false }
     ensures out { (P.counts spawner.new).out ≡ 0 }
 {
     match read_serve_words(alloc, words) {
@@ -214,9 +217,11 @@ where
         (outside (D.seen doors.new) (P.counts spawner.new) (P.failures spawner.new)) result.0 }
 
     // Of every end: a job was begun for each link that was given, which were the first of those that
-    // the doors told, and nothing that was started is left.
+    // the doors told, no job was begun after one had been waited for, and nothing that was started is
+    // left.
     ensures begun { (P.counts spawner.new).links ≡ (D.seen doors.new).given }
     ensures first { GivesFirst 0 (D.seen doors.new).given (D.left doors.old) (D.left doors.new) }
+    ensures beside { (P.counts spawner.new).late ≡ false }
     ensures out { (P.counts spawner.new).out ≡ 0 }
 
     // What each status says.

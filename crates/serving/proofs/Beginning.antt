@@ -28,6 +28,8 @@ workers_more s t = record {
   others = omega (arith, s.others, t.others, s.more, t.more);
   out = omega (arith, s.out, t.out, s.more, t.more);
   more = omega (arith, s.more, t.more);
+  waited = t.waited ∙ s.waited;
+  late = λ none. t.late (s.waited ∙ none) ∙ s.late none;
 }
 
 -- there is room for one more worker
@@ -47,6 +49,8 @@ links_more s t = record {
   out = omega (arith, s.out, t.out);
   more = omega (arith, s.more, t.more);
   few = omega (arith, s.few, t.few);
+  waited = t.waited ∙ s.waited;
+  late = λ none. t.late (s.waited ∙ none) ∙ s.late none;
 }
 
 -- there is room for one more link
@@ -89,6 +93,8 @@ begins_workers idle none s = record {
   links = s.links ∙ ap (λ c. c.links) idle;
   others = omega (arith, s.others, ap (λ c. c.others) idle, none);
   out = omega (arith, s.out, ap (λ c. c.out) idle, none);
+  waited = s.waited ∙ ap (λ c. c.waited) idle;
+  late = s.late (ap (λ c. c.waited) idle) ∙ ap (λ c. c.late) idle;
 }
 
 pub begins_all : {a b c : Counts} {k m n o x y : ℕ} → a ≡ none_begun → k ≡ 0 → n ≡ 0 → x ≡ 0 → StartsWorkers a b k m → BeginsLinks b c n o x y → BeginsAll c o m y
@@ -98,6 +104,8 @@ begins_all idle none no_links no_given s t =
       links = omega (arith, t.links, w.links, no_given);
       others = t.others ∙ w.others;
       out = omega (arith, t.out, w.out, no_links);
+      waited = t.waited ∙ w.waited;
+      late = t.late w.waited ∙ w.late;
     }
 
 -- ---- causes

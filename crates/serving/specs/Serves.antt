@@ -9,20 +9,24 @@ pub record HasRoom (c : Counts) (n : ℕ) : Type 0 where
   pub others : c.others + n ≤ 2 ^ 62
   pub out : c.out + n ≤ 2 ^ 62
 
--- A number of workers were started, and as many tasks more are held.
+-- A number of workers were started, and as many tasks more are held. None was waited for.
 pub record StartsWorkers (old new : Counts) (tasks tasks' : ℕ) : Type 0 where
   pub links : new.links ≡ old.links
   pub others : new.others + tasks ≡ old.others + tasks'
   pub out : new.out + tasks ≡ old.out + tasks'
   pub more : tasks ≤ tasks'
+  pub waited : new.waited ≡ old.waited
+  pub late : old.waited ≡ false → new.late ≡ old.late
 
--- A link job was begun for each link that was given, and the tasks that are out of them are held.
+-- A link job was begun for each link that was given, and the tasks that are out of them are held. None was waited for.
 pub record BeginsLinks (old new : Counts) (tasks tasks' given given' : ℕ) : Type 0 where
   pub links : new.links + given ≡ old.links + given'
   pub others : new.others ≡ old.others
   pub out : new.out + tasks ≡ old.out + tasks'
   pub more : tasks ≤ tasks'
   pub few : tasks' + given ≤ tasks + given'
+  pub waited : new.waited ≡ old.waited
+  pub late : old.waited ≡ false → new.late ≡ old.late
 
 -- where the links to come are told, the first of them were given, and no others
 pub record GivesFirst {T : Type 0} (given given' : ℕ) (old new : Option (List T)) : Type 0 where
@@ -41,22 +45,27 @@ abbrev pub IsEnough : ℕ → ℕ → Seen → Type 0
 IsEnough given count new = (new.given ≡ given + count) ⊎ (new.none_left ≡ true)
 
 -- The doors gave as many links as were asked for, or said that none is left. A link job was begun for each of them, another
--- job for each worker, and every task was taken in.
+-- job for each worker, and every task was taken in. No job was begun after one had been waited for, so all that were started
+-- ran beside each other.
 pub record IsServed (connections workers : ℕ) (seen : Seen) (c : Counts) : Type 0 where
   pub enough : IsEnough 0 connections seen
   pub links : c.links ≡ seen.given
   pub others : c.others ≡ workers
   pub out : c.out ≡ 0
+  pub beside : c.late ≡ false
 
 -- so many tasks were taken in, and nothing was begun
 pub record TakesIn (n : ℕ) (old new : Counts) : Type 0 where
   pub links : new.links ≡ old.links
   pub others : new.others ≡ old.others
   pub out : new.out + n ≡ old.out
+  pub late : new.late ≡ old.late
 
 -- Of a server that had begun nothing: a link job for each link that was given, a worker for each of those that are held,
--- and all tasks that are out are held.
+-- all tasks that are out are held, and none was waited for yet.
 pub record BeginsAll (c : Counts) (link_tasks worker_tasks given : ℕ) : Type 0 where
   pub links : c.links ≡ given
   pub others : c.others ≡ worker_tasks
   pub out : c.out ≡ link_tasks + worker_tasks
+  pub waited : c.waited ≡ false
+  pub late : c.late ≡ false

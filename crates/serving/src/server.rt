@@ -1,4 +1,4 @@
-ghost use Rattle.std.specs.Prelude.{◌≡◌, ◌+◌, ◌≤◌, ◌^◌, true, OnOk, IfErr, vec_len};
+ghost use Rattle.std.specs.Prelude.{◌≡◌, ◌+◌, ◌≤◌, ◌^◌, true, false, OnOk, IfErr, vec_len};
 ghost use Rattle.spawners.specs.Counts.{none_begun};
 ghost use Rattle.serving.specs.Serves.{BeginsAll, GivesFirst, IsServed, IsEnough};
 ghost use Rattle.serving.specs.Troubles.{IsCaused};
@@ -30,12 +30,13 @@ pub fn serve<J: Job, B: Jobs<J>, D: Doors<Source = B::Source, Sink = B::Sink>, P
     ensures cause { IfErr result (λ t. IsCaused t (D.seen doors.old).failed (D.seen doors.new).failed
         (P.failures spawner.old) (P.failures spawner.new)) }
 
-    // Of every end: a job was begun for each link that was given, which were the first of those that the doors told, and
-    // nothing that was started is left.
+    // Of every end: a job was begun for each link that was given, which were the first of those that the doors told, all
+    // that were started ran beside each other, and nothing that was started is left.
     ensures begun { (P.counts spawner.new).links ≡ (D.seen doors.new).given }
     ensures first { GivesFirst 0 (D.seen doors.new).given (D.left doors.old) (D.left doors.new) }
     ensures few { (D.seen doors.new).given ≤ connections }
     ensures workers { (P.counts spawner.new).others ≤ workers }
+    ensures beside { (P.counts spawner.new).late ≡ false }
     ensures out { (P.counts spawner.new).out ≡ 0 }
     ensures closed { B.closed jobs.new ≡ true }
 {

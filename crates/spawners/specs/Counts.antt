@@ -1,29 +1,32 @@
 -- What a spawner begins, and what of it is still out.
-use Rattle.std.specs.Prelude.{◌≡◌, ℕ, ◌+◌, ◌-◌, ◌^◌, ◌<◌, Bool, true, false, Result, Ok, Err}
+use Rattle.std.specs.Prelude.{◌≡◌, ℕ, ◌+◌, ◌-◌, ◌^◌, ◌<◌, Bool, true, false, ◌||◌, Result, Ok, Err}
 use Rattle.size_values.specs.Calls.{Calls}
 
--- How many link jobs and how many others were begun, and how many tasks were given and not taken in again.
+-- How many link jobs and how many others were begun, and how many tasks were given and not taken in again; whether any task
+-- was waited for, which is what taking it in does, and whether a job was begun after that.
 pub record Counts : Type 0 where
   pub links : ℕ
   pub others : ℕ
   pub out : ℕ
+  pub waited : Bool
+  pub late : Bool
 
 -- nothing was begun
 abbrev pub none_begun : Counts
-none_begun = record { links = 0; others = 0; out = 0 }
+none_begun = record { links = 0; others = 0; out = 0; waited = false; late = false }
 
--- one more job was begun: a link job, or another one
+-- one more job was begun: a link job, or another one; it is late where a task was waited for before
 abbrev pub begun : Bool → Counts → Counts
-begun true c = record c { links = c.links + 1 }
-begun false c = record c { others = c.others + 1 }
+begun true c = record c { links = c.links + 1; late = c.late || c.waited }
+begun false c = record c { others = c.others + 1; late = c.late || c.waited }
 
 -- one more task is out
 abbrev pub with_task : Counts → Counts
 with_task c = record c { out = c.out + 1 }
 
--- one task was taken in
+-- one task was waited for and taken in
 abbrev pub without_task : Counts → Counts
-without_task c = record c { out = c.out - 1 }
+without_task c = record c { out = c.out - 1; waited = true }
 
 -- each number has room in 64 bits for very many more
 pub record AreSmall (c : Counts) : Type 0 where

@@ -3,12 +3,15 @@ ghost use Rattle.spawners.specs.Counts.{AreSmall, begun, none_begun, with_task, 
 
 use std::marker::Model;
 
-/// Counts the jobs of a spawner that were begun and the tasks that are out.
+/// Counts the jobs of a spawner that were begun and the tasks that are out, and tells whether a job was begun after a task
+/// was waited for.
 #[derive(Drop)]
 pub(crate) struct Tally {
     links: u64,
     others: u64,
     out: u64,
+    waited: bool,
+    late: bool,
 }
 
 impl Model for Tally {
@@ -16,7 +19,7 @@ impl Model for Tally {
 
     ghost Value = { Counts };
 
-    ghost view = { λ t. record { links = t.links; others = t.others; out = t.out } };
+    ghost view = { λ t. record { links = t.links; others = t.others; out = t.out; waited = t.waited; late = t.late } };
 }
 
 impl Tally {
@@ -27,6 +30,8 @@ impl Tally {
             links: 0,
             others: 0,
             out: 0,
+            waited: false,
+            late: false,
         }
     }
 
@@ -40,6 +45,7 @@ impl Tally {
         } else {
             self.others += 1;
         }
+        self.late = self.late || self.waited;
     }
 
     /// One more job was begun, and its task is out.
@@ -51,12 +57,13 @@ impl Tally {
         self.out += 1;
     }
 
-    /// A task was taken in.
+    /// A task was waited for and taken in.
     pub(crate) fn take(&mut self)
         requires { 1 ≤ self.old.out }
         ensures { self.new ≡ without_task self.old }
     {
         self.out -= 1;
+        self.waited = true;
     }
 
     pub(crate) fn begun(&self, links: bool) -> u64

@@ -8,6 +8,7 @@ invariant-loop-task g l = record {
   links : (g.P.Spawner.counts l.spawner).links ≡ (g.P.Spawner.counts l.fn.spawner).links;
   others : (g.P.Spawner.counts l.spawner).others ≡ (g.P.Spawner.counts l.fn.spawner).others;
   out : (g.P.Spawner.counts l.spawner).out + vec_len l.fn.tasks ≡ (g.P.Spawner.counts l.fn.spawner).out + vec_len l.tasks;
+  late : (g.P.Spawner.counts l.spawner).late ≡ (g.P.Spawner.counts l.fn.spawner).late;
   held : vec_len l.tasks ≤ vec_len l.fn.tasks;
   failures : g.P.Spawner.failures l.spawner ≡ g.P.Spawner.failures l.fn.spawner;
   seats : g.B.Jobs.seats l.fn.jobs ≤ g.B.Jobs.seats l.jobs;
