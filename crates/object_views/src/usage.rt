@@ -7,6 +7,7 @@ ghost use Rattle.records.specs.declared.replies.LimitKeyName.TheVariants as line
 ghost use Rattle.row_machine.specs.shown.Views.{line_key, usage_view};
 
 use project_limits::{Limits, limits_of};
+use project_usage::usage_of;
 use records::{LimitKeyName, Network, Project, UsageLine, View as Shown};
 use row_readings::View;
 use size_values::{Amounts, NoMemory, Seq};
@@ -91,7 +92,7 @@ pub(crate) fn usage_view(
     ensures { IfOk result (λ v. v ≡ usage_view view.now project.now) }
 {
     let limits = limits_of(&project.config);
-    let used = view.usage(alloc, project.name.view())?;
+    let used = usage_of(alloc, view, project.name.view())?;
     let networks = networks_of(view.networks, project.name.view());
     let lines = usage_lines(alloc, &limits, &used, networks)?;
     Ok(Shown::Usage(lines))

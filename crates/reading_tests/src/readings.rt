@@ -2,6 +2,7 @@ use config_lists::Devices;
 use expansion::Expanded;
 use lent_rows::{Rows, both, config, device, texts};
 use operations::{OpFault, Operation, Status};
+use project_usage::usage_of;
 use records::{Instance, Profile, Row, Target, Volume};
 use row_machine::Work;
 use row_readings::{
@@ -27,6 +28,15 @@ const USED: [(bool, &str, u128, u128, u128, u128); 4] = [
     (false, "default", 0, 0, 0, 0),
     (true, "lab", 1, 4, 2, 3),
     (true, "default", 0, 0, 0, 0),
+];
+
+/// What each of two projects uses: how many instances, processors, and GiB of memory and disk. The shop has an instance
+/// like that of the lab with seven processors, two of the profile `base` alone, a volume of 5 GiB, and the claim of one
+/// of 4 GiB by an operation of the lab.
+const TWO_USED: [(&str, u128, u128, u128, u128); 3] = [
+    ("lab", 1, 4, 2, 3),
+    ("shop", 3, 9, 3, 11),
+    ("default", 0, 0, 0, 0),
 ];
 
 /// Adds a profile of the project `default` with one device.
@@ -78,9 +88,11 @@ fn add_profiles(alloc: Global, profiles: &mut Vec<Profile>) -> Result<(), NoMemo
 }
 
 /// The names of four profiles, of which the last is missing.
-fn profile_names(alloc: Global) -> Result<Seq<Text>, NoMemory> {
+const PROFILES: [&str; 4] = ["base", "more", "net", "gone"];
+
+fn profile_names(alloc: Global, profiles: &[&str]) -> Result<Seq<Text>, NoMemory> {
     let mut names = Seq::new(alloc);
-    for name in ["base", "more", "net", "gone"] {
+    for name in profiles {
         names.push(Text::from_text(alloc, name)?)?;
     }
     Ok(names)
@@ -90,11 +102,18 @@ fn without_network(alloc: Global) -> Result<Devices, NoMemory> {
     device(alloc, "eth0", &[("type", "none")])
 }
 
-/// An instance of the project `lab` with the profiles, and without the device `eth0`.
-fn instance(alloc: Global, settings: &[(&str, &str)]) -> Result<Instance, NoMemory> {
-    let parts = both(config(alloc, settings), without_network(alloc));
-    let parts = both(profile_names(alloc), parts);
-    let ((project, name), (profiles, (config, devices))) = both(texts(alloc, "lab", "a"), parts)?;
+/// An instance of a project with these profiles, settings and devices.
+fn instance_of(
+    alloc: Global,
+    names: (&str, &str),
+    profiles: &[&str],
+    settings: &[(&str, &str)],
+    devices: Result<Devices, NoMemory>,
+) -> Result<Instance, NoMemory> {
+    let parts = both(config(alloc, settings), devices);
+    let parts = both(profile_names(alloc, profiles), parts);
+    let names = texts(alloc, names.0, names.1);
+    let ((project, name), (profiles, (config, devices))) = both(names, parts)?;
     Ok(Instance {
         project,
         name,
@@ -109,27 +128,38 @@ fn instance(alloc: Global, settings: &[(&str, &str)]) -> Result<Instance, NoMemo
     })
 }
 
+/// An instance of the project `lab` with the profiles, and without the device `eth0`.
+fn instance(alloc: Global, settings: &[(&str, &str)]) -> Result<Instance, NoMemory> {
+    let devices = without_network(alloc);
+    instance_of(alloc, ("lab", "a"), &PROFILES, settings, devices)
+}
+
 /// Adds an instance of 2 processors and 2 GiB of memory.
 fn add_instance(alloc: Global, instances: &mut Vec<Instance>) -> Result<(), NoMemory> {
     instances.push(instance(alloc, &[("limits.memory", "2GiB")])?)?;
     Ok(())
 }
 
-/// Adds a volume of 3 GiB.
-fn add_volume(alloc: Global, volumes: &mut Vec<Volume>) -> Result<(), NoMemory> {
+/// A volume of a project, with this size.
+fn volume(alloc: Global, project: &str, size: &str) -> Result<Volume, NoMemory> {
     let sized = both(
         Text::from_text(alloc, "p0"),
-        config(alloc, &[("size", "3GiB")]),
+        config(alloc, &[("size", size)]),
     );
-    let ((project, name), (pool, config)) = both(texts(alloc, "lab", "v"), sized)?;
-    volumes.push(Volume {
+    let ((project, name), (pool, config)) = both(texts(alloc, project, "v"), sized)?;
+    Ok(Volume {
         project,
         pool,
         name,
         description: Text::new(alloc),
         config,
         created: 0,
-    })?;
+    })
+}
+
+/// Adds a volume of 3 GiB.
+fn add_volume(alloc: Global, volumes: &mut Vec<Volume>) -> Result<(), NoMemory> {
+    volumes.push(volume(alloc, "lab", "3GiB")?)?;
     Ok(())
 }
 
@@ -276,6 +306,73 @@ fn an_update_holds_what_it_adds(rt: HostRuntime) {
         let used = amounts(containers, cpu, memory << 30, disk << 30);
         assert!(rt;
             lab_uses(rt.alloc(), updated, project, &used),
+            "{project} {cpu}"
+        );
+    }
+}
+
+/// Adds the instances of the project `shop`, which name different profiles.
+fn add_shop_instances(alloc: Global, instances: &mut Vec<Instance>) -> Result<(), NoMemory> {
+    let settings = [("limits.cpu", "7")];
+    let devices = without_network(alloc);
+    instances.push(instance_of(alloc, ("shop", "a"), &PROFILES, &settings, devices)?)?;
+    for name in ["b", "c"] {
+        let devices = Ok(Devices::new(alloc));
+        instances.push(instance_of(alloc, ("shop", name), &["base"], &[], devices)?)?;
+    }
+    Ok(())
+}
+
+/// The creation of a volume of the project `shop`, by an operation of the project `lab`.
+fn creation(alloc: Global) -> Result<Work, NoMemory> {
+    let about = both(Text::from_text(alloc, "lab"), target(alloc));
+    let row = volume(alloc, "shop", "4GiB");
+    let ((project, target), row) = both(about, row)?;
+    Ok(Work {
+        deed: Deed::CopyVolume,
+        project,
+        target,
+        claim: Some(Row::Volume(row)),
+        replaces: None,
+        source: None,
+        calls: Seq::new(alloc),
+        undo: None,
+        done: 0,
+    })
+}
+
+fn add_creation(alloc: Global, live: &mut Vec<Operation<Work>>) -> Result<(), NoMemory> {
+    live.push(running(creation(alloc)?))?;
+    Ok(())
+}
+
+/// Adds what there is in the project `shop`.
+fn fill_shop(alloc: Global, rows: &mut Rows) -> Result<(), NoMemory> {
+    add_shop_instances(alloc, &mut rows.instances)?;
+    rows.volumes.push(volume(alloc, "shop", "5GiB")?)?;
+    add_creation(alloc, &mut rows.live)
+}
+
+/// Whether a project uses these amounts, by either way to sum them.
+fn both_sum_to(alloc: Global, view: &View<'_>, project: &str, used: &Amounts) -> bool {
+    usage_of(alloc, view, project) == Ok(*used) && uses(alloc, view, project, used)
+}
+
+fn one_of_two_uses(alloc: Global, project: &str, used: &Amounts) -> bool {
+    let mut rows = Rows::empty(alloc);
+    let filled = fill(alloc, &mut rows, true).is_ok() && fill_shop(alloc, &mut rows).is_ok();
+    let right = filled && both_sum_to(alloc, &rows.view(), project, used);
+    drop(rows);
+    right
+}
+
+/// Each project uses what its own rows count for, and the claims of its own rows.
+#[test]
+fn each_project_uses_its_own(rt: HostRuntime) {
+    for (project, containers, cpu, memory, disk) in TWO_USED {
+        let used = amounts(containers, cpu, memory << 30, disk << 30);
+        assert!(rt;
+            one_of_two_uses(rt.alloc(), project, &used),
             "{project} {cpu}"
         );
     }
