@@ -25,7 +25,6 @@ use Rattle.records.specs.declared.notices.Untold.{Untold}
 use Rattle.records.specs.declared.refusals.Refusal.{Refusal}
 use Rattle.records.specs.declared.replies.Reply.{Reply}
 use Rattle.records.specs.declared.replies.Reply.TheVariants as reply
-use Rattle.records.specs.declared.rows.Row.{Row}
 use Rattle.row_drafts.specs.Background.{pending_of, holding}
 use Rattle.row_drafts.proofs.Entering.{claim-held}
 use Rattle.size_values.specs.declared.amounts.Amounts.{Amounts}
@@ -33,9 +32,9 @@ use Rattle.row_machine.specs.declared.events.Answer.TheVariants as answer
 use Rattle.row_machine.specs.declared.events.Event.TheVariants as event
 use Rattle.row_machine.specs.facts.Whole.{IsWhole}
 use Rattle.row_machine.specs.machine.Accept.{After, and_then, accepted, carried_out, begun}
-use Rattle.row_machine.specs.machine.LimitRules.{counts_broken, limits_broken}
+use Rattle.row_machine.specs.machine.LimitRules.{counts_broken, limits_broken, instance_uncounted}
 use Rattle.row_machine.specs.machine.Plans.{starts, plan_of}
-use Rattle.row_machine.specs.machine.PolicyRules.{policy_broken, snapshot_blocked}
+use Rattle.row_machine.specs.machine.PolicyRules.{policy_broken, snapshot_blocked, forbids_instance}
 use Rattle.row_machine.specs.machine.Rules.{broken, plan_broken, standing_broken}
 use Rattle.row_machine.specs.machine.SettingRules.{settings_broken}
 use Rattle.row_machine.specs.machine.State.{State}
@@ -45,10 +44,15 @@ use Rattle.row_machine.specs.machine.Task.{Task}
 use Rattle.row_machine.specs.machine.Claims.{share_of}
 use Rattle.row_machine.specs.machine.Work.{claiming, entered, project_of_task}
 use Rattle.row_machine.specs.shown.Notices.{telling, view_of}
+use Rattle.row_machine.specs.machine.Usage.{usage_of}
 use Rattle.machine_laws.proofs.Cases.{IsAccepted}
+use Rattle.limit_rules.specs.Alone.{claim_uncounts, share_broken}
+use Rattle.policy_rules.specs.Alone.{claim_forbidden}
+use Rattle.claim_laws.specs.Alone.{IsJudgedAlone}
+use Rattle.claim_laws.proofs.Alone.{alone-judged}
 use Rattle.core_rows.specs.Asked.{IsAsked, answered, changes_at_once, changes_of, unless_refused}
 use Rattle.work_reports.specs.Waiting.{IsSilent}
-use Rattle.judged_changes.specs.Judged.{claim_judged_by, reply_for}
+use Rattle.judged_changes.specs.Judged.{claim_judged, reply_for}
 use Rattle.core_rows.specs.Planned.{IsToStart}
 use Rattle.work_reports.specs.Stores.{Stores}
 use Rattle.core_rows.proofs.Following.{follows-why}
@@ -114,40 +118,68 @@ flat None None None None None (Some r) t = refl
 flat None None None None None None (Some r) = refl
 flat None None None None None None None = refl
 
+-- of the others, those that what is claimed breaks alone are those that the state with it breaks
+module _ (s : State) (task : Task) (moment : ℕ) (alone : IsJudgedAlone s task moment) where
+  counts-alone : counts_broken (claiming s task moment) ≡ claim_uncounts (claiming s task moment) task
+  unfolding instance_uncounted
+  counts-alone = alone.counts
+
+  policy-alone : policy_broken (claiming s task moment) ≡ claim_forbidden (claiming s task moment) task
+  unfolding forbids_instance
+  policy-alone = alone.policy
+
 -- those that are left are judged over the state with the claim
-left-claim : (s : State) (c : Command) (moment : ℕ) (task : Task) → IsToStart s c moment task
-    → broken s c moment ≡ claim_judged_by s c (claiming s task moment) (enter_fault s.operations) task.claim
-unfolding broken claim_judged_by entry_broken
-left-claim s c moment task d =
+left-claim : (s : State) (c : Command) (moment : ℕ) (task : Task) (used : Amounts) → IsWhole s → IsToStart s c moment task
+    → share_broken s.projects (project_of_task task) used (share_of s task)
+    ≡ share_broken s.projects (project_of_task task) (usage_of s (project_of_task task)) (share_of s task)
+    → broken s c moment
+    ≡ claim_judged c (claiming s task moment) (enter_fault s.operations) (project_of_task task) used (share_of s task) task
+unfolding broken claim_judged entry_broken
+left-claim s c moment task used whole d serves =
     let later = claiming s task moment in
     let rows = option_to_list task.claim in
     let settings = settings_broken later rows in
     let policy = policy_broken later in
     let counts = counts_broken later in
     let limits = limits_broken s later in
+    let blocked = snapshot_blocked later c in
     let entry = option_map enter_refusal (enter_fault s.operations) in
     let tables = tables_broken later rows in
+    let alone = alone-judged s task moment whole in
     ap (λ o. first (o ∷ standing_broken s c ∷ plan_broken s c (plan_of s c moment) moment ∷ [])) d.names
     ∙ ap (λ o. first (o ∷ plan_broken s c (plan_of s c moment) moment ∷ [])) d.standing
     ∙ ap (λ p. first (plan_broken s c p moment ∷ [])) d.plan
     ∙ flat settings policy (snapshot_blocked s c) counts limits entry tables
     ∙ ap (λ o. first (settings ∷ policy ∷ o ∷ counts ∷ limits ∷ entry ∷ tables ∷ [])) (sym (alike s task moment c.project c.what))
+    ∙ ap (λ o. first (settings ∷ o ∷ blocked ∷ counts ∷ limits ∷ entry ∷ tables ∷ [])) (policy-alone s task moment alone)
+    ∙ ap (λ o. first (settings ∷ claim_forbidden later task ∷ blocked ∷ o ∷ limits ∷ entry ∷ tables ∷ [])) (counts-alone s task moment alone)
+    ∙ ap (λ o. first (settings ∷ claim_forbidden later task ∷ blocked ∷ claim_uncounts later task ∷ o ∷ entry ∷ tables ∷ [])) (alone.limits ∙ sym serves)
 
--- the row that the kept operation of a number claims
-abbrev pub claim_in : State → ℕ → Option Row
-claim_in later number = option_and_then (λ (o : Operation Task). o.work.claim) (kept_at later.operations number)
+-- what is judged of a kept operation
+abbrev pub judged_at : Command → State → Option EnterFault → List ℕ → Amounts → Amounts → ℕ → Option Refusal
+judged_at c later fault project used share number =
+    option_and_then (λ (o : Operation Task). claim_judged c later fault project used share o.work) (kept_at later.operations number)
 
 -- what was judged is what the command breaks
 pub judged-claim : (s : State) (c : Command) (moment : ℕ) (task : Task) (later : State) (fault : Option EnterFault) (number : ℕ)
-    → AreKept s.operations → IsToStart s c moment task → later ≡ claiming s task moment → fault ≡ enter_fault s.operations
-    → number ≡ s.operations.next → claim_judged_by s c later fault (claim_in later number) ≡ broken s c moment
-judged-claim s c moment task later fault number kept d made same numbered =
+    (project : List ℕ) (used share : Amounts)
+    → IsWhole s → IsToStart s c moment task → later ≡ claiming s task moment → fault ≡ enter_fault s.operations
+    → number ≡ s.operations.next → project ≡ project_of_task task → share ≡ share_of s task
+    → share_broken s.projects (project_of_task task) used share
+    ≡ share_broken s.projects (project_of_task task) (usage_of s (project_of_task task)) share
+    → judged_at c later fault project used share number ≡ broken s c moment
+judged-claim s c moment task later fault number project used share whole d made same numbered counted held serves =
     let claimed = claiming s task moment in
-    ap (λ t. claim_judged_by s c t fault (claim_in t number)) made
-    ∙ ap (λ f. claim_judged_by s c claimed f (claim_in claimed number)) same
-    ∙ ap (λ n. claim_judged_by s c claimed (enter_fault s.operations) (claim_in claimed n)) numbered
-    ∙ ap (λ o. claim_judged_by s c claimed (enter_fault s.operations) (option_and_then (λ (x : Operation Task). x.work.claim) o)) (found-entered s task moment kept)
-    ∙ sym (left-claim s c moment task d)
+    let of = project_of_task task in
+    ap (λ t. judged_at c t fault project used share number) made
+    ∙ ap (λ f. judged_at c claimed f project used share number) same
+    ∙ ap (judged_at c claimed (enter_fault s.operations) project used share) numbered
+    ∙ ap (λ p. judged_at c claimed (enter_fault s.operations) p used share s.operations.next) counted
+    ∙ ap (λ a. judged_at c claimed (enter_fault s.operations) of used a s.operations.next) held
+    ∙ ap (option_and_then (λ (o : Operation Task). claim_judged c claimed (enter_fault s.operations) of used (share_of s task) o.work))
+    (found-entered s task moment whole.operations.kept)
+    ∙ sym (left-claim s c moment task used whole d
+    (subst (λ a. share_broken s.projects of used a ≡ share_broken s.projects of (usage_of s of) a) held serves))
 
 -- ---- what becomes of the command
 

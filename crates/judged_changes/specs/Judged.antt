@@ -1,7 +1,8 @@
 -- What changes of rows and new operations break, and the reply that tells it.
-use Rattle.std.specs.Prelude.{List, [], ◌∷◌, Option, option_map}
+use Rattle.std.specs.Prelude.{ℕ, List, [], ◌∷◌, Option, option_map}
 use Rattle.std.specs.Option.{option_to_list}
 use Rattle.plain_lists.specs.Firsts.{first}
+use Rattle.size_values.specs.declared.amounts.Amounts.{Amounts}
 use Rattle.size_values.specs.declared.memory.Or.{Or}
 use Rattle.size_values.specs.declared.memory.Or.TheVariants as or
 use Rattle.operations.specs.declared.faults.EnterFault.{EnterFault}
@@ -15,6 +16,9 @@ use Rattle.row_machine.specs.machine.SettingRules.{settings_broken}
 use Rattle.row_machine.specs.machine.PolicyRules.{policy_broken, snapshot_blocked}
 use Rattle.row_machine.specs.machine.LimitRules.{counts_broken, limits_broken}
 use Rattle.row_machine.specs.machine.TableRules.{enter_refusal, tables_broken}
+use Rattle.row_machine.specs.machine.Task.{Task}
+use Rattle.limit_rules.specs.Alone.{claim_uncounts, share_broken}
+use Rattle.policy_rules.specs.Alone.{claim_forbidden}
 
 -- the first rule that changes break which put these rows, judged over the state after them
 unfoldable pub changes_judged : State → State → List Row → Option Refusal
@@ -26,17 +30,17 @@ changes_judged s later rows = first
     ∷ tables_broken later rows
     ∷ [])
 
--- the first rule that an operation breaks which claims this row, judged over the state with its claim, by why it could not be entered
--- in the state before it
-unfoldable pub claim_judged_by : State → Command → State → Option EnterFault → Option Row → Option Refusal
-claim_judged_by s c later fault claim = first
-    (settings_broken later (option_to_list claim)
-    ∷ policy_broken later
+-- The first rule that a new operation breaks, judged over the state with it, by what it claims alone: by why it could not be
+-- entered, and by what the project of its share uses beside it.
+unfoldable pub claim_judged : Command → State → Option EnterFault → List ℕ → Amounts → Amounts → Task → Option Refusal
+claim_judged c later fault project used share task = first
+    (settings_broken later (option_to_list task.claim)
+    ∷ claim_forbidden later task
     ∷ snapshot_blocked later c
-    ∷ counts_broken later
-    ∷ limits_broken s later
+    ∷ claim_uncounts later task
+    ∷ share_broken later.projects project used share
     ∷ option_map enter_refusal fault
-    ∷ tables_broken later (option_to_list claim)
+    ∷ tables_broken later (option_to_list task.claim)
     ∷ [])
 
 -- the reply that tells a refusal, or that memory was refused

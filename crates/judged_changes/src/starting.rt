@@ -1,8 +1,8 @@
 //! The parts of a beginning: what the entry of an operation needs is made ahead, and it is judged by the state with its claim.
-ghost use Rattle.std.specs.Prelude.{◌≡◌, ◌-◌, ◌^◌, ◌<◌, ◌≤◌, ◌∷◌, ◌++◌, [], vec_len, vec_capacity, IfOk, OnOk, option_and_then, option_map};
+ghost use Rattle.std.specs.Prelude.{◌≡◌, ◌+◌, ◌-◌, ◌^◌, ◌<◌, ◌≤◌, ◌∷◌, ◌++◌, [], vec_len, vec_capacity, IfOk, OnOk, option_and_then};
 ghost use Rattle.std.specs.Option.{option_copied};
 ghost use Rattle.size_values.specs.Causes.{Says};
-ghost use Rattle.limit_rules.specs.Counting.{counts_in};
+ghost use Rattle.limit_rules.specs.Alone.{share_broken};
 ghost use Rattle.operations.specs.Kept.{enter_fault, kept_at};
 ghost use Rattle.operations.specs.declared.operation.Operation.{Operation as OperationValue};
 ghost use Rattle.records.specs.declared.notices.Told.TheVariants as told_of;
@@ -12,35 +12,33 @@ ghost use Rattle.size_values.specs.Amounts.{part};
 ghost use Rattle.size_values.specs.declared.amounts.Part.{Part};
 ghost use Rattle.row_drafts.specs.Drafted.{CanClaim};
 ghost use Rattle.row_machine.specs.machine.Claims.{share_of};
-ghost use Rattle.row_machine.specs.machine.State.{State};
-ghost use Rattle.row_machine.specs.machine.TableRules.{enter_refusal};
 ghost use Rattle.row_machine.specs.machine.Task.{Task};
 ghost use Rattle.row_machine.specs.machine.Work.{project_of_task};
 ghost use Rattle.row_machine.specs.shown.Notices.{view_of};
-ghost use Rattle.judged_changes.specs.Judged.{claim_judged_by};
+ghost use Rattle.row_machine.specs.machine.Usage.{usage_of};
+ghost use Rattle.judged_changes.specs.Judged.{claim_judged};
 ghost use Rattle.work_reports.specs.declared.waiting.Waiting.TheVariants as waiting_of;
 
 use instance_states::may_cancel;
-use limit_rules::{Usage, counts_broken, limits_broken, usage_before};
-use operations::{EnterFault, LIVE_LIMIT, NUMBER_LIMIT, OpFault, Status};
+use limit_rules::{claim_uncounts, share_broken, used_beside};
+use operations::{EnterFault, OpFault, Status};
 use plain_lists::push_reserved;
-use policy_rules::{policy_broken, snapshot_blocked};
-use records::{Command, OpView, Refusal, Reply, Row, Rule, Told, Untold};
+use policy_rules::{claim_forbidden, snapshot_blocked};
+use records::{Command, OpView, Refusal, Reply, Row, Told, Untold};
 use row_drafts::Draft;
 use row_machine::Work;
 use row_readings::{View, kept_at, project_of_row, share_of};
-use rule_refusals::on_number;
 use setting_rules::claim_settings_broken;
 use size_values::{Amounts, NoMemory, Or, Text};
 use std::alloc::Global;
-use table_rules::claim_tables_broken;
+use table_rules::{claim_tables_broken, enter_fault, refuse_entry};
 use work_reports::Waiting;
 
-/// What the entry of an operation needs besides its work: what counts for limits before it, why it cannot be entered, its share
-/// with the project that it counts for, how it is shown, and the notice of it.
+/// What the entry of an operation needs besides its work: what the project uses that its share counts for, as far as the share
+/// is judged by it, why it cannot be entered, its share with that project, how it is shown, and the notice of it.
 #[derive(Drop)]
 pub struct Beginning {
-    pub before: Usage,
+    pub used: Amounts,
     pub fault: Option<EnterFault>,
     pub share: Amounts,
     pub project: Text,
@@ -48,37 +46,13 @@ pub struct Beginning {
     pub notice: Untold,
 }
 
-/// Why no operation can be entered.
-fn enter_fault(view: &View<'_>) -> Option<EnterFault>
-    ensures { result ≡ enter_fault view.now.operations }
-{
-    if view.live.len() == LIVE_LIMIT {
-        return Some(EnterFault::Full);
-    }
-    if view.next == NUMBER_LIMIT {
-        return Some(EnterFault::Spent);
-    }
-    None
-}
-
-/// The refusal of an operation that cannot be entered.
-fn refuse_entry(alloc: Global, fault: Option<EnterFault>) -> Result<(), Or<Refusal>>
-    ensures { Says result (option_map enter_refusal fault) }
-{
-    match fault {
-        Some(EnterFault::Full) => Err(Or::Why(on_number(alloc, Rule::O4, LIVE_LIMIT as u64))),
-        Some(EnterFault::Spent) => Err(Or::Why(on_number(alloc, Rule::O5, NUMBER_LIMIT))),
-        None => Ok(()),
-    }
-}
-
 /// The project whose limits an operation counts for.
-fn counted_project(alloc: Global, work: &Work) -> Result<Text, NoMemory>
-    ensures { IfOk result (λ p. p ≡ project_of_task work.now) }
+fn counted_project(work: &Work) -> &str
+    ensures { result.now ≡ project_of_task work.now }
 {
     match &work.claim {
-        Some(row) => Text::from_text(alloc, project_of_row(row)),
-        None => work.project.copy(alloc),
+        Some(row) => project_of_row(row),
+        None => work.project.view(),
     }
 }
 
@@ -131,7 +105,9 @@ fn beginning_of(
     work: &Work,
     moment: u64,
 ) -> Result<Beginning, NoMemory>
-    ensures before { IfOk result (λ e. e.before ≡ counts_in view.now) }
+    ensures few { IfOk result (λ e. (k : Part) → part k e.used ≤ 2 ^ 127 + 2 ^ 126) }
+    ensures used { IfOk result (λ e. share_broken view.now.projects (project_of_task work.now) e.used e.share
+        ≡ share_broken view.now.projects (project_of_task work.now) (usage_of view.now (project_of_task work.now)) e.share) }
     ensures fault { IfOk result (λ e. e.fault ≡ enter_fault view.now.operations) }
     ensures share { IfOk result (λ e. e.share ≡ share_of view.now work.now) }
     ensures project { IfOk result (λ e. e.project ≡ project_of_task work.now) }
@@ -144,11 +120,11 @@ fn beginning_of(
 {
     let fault = enter_fault(view);
     let share = share_of(alloc, view, work)?;
-    let before = usage_before(alloc, view)?;
-    let project = counted_project(alloc, work)?;
+    let used = used_beside(alloc, view, counted_project(work), &share)?;
+    let project = Text::from_text(alloc, counted_project(work))?;
     let (shown, notice) = told(alloc, view.next, work, moment)?;
     Ok(Beginning {
-        before,
+        used,
         fault,
         share,
         project,
@@ -165,7 +141,9 @@ pub fn make_beginning(
     moment: u64,
 ) -> Result<Beginning, NoMemory>
     requires settled { draft.old.log ≡ [] }
-    ensures before { IfOk result (λ e. e.before ≡ counts_in draft.old.state) }
+    ensures few { IfOk result (λ e. (k : Part) → part k e.used ≤ 2 ^ 127 + 2 ^ 126) }
+    ensures used { IfOk result (λ e. share_broken draft.old.state.projects (project_of_task work.now) e.used e.share
+        ≡ share_broken draft.old.state.projects (project_of_task work.now) (usage_of draft.old.state (project_of_task work.now)) e.share) }
     ensures fault { IfOk result (λ e. e.fault ≡ enter_fault draft.old.state.operations) }
     ensures share { IfOk result (λ e. e.share ≡ share_of draft.old.state work.now) }
     ensures project { IfOk result (λ e. e.project ≡ project_of_task work.now) }
@@ -184,21 +162,49 @@ pub fn make_beginning(
     beginning_of(alloc, &draft.view(), work, moment)
 }
 
-/// The row that the kept operation of a number claims.
-fn claim_of<'x>(view: &View<'x>, number: u64) -> Option<&'x Row>
-    ensures { option_copied result ≡ option_and_then (λ (o : OperationValue Task). o.work.claim) (kept_at view.now.operations number) }
+/// The row that an operation would put.
+fn claim_of(work: &Work) -> Option<&Row>
+    ensures { option_copied result ≡ work.now.claim }
 {
-    match kept_at(view, number) {
-        Some(operation) => match &operation.work.claim {
-            Some(row) => Some(row),
-            None => None,
-        },
+    match &work.claim {
+        Some(row) => Some(row),
         None => None,
     }
 }
 
-/// The first rule that an operation breaks which was entered last, judged over the state with its claim.
-#[tactic(auto, unfolding(crate::specs::Judged::claim_judged_by))]
+/// The first rule that an operation breaks, judged over the state with it by what it claims alone.
+#[tactic(auto, unfolding(crate::specs::Judged::claim_judged))]
+fn judge_work(
+    alloc: Global,
+    beginning: &Beginning,
+    after: &View<'_>,
+    command: &Command,
+    work: &Work,
+) -> Result<(), Or<Refusal>>
+    requires used { (k : Part) → part k beginning.now.used ≤ 2 ^ 127 + 2 ^ 126 }
+    requires share { (k : Part) → part k beginning.now.share < 2 ^ 80 }
+    ensures { Says result (claim_judged command.now after.now beginning.now.fault beginning.now.project
+        beginning.now.used beginning.now.share work.now) }
+{
+    let claim = claim_of(work);
+    let project = beginning.project.view();
+    claim_settings_broken(alloc, after, claim)?;
+    claim_forbidden(alloc, after, work)?;
+    snapshot_blocked(alloc, after, command)?;
+    claim_uncounts(alloc, after, work)?;
+    share_broken(
+        alloc,
+        after.projects,
+        project,
+        &beginning.used,
+        &beginning.share,
+    )?;
+    refuse_entry(alloc, beginning.fault)?;
+    claim_tables_broken(alloc, after, claim)
+}
+
+/// The first rule that the kept operation of a number breaks, which was entered last, judged over the state with it by what it
+/// claims alone. One that is not kept breaks none.
 pub fn judge_claim(
     alloc: Global,
     beginning: &Beginning,
@@ -206,18 +212,16 @@ pub fn judge_claim(
     command: &Command,
     number: u64,
 ) -> Result<(), Or<Refusal>>
-    ensures { (s : State) → beginning.now.before ≡ counts_in s →
-        Says result (claim_judged_by s command.now after.now beginning.now.fault
-        (option_and_then (λ (o : OperationValue Task). o.work.claim) (kept_at after.now.operations number))) }
+    requires used { (k : Part) → part k beginning.now.used ≤ 2 ^ 127 + 2 ^ 126 }
+    requires share { (k : Part) → part k beginning.now.share < 2 ^ 80 }
+    ensures { Says result (option_and_then
+        (λ (o : OperationValue Task). claim_judged command.now after.now beginning.now.fault beginning.now.project
+        beginning.now.used beginning.now.share o.work) (kept_at after.now.operations number)) }
 {
-    let claim = claim_of(after, number);
-    claim_settings_broken(alloc, after, claim)?;
-    policy_broken(alloc, after)?;
-    snapshot_blocked(alloc, after, command)?;
-    counts_broken(alloc, after)?;
-    limits_broken(alloc, &beginning.before, after)?;
-    refuse_entry(alloc, beginning.fault)?;
-    claim_tables_broken(alloc, after, claim)
+    match kept_at(after, number) {
+        Some(operation) => judge_work(alloc, beginning, after, command, &operation.work),
+        None => Ok(()),
+    }
 }
 
 /// The operation that was entered last holds its share from now on, and its notice is left to be told. It takes no memory.
@@ -234,7 +238,6 @@ pub fn settle_beginning(draft: &mut Draft, untold: &mut Vec<Waiting>, beginning:
     ensures capacity { vec_capacity untold.old ≤ vec_capacity untold.new }
     ensures reply { result ≡ reply.Started beginning.shown }
 {
-    drop(beginning.before);
     draft.hold(beginning.project, beginning.share);
     draft.settle();
     push_reserved(untold, Waiting::Whole(beginning.notice));

@@ -131,7 +131,7 @@ fn claimed_volume_uncounted(
 }
 
 /// The row that a live operation would put is not countable.
-fn claim_uncounted(
+pub(crate) fn claim_uncounted(
     alloc: Global,
     view: &View<'_>,
     project: &Project,

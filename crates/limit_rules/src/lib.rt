@@ -1,11 +1,13 @@
 //! Rules on limits, L0 to L8: that what counts gives its numbers, and that each project stands within its limits.
 #![tactic(auto)]
 
+mod alone;
 mod counts;
 mod limits;
 mod parts;
 mod usage;
 
+pub use alone::{claim_uncounts, share_broken, used_beside};
 pub use counts::counts_broken;
 pub use limits::limits_broken;
-pub use usage::{Usage, usage_before, usage_before_changes, usage_of};
+pub use usage::{Usage, usage_before, usage_before_changes};

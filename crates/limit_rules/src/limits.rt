@@ -40,7 +40,7 @@ fn over_refusal(alloc: Global, project: &Project, over: Over) -> Result<Refusal,
 }
 
 /// What is used before a change, and what the change asks for above it, are together above a limit.
-fn limit_exceeded(
+pub(crate) fn limit_exceeded(
     alloc: Global,
     project: &Project,
     key: LimitKey,
@@ -48,8 +48,6 @@ fn limit_exceeded(
     before: u128,
     after: u128,
 ) -> Result<(), Or<Refusal>>
-    requires before { before < 2 ^ 126 }
-    requires after { after < 2 ^ 126 }
     ensures { Says result (limit_exceeded project.now key (Some limit) before after) }
 {
     let limit = u128::from(limit);

@@ -1,7 +1,6 @@
 //! What counts for the limits of projects before a change.
 ghost use Rattle.std.specs.Prelude.{◌≡◌, IfOk, map};
 ghost use Rattle.row_machine.specs.machine.Changes.{applied};
-ghost use Rattle.row_machine.specs.machine.Usage.{usage_of};
 ghost use Rattle.row_readings.specs.Loads.{AreSmall};
 ghost use Rattle.limit_rules.specs.Counting.{counts_in};
 ghost use Rattle.limit_rules.specs.Exceeding.{Serves};
@@ -10,7 +9,7 @@ use crate::parts::{is_any_limit_set, is_any_limited};
 use records::Network;
 use row_machine::RowChange;
 use row_readings::{Load, View, loads};
-use size_values::{Amounts, NoMemory, Text};
+use size_values::{NoMemory, Text};
 use std::alloc::Global;
 use std::marker::Model;
 
@@ -86,11 +85,4 @@ fn network_projects(alloc: Global, networks: &[Network]) -> Result<Vec<Text>, No
         names.push(network.project.copy(alloc)?)?;
     }
     Ok(names)
-}
-
-/// What a project uses of its limits, with what live operations claim.
-pub fn usage_of(alloc: Global, view: &View<'_>, project: &str) -> Result<Amounts, NoMemory>
-    ensures { IfOk result (λ a. a ≡ usage_of view.now project.now) }
-{
-    view.usage(alloc, project)
 }

@@ -1,5 +1,6 @@
 -- A project that is not restricted forbids nothing.
-use Rattle.std.proofs.Common.{◌≡◌, ℕ, ◌==◌, false, cond, Some, None, List, ◌∷◌, ◌++◌, refl, ap, option_and_then}
+use Rattle.std.proofs.Common.{◌≡◌, ℕ, ◌==◌, Bool, true, false, cond, Option, Some, None, List, ◌∷◌, ◌++◌, refl, ap, option_and_then}
+use Rattle.std.specs.Str.{bytes_eq}
 use Rattle.plain_lists.proofs.FirstLemmas.{none-first_of}
 use Rattle.config_lists.specs.Settings.{Settings}
 use Rattle.config_lists.specs.Devices.{NamedDevices}
@@ -11,10 +12,14 @@ use Rattle.records.specs.declared.rows.Project.{Project}
 use Rattle.records.specs.declared.rows.Profile.{Profile}
 use Rattle.records.specs.declared.rows.Instance.{Instance}
 use Rattle.row_machine.specs.machine.State.{State}
+use Rattle.row_machine.specs.machine.Task.{Task}
+use Rattle.row_machine.specs.machine.Claims.{claimed_instance}
 use Rattle.row_machine.specs.machine.Expansions.{expanded_of}
 use Rattle.row_machine.specs.machine.Refusals.{on_key_of}
 use Rattle.row_machine.specs.machine.PolicyRules.{project_forbids, forbids, forbids_profile, forbids_instance, subject_of, policy_rule, forbidden_key}
 use Rattle.rule_refusals.proofs.Saying.{none-or}
+use Rattle.policy_rules.specs.Within.{own_instance, own_claim}
+use Rattle.policy_rules.proofs.Below.{none-if}
 
 nothing-forbidden : (policy : Restrictions) (judged : Subject) (config : Settings) (devices : NamedDevices)
     → policy.restricted ≡ false → first_forbidden policy judged config devices ≡ None
@@ -40,3 +45,13 @@ module _ (p : Project) (number : ℕ) (free : (policy_of p.config).restricted �
   unrestricted-free s =
       none-or (none-first_of _ _ (record { at = λ r m. profile-none r }))
       (none-or (none-first_of _ _ (record { at = λ i m. instance-none s i })) refl)
+
+  own-none : (s : State) (i : Instance) → own_instance s p number i ≡ None
+  own-none s i = none-if (bytes_eq i.project p.name) (instance-none s i)
+
+  -- nor does it forbid what an operation would put there
+  pub unrestricted-claim : (s : State) (task : Task) → own_claim s p number task ≡ None
+  unrestricted-claim s task = at (claimed_instance task) where
+    at : (o : Option Instance) → option_and_then (own_instance s p number) o ≡ None
+    at None = refl
+    at (Some i) = own-none s i

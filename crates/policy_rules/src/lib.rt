@@ -2,10 +2,12 @@
 //! operations would put, and whether it forbids snapshots.
 #![tactic(auto)]
 
+mod alone;
 mod lowest;
 mod policy;
 mod restricted;
 mod snapshots;
 
+pub use alone::claim_forbidden;
 pub use policy::policy_broken;
 pub use snapshots::snapshot_blocked;

@@ -68,7 +68,7 @@ fn lowest_of_instances(
     Ok(lowest)
 }
 
-fn lowest_of_claim(
+pub(crate) fn lowest_of_claim(
     alloc: Global,
     view: &View<'_>,
     project: &Restricted<'_>,

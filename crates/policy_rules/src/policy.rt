@@ -16,7 +16,7 @@ use size_values::Or;
 use std::alloc::Global;
 
 /// The numbers of the rules on policy.
-const NUMBERS: [u8; 7] = [1, 2, 3, 4, 5, 6, 7];
+pub(crate) const NUMBERS: [u8; 7] = [1, 2, 3, 4, 5, 6, 7];
 
 #[tactic(auto, unfolding(row_machine::specs::machine::PolicyRules::forbids_profile))]
 fn profile_forbids(
@@ -103,7 +103,7 @@ fn instances_forbid(
 }
 
 /// A live operation would put an instance of the project that breaks the rule.
-fn claim_forbids(
+pub(crate) fn claim_forbids(
     alloc: Global,
     view: &View<'_>,
     project: &Restricted<'_>,

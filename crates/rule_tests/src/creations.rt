@@ -1,14 +1,16 @@
 use instance_tasks::instance_creation;
 use lent_rows::{Rows, both, config, device};
-use limit_rules::{counts_broken, limits_broken, usage_before};
+use limit_rules::{
+    claim_uncounts, counts_broken, limits_broken, share_broken, usage_before, used_beside,
+};
 use name_rules::names_broken;
 use operations::{OpFault, Operation, Status};
-use policy_rules::policy_broken;
+use policy_rules::{claim_forbidden, policy_broken};
 use records::{Body, Command, Driver, Origin, Pool, Project, Refusal, Row, Rule, Target, What};
 use row_machine::Work;
 use row_readings::View;
 use setting_rules::claim_settings_broken;
-use size_values::{NoMemory, ObjectKind, Or, Seq, Text};
+use size_values::{Amounts, NoMemory, ObjectKind, Or, Seq, Text};
 use standing_rules::standing_broken;
 use std::alloc::Global;
 use table_rules::{claim_tables_broken, entry_broken};
@@ -74,6 +76,17 @@ const CREATIONS: [Creation; 6] = [
         of: "no number for its operation",
     },
 ];
+
+/// What each of these instances counts for.
+const SHARE: Amounts = Amounts {
+    instances: 1,
+    containers: 1,
+    machines: 0,
+    cpu: 0,
+    memory: 0,
+    processes: 0,
+    disk: 0,
+};
 
 /// A project, with a limit on its instances where one is given.
 fn add_project(
@@ -178,9 +191,13 @@ fn asked_broken(alloc: Global, view: &View<'_>, command: &Command) -> Result<(),
     standing_broken(alloc, view, command)
 }
 
-/// The rules that are judged with the claim of the last operation.
-fn claim_broken(alloc: Global, rows: &Rows) -> Result<(), Or<Refusal>> {
-    later_broken(alloc, rows)?;
+/// The rules that are judged with the claim of the last operation, over all rows, or by what it claims alone.
+fn claim_broken(alloc: Global, rows: &Rows, alone: bool) -> Result<(), Or<Refusal>> {
+    if alone {
+        alone_broken(alloc, rows)?;
+    } else {
+        later_broken(alloc, rows)?;
+    }
     entry_broken(alloc, &rows.before_last())?;
     let after = rows.view();
     claim_tables_broken(alloc, &after, last_claim(&after))
@@ -196,6 +213,21 @@ fn later_broken(alloc: Global, rows: &Rows) -> Result<(), Or<Refusal>> {
     let broken = limits_broken(alloc, &before, &after);
     drop(before);
     broken
+}
+
+/// The same by what the last operation claims alone.
+fn alone_broken(alloc: Global, rows: &Rows) -> Result<(), Or<Refusal>> {
+    let after = rows.view();
+    claim_settings_broken(alloc, &after, last_claim(&after))?;
+    let Some(operation) = after.live.last() else {
+        return Ok(());
+    };
+    let work = &operation.work;
+    let project = work.project.view();
+    claim_forbidden(alloc, &after, work)?;
+    claim_uncounts(alloc, &after, work)?;
+    let used = used_beside(alloc, &rows.before_last(), project, &SHARE)?;
+    share_broken(alloc, after.projects, project, &used, &SHARE)
 }
 
 /// An operation that waits for its first call.
@@ -238,12 +270,17 @@ fn enter(alloc: Global, rows: &mut Rows, command: &Command) -> Result<bool, NoMe
 }
 
 /// The first rule that a creation breaks.
-fn creation_broken(alloc: Global, rows: &mut Rows, command: &Command) -> Result<(), Or<Refusal>> {
+fn creation_broken(
+    alloc: Global,
+    rows: &mut Rows,
+    command: &Command,
+    alone: bool,
+) -> Result<(), Or<Refusal>> {
     asked_broken(alloc, &rows.view(), command)?;
     if !enter(alloc, rows, command)? {
         return Ok(());
     }
-    claim_broken(alloc, rows)
+    claim_broken(alloc, rows, alone)
 }
 
 /// Whether the answer is this rule, or none.
@@ -259,10 +296,10 @@ pub(crate) fn is_rule(answer: Result<(), Or<Refusal>>, rule: Option<Rule>) -> bo
     }
 }
 
-fn answers(alloc: Global, rows: &mut Rows, case: Creation) -> bool {
+fn answers(alloc: Global, rows: &mut Rows, case: Creation, alone: bool) -> bool {
     match command(alloc, case) {
         Ok(command) => {
-            let answer = creation_broken(alloc, rows, &command);
+            let answer = creation_broken(alloc, rows, &command, alone);
             drop(command);
             is_rule(answer, case.rule)
         }
@@ -271,11 +308,11 @@ fn answers(alloc: Global, rows: &mut Rows, case: Creation) -> bool {
 }
 
 /// Whether the creation breaks its rule first.
-fn breaks(alloc: Global, case: Creation) -> bool {
+fn breaks(alloc: Global, case: Creation, alone: bool) -> bool {
     let mut rows = Rows::empty(alloc);
     rows.next = case.next;
     let filled = fill(alloc, &mut rows);
-    let right = filled.is_ok() && answers(alloc, &mut rows, case);
+    let right = filled.is_ok() && answers(alloc, &mut rows, case, alone);
     drop(rows);
     right
 }
@@ -283,6 +320,13 @@ fn breaks(alloc: Global, case: Creation) -> bool {
 #[test]
 fn creations_break_the_first_rule(rt: HostRuntime) {
     for case in CREATIONS {
-        assert!(rt; breaks(rt.alloc(), case), "{}", case.of);
+        assert!(rt; breaks(rt.alloc(), case, false), "{}", case.of);
+    }
+}
+
+#[test]
+fn creations_are_judged_alone(rt: HostRuntime) {
+    for case in CREATIONS {
+        assert!(rt; breaks(rt.alloc(), case, true), "{}", case.of);
     }
 }

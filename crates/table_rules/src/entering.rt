@@ -1,32 +1,51 @@
 //! O1 to O5: operations that cannot be cancelled, or not be entered.
-ghost use Rattle.std.specs.Prelude.{◌≡◌, IfOk, option_and_then};
+ghost use Rattle.std.specs.Prelude.{◌≡◌, IfOk, option_and_then, option_map};
 ghost use Rattle.std.specs.Result.{result_err};
 ghost use Rattle.size_values.specs.Causes.{Says};
-ghost use Rattle.operations.specs.Kept.{kept_at, cancel_answer};
+ghost use Rattle.operations.specs.Kept.{kept_at, cancel_answer, enter_fault};
 ghost use Rattle.operations.specs.Statuses.{cancel_of};
 ghost use Rattle.records.specs.declared.refusals.Rule.TheVariants as rule;
 ghost use Rattle.row_machine.specs.machine.Refusals.{nothing_told};
-ghost use Rattle.row_machine.specs.machine.TableRules.{status_text, cancel_refusal, entry_broken, cancel_broken};
+ghost use Rattle.row_machine.specs.machine.TableRules.{status_text, cancel_refusal, enter_refusal};
+ghost use Rattle.row_machine.specs.machine.TableRules.{entry_broken, cancel_broken};
 
-use operations::{CancelFault, LIVE_LIMIT, NUMBER_LIMIT, Status};
+use operations::{CancelFault, EnterFault, LIVE_LIMIT, NUMBER_LIMIT, Status};
 use records::{Kept, Refusal, Rule, What};
 use row_readings::{View, kept_at};
 use rule_refusals::on_number;
 use size_values::{NoMemory, Or, Text};
 use std::alloc::Global;
 
+/// Why no operation can be entered.
+pub fn enter_fault(view: &View<'_>) -> Option<EnterFault>
+    ensures { result ≡ enter_fault view.now.operations }
+{
+    if view.live.len() == LIVE_LIMIT {
+        return Some(EnterFault::Full);
+    }
+    if view.next == NUMBER_LIMIT {
+        return Some(EnterFault::Spent);
+    }
+    None
+}
+
+/// O4, O5: the refusal of an operation that can't be entered, by why.
+pub fn refuse_entry(alloc: Global, fault: Option<EnterFault>) -> Result<(), Or<Refusal>>
+    ensures { Says result (option_map enter_refusal fault) }
+{
+    match fault {
+        Some(EnterFault::Full) => Err(Or::Why(on_number(alloc, Rule::O4, LIVE_LIMIT as u64))),
+        Some(EnterFault::Spent) => Err(Or::Why(on_number(alloc, Rule::O5, NUMBER_LIMIT))),
+        None => Ok(()),
+    }
+}
+
 /// O4, O5: no operation can be entered.
 #[tactic(auto, unfolding(row_machine::specs::machine::TableRules::entry_broken))]
 pub fn entry_broken(alloc: Global, view: &View<'_>) -> Result<(), Or<Refusal>>
     ensures { Says result (entry_broken view.now) }
 {
-    if view.live.len() == LIVE_LIMIT {
-        return Err(Or::Why(on_number(alloc, Rule::O4, LIVE_LIMIT as u64)));
-    }
-    if view.next == NUMBER_LIMIT {
-        return Err(Or::Why(on_number(alloc, Rule::O5, NUMBER_LIMIT)));
-    }
-    Ok(())
+    refuse_entry(alloc, enter_fault(view))
 }
 
 /// How a status is written.

@@ -4,5 +4,5 @@
 mod entering;
 mod tables;
 
-pub use entering::{cancel_broken, entry_broken};
+pub use entering::{cancel_broken, enter_fault, entry_broken, refuse_entry};
 pub use tables::{claim_tables_broken, tables_broken};

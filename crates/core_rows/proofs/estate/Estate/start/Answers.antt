@@ -34,17 +34,23 @@ returns-in-Err c = λ store.
     let is = ap (λ (k : Kept). k.state) c.self.view_is in
     let planned = subst (λ t. IsToStart t command moment task) (sym is) c.requires.planned in
     let claimed = c.claim-number.ensures.state ∙ ap (λ t. claiming t task moment) c.make_beginning.ensures.state in
-    let same = judged-claim old command moment task c.view.result c.in-Ok.beginning.fault c.claim-number.result c.self.invariant.whole.operations.kept planned
+    let same = judged-claim old command moment task c.view.result c.in-Ok.beginning.fault c.claim-number.result
+    c.in-Ok.beginning.project c.in-Ok.beginning.used c.in-Ok.beginning.share c.self.invariant.whole planned
     (c.view.ensures ∙ claimed) c.in-Ok.ensures.fault
-    (c.claim-number.ensures.number ∙ ap (λ (t : State). t.operations.next) c.make_beginning.ensures.state) in
+    (c.claim-number.ensures.number ∙ ap (λ (t : State). t.operations.next) c.make_beginning.ensures.state)
+    c.in-Ok.ensures.project c.in-Ok.ensures.share c.in-Ok.ensures.used in
     subst (λ t. IsAsked t command moment c.give_up.new.draft.state (map (told_by c.give_up.new.draft.state.operations) c.self.inside.untold.items) c.give_up.result store store) is
     (start-refused old command moment c.give_up.new.draft.state (map (told_by c.give_up.new.draft.state.operations) c.self.inside.untold.items) c.in-Err.why c.give_up.result store
-    (subst (Refuses c.in-Err.why) same (c.in-Err.ensures old c.in-Ok.ensures.before))
+    (subst (Refuses c.in-Err.why) same c.in-Err.ensures)
     (c.give_up.ensures.state
     ∙ c.claim-number.ensures.former
     ∙ ap (λ us. before_changes us c.make_beginning.new.draft.state) c.make_beginning.ensures.log
     ∙ c.make_beginning.ensures.state)
     (still-quiet _ _ c.self.inside.untold.items (ap (λ (k : Kept). k.untold) c.self.view_is ∙ c.requires.quiet)) c.give_up.ensures.reply)
+
+pub judge_claim-judged-requires-clause-share : goal.judge_claim-judged-requires-clause-share
+judge_claim-judged-requires-clause-share c = λ k.
+    omega (arith, low-share_of c.self.inside.draft.state c.args.work k, ap (part k) c.in-Ok.ensures.share)
 
 pub settle_beginning-requires-clause-limit : goal.settle_beginning-requires-clause-limit
 settle_beginning-requires-clause-limit c =
@@ -55,11 +61,13 @@ settle_beginning-requires-clause-limit c =
     let is = ap (λ (k : Kept). k.state) c.self.view_is in
     let planned = subst (λ t. IsToStart t command moment task) (sym is) c.requires.planned in
     let claimed = c.claim-number.ensures.state ∙ ap (λ t. claiming t task moment) c.make_beginning.ensures.state in
-    let same = judged-claim old command moment task c.view.result c.in-Ok.beginning.fault c.claim-number.result c.self.invariant.whole.operations.kept planned
+    let same = judged-claim old command moment task c.view.result c.in-Ok.beginning.fault c.claim-number.result
+    c.in-Ok.beginning.project c.in-Ok.beginning.used c.in-Ok.beginning.share c.self.invariant.whole planned
     (c.view.ensures ∙ claimed) c.in-Ok.ensures.fault
-    (c.claim-number.ensures.number ∙ ap (λ (t : State). t.operations.next) c.make_beginning.ensures.state) in
+    (c.claim-number.ensures.number ∙ ap (λ (t : State). t.operations.next) c.make_beginning.ensures.state)
+    c.in-Ok.ensures.project c.in-Ok.ensures.share c.in-Ok.ensures.used in
     let accepted = start-accepted old command moment task c.self.invariant.whole planned
-    (sym same ∙ c.in_default-judged.ensures old c.in-Ok.ensures.before) in
+    (sym same ∙ c.in_default-judged.ensures) in
     omega (arith, number-left old task moment (whole-entered accepted), ap (λ (t : State). t.operations.next) claimed)
 
 pub settle_beginning-requires-clause-room : goal.settle_beginning-requires-clause-room
@@ -79,11 +87,13 @@ invariant_of-self-2 c =
     let is = ap (λ (k : Kept). k.state) c.self.view_is in
     let planned = subst (λ t. IsToStart t command moment task) (sym is) c.requires.planned in
     let claimed = c.claim-number.ensures.state ∙ ap (λ t. claiming t task moment) c.make_beginning.ensures.state in
-    let same = judged-claim old command moment task c.view.result c.in-Ok.beginning.fault c.claim-number.result c.self.invariant.whole.operations.kept planned
+    let same = judged-claim old command moment task c.view.result c.in-Ok.beginning.fault c.claim-number.result
+    c.in-Ok.beginning.project c.in-Ok.beginning.used c.in-Ok.beginning.share c.self.invariant.whole planned
     (c.view.ensures ∙ claimed) c.in-Ok.ensures.fault
-    (c.claim-number.ensures.number ∙ ap (λ (t : State). t.operations.next) c.make_beginning.ensures.state) in
+    (c.claim-number.ensures.number ∙ ap (λ (t : State). t.operations.next) c.make_beginning.ensures.state)
+    c.in-Ok.ensures.project c.in-Ok.ensures.share c.in-Ok.ensures.used in
     let accepted = start-accepted old command moment task c.self.invariant.whole planned
-    (sym same ∙ c.in_default-judged.ensures old c.in-Ok.ensures.before) in
+    (sym same ∙ c.in_default-judged.ensures) in
     let made = entered-from old task moment c.settle_beginning.new.draft.state c.claim-number.new.self.state c.in-Ok.beginning.project c.in-Ok.beginning.share
     claimed c.in-Ok.ensures.project c.in-Ok.ensures.share c.settle_beginning.ensures.state in
     record {
@@ -109,11 +119,13 @@ returns c = λ store.
     let is = ap (λ (k : Kept). k.state) c.self.view_is in
     let planned = subst (λ t. IsToStart t command moment task) (sym is) c.requires.planned in
     let claimed = c.claim-number.ensures.state ∙ ap (λ t. claiming t task moment) c.make_beginning.ensures.state in
-    let same = judged-claim old command moment task c.view.result c.in-Ok.beginning.fault c.claim-number.result c.self.invariant.whole.operations.kept planned
+    let same = judged-claim old command moment task c.view.result c.in-Ok.beginning.fault c.claim-number.result
+    c.in-Ok.beginning.project c.in-Ok.beginning.used c.in-Ok.beginning.share c.self.invariant.whole planned
     (c.view.ensures ∙ claimed) c.in-Ok.ensures.fault
-    (c.claim-number.ensures.number ∙ ap (λ (t : State). t.operations.next) c.make_beginning.ensures.state) in
+    (c.claim-number.ensures.number ∙ ap (λ (t : State). t.operations.next) c.make_beginning.ensures.state)
+    c.in-Ok.ensures.project c.in-Ok.ensures.share c.in-Ok.ensures.used in
     let accepted = start-accepted old command moment task c.self.invariant.whole planned
-    (sym same ∙ c.in_default-judged.ensures old c.in-Ok.ensures.before) in
+    (sym same ∙ c.in_default-judged.ensures) in
     let made = entered-from old task moment c.settle_beginning.new.draft.state c.claim-number.new.self.state c.in-Ok.beginning.project c.in-Ok.beginning.share
     claimed c.in-Ok.ensures.project c.in-Ok.ensures.share c.settle_beginning.ensures.state in
     let none = ap (λ (k : Kept). k.untold) c.self.view_is ∙ c.requires.quiet in

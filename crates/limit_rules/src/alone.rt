@@ -1,0 +1,162 @@
+//! The rules on limits for a new operation, by what it claims alone: where all facts hold before it, nothing else can break
+//! them.
+ghost use Rattle.std.specs.Prelude.{◌≡◌, ◌+◌, ◌<◌, ◌≤◌, ◌^◌, IfOk};
+ghost use Rattle.plain_lists.specs.Firsts.{first_of};
+ghost use Rattle.size_values.specs.Amounts.{part, nothing, fits_in};
+ghost use Rattle.size_values.specs.Causes.{Says};
+ghost use Rattle.size_values.specs.declared.amounts.Part.{Part as PartValue};
+ghost use Rattle.row_machine.specs.machine.LimitRules.{claim_uncounted};
+ghost use Rattle.row_machine.specs.machine.Usage.{usage_of};
+ghost use Rattle.limit_rules.specs.Alone.{claim_uncounts, share_over, share_exceeds, share_broken, has_limits};
+
+use crate::counts::claim_uncounted;
+use crate::limits::limit_exceeded;
+use crate::parts::{PARTS, is_limited, key_of, limit_on, part_of};
+use project_limits::limits_of;
+use project_usage::usage_of;
+use records::{Project, Refusal};
+use row_machine::Work;
+use row_readings::View;
+use size_values::{Amounts, NoMemory, Or, Part};
+use std::alloc::Global;
+
+fn projects_uncount(
+    alloc: Global,
+    view: &View<'_>,
+    projects: &[Project],
+    work: &Work,
+) -> Result<(), Or<Refusal>>
+    ensures { Says result (first_of (λ p. claim_uncounted view.now p work.now) projects.now) }
+{
+    for project in projects {
+        if let Err(why) = claim_uncounted(alloc, view, project, work) {
+            return Err(why);
+        }
+    }
+    Ok(())
+}
+
+/// L0: the row that an operation would put gives no number for a sum that its project limits.
+pub fn claim_uncounts(alloc: Global, view: &View<'_>, work: &Work) -> Result<(), Or<Refusal>>
+    ensures { Says result (claim_uncounts view.now work.now) }
+{
+    projects_uncount(alloc, view, view.projects, work)
+}
+
+/// One part of a share, above what the project of this name uses already.
+fn share_over(
+    alloc: Global,
+    name: &str,
+    used: &Amounts,
+    share: &Amounts,
+    of: Part,
+    project: &Project,
+) -> Result<(), Or<Refusal>>
+    requires used { (k : PartValue) → part k used.now ≤ 2 ^ 127 + 2 ^ 126 }
+    requires share { (k : PartValue) → part k share.now < 2 ^ 80 }
+    ensures { Says result (share_over name.now used.now share.now of project.now) }
+{
+    if project.name.view() != name {
+        return Ok(());
+    }
+    let Some(limit) = limit_on(of, &limits_of(&project.config)) else {
+        return Ok(());
+    };
+    let before = part_of(of, used);
+    let after = before + part_of(of, share);
+    limit_exceeded(alloc, project, key_of(of), limit, before, after)
+}
+
+fn shares_over(
+    alloc: Global,
+    name: &str,
+    used: &Amounts,
+    share: &Amounts,
+    of: Part,
+    projects: &[Project],
+) -> Result<(), Or<Refusal>>
+    requires used { (k : PartValue) → part k used.now ≤ 2 ^ 127 + 2 ^ 126 }
+    requires share { (k : PartValue) → part k share.now < 2 ^ 80 }
+    ensures { Says result (first_of (share_over name.now used.now share.now of) projects.now) }
+{
+    for project in projects {
+        if let Err(why) = share_over(alloc, name, used, share, of, project) {
+            return Err(why);
+        }
+    }
+    Ok(())
+}
+
+/// L1 to L7: the first limit of the project of this name that what it uses and a share exceed together.
+fn share_exceeds(
+    alloc: Global,
+    projects: &[Project],
+    name: &str,
+    used: &Amounts,
+    share: &Amounts,
+) -> Result<(), Or<Refusal>>
+    requires used { (k : PartValue) → part k used.now ≤ 2 ^ 127 + 2 ^ 126 }
+    requires share { (k : PartValue) → part k share.now < 2 ^ 80 }
+    ensures { Says result (share_exceeds projects.now name.now used.now share.now) }
+{
+    for of in PARTS {
+        if let Err(why) = shares_over(alloc, name, used, share, of, projects) {
+            return Err(why);
+        }
+    }
+    Ok(())
+}
+
+/// Whether a share is nothing.
+fn is_nothing(share: &Amounts) -> bool
+    ensures { result ≡ fits_in share.now nothing }
+{
+    share.fits(&Amounts::zero())
+}
+
+/// Whether the project of this name has a limit.
+fn has_limits(projects: &[Project], name: &str) -> bool
+    ensures { result ≡ has_limits projects.now name.now }
+{
+    projects.iter().any(|project| project.name.view() == name && is_limited(project))
+}
+
+/// What the project of this name uses, as far as a share is judged by it: where the share is nothing, or the project has
+/// no limit, it is not summed.
+pub fn used_beside(
+    alloc: Global,
+    view: &View<'_>,
+    name: &str,
+    share: &Amounts,
+) -> Result<Amounts, NoMemory>
+    ensures few { IfOk result (λ used. (k : PartValue) → part k used ≤ 2 ^ 127 + 2 ^ 126) }
+    ensures serves { IfOk result (λ used. share_broken view.now.projects name.now used share.now
+        ≡ share_broken view.now.projects name.now (usage_of view.now name.now) share.now) }
+{
+    if is_nothing(share) {
+        return Ok(Amounts::zero());
+    }
+    if !has_limits(view.projects, name) {
+        return Ok(Amounts::zero());
+    }
+    usage_of(alloc, view, name)
+}
+
+/// L1 to L8: the first limit of the project of this name that what it uses and a share exceed together. A share that is
+/// nothing exceeds none.
+pub fn share_broken(
+    alloc: Global,
+    projects: &[Project],
+    name: &str,
+    used: &Amounts,
+    share: &Amounts,
+) -> Result<(), Or<Refusal>>
+    requires used { (k : PartValue) → part k used.now ≤ 2 ^ 127 + 2 ^ 126 }
+    requires share { (k : PartValue) → part k share.now < 2 ^ 80 }
+    ensures { Says result (share_broken projects.now name.now used.now share.now) }
+{
+    if is_nothing(share) {
+        return Ok(());
+    }
+    share_exceeds(alloc, projects, name, used, share)
+}

@@ -1,0 +1,110 @@
+//! The rules on policy for a new operation, by what it claims alone: where all facts hold before it, nothing else can break
+//! them.
+ghost use Rattle.std.specs.Prelude.{IfOk};
+ghost use Rattle.plain_lists.specs.Firsts.{first_of};
+ghost use Rattle.size_values.specs.Causes.{Says};
+ghost use Rattle.policy_rules.specs.Alone.{claim_forbidden};
+ghost use Rattle.policy_rules.specs.Lowest.{HoldBelow};
+ghost use Rattle.policy_rules.specs.Within.{own_claim};
+
+use crate::lowest::lowest_of_claim;
+use crate::policy::{NUMBERS, claim_forbids};
+use crate::restricted::Restricted;
+use records::{Project, Refusal};
+use restrictions::is_restricted;
+use row_machine::Work;
+use row_readings::View;
+use size_values::{NoMemory, Or};
+use std::alloc::Global;
+
+/// The number of the first rule that a claim breaks in a project, or one above them all. A project that is not restricted
+/// breaks none.
+fn lowest_in(alloc: Global, view: &View<'_>, project: &Project, work: &Work) -> Result<u8, NoMemory>
+    ensures { IfOk result (λ lowest. HoldBelow lowest (λ n. own_claim view.now project.now n work.now)) }
+{
+    if !is_restricted(&project.config) {
+        return Ok(u8::MAX);
+    }
+    lowest_of_claim(alloc, view, &Restricted::new(project), work)
+}
+
+/// The same over all projects.
+fn lowest_in_all(
+    alloc: Global,
+    view: &View<'_>,
+    projects: &[Project],
+    work: &Work,
+) -> Result<u8, NoMemory>
+    ensures { IfOk result (λ lowest. HoldBelow lowest (λ n. first_of (λ p. own_claim view.now p n work.now) projects.now)) }
+{
+    let mut lowest = u8::MAX;
+    for project in projects {
+        let found = lowest_in(alloc, view, project, work)?;
+        lowest = lowest.min(found);
+    }
+    Ok(lowest)
+}
+
+fn project_forbids(
+    alloc: Global,
+    view: &View<'_>,
+    number: u8,
+    project: &Project,
+    work: &Work,
+) -> Result<(), Or<Refusal>>
+    ensures { Says result (own_claim view.now project.now number work.now) }
+{
+    if !is_restricted(&project.config) {
+        return Ok(());
+    }
+    claim_forbids(alloc, view, &Restricted::new(project), number, work)
+}
+
+fn projects_forbid(
+    alloc: Global,
+    view: &View<'_>,
+    number: u8,
+    projects: &[Project],
+    work: &Work,
+) -> Result<(), Or<Refusal>>
+    ensures { Says result (first_of (λ p. own_claim view.now p number work.now) projects.now) }
+{
+    for project in projects {
+        if let Err(why) = project_forbids(alloc, view, number, project, work) {
+            return Err(why);
+        }
+    }
+    Ok(())
+}
+
+/// The rule of this number. It is not asked where it is known to hold.
+fn number_forbids(
+    alloc: Global,
+    view: &View<'_>,
+    lowest: u8,
+    number: u8,
+    work: &Work,
+) -> Result<(), Or<Refusal>>
+    requires { HoldBelow lowest (λ n. first_of (λ p. own_claim view.now p n work.now) view.now.projects) }
+    ensures { Says result (first_of (λ p. own_claim view.now p number work.now) view.now.projects) }
+{
+    if number < lowest {
+        return Ok(());
+    }
+    projects_forbid(alloc, view, number, view.projects, work)
+}
+
+/// F1 to F7: the first rule on policy that the instance breaks which an operation would put, in the project that it would
+/// stand in.
+#[tactic(auto, unfolding(crate::specs::Alone::claim_forbidden))]
+pub fn claim_forbidden(alloc: Global, view: &View<'_>, work: &Work) -> Result<(), Or<Refusal>>
+    ensures { Says result (claim_forbidden view.now work.now) }
+{
+    let lowest = lowest_in_all(alloc, view, view.projects, work)?;
+    for number in NUMBERS {
+        if let Err(why) = number_forbids(alloc, view, lowest, number, work) {
+            return Err(why);
+        }
+    }
+    Ok(())
+}
