@@ -41,12 +41,6 @@ frames_append boot xs ys = flat_map-append (λ n. text_frame (notice_text n boot
 got_append : (xs ys : List Item) → got (xs ++ ys) ≡ got xs ++ got ys
 got_append xs ys = flat_map-append got_at xs ys
 
--- one event more
-pub frames_push : (boot : ℕ) (xs : List Notice) (n : Notice)
-    → frames_of boot (xs ++ n ∷ []) ≡ frames_of boot xs ++ text_frame (notice_text n boot)
-frames_push boot xs n =
-    frames_append boot xs (n ∷ []) ∙ ap (λ l. frames_of boot xs ++ l) (append-nil (text_frame (notice_text n boot)))
-
 -- the frames of what was owed and then heard, and then heard again
 frames_along : (boot : ℕ) (owed : List Notice) (xs ys : List Item)
     → frames_of boot (owed ++ got (xs ++ ys)) ≡ frames_of boot (owed ++ got xs) ++ frames_of boot ([] ++ got ys)

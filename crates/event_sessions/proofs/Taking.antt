@@ -30,11 +30,6 @@ front_none s t =
 pub front_same : {s s' : Outlet} (t : List ℕ) → s' ≡ s → TakesFront s s' t
 front_same {s} t same = subst (λ v. TakesFront s v t) (sym same) (front_none s t)
 
--- a text of which all was taken is a front of each longer one
-pub front_whole : {a b : Outlet} {t : List ℕ} (u : List ℕ) → Takes a b t → TakesFront a b (t ++ u)
-front_whole {a} {b} {t} u takes =
-    record { taken = t; left = u; is = refl; written = takes.written; later = takes.later }
-
 -- a write that failed took a front
 pub front_broken : {a b : Outlet} {t : List ℕ} → BreaksOff a b t → TakesFront a b t
 front_broken {a} {b} {t} breaks = record {

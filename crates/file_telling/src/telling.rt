@@ -1,6 +1,7 @@
 use size_values::NoMemory;
 use sqlite_keeper::SqliteKeeper;
-use start_telling::tell_line;
+use start_faults::StartFault;
+use start_telling::{tell_fault, tell_line};
 use std::alloc::Global;
 
 /// The line that says why a file keeps no rows.
@@ -15,6 +16,17 @@ fn trouble_line(alloc: Global, program: &str, keeper: &SqliteKeeper) -> Result<S
 }
 
 /// Why a file keeps no rows.
-pub fn tell_trouble(rt: HostRuntime, program: &str, keeper: &SqliteKeeper) {
+fn tell_trouble(rt: HostRuntime, program: &str, keeper: &SqliteKeeper) {
     tell_line(rt, trouble_line(rt.alloc(), program, keeper));
+}
+
+/// Why a program over the rows of a file ended with this exit status, where the file or its rows are why: it keeps no rows, or
+/// they open to none.
+pub fn tell_why(rt: HostRuntime, program: &str, status: u8, keeper: &mut SqliteKeeper) {
+    if status == StartFault::KeeperFailed.status() {
+        tell_trouble(rt, program, keeper);
+    }
+    if status == StartFault::Unopened.status() {
+        tell_fault(rt, program, keeper);
+    }
 }

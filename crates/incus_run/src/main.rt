@@ -2,7 +2,7 @@
 //! memory or in a file, by the clock of the system; or writes, drills or checks (`run_words::usage`).
 #![tactic(auto)]
 
-use file_telling::tell_trouble;
+use file_telling::tell_why;
 use host_model::ModelHost;
 use http_front::{Clock, ReaderSource, SystemClock, WriterSink};
 use record_keeper::{Keeper, MapKeeper};
@@ -11,7 +11,7 @@ use serial_run::run_main;
 use size_values::Seq;
 use sqlite_keeper::SqliteKeeper;
 use start_faults::StartFault;
-use start_telling::{fault_of, tell, tell_fault, words_of};
+use start_telling::{fault_of, tell, words_of};
 use std::process::ExitCode;
 
 /// The name of the program.
@@ -53,12 +53,7 @@ fn run_in_memory(rt: HostRuntime, words: &[String], setup: Setup) -> u8 {
 fn run_over_file(rt: HostRuntime, words: &[String], setup: Setup) -> u8 {
     let keeper = SqliteKeeper::at(rt, setup.db);
     let (status, mut keeper) = run_over(rt, words, setup.fail_host, keeper);
-    if status == StartFault::KeeperFailed.status() {
-        tell_trouble(rt, PROGRAM, &keeper);
-    }
-    if status == StartFault::Unopened.status() {
-        tell_fault(rt, PROGRAM, &mut keeper);
-    }
+    tell_why(rt, PROGRAM, status, &mut keeper);
     drop(keeper);
     status
 }

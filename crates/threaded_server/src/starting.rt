@@ -4,13 +4,12 @@ ghost use Rattle.serve_words.specs.Words.{serve_setup_of};
 
 use crate::listening::serve_over;
 use crate::telling::PROGRAM;
-use file_telling::tell_trouble;
+use file_telling::tell_why;
 use record_keeper::MapKeeper;
 use serve_words::serve_setup_of;
 use size_values::{Seq, Text};
 use sqlite_keeper::SqliteKeeper;
 use start_faults::StartFault;
-use start_telling::tell_fault;
 use std::net::{Net, TcpListener, TcpStream};
 use std::sync::Wait;
 use std::thread::Threads;
@@ -48,12 +47,7 @@ where
     let Some(mut keeper) = back else {
         return status;
     };
-    if status == StartFault::KeeperFailed.status() {
-        tell_trouble(rt, PROGRAM, &keeper);
-    }
-    if status == StartFault::Unopened.status() {
-        tell_fault(rt, PROGRAM, &mut keeper);
-    }
+    tell_why(rt, PROGRAM, status, &mut keeper);
     drop(keeper);
     status
 }
