@@ -49,7 +49,7 @@ use Rattle.machine_laws.proofs.Cases.{IsAccepted}
 use Rattle.limit_rules.specs.Alone.{claim_uncounts, share_broken}
 use Rattle.policy_rules.specs.Alone.{claim_forbidden}
 use Rattle.claim_laws.specs.Alone.{IsJudgedAlone}
-use Rattle.claim_laws.proofs.Alone.{alone-judged}
+use Rattle.claim_laws.proofs.Alone.{judged-alone}
 use Rattle.core_rows.specs.Asked.{IsAsked, answered, changes_at_once, changes_of, unless_refused}
 use Rattle.work_reports.specs.Waiting.{IsSilent}
 use Rattle.judged_changes.specs.Judged.{claim_judged, reply_for}
@@ -125,7 +125,7 @@ module _ (s : State) (task : Task) (moment : ℕ) (alone : IsJudgedAlone s task 
   counts-alone = alone.counts
 
   policy-alone : policy_broken (claiming s task moment) ≡ claim_forbidden (claiming s task moment) task
-  unfolding forbids_instance
+  unfolding forbids_instance claim_forbidden
   policy-alone = alone.policy
 
 -- those that are left are judged over the state with the claim
@@ -145,7 +145,7 @@ left-claim s c moment task used whole d serves =
     let blocked = snapshot_blocked later c in
     let entry = option_map enter_refusal (enter_fault s.operations) in
     let tables = tables_broken later rows in
-    let alone = alone-judged s task moment whole in
+    let alone = judged-alone s task moment whole in
     ap (λ o. first (o ∷ standing_broken s c ∷ plan_broken s c (plan_of s c moment) moment ∷ [])) d.names
     ∙ ap (λ o. first (o ∷ plan_broken s c (plan_of s c moment) moment ∷ [])) d.standing
     ∙ ap (λ p. first (plan_broken s c p moment ∷ [])) d.plan
