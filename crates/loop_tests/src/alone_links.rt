@@ -159,39 +159,57 @@ fn links_are_served(rt: HostRuntime) {
     }
 }
 
-/// Closes the server of a gate.
-fn close(gate: &mut OwnGate) -> bool {
-    match gate.turn(Event::Close) {
+/// Whether an answer tells that the server was closed.
+fn is_closed(answer: &Answer) -> bool {
+    match answer {
         Answer::Closed => true,
         _ => false,
     }
 }
 
-/// Whether a worker makes the creation that a link began, on a host of its own, before it returns at the close.
-fn is_worked<T: Wait>(rt: &T, alloc: Global) -> Result<bool, NoMemory> {
-    let begun = Seq::of_bytes(alloc, BEGUN.as_bytes())?;
-    let shown = Seq::of_bytes(alloc, SHOWN.as_bytes())?;
-    match new_gate(alloc) {
-        Some(mut gate) => {
-            let first = serves(rt, alloc, &mut gate, begun, 100, "ended", BEGUN_REPLIES);
-            let closed = close(&mut gate);
-            let mut host = ModelHost::new(alloc, Seq::new(alloc));
-            work(rt, &mut gate, &mut host, &mut StillClock::new(0));
-            let made = host.roots().len() == 1;
-            drop(host);
-            let last = serves(rt, alloc, &mut gate, shown, 100, "ended", SHOWN_REPLIES);
-            drop(gate);
-            Ok(first && closed && made && last)
-        }
-        None => {
-            drop(begun);
-            drop(shown);
-            Ok(false)
-        }
-    }
+/// Closes the server of a gate.
+fn close(gate: &mut OwnGate) -> bool {
+    let answer = gate.turn(Event::Close);
+    let closed = is_closed(&answer);
+    drop(answer);
+    closed
+}
+
+/// Whether a link begins the creation of an instance.
+fn is_begun<T: Wait>(rt: &T, alloc: Global, gate: &mut OwnGate) -> Result<bool, NoMemory> {
+    let bytes = Seq::of_bytes(alloc, BEGUN.as_bytes())?;
+    Ok(serves(rt, alloc, gate, bytes, 100, "ended", BEGUN_REPLIES))
+}
+
+/// Whether a link is shown that the creation succeeded.
+fn is_shown<T: Wait>(rt: &T, alloc: Global, gate: &mut OwnGate) -> Result<bool, NoMemory> {
+    let bytes = Seq::of_bytes(alloc, SHOWN.as_bytes())?;
+    Ok(serves(rt, alloc, gate, bytes, 100, "ended", SHOWN_REPLIES))
+}
+
+/// Whether a worker makes one instance on a host of its own before it returns.
+fn is_made<T: Wait>(rt: &T, alloc: Global, gate: &mut OwnGate) -> bool {
+    let mut host = ModelHost::new(alloc, Seq::new(alloc));
+    work(rt, gate, &mut host, &mut StillClock::new(0));
+    let made = host.roots().len() == 1;
+    drop(host);
+    made
+}
+
+/// Whether a worker makes the creation that a link began before it returns at the close.
+fn is_worked<T: Wait>(rt: &T, alloc: Global) -> bool {
+    let Some(mut gate) = new_gate(alloc) else {
+        return false;
+    };
+    let begun = is_begun(rt, alloc, &mut gate);
+    let closed = close(&mut gate);
+    let made = is_made(rt, alloc, &mut gate);
+    let shown = is_shown(rt, alloc, &mut gate);
+    drop(gate);
+    begun == Ok(true) && closed && made && shown == Ok(true)
 }
 
 #[test]
 fn a_worker_makes_what_was_begun(rt: HostRuntime) {
-    assert!(rt; is_worked(&rt, rt.alloc()) == Ok(true));
+    assert!(rt; is_worked(&rt, rt.alloc()));
 }

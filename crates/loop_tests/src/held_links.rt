@@ -1,7 +1,9 @@
 //! Two links that meet in an operation whose call of the host is held.
 ghost use Rattle.std.specs.Prelude.{◌≡◌, None};
 
-use crate::links::{INSTANCES, POOL, count_in_replies, is_answered, new_machine, replies_to};
+use crate::links::{
+    INSTANCES, POOL, count_in_replies, gate_at, is_answered, new_machine, replies_to,
+};
 use gate_trails::Gate;
 use gates::{DaemonMachine, LockedGate};
 use host_model::{Host, HostCall, HostFailed, ModelHost};
@@ -17,7 +19,7 @@ use std::sync::{Arc, Wait};
 use std::thread;
 use std::thread::{Threads, join};
 use std::time::{Clock, Duration};
-use turnstile::Turnstile;
+use turnstile::{Pass, Turnstile};
 use workers::work;
 
 /// How often a link looks at the operation, and how many hundredths of a second a call is held, at the most.
@@ -94,31 +96,62 @@ fn waits<T: Wait, G: Gate>(rt: &T, alloc: Global, gate: &mut G) -> bool {
     told == 1
 }
 
-/// Whether two links meet in one operation, and a third one finds that nothing was made.
-fn meet<L: Ledger + Send + Sync, T: Threads + Wait + Clock + Copy + Send + Sync + Drop>(
+type Held<L, T> = LockedGate<MapKeeper, L, T>;
+
+/// Gates by the passes of one server: for two links that meet, for a third one, and for a worker.
+fn gates_at<L: Ledger, T: Wait + Clock + Copy>(
     rt: T,
     alloc: Global,
-    blank: Blank,
-) -> Option<bool>
-    requires name { blank.name ≡ L.name }
-    requires parts { (blank.parts ≡ L.parts) × (blank.parts ≡ 4) }
-{
-    let machine = new_machine(alloc)?;
-    let (turnstile, mut passes) = Turnstile::<DaemonMachine<MapKeeper>, L>::new(
-        alloc, machine, 4, blank,
-    ).ok()?;
-    let shared = Arc::new(alloc, turnstile).ok()?;
-    let mut first = LockedGate::new(rt, Arc::try_clone(&shared).ok()?, passes.pop()?);
-    let mut second = LockedGate::new(rt, Arc::try_clone(&shared).ok()?, passes.pop()?);
-    let mut third = LockedGate::new(rt, Arc::try_clone(&shared).ok()?, passes.pop()?);
-    let mut worker = LockedGate::new(rt, shared, passes.pop()?);
-    drop(replies_to(&rt, alloc, &mut third, POOL)?);
-    let let_go = Arc::new(alloc, AtomicU64::new(0)).ok()?;
-    let mut host = HeldHost {
-        rt,
-        let_go: Arc::try_clone(&let_go).ok()?,
-        host: ModelHost::new(alloc, Seq::new(alloc)),
+    turnstile: Turnstile<DaemonMachine<MapKeeper>, L>,
+    mut passes: Vec<Pass<L>>,
+) -> Option<((Held<L, T>, Held<L, T>), (Held<L, T>, Held<L, T>))> {
+    let Ok(shared) = Arc::new(alloc, turnstile) else {
+        drop(passes);
+        return None;
     };
+    let first = gate_at(rt, &shared, passes.pop());
+    let second = gate_at(rt, &shared, passes.pop());
+    let third = gate_at(rt, &shared, passes.pop());
+    let worker = gate_at(rt, &shared, passes.pop());
+    drop(passes);
+    drop(shared);
+    first.zip(second).zip(third.zip(worker))
+}
+
+/// A host whose calls are held, and what lets them go.
+fn held_host<T: Copy>(
+    rt: T,
+    alloc: Global,
+) -> Option<(Arc<AtomicU64, Global>, HeldHost<ModelHost, T>)> {
+    let let_go = Arc::new(alloc, AtomicU64::new(0)).ok()?;
+    match Arc::try_clone(&let_go) {
+        Ok(held) => {
+            let host = HeldHost {
+                rt,
+                let_go: held,
+                host: ModelHost::new(alloc, Seq::new(alloc)),
+            };
+            Some((let_go, host))
+        }
+        Err(_) => {
+            drop(let_go);
+            None
+        }
+    }
+}
+
+/// Two links at once, of which the second lets the call go that the worker makes. Whether the first is told that its
+/// operation was cancelled, and the second saw it running and cancelled it.
+fn play<L: Ledger + Send + Sync, T: Threads + Wait + Clock + Copy + Send + Sync + Drop>(
+    rt: T,
+    alloc: Global,
+    links: (Held<L, T>, Held<L, T>),
+    worker: Held<L, T>,
+    held: (Arc<AtomicU64, Global>, HeldHost<ModelHost, T>),
+) -> bool {
+    let (mut first, mut second) = links;
+    let mut worker = worker;
+    let (let_go, mut host) = held;
     let (is_told, (is_cancelled, ())) = join(
         &rt,
         move || waits(&rt, alloc, &mut first),
@@ -130,8 +163,30 @@ fn meet<L: Ledger + Send + Sync, T: Threads + Wait + Clock + Copy + Send + Sync 
             )
         },
     );
+    is_told && is_cancelled
+}
+
+/// Whether two links meet in one operation, and a third one finds that nothing was made.
+fn meet<L: Ledger + Send + Sync, T: Threads + Wait + Clock + Copy + Send + Sync + Drop>(
+    rt: T,
+    alloc: Global,
+    blank: Blank,
+) -> Option<bool>
+    requires name { blank.name ≡ L.name }
+    requires parts { (blank.parts ≡ L.parts) × (blank.parts ≡ 4) }
+{
+    let machine = new_machine(alloc)?;
+    let (turnstile, passes) = Turnstile::<DaemonMachine<MapKeeper>, L>::new(
+        alloc, machine, 4, blank,
+    ).ok()?;
+    let held = held_host(rt, alloc);
+    let gates = gates_at(rt, alloc, turnstile, passes);
+    let (held, (links, (mut third, worker))) = held.zip(gates)?;
+    drop(replies_to(&rt, alloc, &mut third, POOL));
+    let is_so = play(rt, alloc, links, worker, held);
     let is_empty = is_answered(&rt, alloc, &mut third, INSTANCES, NO_INSTANCES);
-    Some(is_told && is_cancelled && is_empty)
+    drop(third);
+    Some(is_so && is_empty)
 }
 
 #[test]

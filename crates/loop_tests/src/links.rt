@@ -1,13 +1,16 @@
 //! Links in memory over the gates of one server.
 use core_turns::Daemon;
 use gate_trails::Gate;
-use gates::DaemonMachine;
+use gates::{DaemonMachine, LockedGate};
 use http_front::{ByteSink, ByteSource, StillClock};
 use record_keeper::MapKeeper;
 use serve_loop::{LinkEnd, serve_link};
 use size_values::Seq;
 use std::alloc::Global;
-use std::sync::Wait;
+use std::sync::ledger::Ledger;
+use std::sync::{Arc, Wait};
+use std::time::Clock;
+use turnstile::{Pass, Turnstile};
 
 /// A pool, and the root disk of all instances in it.
 pub(crate) const POOL: &str =
@@ -22,6 +25,19 @@ pub(crate) fn new_machine(alloc: Global) -> Option<DaemonMachine<MapKeeper>> {
     match Daemon::begin(alloc, &mut keeper) {
         Ok(daemon) => Some(DaemonMachine::new(alloc, daemon, keeper)),
         Err(_) => None,
+    }
+}
+
+/// A gate at a server by one of its passes.
+pub(crate) fn gate_at<L: Ledger, T: Wait + Clock + Copy>(
+    rt: T,
+    turnstile: &Arc<Turnstile<DaemonMachine<MapKeeper>, L>, Global>,
+    pass: Option<Pass<L>>,
+) -> Option<LockedGate<MapKeeper, L, T>> {
+    let turnstile = Arc::try_clone(turnstile).ok();
+    match turnstile.zip(pass) {
+        Some((turnstile, pass)) => Some(LockedGate::new(rt, turnstile, pass)),
+        None => None,
     }
 }
 

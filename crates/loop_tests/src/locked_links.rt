@@ -1,7 +1,7 @@
 //! Links over two gates to one server under a lock.
 ghost use Rattle.std.specs.Prelude.{◌≡◌, ◌≤◌};
 
-use crate::links::{is_answered, new_machine};
+use crate::links::{gate_at, is_answered, new_machine};
 use gate_trails::Gate;
 use gates::{DaemonMachine, LockedGate};
 use record_keeper::MapKeeper;
@@ -10,7 +10,7 @@ use std::marker::Brand;
 use std::sync::ledger::{Blank, Ledger};
 use std::sync::{Arc, Wait};
 use std::time::Clock;
-use turnstile::Turnstile;
+use turnstile::{Pass, Turnstile};
 
 const CREATION: &str =
     "POST /1.0/projects HTTP/1.1\r\nHost: localhost\r\nContent-Length: 14\r\n\r\n{\"name\":\"lab\"}";
@@ -24,18 +24,36 @@ const MADE_AND_TAKEN: &str =
 const TAKEN: &str =
     "HTTP/1.1 409 Conflict\r\nContent-Type: application/json\r\nContent-Length: 112\r\n\r\n{\"error\":\"name is taken\",\"error_code\":409,\"metadata\":{\"kind\":\"project\",\"name\":\"lab\",\"rule\":\"N4\"},\"type\":\"error\"}";
 
+type Locked<L, T> = LockedGate<MapKeeper, L, T>;
+
+/// Two gates by the passes of one server.
+fn gates_at<L: Ledger, T: Wait + Clock + Copy>(
+    rt: T,
+    alloc: Global,
+    turnstile: Turnstile<DaemonMachine<MapKeeper>, L>,
+    mut passes: Vec<Pass<L>>,
+) -> Option<(Locked<L, T>, Locked<L, T>)> {
+    let Ok(shared) = Arc::new(alloc, turnstile) else {
+        drop(passes);
+        return None;
+    };
+    let first = gate_at(rt, &shared, passes.pop());
+    let second = gate_at(rt, &shared, passes.pop());
+    drop(passes);
+    drop(shared);
+    first.zip(second)
+}
+
 /// Whether the project that one link makes is there for the other.
 fn meet<L: Ledger, T: Wait + Clock + Copy>(rt: T, alloc: Global, blank: Blank) -> Option<bool>
     requires name { blank.name ≡ L.name }
     requires parts { (blank.parts ≡ L.parts) × (blank.parts ≡ 2) }
 {
     let machine = new_machine(alloc)?;
-    let (turnstile, mut passes) = Turnstile::<DaemonMachine<MapKeeper>, L>::new(
+    let (turnstile, passes) = Turnstile::<DaemonMachine<MapKeeper>, L>::new(
         alloc, machine, 2, blank,
     ).ok()?;
-    let shared = Arc::new(alloc, turnstile).ok()?;
-    let mut first = LockedGate::new(rt, Arc::try_clone(&shared).ok()?, passes.pop()?);
-    let mut second = LockedGate::new(rt, shared, passes.pop()?);
+    let (mut first, mut second) = gates_at(rt, alloc, turnstile, passes)?;
     let made = is_answered(&rt, alloc, &mut first, TWICE, MADE_AND_TAKEN);
     let taken = is_answered(&rt, alloc, &mut second, CREATION, TAKEN);
     Some(made && taken && first.made() == 2 && second.made() == 1)

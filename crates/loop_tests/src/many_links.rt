@@ -98,7 +98,75 @@ fn plays<L: Ledger, T: Wait + Clock + Copy + Drop>(floor: &Floor<L, T>, pass: Pa
     gate.into_pass()
 }
 
+/// The floor over a new server, and the nine passes of that.
+fn floor_of<L: Ledger, T: Wait + Clock + Copy>(
+    rt: T,
+    alloc: Global,
+    blank: Blank,
+) -> Option<(Floor<L, T>, Vec<Pass<L>>)>
+    requires name { blank.name ≡ L.name }
+    requires parts { (blank.parts ≡ L.parts) × (blank.parts ≡ 9) }
+{
+    let machine = new_machine(alloc)?;
+    let (turnstile, passes) = Turnstile::<DaemonMachine<MapKeeper>, L>::new(
+        alloc, machine, 9, blank,
+    ).ok()?;
+    let turnstile = Arc::new(alloc, turnstile).ok();
+    let host = LockedHost::new(rt, alloc, ModelHost::new(alloc, Seq::new(alloc))).ok();
+    match turnstile.zip(host) {
+        Some((turnstile, host)) => {
+            let floor = Floor {
+                rt,
+                alloc,
+                turnstile,
+                host,
+                begun: AtomicU64::new(0),
+                ended: AtomicU64::new(0),
+            };
+            Some((floor, passes))
+        }
+        None => {
+            drop(passes);
+            None
+        }
+    }
+}
+
+/// How often a text stands in the replies to another one that a link by the last of the passes sends, which are given back.
+fn counted<L: Ledger, T: Wait + Clock + Copy + Drop>(
+    floor: &Floor<L, T>,
+    mut passes: Vec<Pass<L>>,
+    text: &str,
+    part: &str,
+) -> Option<(Vec<Pass<L>>, usize)> {
+    let Some(pass) = passes.pop() else {
+        drop(passes);
+        return None;
+    };
+    let (pass, count) = with_replies(floor, pass, text, part);
+    match passes.push(pass) {
+        Ok(()) => Some((passes, count)),
+        Err(_) => {
+            drop(passes);
+            None
+        }
+    }
+}
+
 /// Nine parts at once, after the pool was made and before the instances are counted.
+fn told_of<L: Ledger + Send + Sync, T: Threads + Wait + Clock + Copy + Send + Sync + Drop>(
+    floor: &Floor<L, T>,
+    passes: Vec<Pass<L>>,
+) -> Option<Told>
+    requires { L.parts ≡ 9 }
+{
+    let (passes, _) = counted(floor, passes, POOL, "\"Success\"")?;
+    let passes = thread::map_vec(&floor.rt, passes, &|pass| plays(floor, pass)).ok()?;
+    let (passes, instances) = counted(floor, passes, INSTANCES, "/1.0/instances/")?;
+    close_all(floor, passes, instances)
+}
+
+/// What became of nine parts at once over a new server.
 fn meet<L: Ledger + Send + Sync, T: Threads + Wait + Clock + Copy + Send + Sync + Drop>(
     rt: T,
     alloc: Global,
@@ -107,26 +175,10 @@ fn meet<L: Ledger + Send + Sync, T: Threads + Wait + Clock + Copy + Send + Sync 
     requires name { blank.name ≡ L.name }
     requires parts { (blank.parts ≡ L.parts) × (blank.parts ≡ 9) }
 {
-    let machine = new_machine(alloc)?;
-    let host = LockedHost::new(rt, alloc, ModelHost::new(alloc, Seq::new(alloc))).ok()?;
-    let (turnstile, mut passes) = Turnstile::<DaemonMachine<MapKeeper>, L>::new(
-        alloc, machine, 9, blank,
-    ).ok()?;
-    let floor = Floor {
-        rt,
-        alloc,
-        turnstile: Arc::new(alloc, turnstile).ok()?,
-        host,
-        begun: AtomicU64::new(0),
-        ended: AtomicU64::new(0),
-    };
-    let (first, _) = with_replies(&floor, passes.pop()?, POOL, "\"Success\"");
-    passes.push(first).ok()?;
-    let shared = &floor;
-    let mut passes = thread::map_vec(&rt, passes, &|pass| plays(shared, pass)).ok()?;
-    let (last, instances) = with_replies(&floor, passes.pop()?, INSTANCES, "/1.0/instances/");
-    passes.push(last).ok()?;
-    close_all(&floor, passes, instances)
+    let (floor, passes) = floor_of::<L, T>(rt, alloc, blank)?;
+    let told = told_of(&floor, passes);
+    drop(floor);
+    told
 }
 
 /// Closes the server with all of its passes, after the instances were counted.
