@@ -1,7 +1,7 @@
 #!/usr/bin/env python3
 """Kills incus_run over a file of rows at random moments, and compares what it then opens with what it had answered.
 
-    tests/kept_rows.py [--program FILE] [--kills N] [--rows N] [--seed N] [--run-alone]
+    tests/kept_rows.py [--program FILE] [--kills N] [--drills N] [--rows N] [--seed N] [--run-alone]
 
 The program is crates/incus_run/out/incus_run without `--program` (`bin/incus_run --prove` makes it).
 
@@ -9,6 +9,7 @@ The program is crates/incus_run/out/incus_run without `--program` (`bin/incus_ru
    is killed by SIGKILL at a random moment. It is then opened again: every change that was answered has to be there, the one that was
    under way is there whole or not at all, and nothing else has changed. The stock SQLite finds the file sound.
 2. `drill 7 N` (10,000) over a new file, and then `check`, which has to print the same counts.
+3. The same N times (20) over a new file each, killed by SIGKILL at a random moment: `check` then opens what a beginning of the drill made.
 
 With `--run-alone` the commands `drill` and `check` are not used. It ends with status 1 where something is otherwise.
 """
@@ -26,6 +27,7 @@ import time
 from pathlib import Path
 
 TOP = Path(__file__).resolve().parent.parent
+KINDS = ("projects", "profiles", "networks", "pools", "volumes", "instances", "snapshots")
 WORDS = ["--now", "0", "--boot", "0"]
 
 
@@ -221,25 +223,56 @@ def try_kills(program, folder, arguments):
     print(f"{arguments.kills} kills: {answered} changes were answered, and all of them were there; of those under way {whole} were made")
 
 
+def counts_of(told):
+    """How many rows of each kind are told."""
+    lines = [line.split() for line in told.splitlines()]
+    return {words[0]: int(words[1]) for words in lines if words[0] in KINDS}
+
+
 def try_drill(program, folder, arguments):
+    """How many seconds a drill took."""
     file = Path(folder, "drill.db")
     began = time.monotonic()
     ran = subprocess.run([program, "drill", "7", str(arguments.rows), "--db", str(file)], capture_output=True, check=False)
     took = time.monotonic() - began
     if ran.returncode != 0:
         sys.exit(f"drill ended with status {ran.returncode}: {ran.stderr.decode()}")
-    kinds = ("projects", "profiles", "networks", "pools", "volumes", "instances", "snapshots")
-    counts = [line for line in ran.stdout.decode().splitlines() if line.split()[0] in kinds]
-    found = [line for line in check(program, file).splitlines() if line.split()[0] in kinds]
-    if found != counts or len(counts) != len(kinds):
+    counts = counts_of(ran.stdout.decode())
+    found = counts_of(check(program, file))
+    if found != counts or len(counts) != len(KINDS):
         sys.exit(f"drill and check differ:\n{counts}\n{found}")
-    print(f"drill of {arguments.rows} in {took:.1f} s, and check prints the same: {', '.join(counts)}")
+    told = ", ".join(f"{kind} {count}" for kind, count in counts.items())
+    print(f"drill of {arguments.rows} in {took:.1f} s, and check prints the same: {told}")
+    return took
+
+
+def is_beginning(counts):
+    """Whether a drill has rows like these after some of its requests: a pool, then a project with its profile, then instances."""
+    pools, projects, instances = counts["pools"], counts["projects"] - 1, counts["instances"]
+    rest = (counts["profiles"], counts["networks"], counts["volumes"], counts["snapshots"]) == (1 + projects, 0, 0, 0)
+    return rest and 0 <= projects <= pools <= 1 and 0 <= instances <= 32 * projects
+
+
+def try_killed_drills(program, folder, arguments, took):
+    chance, made = random.Random(arguments.seed), []
+    for at in range(arguments.drills):
+        file = Path(folder, f"drill{at}.db")
+        # What a drill makes it makes soon, since most creations are refused by a limit.
+        with subprocess.Popen([program, "drill", "7", str(arguments.rows), "--db", str(file)], stdout=subprocess.DEVNULL) as process:
+            time.sleep(took * chance.random() ** 3)
+            process.kill()
+        counts = counts_of(check(program, file))
+        if not is_beginning(counts) or not is_sound(file):
+            sys.exit(f"a killed drill leaves {counts}")
+        made.append(counts["instances"])
+    print(f"{arguments.drills} drills killed: check opens what each made, {' '.join(map(str, sorted(made)))} instances")
 
 
 def main():
     parser = argparse.ArgumentParser()
     parser.add_argument("--program", default=TOP / "crates/incus_run/out/incus_run")
     parser.add_argument("--kills", type=int, default=100)
+    parser.add_argument("--drills", type=int, default=20)
     parser.add_argument("--rows", type=int, default=10_000)
     parser.add_argument("--seed", type=int, default=7)
     parser.add_argument("--run-alone", action="store_true")
@@ -250,7 +283,8 @@ def main():
     with tempfile.TemporaryDirectory() as folder:
         try_kills(program, folder, arguments)
         if not arguments.run_alone:
-            try_drill(program, folder, arguments)
+            took = try_drill(program, folder, arguments)
+            try_killed_drills(program, folder, arguments, took)
 
 
 main()

@@ -6,14 +6,16 @@
 The program is crates/incus_run/out/incus_run without `--program` (`bin/incus_run --prove` makes it). `check --db` makes a file; the stock
 SQLite writes entries into it, spelt here and not by the program; and `check --db` has to end with status 7 and with one line on standard
 error that names the first row at fault by its kind and key, and the rule that it breaks; or the first entry that is damaged. Each rule of
-an opening has its cases (N1 to N3, B3, V1 to V5, F1 to F7, L0 to L8, C1, C2), and each kind of row its damages; files whose rows are good
-have to open. The file has to keep the entries that it had.
+an opening has its cases (N1 to N3, B3, V1 to V5, F1 to F7, L0 to L8, C1, C2), and each kind of row its damages, spelt here and as a run of
+the program left it; files whose rows are good have to open. The file has to keep the entries that it had.
 
 `--only` tries the cases whose description has this word. `--small` leaves out the tables with more rows than there may be of instances,
 volumes and snapshots. It ends with status 1 where something is otherwise.
 """
 import argparse
+import json
 import shutil
+import subprocess
 import sys
 import tempfile
 from pathlib import Path
@@ -138,6 +140,8 @@ FORBIDDEN = [
     ("F6", {}, {"port": {"type": "proxy"}}, restricted()),
     *(("F6", {}, {"port": {"type": kind}}, restricted()) for kind in ("unix-block", "unix-char", "usb")),
     ("F6", {}, {"data": {"type": "disk", "path": "/data", "source": "/srv"}}, restricted()),
+    ("F6", {}, {"data": {"type": "disk", "path": "/data", "source": "disk", "pool": "tank"}},
+     [*restricted(devices__disk="block"), volume("lab/tank/disk")]),
     ("F6", {}, {"eth0": {"type": "nic", "nictype": "bridged"}}, restricted()),
     ("F6", {}, {"eth0": NIC}, [*restricted(devices__nic="block"), network("lab/net0")]),
     ("F7", {}, {"eth0": NIC}, [*restricted(networks__access="net1,net2"), network("lab/net0")]),
@@ -296,6 +300,45 @@ def damage_cases():
     yield "a damaged entry behind a row that breaks a rule", [project("ghost", OWN), with_body(GOOD[6], b"")], SNAPSHOT, "lab/box/first"
 
 
+# ---- what a run leaves
+
+# Requests that leave a row of each kind, in the project `default` and in one with rows of its own.
+RUN = [
+    ("POST", "/1.0/projects", {"name": "lab", "description": "for tests", "config": {"features.networks": "true", "limits.cpu": "9"}}),
+    ("POST", "/1.0/storage-pools", {"name": "tank", "driver": "zfs", "config": {"size": "9GiB"}}),
+    ("POST", "/1.0/networks", {"name": "net0", "type": "bridge"}),
+    ("POST", "/1.0/networks?project=lab", {"name": "net1", "type": "bridge", "config": {"bridge.mtu": "1500"}}),
+    *(("PUT", f"/1.0/profiles/default?project={name}", {"devices": ROOT, "config": {"limits.cpu": "2"}}) for name in ("default", "lab")),
+    ("POST", "/1.0/profiles?project=lab", {"name": "web", "description": "web", "devices": {"eth0": {"type": "nic", "network": "net1"}}}),
+    ("POST", "/1.0/storage-pools/tank/volumes/custom?project=lab", {"name": "disk", "config": {"size": "1GiB"}}),
+    ("POST", "/1.0/instances", {"name": "cell", "type": "virtual-machine", "source": {"type": "image", "alias": "debian"}}),
+    ("POST", "/1.0/instances?project=lab", {"name": "box", "source": {"type": "none"}, "profiles": ["default", "web"]}),
+    ("POST", "/1.0/instances/box/snapshots?project=lab", {"name": "first"}),
+]
+
+
+def leave_rows(program, file):
+    """Makes a file by a run, and gives its entries, which are of all kinds."""
+    bodies = [(method, target, json.dumps(body).encode()) for method, target, body in RUN]
+    text = b"".join(f"{method} {target} HTTP/1.1\r\nHost: localhost\r\nContent-Length: {len(body)}\r\n\r\n".encode() + body
+                    for method, target, body in bodies)
+    ran = subprocess.run([program, "run", "--now", "7", "--boot", "0", "--db", str(file)], input=text, capture_output=True, check=False)
+    done = ran.stdout.count(b"HTTP/1.1 200 ") + ran.stdout.count(b"HTTP/1.1 202 ")
+    entries = row_entries.read(file)
+    if (ran.returncode, done) != (0, len(RUN)) or {kind for kind, _, _ in entries} != set(range(1, 8)):
+        sys.exit(f"a run leaves no row of each kind: status {ran.returncode}, {ran.stdout.decode()}{ran.stderr.decode()}")
+    return entries
+
+
+def left_damages(entries):
+    """Each entry that a run left with one byte more, with one fewer, and with another first byte."""
+    for row in entries:
+        name = f"{KINDS[row[0] - 1]} {row[1]} of a run"
+        yield f"one byte more, {name}", with_body(row, row[2] + b"\0")
+        yield f"one byte fewer, {name}", with_body(row, row[2][:-1])
+        yield f"another first byte, {name}", changed(row, 0, 9)
+
+
 # ---- files whose rows are good
 
 OPENED = [
@@ -319,25 +362,26 @@ OPENED = [
 class Tries:
     def __init__(self, program, folder):
         self.program, self.folder, self.faults, self.tried = program, Path(folder), [], 0
-        self.first = self.folder / "first.db"
+        self.first, self.left = self.folder / "first.db", self.folder / "left.db"
         ran = row_entries.check(program, self.first)
         if ran.returncode != 0:
             sys.exit(f"a new file is not made: status {ran.returncode}, {ran.stderr.decode()}")
+        self.entries = leave_rows(program, self.left)
 
-    def file_with(self, entries):
-        """A new file of the program with these entries."""
+    def file_with(self, entries, origin):
+        """A copy of a file with these entries."""
         file = self.folder / "case.db"
         for ending in ("", "-wal"):
-            made, copy = Path(f"{self.first}{ending}"), Path(f"{file}{ending}")
+            made, copy = Path(f"{origin}{ending}"), Path(f"{file}{ending}")
             copy.unlink(missing_ok=True)
             if made.exists():
                 shutil.copy(made, copy)
         row_entries.write(file, entries)
         return file
 
-    def judge(self, said, entries, status, line):
+    def judge(self, said, entries, status, line, origin=None):
         self.tried += 1
-        file = self.file_with(entries)
+        file = self.file_with(entries, origin or self.first)
         before = row_entries.read(file)
         ran = row_entries.check(self.program, file)
         written = ran.stderr.decode()
@@ -352,16 +396,25 @@ def rules(small):
     yield from (case for case in tables() if not (small and case[-1]))
 
 
+def damaged(kind, key):
+    return f'incus_run: the entry of kind {kind} with the key "{key}" is damaged\n'
+
+
 def try_all(tries, only, small):
     for said, entries, kind, key, rule, _ in rules(small):
         if only in f"{rule} {said}":
             tries.judge(f"{rule}, {said}", entries, 7, f'incus_run: the row of kind {kind} with the key "{key}" breaks the rule {rule}\n')
     for said, entries, kind, key in damage_cases():
         if only in said:
-            tries.judge(said, entries, 7, f'incus_run: the entry of kind {kind} with the key "{key}" is damaged\n')
+            tries.judge(said, entries, 7, damaged(kind, key))
+    for said, row in left_damages(tries.entries):
+        if only in said:
+            tries.judge(said, [row], 7, damaged(row[0], row[1]), tries.left)
     for said, entries in OPENED:
         if only in said:
             tries.judge(said, entries, 0, "")
+    if only in "what a run left":
+        tries.judge("what a run left", [], 0, "", tries.left)
 
 
 def main():

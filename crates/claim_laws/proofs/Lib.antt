@@ -1,5 +1,5 @@
 mod Own
 mod Counts
 mod Policy
-mod Limits
+pub mod Limits
 pub mod Alone

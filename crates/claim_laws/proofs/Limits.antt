@@ -40,7 +40,7 @@ use Rattle.claim_laws.proofs.Own.{or-none}
 -- ---- one more operation
 
 -- one part of its share, for the project that it counts for
-abbrev share_for : State → Task → List ℕ → Part → ℕ
+abbrev pub share_for : State → Task → List ℕ → Part → ℕ
 share_for s task name k = amount_for name k (record { project = project_of_task task; amounts = share_of s task })
 
 -- what it adds to the sum is its share, and that is nothing where it claims nothing
@@ -60,7 +60,7 @@ claim-adds s task name k = at task.claim where
   at None = nothing-for (bytes_eq task.project name)
   at (Some r) = omega (arith, sum_by-cons (amount_for name k) (record { project = project_of_row r; amounts = shared (Some r) }) [])
 
-used-after : (s : State) (task : Task) (moment : ℕ) (name : List ℕ) (k : Part) → used (claiming s task moment) name k ≡ used s name k + share_for s task name k
+pub used-after : (s : State) (task : Task) (moment : ℕ) (name : List ℕ) (k : Part) → used (claiming s task moment) name k ≡ used s name k + share_for s task name k
 unfolding loads share_of amounts_of_instance
 used-after s task moment name k =
     let after : used (claiming s task moment) name k ≡ sum_by amount (rows ++ (claims ++ new)) =

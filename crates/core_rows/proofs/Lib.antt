@@ -1,4 +1,5 @@
 mod Changed
+mod KnownTotals
 mod FirstEntries
 pub mod Following
 pub mod Judging

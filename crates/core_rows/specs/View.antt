@@ -3,6 +3,7 @@ use Rattle.std.specs.Prelude.{◌≡◌, ◌<◌, ◌≤◌, [], map, vec_capaci
 use Rattle.row_machine.specs.facts.Whole.{IsWhole}
 use Rattle.core_rows.specs.declared.estate.Estate.TheInside.{Inside}
 use Rattle.work_reports.specs.Waiting.{IsSilent, untold_limit}
+use Rattle.kept_totals.specs.Totals.{AreTotals}
 use Rattle.core_rows.specs.Kept.{Kept}
 use Rattle.work_reports.specs.Waiting.{told_by}
 
@@ -11,10 +12,11 @@ abbrev pub kept : Inside → Kept
 kept e = record { state = e.draft.state; untold = map (told_by e.draft.state.operations) e.untold.items }
 
 -- the facts hold of the state, in which nothing was told; no change of it is left unsettled; there is room for the notices of
--- a step; and each operation that ever held a share is below the next one
+-- a step; each operation that ever held a share is below the next one; and what is known of projects is what they use
 pub record IsEstate (e : Inside) : Type 0 where
   pub whole : IsWhole e.draft.state
   pub silent : IsSilent e.draft.state
   pub settled : e.draft.log ≡ []
   pub room : untold_limit ≤ vec_capacity e.untold
   pub above : e.draft.backing.greatest < e.draft.state.operations.next
+  pub totals : AreTotals e.draft.state e.totals

@@ -3,8 +3,10 @@ ghost use Rattle.std.specs.Prelude.{◌≡◌, ◌<◌, ◌≤◌, ◌++◌, [],
 ghost use Rattle.operations.specs.Kept.{live_at};
 ghost use Rattle.row_machine.specs.machine.Work.{is_held_by};
 ghost use Rattle.core_rows.specs.Cancels.{waits, stopped};
+ghost use Rattle.core_rows.specs.Counted.{counted_out};
 ghost use Rattle.work_reports.specs.Turns.{shown_at};
 
+use kept_totals::{Totals, give_back, held_share};
 use operations::Status;
 use row_drafts::Draft;
 use row_readings::View;
@@ -51,4 +53,18 @@ pub(crate) fn stop(draft: &mut Draft, untold: &mut Vec<Waiting>, number: u64, mo
 {
     end_or_turn(draft, number, moment);
     tell(untold, &draft.view(), number, moment);
+}
+
+/// The cancel of a live operation gives back what it claims, where it waits: that counts no more for its project.
+pub(crate) fn count_out(totals: &mut Totals, view: &View<'_>, number: u64)
+    ensures { totals.new ≡ counted_out view.now number totals.old }
+{
+    match live_at(view, number) {
+        Some(operation) => {
+            if is_pending(operation.status) {
+                give_back(totals, &operation.work, &held_share(view, number));
+            }
+        }
+        None => {}
+    }
 }

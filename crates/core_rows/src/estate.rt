@@ -9,12 +9,14 @@ ghost use Rattle.core_rows.specs.Planned.{Follows, IsToDo, IsToStart};
 ghost use Rattle.core_rows.specs.Asked.{IsAsked};
 ghost use Rattle.record_keeper.specs.Store.{Store};
 
-use crate::cancels::stop;
+use crate::cancels::{count_out, stop};
+use crate::counted::follow_report;
 use host_model::{HostCall, Report};
 use judged_changes::{
     commit, give_up, judge, judge_claim, make_beginning, make_ready, refused_reply,
     settle_beginning,
 };
+use kept_totals::{Totals, count};
 use plain_lists::push_reserved;
 use record_keeper::Keeper;
 use records::{Command, Reply, Untold};
@@ -27,12 +29,13 @@ use std::marker::Model;
 use table_rules::cancel_broken;
 use work_reports::{Turned, Waiting, begin, first_pending, take_report, tell, told_by};
 
-/// The rows of the server, of which the facts hold at all times, and what is to be told. Contracts see the state of the
-/// row machine with these rows, and the notices that were not yet taken.
+/// The rows of the server, of which the facts hold at all times, what is to be told, and what projects are known to use.
+/// Contracts see the state of the row machine with these rows, and the notices that were not yet taken.
 #[derive(Drop)]
 pub struct Estate {
     draft: Draft,
     untold: Vec<Waiting>,
+    totals: Totals,
 }
 
 impl Model for Estate {
@@ -58,7 +61,11 @@ impl Estate {
         ensures untold { IfOk result (λ e. e.untold ≡ []) }
     {
         let untold = Vec::with_capacity(alloc, 8)?;
-        Ok(Estate { draft, untold })
+        Ok(Estate {
+            draft,
+            untold,
+            totals: Totals::new(alloc),
+        })
     }
 
     /// The rows, to be read.
@@ -110,6 +117,7 @@ impl Estate {
             return give_up(&mut self.draft, why);
         }
         self.draft.settle();
+        self.totals.forget();
         push_reserved(&mut self.untold, Waiting::Whole(notice));
         Reply::Empty
     }
@@ -147,7 +155,8 @@ impl Estate {
         ensures { IsReported self.old.state number report moment self.new.state self.new.untold result
             (R.store keeper.old) (R.store keeper.new) }
     {
-        take_report(
+        let counted = count(alloc, &self.draft.view(), number);
+        let turned = take_report(
             alloc,
             &mut self.draft,
             &mut self.untold,
@@ -155,7 +164,15 @@ impl Estate {
             number,
             report,
             moment,
-        )
+        );
+        follow_report(
+            &mut self.totals,
+            &self.draft.view(),
+            number,
+            &counted,
+            &turned,
+        );
+        turned
     }
 
     /// The server is told to close: a worker that finds no job is then told so. It takes no memory.
@@ -176,7 +193,8 @@ impl Estate {
         ensures { (store : Store)
             → IsAsked self.old.state command.now moment self.new.state self.new.untold result store store }
     {
-        let Ok(beginning) = make_beginning(alloc, &mut self.draft, &work, moment) else {
+        let Ok(beginning) = make_beginning(alloc, &mut self.draft, &mut self.totals, &work, moment)
+        else {
             drop(work);
             return Reply::NoMemory;
         };
@@ -186,6 +204,7 @@ impl Estate {
             drop(beginning);
             return give_up(&mut self.draft, why);
         }
+        self.totals.grow(beginning.project.view(), &beginning.share);
         settle_beginning(&mut self.draft, &mut self.untold, beginning)
     }
 
@@ -212,6 +231,7 @@ impl Estate {
         if let Err(why) = judged {
             return refused_reply(why);
         }
+        count_out(&mut self.totals, &self.draft.view(), number);
         stop(&mut self.draft, &mut self.untold, number, moment);
         Reply::Empty
     }

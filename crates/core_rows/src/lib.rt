@@ -3,6 +3,7 @@
 #![tactic(auto)]
 
 mod cancels;
+mod counted;
 mod estate;
 mod kept_rows;
 mod opening;

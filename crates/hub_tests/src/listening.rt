@@ -19,12 +19,13 @@ enum Push {
 /// What a listener asks for: from this number on, with actions, with operations, of this project.
 type Ask = (u64, bool, bool, &'static str);
 
-/// What it gets: the notices of these numbers and the next number, or that it has lagged behind the
-/// oldest one.
+/// What it gets: the notices of these numbers and the next number, or all of the numbers from the first
+/// to the next one; or that it has lagged, with the number that it asked for and the oldest one.
 #[derive(Clone, Copy)]
 enum Got {
     Numbers(&'static [u64], u64),
-    Lagged(u64),
+    All(u64, u64),
+    Lagged(u64, u64),
 }
 
 const PUSHES: [Push; 5] = [
@@ -57,9 +58,10 @@ const FIRST_ASKS: [(Ask, Got); 2] = [
 ];
 
 /// After 1,025 notices, of which the first is gone.
-const LAST_ASKS: [(Ask, Got); 4] = [
+const LAST_ASKS: [(Ask, Got); 5] = [
     ((0, true, true, "lab"), Got::Numbers(&[], 1026)),
-    ((1, true, true, "lab"), Got::Lagged(2)),
+    ((1, true, true, "lab"), Got::Lagged(1, 2)),
+    ((2, true, true, "lab"), Got::All(2, 1026)),
     ((1024, true, true, "lab"), Got::Numbers(&[1024, 1025], 1026)),
     ((2, false, true, "lab"), Got::Numbers(&[], 1026)),
 ];
@@ -136,12 +138,22 @@ fn have_numbers(notices: &[Notice], numbers: &[u64]) -> bool {
         .eq(numbers.iter().copied())
 }
 
+/// Whether the notices are those of all numbers from the first up to the next one.
+fn have_all(notices: &[Notice], first: u64, next: u64) -> bool {
+    notices.iter().map(|notice| notice.number).eq(first..next)
+}
+
 fn is_got(fetched: &Fetched, got: Got) -> bool {
     match (fetched, got) {
         (Fetched::Notices(notices, next), Got::Numbers(numbers, wanted)) => {
             *next == wanted && have_numbers(notices.view(), numbers)
         }
-        (Fetched::Lagged { cursor: _, oldest }, Got::Lagged(wanted)) => *oldest == wanted,
+        (Fetched::Notices(notices, next), Got::All(first, wanted)) => {
+            *next == wanted && have_all(notices.view(), first, wanted)
+        }
+        (Fetched::Lagged { cursor, oldest }, Got::Lagged(asked, wanted)) => {
+            *cursor == asked && *oldest == wanted
+        }
         _ => false,
     }
 }

@@ -16,7 +16,7 @@ use crate::pairs::zip_or_drop;
 use host_model::{HostCall, Place};
 use records::{Body, Instance, Origin, Row, Snapshot, Target};
 use row_machine::Work;
-use row_readings::{View, instance_named, snapshot_named};
+use row_readings::View;
 use size_values::{Deed, NoMemory, ObjectKind, Seq, Text};
 use std::alloc::Global;
 
@@ -227,14 +227,14 @@ fn copy_from(
 ) -> Result<Option<Work>, NoMemory>
     ensures { IfOk result (λ w. planned w ≡ copy_from view.now project.now of.now body.now moment from.now name.now) }
 {
-    let Some(old) = instance_named(view.instances, project.view(), from.view()) else {
+    let Some(old) = view.instance_named(project.view(), from.view()) else {
         return Ok(None);
     };
     if name.is_empty() {
         let work = instance_copy(alloc, project, of, body, moment, from, old)?;
         return Ok(Some(work));
     }
-    let found = snapshot_named(view.snapshots, project.view(), from.view(), name.view());
+    let found = view.snapshot_named(project.view(), from.view(), name.view());
     let Some(snapshot) = found else {
         return Ok(None);
     };

@@ -1,6 +1,8 @@
 //! The parts of a beginning: what the entry of an operation needs is made ahead, and it is judged by the state with its claim.
 ghost use Rattle.std.specs.Prelude.{◌≡◌, ◌+◌, ◌-◌, ◌^◌, ◌<◌, ◌≤◌, ◌∷◌, ◌++◌, [], vec_len, vec_capacity, IfOk, OnOk, option_and_then};
 ghost use Rattle.std.specs.Option.{option_copied};
+ghost use Rattle.kept_totals.specs.Totals.{AreTotals};
+ghost use Rattle.row_machine.specs.facts.Whole.{IsWhole};
 ghost use Rattle.size_values.specs.Causes.{Says};
 ghost use Rattle.limit_rules.specs.Alone.{share_broken};
 ghost use Rattle.operations.specs.Kept.{enter_fault, kept_at};
@@ -20,7 +22,8 @@ ghost use Rattle.judged_changes.specs.Judged.{claim_judged};
 ghost use Rattle.work_reports.specs.declared.waiting.Waiting.TheVariants as waiting_of;
 
 use instance_states::may_cancel;
-use limit_rules::{claim_uncounts, share_broken, used_beside};
+use kept_totals::Totals;
+use limit_rules::{claim_uncounts, share_broken};
 use operations::{EnterFault, OpFault, Status};
 use plain_lists::push_reserved;
 use policy_rules::{claim_forbidden, snapshot_blocked};
@@ -102,9 +105,12 @@ fn told(alloc: Global, number: u64, work: &Work, moment: u64) -> Result<(OpView,
 fn beginning_of(
     alloc: Global,
     view: &View<'_>,
+    totals: &mut Totals,
     work: &Work,
     moment: u64,
 ) -> Result<Beginning, NoMemory>
+    requires whole { IsWhole view.now }
+    requires totals { AreTotals view.now totals.old }
     ensures few { IfOk result (λ e. (k : Part) → part k e.used ≤ 2 ^ 127 + 2 ^ 126) }
     ensures used { IfOk result (λ e. share_broken view.now.projects (project_of_task work.now) e.used e.share
         ≡ share_broken view.now.projects (project_of_task work.now) (usage_of view.now (project_of_task work.now)) e.share) }
@@ -117,10 +123,11 @@ fn beginning_of(
       project = work.now.project;
       told = told_of.Op (view_of (pending_of view.now.operations.next work.now moment));
     }) }
+    ensures totals { AreTotals view.now totals.new }
 {
     let fault = enter_fault(view);
     let share = share_of(alloc, view, work)?;
-    let used = used_beside(alloc, view, counted_project(work), &share)?;
+    let used = totals.used_beside(alloc, view, counted_project(work), &share)?;
     let project = Text::from_text(alloc, counted_project(work))?;
     let (shown, notice) = told(alloc, view.next, work, moment)?;
     Ok(Beginning {
@@ -133,13 +140,17 @@ fn beginning_of(
     })
 }
 
-/// Takes all memory that the entry of an operation needs, and makes what it needs.
+/// Takes all memory that the entry of an operation needs, and makes what it needs. What its project uses is read off the
+/// totals of these rows, and kept there where it was not.
 pub fn make_beginning(
     alloc: Global,
     draft: &mut Draft,
+    totals: &mut Totals,
     work: &Work,
     moment: u64,
 ) -> Result<Beginning, NoMemory>
+    requires whole { IsWhole draft.old.state }
+    requires totals { AreTotals draft.old.state totals.old }
     requires settled { draft.old.log ≡ [] }
     ensures few { IfOk result (λ e. (k : Part) → part k e.used ≤ 2 ^ 127 + 2 ^ 126) }
     ensures used { IfOk result (λ e. share_broken draft.old.state.projects (project_of_task work.now) e.used e.share
@@ -153,13 +164,14 @@ pub fn make_beginning(
       project = work.now.project;
       told = told_of.Op (view_of (pending_of draft.old.state.operations.next work.now moment));
     }) }
+    ensures totals { AreTotals draft.old.state totals.new }
     ensures ready { OnOk result (CanClaim draft.new) }
     ensures state { draft.new.state ≡ draft.old.state }
     ensures log { draft.new.log ≡ [] }
     ensures greatest { draft.new.backing.greatest ≡ draft.old.backing.greatest }
 {
     draft.reserve_operation()?;
-    beginning_of(alloc, &draft.view(), work, moment)
+    beginning_of(alloc, &draft.view(), totals, work, moment)
 }
 
 /// The row that an operation would put.

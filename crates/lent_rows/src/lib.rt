@@ -3,4 +3,4 @@
 
 mod rows;
 
-pub use rows::{Rows, both, config, device, texts};
+pub use rows::{Rows, both, config, device, in_order, texts};

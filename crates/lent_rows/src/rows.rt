@@ -1,12 +1,13 @@
 //! Rows of a server for tests, and what is put into them.
 ghost use Rattle.std.specs.Prelude.{◌≡◌, IfOk};
+ghost use Rattle.row_machine.specs.facts.Whole.{Rise};
 
 use config_lists::{Config, Devices};
 use operations::Operation;
 use records::{Instance, Network, Pool, Profile, Project, Snapshot, Volume};
 use reservations::{Books, Hold};
 use row_machine::Work;
-use row_readings::{InstancePower, View};
+use row_readings::{InstancePower, Named, View, rises};
 use size_values::{Amounts, NoMemory, Text};
 use std::alloc::Global;
 
@@ -20,6 +21,13 @@ pub fn both<A: Drop, B: Drop>(
     let first = first?;
     let second = second?;
     Ok((first, second))
+}
+
+/// Rows that rise by their names, and otherwise none.
+pub fn in_order<T: Named>(rows: &[T]) -> &[T]
+    ensures { Rise T.names result.now }
+{
+    if rises(rows) { rows } else { &[] }
 }
 
 fn no_books() -> Books {
@@ -68,17 +76,17 @@ impl Rows {
         }
     }
 
-    /// The rows, lent.
+    /// The rows, lent; of a kind whose rows do not rise by their names, none.
     pub fn view(&self) -> View<'_> {
         View {
-            projects: &self.projects,
-            profiles: &self.profiles,
-            networks: &self.networks,
-            pools: &self.pools,
-            volumes: &self.volumes,
-            instances: &self.instances,
-            snapshots: &self.snapshots,
-            powers: &self.powers,
+            projects: in_order(&self.projects),
+            profiles: in_order(&self.profiles),
+            networks: in_order(&self.networks),
+            pools: in_order(&self.pools),
+            volumes: in_order(&self.volumes),
+            instances: in_order(&self.instances),
+            snapshots: in_order(&self.snapshots),
+            powers: in_order(&self.powers),
             live: &self.live,
             ended: &self.ended,
             next: self.next,

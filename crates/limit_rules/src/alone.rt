@@ -1,23 +1,22 @@
 //! The rules on limits for a new operation, by what it claims alone: where all facts hold before it, nothing else can break
 //! them.
-ghost use Rattle.std.specs.Prelude.{◌≡◌, ◌+◌, ◌<◌, ◌≤◌, ◌^◌, IfOk};
+ghost use Rattle.std.specs.Prelude.{◌≡◌, ◌+◌, ◌<◌, ◌≤◌, ◌^◌, IsFalse};
 ghost use Rattle.plain_lists.specs.Firsts.{first_of};
 ghost use Rattle.size_values.specs.Amounts.{part, nothing, fits_in};
 ghost use Rattle.size_values.specs.Causes.{Says};
+ghost use Rattle.size_values.specs.declared.amounts.Amounts.{Amounts as AmountsValue};
 ghost use Rattle.size_values.specs.declared.amounts.Part.{Part as PartValue};
 ghost use Rattle.row_machine.specs.machine.LimitRules.{claim_uncounted};
-ghost use Rattle.row_machine.specs.machine.Usage.{usage_of};
 ghost use Rattle.limit_rules.specs.Alone.{claim_uncounts, share_over, share_exceeds, share_broken, has_limits};
 
 use crate::counts::claim_uncounted;
 use crate::limits::limit_exceeded;
 use crate::parts::{PARTS, is_limited, key_of, limit_on, part_of};
 use project_limits::limits_of;
-use project_usage::usage_of;
 use records::{Project, Refusal};
 use row_machine::Work;
 use row_readings::View;
-use size_values::{Amounts, NoMemory, Or, Part};
+use size_values::{Amounts, Or, Part};
 use std::alloc::Global;
 
 fn projects_uncount(
@@ -121,25 +120,16 @@ fn has_limits(projects: &[Project], name: &str) -> bool
     projects.iter().any(|project| project.name.view() == name && is_limited(project))
 }
 
-/// What the project of this name uses, as far as a share is judged by it: where the share is nothing, or the project has
-/// no limit, it is not summed.
-pub fn used_beside(
-    alloc: Global,
-    view: &View<'_>,
-    name: &str,
-    share: &Amounts,
-) -> Result<Amounts, NoMemory>
-    ensures few { IfOk result (λ used. (k : PartValue) → part k used ≤ 2 ^ 127 + 2 ^ 126) }
-    ensures serves { IfOk result (λ used. share_broken view.now.projects name.now used share.now
-        ≡ share_broken view.now.projects name.now (usage_of view.now name.now) share.now) }
+/// Whether a share is judged by what the project of this name uses: it is something, and the project has a limit. Where it
+/// is not, whatever the project uses may stand for it.
+pub fn needs_usage(projects: &[Project], name: &str, share: &Amounts) -> bool
+    ensures { IsFalse result → (used other : AmountsValue)
+        → share_broken projects.now name.now used share.now ≡ share_broken projects.now name.now other share.now }
 {
     if is_nothing(share) {
-        return Ok(Amounts::zero());
+        return false;
     }
-    if !has_limits(view.projects, name) {
-        return Ok(Amounts::zero());
-    }
-    usage_of(alloc, view, name)
+    has_limits(projects, name)
 }
 
 /// L1 to L8: the first limit of the project of this name that what it uses and a share exceed together. A share that is

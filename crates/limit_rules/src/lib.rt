@@ -7,7 +7,7 @@ mod limits;
 mod parts;
 mod usage;
 
-pub use alone::{claim_uncounts, share_broken, used_beside};
+pub use alone::{claim_uncounts, needs_usage, share_broken};
 pub use counts::counts_broken;
 pub use limits::limits_broken;
 pub use usage::{Usage, usage_before, usage_before_changes};

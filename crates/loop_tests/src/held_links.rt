@@ -1,6 +1,7 @@
 //! Two links that meet in an operation whose call of the host is held.
 ghost use Rattle.std.specs.Prelude.{◌≡◌, None};
 
+use crate::holding_gates::HoldingGate;
 use crate::links::{
     INSTANCES, POOL, count_in_replies, gate_at, is_answered, new_machine, replies_to,
 };
@@ -13,7 +14,7 @@ use row_machine::Event;
 use size_values::{Or, Seq};
 use std::alloc::Global;
 use std::marker::Brand;
-use std::sync::atomic::{AtomicU64, Ordering};
+use std::sync::atomic::{AtomicBool, AtomicU64, Ordering};
 use std::sync::ledger::{Blank, Ledger};
 use std::sync::{Arc, Wait};
 use std::thread;
@@ -22,8 +23,24 @@ use std::time::{Clock, Duration};
 use turnstile::{Pass, Turnstile};
 use workers::work;
 
-/// How often a link looks at the operation, and how many hundredths of a second a call is held, at the most.
-const LOOKS: u32 = 1000;
+/// How two links meet.
+#[derive(Clone, Copy)]
+struct Way {
+    /// How often a link looks at the operation, and how many hundredths of a second a call is held, at the most.
+    looks: u32,
+    /// Whether a further lock is held during the calls of the host.
+    holds: bool,
+}
+
+const OPEN: Way = Way {
+    looks: 1000,
+    holds: false,
+};
+
+const HELD: Way = Way {
+    looks: 20,
+    holds: true,
+};
 
 /// A creation, and a wait for it.
 const CREATED: &str =
@@ -45,6 +62,7 @@ const NO_INSTANCES: &str =
 #[derive(Drop)]
 struct HeldHost<H, T> {
     rt: T,
+    looks: u32,
     let_go: Arc<AtomicU64, Global>,
     host: H,
 }
@@ -55,7 +73,7 @@ impl<H: Host, T: Wait + Clock> Host for HeldHost<H, T> {
     ghost failures = { λ h. H.failures h.host };
 
     fn call(&mut self, call: &HostCall) -> Result<(), Or<HostFailed>> {
-        for _ in 0..LOOKS {
+        for _ in 0..self.looks {
             if self.let_go.load(Ordering::SeqCst) != 0 {
                 break;
             }
@@ -74,10 +92,11 @@ fn cancels<T: Wait + Clock, G: Gate>(
     rt: &T,
     alloc: Global,
     gate: &mut G,
+    looks: u32,
     let_go: &AtomicU64,
 ) -> bool {
     let mut is_running = false;
-    for _ in 0..LOOKS {
+    for _ in 0..looks {
         if count_in_replies(rt, alloc, gate, SHOWN, "\"status\":\"Running\"") == 1 {
             is_running = true;
             break;
@@ -96,7 +115,48 @@ fn waits<T: Wait, G: Gate>(rt: &T, alloc: Global, gate: &mut G) -> bool {
     told == 1
 }
 
-type Held<L, T> = LockedGate<MapKeeper, L, T>;
+type Held<L, T> = HoldingGate<LockedGate<MapKeeper, L, T>, T>;
+
+/// What the gates of one server share: its turnstile, and the word of the further lock.
+#[derive(Drop)]
+struct Shared<L: Ledger> {
+    turnstile: Arc<Turnstile<DaemonMachine<MapKeeper>, L>, Global>,
+    word: Arc<AtomicBool, Global>,
+}
+
+/// What the gates to a server share.
+fn shared_by<L: Ledger>(
+    alloc: Global,
+    turnstile: Turnstile<DaemonMachine<MapKeeper>, L>,
+) -> Option<Shared<L>> {
+    let turnstile = Arc::new(alloc, turnstile).ok();
+    let word = Arc::new(alloc, AtomicBool::new(false)).ok();
+    match turnstile.zip(word) {
+        Some((turnstile, word)) => Some(Shared { turnstile, word }),
+        None => None,
+    }
+}
+
+/// A gate by one of the passes.
+fn held_at<L: Ledger, T: Wait + Clock + Copy>(
+    rt: T,
+    shared: &Shared<L>,
+    holds: bool,
+    pass: Option<Pass<L>>,
+) -> Option<Held<L, T>> {
+    let gate = gate_at(rt, &shared.turnstile, pass);
+    let word = Arc::try_clone(&shared.word).ok();
+    match gate.zip(word) {
+        Some((inner, word)) => Some(HoldingGate {
+            rt,
+            word,
+            holds,
+            is_held: false,
+            inner,
+        }),
+        None => None,
+    }
+}
 
 /// Gates by the passes of one server: for two links that meet, for a third one, and for a worker.
 fn gates_at<L: Ledger, T: Wait + Clock + Copy>(
@@ -104,15 +164,16 @@ fn gates_at<L: Ledger, T: Wait + Clock + Copy>(
     alloc: Global,
     turnstile: Turnstile<DaemonMachine<MapKeeper>, L>,
     mut passes: Vec<Pass<L>>,
+    holds: bool,
 ) -> Option<((Held<L, T>, Held<L, T>), (Held<L, T>, Held<L, T>))> {
-    let Ok(shared) = Arc::new(alloc, turnstile) else {
+    let Some(shared) = shared_by(alloc, turnstile) else {
         drop(passes);
         return None;
     };
-    let first = gate_at(rt, &shared, passes.pop());
-    let second = gate_at(rt, &shared, passes.pop());
-    let third = gate_at(rt, &shared, passes.pop());
-    let worker = gate_at(rt, &shared, passes.pop());
+    let first = held_at(rt, &shared, holds, passes.pop());
+    let second = held_at(rt, &shared, holds, passes.pop());
+    let third = held_at(rt, &shared, holds, passes.pop());
+    let worker = held_at(rt, &shared, holds, passes.pop());
     drop(passes);
     drop(shared);
     first.zip(second).zip(third.zip(worker))
@@ -122,12 +183,14 @@ fn gates_at<L: Ledger, T: Wait + Clock + Copy>(
 fn held_host<T: Copy>(
     rt: T,
     alloc: Global,
+    looks: u32,
 ) -> Option<(Arc<AtomicU64, Global>, HeldHost<ModelHost, T>)> {
     let let_go = Arc::new(alloc, AtomicU64::new(0)).ok()?;
     match Arc::try_clone(&let_go) {
         Ok(held) => {
             let host = HeldHost {
                 rt,
+                looks,
                 let_go: held,
                 host: ModelHost::new(alloc, Seq::new(alloc)),
             };
@@ -152,13 +215,14 @@ fn play<L: Ledger + Send + Sync, T: Threads + Wait + Clock + Copy + Send + Sync 
     let (mut first, mut second) = links;
     let mut worker = worker;
     let (let_go, mut host) = held;
+    let looks = host.looks;
     let (is_told, (is_cancelled, ())) = join(
         &rt,
         move || waits(&rt, alloc, &mut first),
         move || {
             join(
                 &rt,
-                move || cancels(&rt, alloc, &mut second, &let_go),
+                move || cancels(&rt, alloc, &mut second, looks, &let_go),
                 move || work(&rt, &mut worker, &mut host, &mut StillClock::new(0)),
             )
         },
@@ -170,6 +234,7 @@ fn play<L: Ledger + Send + Sync, T: Threads + Wait + Clock + Copy + Send + Sync 
 fn meet<L: Ledger + Send + Sync, T: Threads + Wait + Clock + Copy + Send + Sync + Drop>(
     rt: T,
     alloc: Global,
+    way: Way,
     blank: Blank,
 ) -> Option<bool>
     requires name { blank.name ≡ L.name }
@@ -179,8 +244,8 @@ fn meet<L: Ledger + Send + Sync, T: Threads + Wait + Clock + Copy + Send + Sync 
     let (turnstile, passes) = Turnstile::<DaemonMachine<MapKeeper>, L>::new(
         alloc, machine, 4, blank,
     ).ok()?;
-    let held = held_host(rt, alloc);
-    let gates = gates_at(rt, alloc, turnstile, passes);
+    let held = held_host(rt, alloc, way.looks);
+    let gates = gates_at(rt, alloc, turnstile, passes, way.holds);
     let (held, (links, (mut third, worker))) = held.zip(gates)?;
     drop(replies_to(&rt, alloc, &mut third, POOL));
     let is_so = play(rt, alloc, links, worker, held);
@@ -191,5 +256,11 @@ fn meet<L: Ledger + Send + Sync, T: Threads + Wait + Clock + Copy + Send + Sync 
 
 #[test]
 fn two_links_meet(rt: HostRuntime) {
-    assert!(rt; meet::<Brand, _>(rt, rt.alloc(), Blank::new(4)) == Some(true));
+    assert!(rt; meet::<Brand, _>(rt, rt.alloc(), OPEN, Blank::new(4)) == Some(true));
+}
+
+/// Where a lock is held during the calls of the host, no link sees the operation run.
+#[test]
+fn two_links_do_not_meet_over_a_held_lock(rt: HostRuntime) {
+    assert!(rt; meet::<Brand, _>(rt, rt.alloc(), HELD, Blank::new(4)) == Some(false));
 }

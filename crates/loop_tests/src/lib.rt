@@ -6,6 +6,8 @@ mod alone_links;
 #[cfg(test)]
 mod held_links;
 #[cfg(test)]
+mod holding_gates;
+#[cfg(test)]
 mod links;
 #[cfg(test)]
 mod locked_links;

@@ -12,7 +12,7 @@ ghost use Rattle.row_machine.specs.machine.Kinds.{is_in_project};
 use crate::places::{Place, is_there, place_of};
 use crate::sources::source_missing;
 use records::{Command, Refusal, Rule, Target, What};
-use row_readings::{View, instance_named, kept_at, pool_named, project_named, snapshot_named};
+use row_readings::{View, kept_at, pool_named, project_named};
 use rule_refusals::{on_object, on_project};
 use size_values::{ObjectKind, Or};
 use std::alloc::Global;
@@ -107,7 +107,7 @@ fn parent_missing(
             missing_unless(alloc, there, ObjectKind::Pool, of.pool)
         }
         ObjectKind::Snapshot => {
-            let there = instance_named(view.instances, project, of.instance).is_some();
+            let there = view.instance_named(project, of.instance).is_some();
             missing_unless(alloc, there, ObjectKind::Instance, of.instance)
         }
         ObjectKind::Project
@@ -142,7 +142,7 @@ pub(crate) fn snapshot_missing(
 ) -> Result<(), Or<Refusal>>
     ensures { Says result (snapshot_missing view.now project.now instance.now snapshot.now) }
 {
-    let there = snapshot_named(view.snapshots, project, instance, snapshot).is_some();
+    let there = view.snapshot_named(project, instance, snapshot).is_some();
     missing_unless(alloc, there, ObjectKind::Snapshot, snapshot)
 }
 

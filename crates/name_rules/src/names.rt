@@ -12,7 +12,7 @@ use crate::free::name_broken;
 use crate::missing::{project_missing, what_is_missing};
 use crate::places::{Place, named_place, place_of};
 use records::{Command, Refusal, What};
-use row_readings::{View, instance_named, next_snapshot};
+use row_readings::{View, next_snapshot};
 use size_values::{ObjectKind, Or};
 use std::alloc::Global;
 
@@ -28,7 +28,7 @@ fn snapshot_name_broken(
     if !of.name.is_empty() {
         return name_broken(alloc, view, project, of);
     }
-    let Some(row) = instance_named(view.instances, project, of.instance) else {
+    let Some(row) = view.instance_named(project, of.instance) else {
         return name_broken(alloc, view, project, of);
     };
     let name = next_snapshot(alloc, view, row)?;

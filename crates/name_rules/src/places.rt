@@ -4,10 +4,7 @@ ghost use Rattle.name_rules.specs.Pointed.{target_at};
 ghost use Rattle.row_machine.specs.machine.NameRules.{is_there};
 
 use records::Target;
-use row_readings::{
-    View, home_of, instance_named, network_named, pool_named, profile_named, project_named,
-    snapshot_named, volume_named,
-};
+use row_readings::{View, home_of, network_named, pool_named, project_named};
 use size_values::ObjectKind;
 
 /// An object by its kind and names.
@@ -61,14 +58,12 @@ pub(crate) fn is_there(view: &View<'_>, project: &str, of: Place<'_>) -> bool
     let home = home_of(view.projects, project, of.kind);
     match of.kind {
         ObjectKind::Project => project_named(view.projects, of.name).is_some(),
-        ObjectKind::Profile => profile_named(view.profiles, home, of.name).is_some(),
+        ObjectKind::Profile => view.profile_named(home, of.name).is_some(),
         ObjectKind::Network => network_named(view.networks, home, of.name).is_some(),
         ObjectKind::Pool => pool_named(view.pools, of.name).is_some(),
-        ObjectKind::Volume => volume_named(view.volumes, home, of.pool, of.name).is_some(),
-        ObjectKind::Instance => instance_named(view.instances, project, of.name).is_some(),
-        ObjectKind::Snapshot => {
-            snapshot_named(view.snapshots, project, of.instance, of.name).is_some()
-        }
+        ObjectKind::Volume => view.volume_named(home, of.pool, of.name).is_some(),
+        ObjectKind::Instance => view.instance_named(project, of.name).is_some(),
+        ObjectKind::Snapshot => { view.snapshot_named(project, of.instance, of.name).is_some() }
         ObjectKind::Operation => false,
     }
 }

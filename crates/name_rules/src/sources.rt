@@ -8,7 +8,7 @@ ghost use Rattle.row_machine.specs.machine.NameRules.{source_missing};
 use crate::missing::{missing_unless, object_missing, snapshot_missing};
 use crate::places::{Place, place_in_pool};
 use records::{Origin, Refusal};
-use row_readings::{View, instance_named};
+use row_readings::View;
 use size_values::{ObjectKind, Or};
 use std::alloc::Global;
 
@@ -22,7 +22,7 @@ fn instance_source_missing(
 ) -> Result<(), Or<Refusal>>
     ensures { Says result (instance_source_missing view.now project.now from.now snapshot.now) }
 {
-    let there = instance_named(view.instances, project, from).is_some();
+    let there = view.instance_named(project, from).is_some();
     missing_unless(alloc, there, ObjectKind::Instance, from)?;
     if snapshot.is_empty() {
         return Ok(());

@@ -5,10 +5,7 @@ ghost use Rattle.row_machine.specs.machine.Plans.{row_of};
 ghost use Rattle.object_plans.specs.Rows.{row_at};
 
 use records::{Instance, Network, Pool, Profile, Project, Snapshot, Target, Volume};
-use row_readings::{
-    View, home_of, instance_named, network_named, pool_named, profile_named, project_named,
-    snapshot_named, volume_named,
-};
+use row_readings::{View, home_of, network_named, pool_named, project_named};
 use size_values::ObjectKind;
 
 /// A row of any kind.
@@ -34,7 +31,7 @@ pub(crate) fn row_of<'x>(view: &View<'x>, project: &str, of: &Target) -> Option<
             Some(row) => Some(Found::Project(row)),
             None => None,
         },
-        ObjectKind::Profile => match profile_named(view.profiles, home, name) {
+        ObjectKind::Profile => match view.profile_named(home, name) {
             Some(row) => Some(Found::Profile(row)),
             None => None,
         },
@@ -46,16 +43,16 @@ pub(crate) fn row_of<'x>(view: &View<'x>, project: &str, of: &Target) -> Option<
             Some(row) => Some(Found::Pool(row)),
             None => None,
         },
-        ObjectKind::Volume => match volume_named(view.volumes, home, of.pool.view(), name) {
+        ObjectKind::Volume => match view.volume_named(home, of.pool.view(), name) {
             Some(row) => Some(Found::Volume(row)),
             None => None,
         },
-        ObjectKind::Instance => match instance_named(view.instances, project, name) {
+        ObjectKind::Instance => match view.instance_named(project, name) {
             Some(row) => Some(Found::Instance(row)),
             None => None,
         },
         ObjectKind::Snapshot => {
-            match snapshot_named(view.snapshots, project, of.instance.view(), name) {
+            match view.snapshot_named(project, of.instance.view(), name) {
                 Some(row) => Some(Found::Snapshot(row)),
                 None => None,
             }

@@ -14,7 +14,7 @@ use changed_rows::{
 };
 use records::{Body, Profile, Project, Row};
 use row_machine::RowChange;
-use row_readings::{View, is_on, profile_named};
+use row_readings::{View, is_on};
 use size_values::{NoMemory, Seq, Text};
 use std::alloc::Global;
 
@@ -116,7 +116,7 @@ pub(crate) fn project_rename(
     let changes = one_removal(alloc, Found::Project(old))?;
     let row = renamed_project(alloc, old, to)?;
     let changes = and_put(changes, Row::Project(row))?;
-    match profile_named(view.profiles, old.name.view(), "default") {
+    match view.profile_named(old.name.view(), "default") {
         Some(own) => and_rehomed(alloc, changes, own, to),
         None => Ok(changes),
     }
@@ -131,7 +131,7 @@ pub(crate) fn project_deletion(
     ensures { IfOk result (λ cs. cs ≡ project_deletion view.now old.now) }
 {
     let changes = one_removal(alloc, Found::Project(old))?;
-    match profile_named(view.profiles, old.name.view(), "default") {
+    match view.profile_named(old.name.view(), "default") {
         Some(own) => and_removal(alloc, changes, Found::Profile(own)),
         None => Ok(changes),
     }

@@ -10,8 +10,8 @@ use object_users::{
 };
 use records::Target;
 use row_readings::{
-    View, home_of, instance_named, network_home, network_named, pool_named, profile_home,
-    profile_named, project_named, snapshot_named, volume_home, volume_named,
+    View, home_of, network_home, network_named, pool_named, profile_home, project_named,
+    volume_home,
 };
 use size_values::{NoMemory, ObjectKind};
 use std::alloc::Global;
@@ -73,7 +73,7 @@ pub(crate) fn row_of<'x>(view: &View<'x>, project: &str, of: &Target) -> Option<
             Some(row) => lent(AnyRow::Project(row)),
             None => None,
         },
-        ObjectKind::Profile => match profile_named(view.profiles, home, name) {
+        ObjectKind::Profile => match view.profile_named(home, name) {
             Some(row) => lent(AnyRow::Profile(row)),
             None => None,
         },
@@ -85,16 +85,16 @@ pub(crate) fn row_of<'x>(view: &View<'x>, project: &str, of: &Target) -> Option<
             Some(row) => lent(AnyRow::Pool(row)),
             None => None,
         },
-        ObjectKind::Volume => match volume_named(view.volumes, home, of.pool.view(), name) {
+        ObjectKind::Volume => match view.volume_named(home, of.pool.view(), name) {
             Some(row) => lent(AnyRow::Volume(row)),
             None => None,
         },
-        ObjectKind::Instance => match instance_named(view.instances, project, name) {
+        ObjectKind::Instance => match view.instance_named(project, name) {
             Some(row) => lent(AnyRow::Instance(row)),
             None => None,
         },
         ObjectKind::Snapshot => {
-            match snapshot_named(view.snapshots, project, of.instance.view(), name) {
+            match view.snapshot_named(project, of.instance.view(), name) {
                 Some(row) => lent(AnyRow::Snapshot(row)),
                 None => None,
             }

@@ -11,10 +11,7 @@ ghost use Rattle.opening_rules.specs.Rules.{without_root, source_missing, names_
 
 use config_lists::{Device, Devices, Root};
 use records::{Instance, Profile, Row, Rule};
-use row_readings::{
-    View, network_home, network_named, pool_named, profile_home, profile_named, volume_home,
-    volume_named,
-};
+use row_readings::{View, network_home, network_named, pool_named, profile_home, volume_home};
 use size_values::{NoMemory, Text};
 use std::alloc::Global;
 
@@ -95,7 +92,7 @@ fn volume_missing(view: &View<'_>, project: &str, pool: &str, name: &str) -> Opt
     ensures { result ≡ rule_of (volume_missing view.now project.now pool.now name.now) }
 {
     let home = volume_home(view.projects, project);
-    if volume_named(view.volumes, home, pool, name).is_some() {
+    if view.volume_named(home, pool, name).is_some() {
         return None;
     }
     Some(Rule::V5)
@@ -155,10 +152,12 @@ fn devices_miss(view: &View<'_>, project: &str, devices: &Devices) -> Option<Rul
 // ---- what rows name
 
 /// The first name of which there is no profile.
-fn missing_name<'x>(profiles: &[Profile], home: &str, names: &'x [Text]) -> Option<&'x Text>
-    ensures { option_copied result ≡ find (λ name. is_none (profile_named profiles.now home.now name)) names.now }
+fn missing_name<'x>(view: &View<'_>, home: &str, names: &'x [Text]) -> Option<&'x Text>
+    ensures { option_copied result ≡ find (λ name. is_none (profile_named view.now.profiles home.now name)) names.now }
 {
-    names.iter().find(|name| profile_named(profiles, home, name.view()).is_none())
+    names
+        .iter()
+        .find(|name| view.profile_named(home, name.view()).is_none())
 }
 
 /// A profile that an instance names is missing.
@@ -167,7 +166,7 @@ fn profile_missing(view: &View<'_>, row: &Instance) -> Option<Rule>
     ensures { result ≡ rule_of (profile_missing view.now row.now) }
 {
     let home = profile_home(view.projects, row.project.view());
-    match missing_name(view.profiles, home, row.profiles.view()) {
+    match missing_name(view, home, row.profiles.view()) {
         Some(_) => Some(Rule::V5),
         None => None,
     }

@@ -12,9 +12,7 @@ ghost use Rattle.row_machine.specs.opening.Opening.{has_all_features};
 ghost use Rattle.opening_rules.specs.Rules.{lacks_defaults};
 
 use records::{Project, Row, Rule};
-use row_readings::{
-    View, home_of, instance_named, is_on, pool_named, profile_named, project_named,
-};
+use row_readings::{View, home_of, is_on, pool_named, project_named};
 use size_values::{ObjectKind, Text};
 
 /// The most profiles that an instance may name.
@@ -61,7 +59,7 @@ pub(crate) fn parent_row_missing(view: &View<'_>, row: &Row) -> Option<Rule>
             if_so(pool.is_none(), Rule::N2)
         }
         Row::Snapshot(row) => {
-            let instance = instance_named(view.instances, row.project.view(), row.instance.view());
+            let instance = view.instance_named(row.project.view(), row.instance.view());
             if_so(instance.is_none(), Rule::N2)
         }
         _ => None,
@@ -121,8 +119,7 @@ fn lacks_defaults(view: &View<'_>, project: &Project) -> bool
     if name == "default" && !has_all_features(project) {
         return true;
     }
-    is_on(&project.config, "features.profiles")
-        && profile_named(view.profiles, name, "default").is_none()
+    is_on(&project.config, "features.profiles") && view.profile_named(name, "default").is_none()
 }
 
 /// The project `default` lacks a feature, or a project with profiles of its own has no profile `default`.

@@ -61,7 +61,7 @@ fn add_expanded(
             continue;
         }
         let names = row.profiles.view();
-        lay_again(alloc, view.profiles, home, last, names, expanded)?;
+        lay_again(alloc, view, home, last, names, expanded)?;
         last = names;
         let more = amounts_over(row, expanded)?;
         sum = sum.plus(&more);

@@ -6,9 +6,8 @@ use project_usage::usage_of;
 use records::{Instance, Profile, Row, Target, Volume};
 use row_machine::Work;
 use row_readings::{
-    View, claimed_instance, claimed_snapshot, claimed_volume, instance_named, network_home,
-    network_named, pool_named, profile_home, profile_named, project_named, project_of_row,
-    snapshot_named, volume_home, volume_named,
+    View, claimed_instance, claimed_snapshot, claimed_volume, network_home, network_named,
+    pool_named, profile_home, project_named, project_of_row, volume_home,
 };
 use size_values::{Amounts, Deed, Kind, NoMemory, ObjectKind, Seq, Text};
 use std::alloc::Global;
@@ -380,16 +379,16 @@ fn each_project_uses_its_own(rt: HostRuntime) {
 
 /// Whether each row is found by its names, and none by other ones.
 fn finds_rows(view: &View<'_>) -> bool {
-    profile_named(view.profiles, "default", "more").is_some()
-        && profile_named(view.profiles, "lab", "more").is_none()
-        && volume_named(view.volumes, "lab", "p0", "v").is_some()
-        && volume_named(view.volumes, "lab", "p1", "v").is_none()
-        && instance_named(view.instances, "lab", "a").is_some()
-        && instance_named(view.instances, "lab", "b").is_none()
+    view.profile_named("default", "more").is_some()
+        && view.profile_named("lab", "more").is_none()
+        && view.volume_named("lab", "p0", "v").is_some()
+        && view.volume_named("lab", "p1", "v").is_none()
+        && view.instance_named("lab", "a").is_some()
+        && view.instance_named("lab", "b").is_none()
         && project_named(view.projects, "lab").is_none()
         && network_named(view.networks, "default", "n").is_none()
         && pool_named(view.pools, "p0").is_none()
-        && snapshot_named(view.snapshots, "lab", "a", "s").is_none()
+        && view.snapshot_named("lab", "a", "s").is_none()
 }
 
 /// Whether a project that is missing has its profiles, networks and volumes in the project `default`.

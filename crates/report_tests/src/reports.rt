@@ -4,6 +4,7 @@ ghost use Rattle.size_values.specs.Amounts.{part};
 ghost use Rattle.size_values.specs.declared.amounts.Part.{Part};
 
 use config_lists::Config;
+use lent_rows::in_order;
 use records::Project;
 use reservations::Books;
 use row_readings::View;
@@ -73,7 +74,7 @@ fn is_told(alloc: Global, projects: &[Project], books: Books, text: &str) -> boo
     requires { (k : Part) → part k books.granted ≡ part k books.converted + part k books.returned + 0 }
 {
     let view = View {
-        projects,
+        projects: in_order(projects),
         profiles: &[],
         networks: &[],
         pools: &[],

@@ -5,7 +5,8 @@ use Rattle.reservations.specs.declared.books.Hold.{Hold}
 use Rattle.row_machine.specs.machine.State.{State}
 use Rattle.row_drafts.specs.declared.lists.Undone.{Undone}
 use Rattle.row_drafts.specs.declared.lists.Undone.TheVariants as undone
-use Rattle.row_drafts.specs.Steps.{before_change, before_changes, FitsChange, FitChanges}
+use Rattle.row_readings.specs.Rising.{AreRising}
+use Rattle.row_drafts.specs.Steps.{before_change, before_changes, FitsChange, FitChanges, RoseBefore}
 
 module _ (held : List Hold) (books : Books) where
   one : (u : Undone) (s : State) → before_change u (record s { held = held; books = books }) ≡ record (before_change u s) { held = held; books = books }
@@ -38,3 +39,7 @@ module _ (held : List Hold) (books : Books) where
   pub fits-held : (us : List Undone) (s : State) → FitChanges us s → FitChanges us (record s { held = held; books = books })
   fits-held [] s fits = tt
   fits-held (u ∷ us) s fits = (fits-held us s fits.0, subst (FitsChange u) (sym (before-held us s)) (fits-one u (before_changes us s) fits.1))
+
+  pub rose-held : (us : List Undone) (s : State) → RoseBefore us s → RoseBefore us (record s { held = held; books = books })
+  rose-held [] s rose = tt
+  rose-held (u ∷ us) s rose = (rose-held us s rose.0, subst AreRising (sym (before-held (u ∷ us) s)) rose.1)

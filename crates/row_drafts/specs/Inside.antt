@@ -1,11 +1,12 @@
 -- What contracts see of the fields, and what is true of them.
 use Rattle.std.specs.Prelude.{◌≤◌, ◌-◌, length, min, vec_len, vec_capacity}
 use Rattle.row_machine.specs.machine.State.{State, empty_state}
+use Rattle.row_readings.specs.Rising.{AreRising}
 use Rattle.row_drafts.specs.declared.lists.Lists.TheInside.{Inside as ListsInside}
 use Rattle.row_drafts.specs.declared.draft.Draft.TheInside.{Inside as DraftInside}
 use Rattle.row_drafts.specs.Background.{with_background}
 use Rattle.row_drafts.specs.Drafted.{Listed, Drafted}
-use Rattle.row_drafts.specs.Steps.{FitChanges}
+use Rattle.row_drafts.specs.Steps.{FitChanges, RoseBefore}
 
 -- the state with these rows, statuses, operations and shares, which was told to close or not
 abbrev pub state_in : ListsInside → State
@@ -48,7 +49,9 @@ drafted d = record {
   backing = d.lists.backing;
 }
 
--- the log can be taken back, and there is room for it
+-- the log can be taken back, and there is room for it; and the rows rise, as they did before each of its changes
 pub record IsDraft (d : DraftInside) : Type 0 where
   pub fits : FitChanges d.log.items d.lists.state
   pub room : length d.log.items ≤ d.lists.room
+  pub rises : AreRising d.lists.state
+  pub rose : RoseBefore d.log.items d.lists.state

@@ -2,6 +2,7 @@
 use Rattle.std.specs.Prelude.{◌<◌, ◌≤◌, List, [], ◌∷◌, length, set}
 use Rattle.std.specs.List.{insert, remove}
 use Rattle.row_machine.specs.machine.State.{State}
+use Rattle.row_readings.specs.Rising.{AreRising}
 use Rattle.row_drafts.specs.Background.{before_claim}
 use Rattle.row_drafts.specs.declared.edits.Step.{Step}
 use Rattle.row_drafts.specs.declared.edits.Step.TheVariants as step
@@ -60,3 +61,8 @@ before_changes (u ∷ us) s = before_change u (before_changes us s)
 abbrev pub FitChanges : List Undone → State → Type 0
 FitChanges [] s = Unit {0}
 FitChanges (u ∷ us) s = FitChanges us s × FitsChange u (before_changes us s)
+
+-- before any number of the last changes the rows rose
+abbrev pub RoseBefore : List Undone → State → Type 0
+RoseBefore [] s = Unit {0}
+RoseBefore (u ∷ us) s = RoseBefore us s × AreRising (before_changes (u ∷ us) s)

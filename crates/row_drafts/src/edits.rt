@@ -1,11 +1,15 @@
 //! Rows put and removed in the order of their names, without taking memory, with what takes it back.
-ghost use Rattle.std.specs.Prelude.{◌≡◌, ◌<◌, ◌≤◌, ◌+◌, ◌-◌, ◌∷◌, [], length, set, if◌then◌else◌, unwrap_or, vec_len};
-ghost use Rattle.std.specs.Prelude.{vec_capacity};
+ghost use Rattle.std.specs.Prelude.{◌≡◌, ◌<◌, ◌≤◌, ◌+◌, ◌-◌, length, set, if◌then◌else◌, vec_len, vec_capacity};
 ghost use Rattle.std.specs.List.{position, insert, list_any};
-ghost use Rattle.plain_lists.specs.Edits.{dropped, replaced};
+ghost use Rattle.std.specs.List.Sorted.{IsSearchInRange};
+ghost use Rattle.plain_lists.specs.Edits.{dropped};
+ghost use Rattle.row_machine.specs.facts.Whole.{Rise};
+ghost use Rattle.row_machine.specs.machine.Rows.{same_names, put_by};
+ghost use Rattle.row_readings.specs.Rising.{FindsPlace};
 ghost use Rattle.row_drafts.specs.Steps.{before_step, FitsStep};
 
 use crate::placed::Placed;
+use row_readings::place_named;
 use std::mem;
 
 /// What a change did to one list: nothing; or a row took the place of this one; or a row was put in at a place; or this
@@ -18,11 +22,13 @@ pub(crate) enum Step<T> {
     TakenOut(usize, T),
 }
 
-/// The place of the row with the names of this one.
-fn place_of<T: Placed>(rows: &[T], row: &T) -> Option<usize>
-    ensures { result ≡ position (T.same row.now) rows.now }
+/// The place of the row with the names of this one, or the one at which this one would stand.
+fn place_of<T: Placed>(rows: &[T], row: &T) -> Result<usize, usize>
+    requires { Rise T.names rows.now }
+    ensures bound { IsSearchInRange result (length rows.now) }
+    ensures place { FindsPlace T.names (T.names row.now) rows.now result }
 {
-    rows.iter().position(|other| row.is_same(other))
+    place_named(rows, row.lent_names())
 }
 
 /// The place of the row of a key.
@@ -30,23 +36,6 @@ fn place_keyed<T: Placed>(rows: &[T], key: &str) -> Option<usize>
     ensures { result ≡ position (T.keyed key.now) rows.now }
 {
     rows.iter().position(|row| row.has_key(key))
-}
-
-/// The place of the first row that this one goes before.
-fn place_behind<T: Placed>(rows: &[T], row: &T) -> Option<usize>
-    ensures { result ≡ position (T.before row.now) rows.now }
-{
-    rows.iter().position(|other| row.is_before(other))
-}
-
-/// The place that a new row takes: in front of the first that it goes before, or after all.
-fn gap_for<T: Placed>(rows: &[T], row: &T) -> usize
-    ensures { result ≡ unwrap_or (position (T.before row.now) rows.now) (length rows.now) }
-{
-    match place_behind(rows, row) {
-        Some(place) => place,
-        None => rows.len(),
-    }
 }
 
 /// Puts an item at a place of a vector that has room for it. It takes no memory.
@@ -73,16 +62,16 @@ fn replace_at<T: Drop>(items: &mut Vec<T>, place: usize, item: T) -> T
 
 /// A row in place of the one of its names, or at its place in the order. It takes no memory.
 pub(crate) fn put<T: Placed + Drop>(rows: &mut Vec<T>, row: T) -> Step<T>
+    requires rises { Rise T.names rows.old.items }
     requires room { vec_len rows.old < vec_capacity rows.old }
-    ensures rows { rows.new.items ≡ replaced (T.same row) (T.before row) row rows.old.items }
+    ensures rows { rows.new.items ≡ put_by T.names row rows.old.items }
     ensures back { before_step result rows.new.items ≡ rows.old.items }
     ensures fits { FitsStep result rows.new.items }
     ensures room { vec_capacity rows.old - vec_len rows.old ≤ (vec_capacity rows.new - vec_len rows.new) + 1 }
 {
     match place_of(rows, &row) {
-        Some(place) => Step::Replaced(place, replace_at(rows, place, row)),
-        None => {
-            let place = gap_for(rows, &row);
+        Ok(place) => Step::Replaced(place, replace_at(rows, place, row)),
+        Err(place) => {
             insert_reserved(rows, place, row);
             Step::TakenIn(place)
         }
@@ -91,17 +80,21 @@ pub(crate) fn put<T: Placed + Drop>(rows: &mut Vec<T>, row: T) -> Step<T>
 
 /// A row at its place in the order, unless one of its names is there. It takes no memory.
 pub(crate) fn put_new<T: Placed + Drop>(rows: &mut Vec<T>, row: T) -> Step<T>
+    requires rises { Rise T.names rows.old.items }
     requires room { vec_len rows.old < vec_capacity rows.old }
     ensures rows { rows.new.items
-        ≡ (if list_any (T.same row) rows.old.items
-        then rows.old.items else replaced (T.same row) (T.before row) row rows.old.items) }
+        ≡ (if list_any (λ other. same_names (T.names other) (T.names row)) rows.old.items
+        then rows.old.items else put_by T.names row rows.old.items) }
     ensures back { before_step result rows.new.items ≡ rows.old.items }
     ensures fits { FitsStep result rows.new.items }
     ensures room { vec_capacity rows.old - vec_len rows.old ≤ (vec_capacity rows.new - vec_len rows.new) + 1 }
 {
     match place_of(rows, &row) {
-        Some(_) => Step::Kept,
-        None => put(rows, row),
+        Ok(_) => Step::Kept,
+        Err(place) => {
+            insert_reserved(rows, place, row);
+            Step::TakenIn(place)
+        }
     }
 }
 

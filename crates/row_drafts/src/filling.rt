@@ -1,99 +1,29 @@
-//! Rows put in one after the other, from nothing. A row that goes behind all others of its kind is put at the end of
-//! their list without a search, so that rows which come nearly in the order of their names take little time.
-ghost use Rattle.std.specs.Prelude.{◌≡◌, ℕ, List, [], IfOk, OnOk, fold, refl};
-ghost use Rattle.machine_laws.proofs.NamesTests.{project_is, profile_is, network_is, pool_is, volume_is, instance_is};
-ghost use Rattle.machine_laws.proofs.NamesTests.{snapshot_is};
-ghost use Rattle.plain_lists.specs.Edits.{replaced};
+//! Rows put in one after the other, from nothing.
+ghost use Rattle.std.specs.Prelude.{◌≡◌, [], IfOk, OnOk, fold};
 ghost use Rattle.records.specs.declared.rows.Row.TheVariants as row_of;
 ghost use Rattle.row_machine.specs.facts.Whole.{Rise};
 ghost use Rattle.row_machine.specs.machine.Changes.{with_row, standing_with};
-ghost use Rattle.row_machine.specs.machine.Rows.{project_names, profile_names, network_names, pool_names, volume_names};
-ghost use Rattle.row_machine.specs.machine.Rows.{instance_names, snapshot_names, standing_names};
+ghost use Rattle.row_machine.specs.machine.Rows.{put_by, standing_names};
 ghost use Rattle.row_machine.specs.opening.Opening.{with_rows};
-ghost use Rattle.row_drafts.specs.Filling.{IsNamed, AreRising, goes_last};
+ghost use Rattle.row_readings.specs.Rising.{AreRising};
 
 use crate::draft::{Draft, stopped};
 use crate::edits::{put, put_new};
 use crate::lists::Lists;
 use crate::placed::Placed;
-use plain_lists::push_reserved;
-use records::{Instance, Network, Pool, Profile, Project, Row, Snapshot, Volume};
+use records::{Instance, Row};
 use row_readings::InstancePower;
 use size_values::NoMemory;
 use std::alloc::Global;
 
-/// A row whose names tell which others are the same, and which it goes before.
-pub(crate) trait Named: Placed {
-    /// The names of a row.
-    ghost names: { Self → List (List ℕ) };
-
-    ghost named: { IsNamed names Self.same Self.before };
-}
-
-impl Named for Project {
-    ghost names = { project_names };
-
-    ghost named = { record { alike = λ x y. project_is x.name y; ahead = λ x y. refl } };
-}
-
-impl Named for Profile {
-    ghost names = { profile_names };
-
-    ghost named = { record { alike = λ x y. profile_is x.project x.name y; ahead = λ x y. refl } };
-}
-
-impl Named for Network {
-    ghost names = { network_names };
-
-    ghost named = { record { alike = λ x y. network_is x.project x.name y; ahead = λ x y. refl } };
-}
-
-impl Named for Pool {
-    ghost names = { pool_names };
-
-    ghost named = { record { alike = λ x y. pool_is x.name y; ahead = λ x y. refl } };
-}
-
-impl Named for Volume {
-    ghost names = { volume_names };
-
-    ghost named = { record { alike = λ x y. volume_is x.project x.pool x.name y; ahead = λ x y. refl } };
-}
-
-impl Named for Instance {
-    ghost names = { instance_names };
-
-    ghost named = { record { alike = λ x y. instance_is x.project x.name y; ahead = λ x y. refl } };
-}
-
-impl Named for Snapshot {
-    ghost names = { snapshot_names };
-
-    ghost named = { record { alike = λ x y. snapshot_is x.project x.instance x.name y; ahead = λ x y. refl } };
-}
-
 // ---- one list
 
-/// Whether a row goes behind all of a list that rises: the last one goes before it, or there is none.
-fn goes_last<T: Placed>(rows: &[T], row: &T) -> bool
-    ensures { result ≡ goes_last T.before row.now rows.now }
-{
-    match rows.last() {
-        Some(last) => last.is_before(row),
-        None => true,
-    }
-}
-
 /// Puts a row in place of the one of its names, or at its place in the order.
-fn fill<T: Named + Drop>(rows: &mut Vec<T>, row: T) -> Result<(), NoMemory>
+fn fill<T: Placed + Drop>(rows: &mut Vec<T>, row: T) -> Result<(), NoMemory>
     requires { Rise T.names rows.old.items }
-    ensures { OnOk result (rows.new.items ≡ replaced (T.same row) (T.before row) row rows.old.items) }
+    ensures { OnOk result (rows.new.items ≡ put_by T.names row rows.old.items) }
 {
     rows.reserve(1)?;
-    if goes_last(rows, &row) {
-        push_reserved(rows, row);
-        return Ok(());
-    }
     drop(put(rows, row));
     Ok(())
 }
@@ -109,10 +39,6 @@ fn fill_power(
 {
     powers.reserve(1)?;
     let power = stopped(alloc, row)?;
-    if goes_last(powers, &power) {
-        push_reserved(powers, power);
-        return Ok(());
-    }
     drop(put_new(powers, power));
     Ok(())
 }
@@ -155,6 +81,7 @@ impl Lists {
     fn fill_rows(&mut self, alloc: Global, rows: &[Row]) -> Result<(), NoMemory>
         requires rises { AreRising self.old.state }
         ensures state { OnOk result (self.new.state ≡ fold (λ s r. with_row r s) self.old.state rows.now) }
+        ensures rises { OnOk result (AreRising self.new.state) }
         ensures backing { self.new.backing ≡ self.old.backing }
     {
         for row in rows {
@@ -166,6 +93,7 @@ impl Lists {
     /// Copies of rows, put in one after the other.
     pub(crate) fn of_rows(alloc: Global, rows: &[Row]) -> Result<Lists, NoMemory>
         ensures state { IfOk result (λ l. l.state ≡ with_rows rows.now) }
+        ensures rises { IfOk result (λ l. AreRising l.state) }
         ensures greatest { IfOk result (λ l. l.backing.greatest ≡ 0) }
     {
         let mut lists = Lists::new(alloc)?;
@@ -181,8 +109,8 @@ impl Lists {
 
 impl Draft {
     /// A draft of copies of these rows, put in one after the other: every instance is stopped, there is no operation, and
-    /// nothing can be taken back. Where the rows of each kind come in the order of their names, it takes time linear in
-    /// their number; the place of each other row is searched from the front.
+    /// nothing can be taken back. The place of each row is found by binary search; rows that come in the order of their
+    /// names are put at the end, so that none is moved.
     pub fn of_rows(alloc: Global, rows: &[Row]) -> Result<Draft, NoMemory>
         ensures state { IfOk result (λ d. d.state ≡ with_rows rows.now) }
         ensures log { IfOk result (λ d. d.log ≡ []) }

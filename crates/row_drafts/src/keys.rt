@@ -1,53 +1,9 @@
-//! Names in their order, and keys that are made of several names.
-ghost use Rattle.std.specs.Prelude.{◌≡◌, ◌∷◌, []};
+//! Keys that are made of several names.
+ghost use Rattle.std.specs.Prelude.{◌≡◌, []};
 ghost use Rattle.std.specs.Option.{option_copied};
 ghost use Rattle.std.specs.Str.{bytes_eq};
 ghost use Rattle.row_codec.specs.Spelling.{two_names, three_names};
-ghost use Rattle.row_machine.specs.machine.Rows.{texts_before};
 ghost use Rattle.row_drafts.specs.Keys.{IsRest};
-
-use size_values::Text;
-use std::cmp::Ordering;
-
-/// Whether a name goes before another one.
-pub(crate) fn one_before(one: &Text, other: &Text) -> bool
-    ensures { result ≡ texts_before (one.now ∷ []) (other.now ∷ []) }
-{
-    match one.compare(other) {
-        Ordering::Less => true,
-        Ordering::Equal => false,
-        Ordering::Greater => false,
-    }
-}
-
-/// Whether two names go before two others: the first that differ decide.
-pub(crate) fn two_before(first: &Text, second: &Text, other: &Text, next: &Text) -> bool
-    ensures { result ≡ texts_before (first.now ∷ second.now ∷ []) (other.now ∷ next.now ∷ []) }
-{
-    match first.compare(other) {
-        Ordering::Less => true,
-        Ordering::Equal => one_before(second, next),
-        Ordering::Greater => false,
-    }
-}
-
-/// Whether three names go before three others: the first that differ decide.
-pub(crate) fn three_before(
-    first: &Text,
-    second: &Text,
-    third: &Text,
-    other: &Text,
-    next: &Text,
-    last: &Text,
-) -> bool
-    ensures { result ≡ texts_before (first.now ∷ second.now ∷ third.now ∷ []) (other.now ∷ next.now ∷ last.now ∷ []) }
-{
-    match first.compare(other) {
-        Ordering::Less => true,
-        Ordering::Equal => two_before(second, third, next, last),
-        Ordering::Greater => false,
-    }
-}
 
 /// What stands after a slash.
 fn rest_behind_slash(key: &[u8]) -> Option<&[u8]>

@@ -1,13 +1,14 @@
 ghost use Rattle.std.specs.Prelude.{◌≡◌, ◌+◌, ◌-◌, ◌^◌, ◌<◌, ◌≤◌, ◌∷◌, [], true, Some, IsSome, length, take, drop};
 ghost use Rattle.std.specs.Prelude.{find, if◌then◌else◌, OnOk, IfOk};
-ghost use Rattle.std.specs.List.{list_any, position};
+ghost use Rattle.std.specs.List.{list_any};
 ghost use Rattle.host_model.specs.declared.call.HostCall.{HostCall as HostCallValue};
 ghost use Rattle.operations.specs.Kept.{live_at};
 ghost use Rattle.operations.specs.declared.operation.Operation.{Operation as OperationValue};
 ghost use Rattle.plain_lists.specs.Edits.{changed_first};
 ghost use Rattle.records.specs.declared.rows.Row.TheVariants as row_of;
 ghost use Rattle.row_machine.specs.declared.changes.RowChange.TheVariants as change_of;
-ghost use Rattle.row_machine.specs.machine.Rows.{is_standing, with_standing};
+ghost use Rattle.row_machine.specs.facts.Whole.{Rise};
+ghost use Rattle.row_machine.specs.machine.Rows.{is_standing, standing_names, with_standing};
 ghost use Rattle.row_machine.specs.machine.Changes.{with_row, without_row, changed};
 ghost use Rattle.row_machine.specs.machine.State.{Standing, empty_state};
 ghost use Rattle.row_machine.specs.machine.Task.{Task};
@@ -15,6 +16,7 @@ ghost use Rattle.row_machine.specs.machine.Work.{claiming, moved, with_task, wit
 ghost use Rattle.row_machine.specs.machine.Work.{returned};
 ghost use Rattle.row_drafts.specs.Background.{holding, handed_at, HasCountAt};
 ghost use Rattle.row_drafts.specs.declared.lists.Undone.TheVariants as undone_of;
+ghost use Rattle.row_readings.specs.Rising.{AreRising};
 ghost use Rattle.size_values.specs.Amounts.{part};
 ghost use Rattle.size_values.specs.declared.amounts.Part.{Part};
 ghost use Rattle.row_drafts.specs.Drafted.{spares_for, stopped};
@@ -27,7 +29,7 @@ use host_model::HostCall;
 use operations::{OpFault, Status};
 use records::{Instance, Network, Pool, Profile, Project, Row, Snapshot, Volume};
 use row_machine::{RowChange, Work};
-use row_readings::{InstancePower, View};
+use row_readings::{InstancePower, Names, View, place_named};
 use size_values::{Amounts, NoMemory, ObjectKind, Power, Text};
 use std::alloc::Global;
 use std::marker::Model;
@@ -97,6 +99,7 @@ impl Lists {
 
     /// All of it, to be read.
     pub(crate) fn view(&self) -> View<'_>
+        requires { AreRising self.now.state }
         ensures { result ≡ self.now.state }
     {
         View {
@@ -143,6 +146,7 @@ impl Lists {
     }
 
     fn put_instance(&mut self, row: Instance, power: InstancePower) -> Undone
+        requires rises { AreRising self.old.state }
         requires power { power ≡ stopped row }
         requires room { 1 ≤ self.old.room }
         ensures state { self.new.state ≡ with_row (row_of.Instance row) self.old.state }
@@ -158,6 +162,7 @@ impl Lists {
 
     /// Puts a row, with the status that stands ready for it where it is an instance. It takes no memory.
     pub(crate) fn put(&mut self, row: Row, spares: &mut Vec<InstancePower>) -> Undone
+        requires rises { AreRising self.old.state }
         requires room { 1 ≤ self.old.room }
         requires spares { take (length (spares_for (change_of.Put row))) spares.old.items
             ≡ spares_for (change_of.Put row) }
@@ -205,6 +210,7 @@ impl Lists {
 
     /// Makes a change. It takes no memory.
     pub(crate) fn change(&mut self, change: RowChange, spares: &mut Vec<InstancePower>) -> Undone
+        requires rises { AreRising self.old.state }
         requires room { 1 ≤ self.old.room }
         requires spares { take (length (spares_for change)) spares.old.items ≡ spares_for change }
         ensures state { self.new.state ≡ changed self.old.state change }
@@ -299,6 +305,7 @@ impl Lists {
         ensures state { (call : HostCallValue) (task : Task)
             → handed_at which self.old.state.operations number ≡ Some (call, task) →
             (result ≡ call) × (self.new.state ≡ with_task number task self.old.state) }
+        ensures rises { AreRising self.old.state → AreRising self.new.state }
         ensures greatest { self.new.backing.greatest ≡ self.old.backing.greatest }
     {
         self.background.hand_out(number, which)
@@ -306,9 +313,11 @@ impl Lists {
 
     /// The instance that a live operation is about has this status from now on.
     pub(crate) fn set_power_of(&mut self, number: u64, power: Power)
-        requires { IsSome (live_at self.old.state.operations number) }
+        requires rises { AreRising self.old.state }
+        requires live { IsSome (live_at self.old.state.operations number) }
         ensures state { (o : OperationValue Task) → live_at self.old.state.operations number ≡ Some o →
             self.new.state ≡ with_power self.old.state o.work.project o.work.target.name power }
+        ensures rises { AreRising self.new.state }
         ensures greatest { self.new.backing.greatest ≡ self.old.backing.greatest }
     {
         let work = &self.background.at(number).work;
@@ -343,23 +352,15 @@ impl Lists {
     }
 }
 
-/// The place of the status of an instance.
-fn place_of_power(powers: &[InstancePower], project: &Text, name: &Text) -> Option<usize>
-    ensures { result ≡ position (is_standing project.now name.now) powers.now }
-{
-    powers
-        .iter()
-        .position(|power| power.project.is(project) && power.name.is(name))
-}
-
 /// The instance of a project and name has this status from now on, where it has one.
 fn set_power(powers: &mut Vec<InstancePower>, project: &Text, name: &Text, power: Power)
+    requires { Rise standing_names powers.old.items }
     ensures { powers.new.items ≡
         changed_first (is_standing project.now name.now)
         (λ (p : Standing). record p { power = power }) powers.old.items }
 {
-    match place_of_power(powers, project, name) {
-        Some(place) => powers[place].power = power,
-        None => {}
+    match place_named(powers, Names::Two(project.view(), name.view())) {
+        Ok(place) => powers[place].power = power,
+        Err(_) => {}
     }
 }

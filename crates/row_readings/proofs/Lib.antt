@@ -1,3 +1,5 @@
 pub mod Layered
+pub mod Risen
+pub mod SameNames
 pub mod Small
 pub mod Totals

@@ -1,6 +1,7 @@
 -- What contracts see of the lent rows.
 use Rattle.row_machine.specs.machine.State.{State, empty_state}
 use Rattle.row_readings.specs.declared.view.View.TheInside.{Inside}
+use Rattle.row_readings.specs.Rising.{AreRising}
 
 -- the state with these rows, statuses, operations and shares, which was told to close or not
 abbrev pub state_in : Inside → State
@@ -18,3 +19,7 @@ state_in v = record empty_state {
   books = v.books;
   closed = v.closed;
 }
+
+-- the rows of each kind, and the statuses, rise by their names
+abbrev pub IsLent : Inside → Type 0
+IsLent v = AreRising (state_in v)

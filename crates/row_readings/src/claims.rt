@@ -4,7 +4,6 @@ ghost use Rattle.std.specs.Option.{option_copied};
 ghost use Rattle.row_machine.specs.machine.Claims.{claimed_instance, claimed_volume, claimed_snapshot};
 ghost use Rattle.row_machine.specs.machine.Claims.{replaced_instance};
 
-use crate::lookups::instance_named;
 use crate::view::View;
 use records::{Instance, Row, Snapshot, Volume};
 use row_machine::Work;
@@ -44,7 +43,7 @@ pub fn replaced_instance<'x>(view: &View<'x>, work: &Work) -> Option<&'x Instanc
     ensures { option_copied result ≡ replaced_instance view.now work.now }
 {
     match &work.replaces {
-        Some((project, name)) => instance_named(view.instances, project.view(), name.view()),
+        Some((project, name)) => view.instance_named(project.view(), name.view()),
         None => None,
     }
 }

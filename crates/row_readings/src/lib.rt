@@ -1,11 +1,13 @@
-//! The state of the row machine, lent as slices, and its readings: rows by their names, what an instance has, and what
-//! a project uses, searched and summed anew each time. No row is copied.
+//! The state of the row machine, lent as slices that rise by the names of their rows, and its readings: rows by their
+//! names, what an instance has, and what a project uses, searched and summed anew each time. No row is copied.
 #![tactic(auto)]
 
 mod amounts;
 mod claims;
 mod homes;
 mod lookups;
+mod named;
+mod places;
 mod readings;
 mod snapshots;
 mod view;
@@ -13,9 +15,8 @@ mod view;
 pub use amounts::{Load, amounts_of_instance, loads, project_of_row, share_of, usage_in};
 pub use claims::{claimed_instance, claimed_snapshot, claimed_volume, replaced_instance};
 pub use homes::{home_of, is_on, is_true, network_home, profile_home, volume_home};
-pub use lookups::{
-    instance_named, kept_at, network_named, pool_named, power_of, profile_named, project_named,
-    snapshot_named, volume_named,
-};
+pub use lookups::{kept_at, network_named, pool_named, power_of, project_named};
+pub use named::{Named, Names};
+pub use places::{place_named, rises};
 pub use snapshots::next_snapshot;
 pub use view::{InstancePower, View};

@@ -1,12 +1,15 @@
-//! Rows and statuses by their names.
+//! Rows and statuses by their names. Profiles, volumes, instances, snapshots and statuses, of which there may be many, are
+//! found by binary search; projects, networks and pools, of which there are few, from the front.
 ghost use Rattle.std.specs.Prelude.{◌≡◌, find};
 ghost use Rattle.std.specs.Option.{option_copied};
 ghost use Rattle.operations.specs.Kept.{has_number, kept_at};
-ghost use Rattle.row_machine.specs.machine.Rows.{is_standing, project_named, profile_named, network_named, pool_named};
-ghost use Rattle.row_machine.specs.machine.Rows.{volume_named, instance_named, snapshot_named};
+ghost use Rattle.row_machine.specs.machine.Rows.{project_named, profile_named, network_named, pool_named, volume_named};
+ghost use Rattle.row_machine.specs.machine.Rows.{instance_named, snapshot_named};
 ghost use Rattle.row_machine.specs.machine.StandingRules.{power_of};
 
-use crate::view::{InstancePower, View};
+use crate::named::Names;
+use crate::places::row_named;
+use crate::view::View;
 use operations::Operation;
 use records::{Instance, Network, Pool, Profile, Project, Snapshot, Volume};
 use row_machine::Work;
@@ -17,14 +20,6 @@ pub fn project_named<'x>(rows: &'x [Project], name: &str) -> Option<&'x Project>
     ensures { option_copied result ≡ project_named rows.now name.now }
 {
     rows.iter().find(|r| r.name.view() == name)
-}
-
-/// The profile of a name in a project.
-pub fn profile_named<'x>(rows: &'x [Profile], project: &str, name: &str) -> Option<&'x Profile>
-    ensures { option_copied result ≡ profile_named rows.now project.now name.now }
-{
-    rows.iter()
-        .find(|r| r.project.view() == project && r.name.view() == name)
 }
 
 /// The network of a name in a project.
@@ -42,59 +37,41 @@ pub fn pool_named<'x>(rows: &'x [Pool], name: &str) -> Option<&'x Pool>
     rows.iter().find(|r| r.name.view() == name)
 }
 
-/// The volume of a name in a project and a storage pool.
-pub fn volume_named<'x>(
-    rows: &'x [Volume],
-    project: &str,
-    pool: &str,
-    name: &str,
-) -> Option<&'x Volume>
-    ensures { option_copied result ≡ volume_named rows.now project.now pool.now name.now }
-{
-    rows.iter().find(|r| {
-        r.project.view() == project && r.pool.view() == pool && r.name.view() == name
-    })
-}
+impl<'x> View<'x> {
+    /// The profile of a name in a project.
+    pub fn profile_named(&self, project: &str, name: &str) -> Option<&'x Profile>
+        ensures { option_copied result ≡ profile_named self.now.profiles project.now name.now }
+    {
+        row_named(self.profiles, Names::Two(project, name))
+    }
 
-/// The instance of a name in a project.
-pub fn instance_named<'x>(rows: &'x [Instance], project: &str, name: &str) -> Option<&'x Instance>
-    ensures { option_copied result ≡ instance_named rows.now project.now name.now }
-{
-    rows.iter()
-        .find(|r| r.project.view() == project && r.name.view() == name)
-}
+    /// The volume of a name in a project and a storage pool.
+    pub fn volume_named(&self, project: &str, pool: &str, name: &str) -> Option<&'x Volume>
+        ensures { option_copied result ≡ volume_named self.now.volumes project.now pool.now name.now }
+    {
+        row_named(self.volumes, Names::Three(project, pool, name))
+    }
 
-/// The snapshot of a name of an instance in a project.
-pub fn snapshot_named<'x>(
-    rows: &'x [Snapshot],
-    project: &str,
-    instance: &str,
-    name: &str,
-) -> Option<&'x Snapshot>
-    ensures { option_copied result ≡ snapshot_named rows.now project.now instance.now name.now }
-{
-    rows.iter().find(|r| {
-        r.project.view() == project && r.instance.view() == instance && r.name.view() == name
-    })
-}
+    /// The instance of a name in a project.
+    pub fn instance_named(&self, project: &str, name: &str) -> Option<&'x Instance>
+        ensures { option_copied result ≡ instance_named self.now.instances project.now name.now }
+    {
+        row_named(self.instances, Names::Two(project, name))
+    }
 
-fn standing_of<'x>(
-    powers: &'x [InstancePower],
-    project: &str,
-    name: &str,
-) -> Option<&'x InstancePower>
-    ensures { option_copied result ≡ find (is_standing project.now name.now) powers.now }
-{
-    powers
-        .iter()
-        .find(|p| p.project.view() == project && p.name.view() == name)
+    /// The snapshot of a name of an instance in a project.
+    pub fn snapshot_named(&self, project: &str, instance: &str, name: &str) -> Option<&'x Snapshot>
+        ensures { option_copied result ≡ snapshot_named self.now.snapshots project.now instance.now name.now }
+    {
+        row_named(self.snapshots, Names::Three(project, instance, name))
+    }
 }
 
 /// The status of an instance.
 pub fn power_of(view: &View<'_>, project: &str, name: &str) -> Option<Power>
     ensures { result ≡ power_of view.now project.now name.now }
 {
-    match standing_of(view.powers, project, name) {
+    match row_named(view.powers, Names::Two(project, name)) {
         Some(standing) => Some(standing.power),
         None => None,
     }

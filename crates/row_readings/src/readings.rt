@@ -7,7 +7,6 @@ ghost use Rattle.row_machine.specs.machine.Usage.{usage_of};
 
 use crate::amounts::{loads, usage_in};
 use crate::homes::profile_home;
-use crate::lookups::profile_named;
 use crate::view::View;
 use expansion::Expanded;
 use records::{Instance, Profile};
@@ -20,8 +19,25 @@ impl View<'_> {
         ensures { IfOk result (λ e. e ≡ expanded_of self.now.projects self.now.profiles row.now) }
     {
         let home = profile_home(self.projects, row.project.view());
-        let mut expanded = profiles_laid(alloc, self.profiles, home, row.profiles.view())?;
+        let mut expanded = self.profiles_laid(alloc, home, row.profiles.view())?;
         expanded.lay(&row.config, &row.devices)?;
+        Ok(expanded)
+    }
+
+    /// The profiles of these names in one project, laid in their order.
+    pub fn profiles_laid(
+        &self,
+        alloc: Global,
+        home: &str,
+        names: &[Text],
+    ) -> Result<Expanded, NoMemory>
+        ensures { IfOk result (λ e. e
+            ≡ expanded (map (λ name. layer_of (profile_named self.now.profiles home.now name)) names.now)) }
+    {
+        let mut expanded = Expanded::new(alloc);
+        for name in names {
+            lay_profile(&mut expanded, self.profile_named(home, name.view()))?;
+        }
         Ok(expanded)
     }
 
@@ -34,23 +50,6 @@ impl View<'_> {
         drop(all);
         Ok(used)
     }
-}
-
-/// The profiles of these names in one project, laid in their order.
-fn profiles_laid(
-    alloc: Global,
-    profiles: &[Profile],
-    home: &str,
-    names: &[Text],
-) -> Result<Expanded, NoMemory>
-    ensures { IfOk result (λ e. e
-        ≡ expanded (map (λ name. layer_of (profile_named profiles.now home.now name)) names.now)) }
-{
-    let mut expanded = Expanded::new(alloc);
-    for name in names {
-        lay_profile(&mut expanded, profile_named(profiles, home, name.view()))?;
-    }
-    Ok(expanded)
 }
 
 /// Lays a profile over what is there. One that is missing has no settings.

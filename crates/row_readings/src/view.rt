@@ -24,7 +24,8 @@ impl Model for InstancePower {
 /// The rows of each kind, in the order of project, pool or instance, and name, the status of each instance, and the
 /// kept operations: those that live in the order of their numbers, those that ended in the order of their ends, and the
 /// number of the next one; the shares that live operations hold, and the books; and whether the server was told to
-/// close. The lists are lent. Contracts see the state of the row machine with all of it, in which nothing was told yet.
+/// close. The lists are lent, and those of rows and statuses rise by their names. Contracts see the state of the row
+/// machine with all of it, in which nothing was told yet.
 #[derive(Drop)]
 pub struct View<'a> {
     pub projects: &'a [Project],
@@ -45,9 +46,11 @@ pub struct View<'a> {
 
 impl<'a> Model for View<'a> {
     ghost use Rattle.row_machine.specs.machine.State.{State};
-    ghost use Rattle.row_readings.specs.Lent.{state_in};
+    ghost use Rattle.row_readings.specs.Lent.{state_in, IsLent};
 
     ghost Value = { State };
 
     ghost view = { state_in };
+
+    ghost invariant = { IsLent };
 }

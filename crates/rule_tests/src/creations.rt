@@ -1,11 +1,16 @@
+ghost use Rattle.std.specs.Prelude.{◌+◌, ◌≤◌, ◌^◌, IfOk};
+ghost use Rattle.size_values.specs.Amounts.{part};
+ghost use Rattle.size_values.specs.declared.amounts.Part.{Part};
+
 use instance_tasks::instance_creation;
 use lent_rows::{Rows, both, config, device};
 use limit_rules::{
-    claim_uncounts, counts_broken, limits_broken, share_broken, usage_before, used_beside,
+    claim_uncounts, counts_broken, limits_broken, needs_usage, share_broken, usage_before,
 };
 use name_rules::names_broken;
 use operations::{OpFault, Operation, Status};
 use policy_rules::{claim_forbidden, policy_broken};
+use project_usage::usage_of;
 use records::{Body, Command, Driver, Origin, Pool, Project, Refusal, Row, Rule, Target, What};
 use row_machine::Work;
 use row_readings::View;
@@ -215,6 +220,16 @@ fn later_broken(alloc: Global, rows: &Rows) -> Result<(), Or<Refusal>> {
     broken
 }
 
+/// What a project uses, where its share is judged by it.
+fn used_beside(alloc: Global, view: &View<'_>, project: &str) -> Result<Amounts, NoMemory>
+    ensures { IfOk result (λ used. (k : Part) → part k used ≤ 2 ^ 127 + 2 ^ 126) }
+{
+    if !needs_usage(view.projects, project, &SHARE) {
+        return Ok(Amounts::zero());
+    }
+    usage_of(alloc, view, project)
+}
+
 /// The same by what the last operation claims alone.
 fn alone_broken(alloc: Global, rows: &Rows) -> Result<(), Or<Refusal>> {
     let after = rows.view();
@@ -226,7 +241,7 @@ fn alone_broken(alloc: Global, rows: &Rows) -> Result<(), Or<Refusal>> {
     let project = work.project.view();
     claim_forbidden(alloc, &after, work)?;
     claim_uncounts(alloc, &after, work)?;
-    let used = used_beside(alloc, &rows.before_last(), project, &SHARE)?;
+    let used = used_beside(alloc, &rows.before_last(), project)?;
     share_broken(alloc, after.projects, project, &used, &SHARE)
 }
 

@@ -37,31 +37,31 @@ const TABLES: [(ObjectKind, u32, u32, Option<(&str, u64)>); 14] = [
     (ObjectKind::Snapshot, 65_535, 2, Some(("snapshot", 65_536))),
 ];
 
-fn profile(alloc: Global) -> Profile {
+fn profile(alloc: Global, name: Text) -> Profile {
     Profile {
         project: Text::new(alloc),
-        name: Text::new(alloc),
+        name,
         description: Text::new(alloc),
         config: Config::new(alloc),
         devices: Devices::new(alloc),
     }
 }
 
-fn volume(alloc: Global) -> Volume {
+fn volume(alloc: Global, name: Text) -> Volume {
     Volume {
         project: Text::new(alloc),
         pool: Text::new(alloc),
-        name: Text::new(alloc),
+        name,
         description: Text::new(alloc),
         config: Config::new(alloc),
         created: 0,
     }
 }
 
-fn instance(alloc: Global) -> Instance {
+fn instance(alloc: Global, name: Text) -> Instance {
     Instance {
         project: Text::new(alloc),
-        name: Text::new(alloc),
+        name,
         kind: Kind::Container,
         ephemeral: false,
         description: Text::new(alloc),
@@ -73,11 +73,11 @@ fn instance(alloc: Global) -> Instance {
     }
 }
 
-fn snapshot(alloc: Global) -> Snapshot {
+fn snapshot(alloc: Global, name: Text) -> Snapshot {
     Snapshot {
         project: Text::new(alloc),
         instance: Text::new(alloc),
-        name: Text::new(alloc),
+        name,
         created: 0,
         expires: 0,
         profiles: Seq::new(alloc),
@@ -86,14 +86,16 @@ fn snapshot(alloc: Global) -> Snapshot {
     }
 }
 
-/// Adds a row of a kind, whose texts are empty: that does not matter to the number of rows.
-fn add_row(alloc: Global, rows: &mut Rows, kind: ObjectKind) -> Result<(), NoMemory> {
+/// Adds a row of a kind, whose name is behind those of smaller numbers. Its other texts are empty: that does not matter to
+/// the number of rows.
+fn add_row(alloc: Global, rows: &mut Rows, kind: ObjectKind, number: u32) -> Result<(), NoMemory> {
+    let name = Text::from_string(format!(in alloc; "{number:08}")?);
     match kind {
-        ObjectKind::Profile => rows.profiles.push(profile(alloc))?,
-        ObjectKind::Volume => rows.volumes.push(volume(alloc))?,
-        ObjectKind::Instance => rows.instances.push(instance(alloc))?,
-        ObjectKind::Snapshot => rows.snapshots.push(snapshot(alloc))?,
-        _ => (),
+        ObjectKind::Profile => rows.profiles.push(profile(alloc, name))?,
+        ObjectKind::Volume => rows.volumes.push(volume(alloc, name))?,
+        ObjectKind::Instance => rows.instances.push(instance(alloc, name))?,
+        ObjectKind::Snapshot => rows.snapshots.push(snapshot(alloc, name))?,
+        _ => drop(name),
     }
     Ok(())
 }
@@ -101,9 +103,9 @@ fn add_row(alloc: Global, rows: &mut Rows, kind: ObjectKind) -> Result<(), NoMem
 /// The row of a kind that an operation claims.
 fn claim(alloc: Global, kind: ObjectKind) -> Option<Row> {
     match kind {
-        ObjectKind::Volume => Some(Row::Volume(volume(alloc))),
-        ObjectKind::Instance => Some(Row::Instance(instance(alloc))),
-        ObjectKind::Snapshot => Some(Row::Snapshot(snapshot(alloc))),
+        ObjectKind::Volume => Some(Row::Volume(volume(alloc, Text::new(alloc)))),
+        ObjectKind::Instance => Some(Row::Instance(instance(alloc, Text::new(alloc)))),
+        ObjectKind::Snapshot => Some(Row::Snapshot(snapshot(alloc, Text::new(alloc)))),
         _ => None,
     }
 }
@@ -149,8 +151,8 @@ fn fill(
     stored: u32,
     claims: u32,
 ) -> Result<(), NoMemory> {
-    for _ in 0..stored {
-        add_row(alloc, rows, kind)?;
+    for number in 0..stored {
+        add_row(alloc, rows, kind, number)?;
     }
     for _ in 0..claims {
         add_claim(alloc, rows, kind)?;

@@ -13,12 +13,12 @@ use size_values::{NoMemory, Seq};
 use std::alloc::Global;
 use std::sync::Wait;
 
-/// In the first rest a link makes these requests. In the next ones the worker goes on; and after so many of them another
-/// link changes a project again and again, so that events are lost.
+/// In the first rest a link makes its requests. In the next ones the worker goes on; and after so many of them another
+/// link changes a project again and again, so that events are lost. Where there are no requests, that begins at once.
 const WORKED: u64 = 20;
 
-/// More changes than there are events that the server keeps.
-const CHANGES: u32 = 1100;
+/// One change more than there are events that the server keeps.
+const CHANGES: u32 = 1025;
 
 const CHANGE: &str =
     "PATCH /1.0/projects/default HTTP/1.1\r\nHost: localhost\r\nContent-Length: 25\r\n\r\n{\"description\":\"touched\"}";
@@ -86,12 +86,12 @@ impl<T: Wait> Gate for BusyGate<T> {
     }
 
     fn rest(&mut self) {
-        if self.rests == 0 {
-            let _ = request(&self.rt, self.alloc, &mut self.inner, self.requests);
-        } else if self.rests < WORKED {
-            self.inner.rest();
-        } else {
+        if self.requests.is_empty() || self.rests >= WORKED {
             change(&self.rt, self.alloc, &mut self.inner);
+        } else if self.rests == 0 {
+            let _ = request(&self.rt, self.alloc, &mut self.inner, self.requests);
+        } else {
+            self.inner.rest();
         }
         self.rests = self.rests.saturating_add(1);
     }

@@ -40,20 +40,31 @@ const CANCELLED: &str =
 const CREATED: &str =
     "{\"metadata\":{\"action\":\"instance-created\",\"source\":\"/1.0/instances/a\"},\"project\":\"default\",\"timestamp\":\"1970-01-01T00:00:00Z\",\"type\":\"lifecycle\"}";
 
-/// What happens while a session listens: the requests that are made, whether it takes lifecycle events and whether
-/// operation events; and what it sends before it lags, with the number that it asks for then.
-const SESSIONS: &[(&str, bool, bool, &[&str], u64)] = &[
-    (NOTHING, true, true, &[], 3),
-    (CREATION, false, true, &[PENDING, RUNNING, SUCCESS], 7),
+/// What was requested before a session listens, and what is while it does; whether it takes lifecycle events and whether
+/// operation events; and what it sends before it lags, with the number that it asks for then. The oldest event that is kept
+/// is then the next one.
+const SESSIONS: &[(&str, &str, bool, bool, &[&str], u64)] = &[
+    (NOTHING, NOTHING, false, true, &[], 1),
+    (NOTHING, NOTHING, true, true, &[], 1),
+    (POOL, NOTHING, true, true, &[], 3),
+    (POOL, CREATION, false, true, &[PENDING, RUNNING, SUCCESS], 7),
     (
+        POOL,
         CREATION,
         true,
         true,
         &[PENDING, RUNNING, CREATED, SUCCESS],
         7,
     ),
-    (CREATION, true, false, &[CREATED], 7),
-    (CANCELLED_CREATION, false, true, &[PENDING, CANCELLED], 5),
+    (POOL, CREATION, true, false, &[CREATED], 7),
+    (
+        POOL,
+        CANCELLED_CREATION,
+        false,
+        true,
+        &[PENDING, CANCELLED],
+        5,
+    ),
 ];
 
 /// A text message of 126 to 65,535 bytes as a frame, by hand (RFC 6455, section 5.2).
@@ -82,6 +93,7 @@ fn sent(alloc: Global, texts: &[&str]) -> Result<Vec<u8>, NoMemory> {
 fn listened<T: Wait + Copy>(
     rt: T,
     alloc: Global,
+    before: &str,
     requests: &'static str,
     life: bool,
     op: bool,
@@ -90,7 +102,7 @@ fn listened<T: Wait + Copy>(
     let Some(mut inner) = new_gate(alloc) else {
         return Ok(None);
     };
-    request(&rt, alloc, &mut inner, POOL)?;
+    request(&rt, alloc, &mut inner, before)?;
     let mut gate = BusyGate {
         rt,
         alloc,
@@ -110,6 +122,7 @@ fn listened<T: Wait + Copy>(
 fn sends<T: Wait + Copy>(
     rt: T,
     alloc: Global,
+    before: &str,
     requests: &'static str,
     life: bool,
     op: bool,
@@ -117,10 +130,10 @@ fn sends<T: Wait + Copy>(
     cursor: u64,
 ) -> Result<bool, NoMemory> {
     let due = sent(alloc, texts)?;
-    let Some((ends, sink)) = listened(rt, alloc, requests, life, op)? else {
+    let Some((ends, sink)) = listened(rt, alloc, before, requests, life, op)? else {
         return Ok(false);
     };
-    let oldest = cursor.wrapping_add(1100 - 1024);
+    let oldest = cursor.wrapping_add(1);
     let is_so = ends == SessionEnd::Lagged { cursor, oldest } && sink.bytes() == due.as_slice();
     drop(sink);
     Ok(is_so)
@@ -128,10 +141,10 @@ fn sends<T: Wait + Copy>(
 
 #[test]
 fn sessions_send_what_is_told(rt: HostRuntime) {
-    for (requests, life, op, texts, cursor) in SESSIONS {
+    for (before, requests, life, op, texts, cursor) in SESSIONS {
         assert!(rt;
-            sends(rt, rt.alloc(), requests, *life, *op, texts, *cursor) == Ok(true),
-            "{requests} {life} {op}"
+            sends(rt, rt.alloc(), before, requests, *life, *op, texts, *cursor) == Ok(true),
+            "{before} {requests} {life} {op}"
         );
     }
 }

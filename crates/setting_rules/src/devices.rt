@@ -9,7 +9,7 @@ ghost use Rattle.row_machine.specs.machine.SettingRules.{disk_misses, device_mis
 use config_lists::{Config, Device, Devices};
 use option_tables::SettingFault;
 use records::{Refusal, Rule};
-use row_readings::{View, network_home, network_named, pool_named, volume_home, volume_named};
+use row_readings::{View, network_home, network_named, pool_named, volume_home};
 use rule_refusals::{on_object, tables_break};
 use size_values::{ObjectKind, Or};
 use std::alloc::Global;
@@ -77,7 +77,7 @@ fn volume_missing(
     ensures { Says result (volume_missing view.now project.now pool.now name.now) }
 {
     let home = volume_home(view.projects, project);
-    if volume_named(view.volumes, home, pool, name).is_some() {
+    if view.volume_named(home, pool, name).is_some() {
         return Ok(());
     }
     Err(Or::Why(on_object(alloc, Rule::V5, ObjectKind::Volume, name)?))

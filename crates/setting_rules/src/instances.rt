@@ -19,7 +19,7 @@ use operations::Operation;
 use option_tables::{Scope, check_instance};
 use records::{Instance, Profile, Refusal, Rule};
 use row_machine::Work;
-use row_readings::{View, claimed_instance, profile_home, profile_named};
+use row_readings::{View, claimed_instance, profile_home};
 use rule_refusals::{on_name, on_object};
 use size_values::{Kind, ObjectKind, Or, Text};
 use std::alloc::Global;
@@ -54,10 +54,12 @@ fn root_missing(alloc: Global, devices: &Devices, name: &str) -> Result<(), Or<R
 }
 
 /// The first name of which there is no profile.
-fn missing_name<'x>(profiles: &[Profile], home: &str, names: &'x [Text]) -> Option<&'x Text>
-    ensures { option_copied result ≡ find (λ name. is_none (profile_named profiles.now home.now name)) names.now }
+fn missing_name<'x>(view: &View<'_>, home: &str, names: &'x [Text]) -> Option<&'x Text>
+    ensures { option_copied result ≡ find (λ name. is_none (profile_named view.now.profiles home.now name)) names.now }
 {
-    names.iter().find(|name| profile_named(profiles, home, name.view()).is_none())
+    names
+        .iter()
+        .find(|name| view.profile_named(home, name.view()).is_none())
 }
 
 /// A profile that an instance names is missing.
@@ -66,7 +68,7 @@ fn profile_missing(alloc: Global, view: &View<'_>, row: &Instance) -> Result<(),
     ensures { Says result (profile_missing view.now row.now) }
 {
     let home = profile_home(view.projects, row.project.view());
-    match missing_name(view.profiles, home, row.profiles.view()) {
+    match missing_name(view, home, row.profiles.view()) {
         Some(name) => Err(Or::Why(on_object(alloc, Rule::V5, ObjectKind::Profile, name.view())?)),
         None => Ok(()),
     }

@@ -14,7 +14,7 @@ use option_tables::{
 };
 use records::{Profile, Project, Refusal, Row};
 use row_machine::RowChange;
-use row_readings::{View, profile_named};
+use row_readings::View;
 use size_values::Or;
 use std::alloc::Global;
 
@@ -22,7 +22,7 @@ use std::alloc::Global;
 fn own_default(alloc: Global, view: &View<'_>, row: &Project) -> Result<(), Or<Refusal>>
     ensures { Says result (own_default view.now row.now) }
 {
-    match profile_named(view.profiles, row.name.view(), "default") {
+    match view.profile_named(row.name.view(), "default") {
         Some(profile) => devices_miss(alloc, view, profile.project.view(), &profile.devices),
         None => Ok(()),
     }

@@ -7,7 +7,7 @@ ghost use Rattle.standing_rules.specs.Protected.{is_kept, instance_protected, pr
 use crate::asked::{is_deletion, is_parting, object_changed};
 use crate::features::asks_for_features;
 use records::{Command, Instance, Refusal, Rule, Target, What};
-use row_readings::{View, instance_named, is_on};
+use row_readings::{View, is_on};
 use rule_refusals::on_object;
 use size_values::{NoMemory, ObjectKind, Or};
 use std::alloc::Global;
@@ -30,7 +30,7 @@ fn protects_itself(
 ) -> Result<bool, NoMemory>
     ensures { IfOk result (λ b. b ≡ protects_itself view.now project.now name.now) }
 {
-    match instance_named(view.instances, project, name) {
+    match view.instance_named(project, name) {
         Some(row) => protects(alloc, view, row),
         None => Ok(false),
     }

@@ -9,7 +9,7 @@ use record_keeper::MapKeeper;
 use records::{Body, Command, Origin, Reply, Row, Target, What};
 use row_drafts::Draft;
 use row_machine::RowChange;
-use row_readings::{profile_home, profile_named, project_named};
+use row_readings::{profile_home, project_named};
 use size_values::{NoMemory, ObjectKind, Seq, Text};
 use std::alloc::Global;
 use work_reports::{default_profile, entry_changes};
@@ -118,8 +118,8 @@ fn is_first(estate: &Estate) -> bool {
     profile_home(view.projects, "default") == "default"
         && project_named(view.projects, "default").is_some()
         && project_named(view.projects, "lab").is_none()
-        && profile_named(view.profiles, "default", "default").is_some()
-        && profile_named(view.profiles, "default", "lab").is_none()
+        && view.profile_named("default", "default").is_some()
+        && view.profile_named("default", "lab").is_none()
 }
 
 /// Whether no changes have no entries, and leave a draft as it is.

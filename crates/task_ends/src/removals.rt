@@ -10,7 +10,7 @@ ghost use Rattle.row_machine.specs.machine.Work.{removes_instance};
 use object_links::{three_names, two_names};
 use records::{Instance, Snapshot};
 use row_machine::{RowChange, Work};
-use row_readings::{View, instance_named, snapshot_named};
+use row_readings::View;
 use size_values::{NoMemory, ObjectKind, Seq};
 use std::alloc::Global;
 
@@ -83,7 +83,7 @@ pub(crate) fn removes_instance(
 {
     let mut changes = Seq::new(alloc);
     remove_snapshots(alloc, view.snapshots, project, name, &mut changes)?;
-    let row = instance_named(view.instances, project, name);
+    let row = view.instance_named(project, name);
     remove_instance(alloc, row, &mut changes)?;
     Ok(changes)
 }
@@ -100,7 +100,7 @@ pub(crate) fn removes_snapshot(
     let of = &work.target;
     let project = work.project.view();
     let mut changes = Seq::new(alloc);
-    if let Some(row) = snapshot_named(view.snapshots, project, of.instance.view(), of.name.view()) {
+    if let Some(row) = view.snapshot_named(project, of.instance.view(), of.name.view()) {
         changes.push(snapshot_removal(alloc, row)?)?;
     }
     Ok(changes)

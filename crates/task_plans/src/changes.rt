@@ -12,7 +12,7 @@ use crate::works::{replacing_task, target_and_replaced};
 use instance_tasks::zip_or_drop;
 use records::{Body, Instance, Snapshot, Target};
 use row_machine::Work;
-use row_readings::{View, snapshot_named};
+use row_readings::View;
 use size_values::{Deed, NoMemory, Text};
 use std::alloc::Global;
 
@@ -113,7 +113,7 @@ pub(crate) fn plan_restore(
 ) -> Result<Option<Work>, NoMemory>
     ensures { IfOk result (λ w. w ≡ task_in (plan_restore view.now project.now of.now name.now old.now)) }
 {
-    let found = snapshot_named(view.snapshots, project.view(), of.name.view(), name.view());
+    let found = view.snapshot_named(project.view(), of.name.view(), name.view());
     let Some(snapshot) = found else {
         return Ok(None);
     };

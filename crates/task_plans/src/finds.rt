@@ -5,7 +5,7 @@ ghost use Rattle.row_machine.specs.machine.Plans.{row_of};
 ghost use Rattle.task_plans.specs.Begun.{instance_in, snapshot_in};
 
 use records::{Instance, Snapshot, Target};
-use row_readings::{View, instance_named, snapshot_named};
+use row_readings::View;
 use size_values::{ObjectKind, Text};
 
 /// The instance of a path that names one.
@@ -13,7 +13,7 @@ pub(crate) fn instance_at<'x>(view: &View<'x>, project: &Text, of: &Target) -> O
     ensures { option_copied result ≡ instance_in (row_of view.now project.now of.now) }
 {
     match of.kind {
-        ObjectKind::Instance => instance_named(view.instances, project.view(), of.name.view()),
+        ObjectKind::Instance => view.instance_named(project.view(), of.name.view()),
         _ => None,
     }
 }
@@ -23,8 +23,7 @@ pub(crate) fn snapshot_at<'x>(view: &View<'x>, project: &Text, of: &Target) -> O
     ensures { option_copied result ≡ snapshot_in (row_of view.now project.now of.now) }
 {
     match of.kind {
-        ObjectKind::Snapshot => snapshot_named(
-            view.snapshots,
+        ObjectKind::Snapshot => view.snapshot_named(
             project.view(),
             of.instance.view(),
             of.name.view(),

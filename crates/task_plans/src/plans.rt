@@ -11,7 +11,7 @@ use crate::creations::plan_create;
 use crate::deletions::plan_delete;
 use records::{Command, Target, What};
 use row_machine::Work;
-use row_readings::{View, instance_named};
+use row_readings::View;
 use size_values::{Action, NoMemory, Text};
 use std::alloc::Global;
 
@@ -27,7 +27,7 @@ fn plan_act(
         (if_there (λ i. starts (act_task view.now project.now of.now action i))
         (instance_named view.now.instances project.now of.now.name))) }
 {
-    let Some(row) = instance_named(view.instances, project.view(), of.name.view()) else {
+    let Some(row) = view.instance_named(project.view(), of.name.view()) else {
         return Ok(None);
     };
     let work = act_task(alloc, view, project, of, action, row)?;
@@ -46,7 +46,7 @@ fn plan_return(
         (if_there (plan_restore view.now project.now of.now snapshot.now)
         (instance_named view.now.instances project.now of.now.name))) }
 {
-    match instance_named(view.instances, project.view(), of.name.view()) {
+    match view.instance_named(project.view(), of.name.view()) {
         Some(row) => plan_restore(alloc, view, project, of, snapshot, row),
         None => Ok(None),
     }

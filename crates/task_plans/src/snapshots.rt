@@ -18,7 +18,7 @@ use host_model::{HostCall, Place};
 use instance_tasks::zip_or_drop;
 use records::{Instance, Row, Snapshot, Target};
 use row_machine::Work;
-use row_readings::{View, instance_named, next_snapshot};
+use row_readings::{View, next_snapshot};
 use size_values::{Deed, NoMemory, Seq, Text};
 use std::alloc::Global;
 
@@ -136,7 +136,7 @@ pub(crate) fn plan_snapshot(
         (if_there (λ i. starts (snapshot_creation project.now (with_name view.now project.now of.now) moment i))
         (instance_named view.now.instances project.now of.now.instance))) }
 {
-    let Some(row) = instance_named(view.instances, project.view(), of.instance.view()) else {
+    let Some(row) = view.instance_named(project.view(), of.instance.view()) else {
         return Ok(None);
     };
     let of = with_name(alloc, view, of, row)?;

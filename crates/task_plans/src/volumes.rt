@@ -15,7 +15,7 @@ use instance_tasks::{copy_calls, zip_or_drop};
 use new_rows::{new_description, patched_config};
 use records::{Body, Origin, Row, Target, Volume};
 use row_machine::Work;
-use row_readings::{View, volume_named};
+use row_readings::View;
 use size_values::{Deed, NoMemory, Seq, Text};
 use std::alloc::Global;
 
@@ -162,7 +162,7 @@ pub(crate) fn plan_volume(
         Origin::None => Ok(None),
         Origin::Image(_) => Ok(None),
         Origin::Copy { from, pool, .. } => {
-            let Some(source) = volume_named(view.volumes, home, pool.view(), from.view()) else {
+            let Some(source) = view.volume_named(home, pool.view(), from.view()) else {
                 return Ok(None);
             };
             let work = volume_copy(alloc, home, of, body, moment, from, pool, source)?;

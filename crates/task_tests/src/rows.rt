@@ -1,5 +1,6 @@
 //! Rows of a server for tests. Where memory is refused, a text is empty or a row is missing.
 use config_lists::{Config, Devices};
+use lent_rows::in_order;
 use records::{Instance, Profile, Project, Snapshot, Volume};
 use reservations::Books;
 use row_readings::View;
@@ -147,13 +148,13 @@ impl Rows {
 
     pub(crate) fn view(&self) -> View<'_> {
         View {
-            projects: &self.projects,
-            profiles: &self.profiles,
+            projects: in_order(&self.projects),
+            profiles: in_order(&self.profiles),
             networks: &[],
             pools: &[],
-            volumes: &self.volumes,
-            instances: &self.instances,
-            snapshots: &self.snapshots,
+            volumes: in_order(&self.volumes),
+            instances: in_order(&self.instances),
+            snapshots: in_order(&self.snapshots),
             powers: &[],
             live: &[],
             ended: &[],

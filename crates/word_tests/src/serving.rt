@@ -58,6 +58,33 @@ const SAID: &[(&[&str], Said)] = &[
         &["--db=-x", "--port=8443", "--connections=4"],
         Said { db: "-x", ..PLAIN },
     ),
+    (
+        &[
+            "--db",
+            "rows",
+            "--workers",
+            "3",
+            "--connections",
+            "4",
+            "--port",
+            "8443",
+        ],
+        Said {
+            workers: 3,
+            passes: 8,
+            db: "rows",
+            ..PLAIN
+        },
+    ),
+    (
+        &["--workers=3", "--port=8443", "--db=rows", "--connections=4"],
+        Said {
+            workers: 3,
+            passes: 8,
+            db: "rows",
+            ..PLAIN
+        },
+    ),
 ];
 
 /// Lists of words that are not read.
@@ -80,6 +107,27 @@ const NOT_READ: &[&[&str]] = &[
     &["--port=8443", "--connections=4", "--db", "-"],
     &["--port=8443", "--connections=4", "--db", "-x"],
     &["--port=8443", "--connections=4", "--port=8443"],
+    &["--port=8443", "--connections=4", "--connections", "4"],
+    &[
+        "--port=8443",
+        "--connections=4",
+        "--workers=2",
+        "--workers=2",
+    ],
+    &["--port=8443", "--connections=4", "--db=rows", "--db=rows"],
+    &["--connections=4", "--port"],
+    &["--port=8443", "--connections"],
+    &["--port=8443", "--connections="],
+    &["--port=8443", "--connections=4", "--workers="],
+    &["--port=8443", "--connections=4", "--db"],
+    &["--port=8443", "--connections=04"],
+    &["--port=8443", "--connections=+4"],
+    &["--port=8443", "--connections", "-4"],
+    &["--port=8443", "--connections=18446744073709551616"],
+    &["--port=8443", "--connections=4", "--workers=02"],
+    &["--port=8443", "--connections=4", "--workers=+2"],
+    &["--port=8443", "--connections=4", "--workers=-2"],
+    &["--port", "-1", "--connections=4"],
     &["--port=8443", "--connections=4", "--now=5"],
     &["--port=8443", "--connections=4", "serve"],
     &["serve", "--port=8443", "--connections=4"],

@@ -192,6 +192,12 @@ const OTHERS: &[(&[&str], CommandWords, &str)] = &[
     (&["check"], CommandWords::Check, ""),
     (&["check", "--db", "rows"], CommandWords::Check, "rows"),
     (&["check", "--db=rows"], CommandWords::Check, "rows"),
+    (&["check", "--db=-x"], CommandWords::Check, "-x"),
+    (
+        &["drill", "--db=-x", "7", "40"],
+        CommandWords::Drill { seed: 7, count: 40 },
+        "-x",
+    ),
 ];
 
 /// Values of `--db` that `run` takes. One that begins with `-` stands behind `=`.
@@ -254,6 +260,111 @@ const LISTED: &[(&[&str], &[u64], &[u64])] = &[
     (&["run", "--fail-keeper", SIXTY_FOUR], &[], &NUMBERS),
 ];
 
+/// What is said by all of the options of `run` that say how it runs.
+const FULL: RunWords = RunWords {
+    now: Some(5),
+    pace: Pace::Steps(3),
+    boot: Some(9),
+};
+
+/// Lists of words of `run` with these options, in any order and in both forms; and the file, and the calls of the host and of the
+/// keeper, that they name beside them.
+const TOGETHER: &[(&[&str], &str, &[u64], &[u64])] = &[
+    (
+        &[
+            "run",
+            "--now",
+            "5",
+            "--steps",
+            "3",
+            "--boot",
+            "9",
+            "--db",
+            "rows",
+            "--fail-host",
+            "2,3",
+        ],
+        "rows",
+        &[2, 3],
+        &[],
+    ),
+    (
+        &[
+            "run",
+            "--fail-host=2,3",
+            "--db=rows",
+            "--boot=9",
+            "--steps=3",
+            "--now=5",
+        ],
+        "rows",
+        &[2, 3],
+        &[],
+    ),
+    (
+        &[
+            "run",
+            "--db",
+            "rows",
+            "--steps=3",
+            "--fail-host",
+            "2,3",
+            "--now=5",
+            "--boot",
+            "9",
+        ],
+        "rows",
+        &[2, 3],
+        &[],
+    ),
+    (
+        &[
+            "run",
+            "--boot=9",
+            "--now",
+            "5",
+            "--fail-host=2,3",
+            "--steps",
+            "3",
+            "--db=rows",
+        ],
+        "rows",
+        &[2, 3],
+        &[],
+    ),
+    (
+        &[
+            "run",
+            "--steps=3",
+            "--fail-keeper",
+            "4",
+            "--boot",
+            "9",
+            "--fail-host=2",
+            "--now=5",
+        ],
+        "",
+        &[2],
+        &[4],
+    ),
+    (
+        &[
+            "run",
+            "--fail-keeper=4",
+            "--now",
+            "5",
+            "--fail-host",
+            "2",
+            "--boot=9",
+            "--steps",
+            "3",
+        ],
+        "",
+        &[2],
+        &[4],
+    ),
+];
+
 /// Lists of words that name no command, or too much beside one, or no number that it takes. No call is listed by them.
 const NO_COMMANDS: &[&[&str]] = &[
     &[],
@@ -297,8 +408,18 @@ const NO_COMMANDS: &[&[&str]] = &[
     &["make", "+7", "40"],
     &["make", "07", "40"],
     &["make", "7", "040"],
+    &["make", "7", "-40"],
+    &["make", "7", "+40"],
+    &["drill", "7"],
     &["drill", "7", "10001"],
     &["drill", "00", "40"],
+    &["drill", "7", "040"],
+    &["drill", "-7", "40"],
+    &["drill", "+7", "40"],
+    &["drill", "7", "-40"],
+    &["drill", "18446744073709551616", "40"],
+    &["drill", "7", "40", "9"],
+    &["drill", "7", "40", "drill"],
 ];
 
 /// Lists of words that give an option which the command does not have, or two that do not stand together, or a sign without an option. No call is listed by them.
@@ -309,6 +430,15 @@ const NO_OPTIONS: &[&[&str]] = &[
     &["drill", "7", "40", "--now=5"],
     &["check", "--steps", "3"],
     &["check", "--fail-host=2"],
+    &["make", "7", "40", "--boot=9"],
+    &["make", "7", "40", "--fail-keeper=4"],
+    &["drill", "7", "40", "--steps=3"],
+    &["drill", "7", "40", "--boot", "9"],
+    &["drill", "7", "40", "--fail-host=2"],
+    &["drill", "7", "40", "--fail-keeper", "4"],
+    &["check", "--now=5"],
+    &["check", "--boot=9"],
+    &["check", "--fail-keeper=4"],
     // A sign that no option follows, or nothing but a dash.
     &["--"],
     &["-"],
@@ -320,18 +450,32 @@ const NO_OPTIONS: &[&[&str]] = &[
     &["make", "--", "7", "40"],
     &["make", "-", "40"],
     &["drill", "7", "40", "--"],
+    &["check", "--"],
+    &["check", "-"],
     // A short option, or a value that begins with a dash and stands alone.
     &["run", "-s", "5"],
     &["run", "-now", "5"],
     &["run", "--db", "-x"],
     &["run", "--db", "--steps"],
     &["run", "--now", "-5"],
+    &["run", "--steps", "-3"],
+    &["run", "--boot", "-9"],
+    &["run", "--fail-host", "-2"],
+    &["run", "--fail-keeper", "-4"],
+    &["drill", "7", "40", "-d", "rows"],
+    &["drill", "7", "40", "--db", "-x"],
+    &["check", "--db", "-x"],
+    &["check", "-d", "rows"],
     // No file, and calls of the keeper that fail beside a file.
     &["run", "--db"],
     &["run", "--db="],
     &["run", "--db", ""],
     &["check", "--db="],
+    &["check", "--db"],
+    &["check", "--db", ""],
     &["drill", "7", "40", "--db"],
+    &["drill", "7", "40", "--db="],
+    &["drill", "7", "40", "--db", "rows", "--db=rows"],
     &["run", "--db=rows", "--fail-keeper=4"],
     &["run", "--fail-keeper", "4", "--db", "rows"],
     &["run", "--db=rows", "--db=rows"],
@@ -526,6 +670,16 @@ fn words_list_the_calls_that_fail(rt: HostRuntime) {
     for (words, host, keeper) in LISTED {
         assert!(rt;
             is_said(rt.alloc(), words, a_run(PLAIN), "", host, keeper),
+            "{words:?}"
+        );
+    }
+}
+
+#[test]
+fn options_stand_in_any_order(rt: HostRuntime) {
+    for (words, db, host, keeper) in TOGETHER {
+        assert!(rt;
+            is_said(rt.alloc(), words, a_run(FULL), db, host, keeper),
             "{words:?}"
         );
     }

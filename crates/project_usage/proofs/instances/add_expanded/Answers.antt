@@ -1,11 +1,10 @@
-use Rattle.std.proofs.Common.{◌<◌, ◌^◌, length, sym, ap, ◌∙◌, arith}
+use Rattle.std.proofs.Common.{◌<◌, ◌^◌, length, refl, sym, ap, ◌∙◌, arith}
 use Rattle.std.proofs.lemmas.List.Sums.{sum_by_more_le, sum_by_more, sum_by-take-le}
 use Rattle.expansion.specs.Layers.{expanded}
 use Rattle.size_values.specs.Amounts.{part}
 use Rattle.size_values.proofs.AmountParts.{part-plus}
 use Rattle.row_machine.specs.machine.State.{State}
 use Rattle.project_usage.specs.Counted.{instance_part}
-use Rattle.project_usage.specs.Layered.{profiles_of}
 use Rattle.project_usage.proofs.Over.{counted-over}
 use Rattle.project_usage.proofs.Parts.{few-instances}
 use Rattle.project_usage.proofs.instances.add_expanded.Goals as goal
@@ -23,8 +22,8 @@ plus-sum-requires c = λ k.
     let item = c.row-item.result in
     let inside = c.view.inside in
     let one =
-    counted-over s project k item inside.projects.now inside.profiles.now c.profile_home-home.result.now c.view-names.result.now c.lay_again.new.expanded c.in_ok-more.more
-    (sym c.if-not-is_of.ensures) (ap (λ (t : State). t.projects) c.view.view_is) (ap (λ (t : State). t.profiles) c.view.view_is)
+    counted-over s project k item inside.projects.now s.profiles c.profile_home-home.result.now c.view-names.result.now c.lay_again.new.expanded c.in_ok-more.more
+    (sym c.if-not-is_of.ensures) (ap (λ (t : State). t.projects) c.view.view_is) refl
     c.profile_home-home.ensures c.view-names.ensures c.in_ok-lay_again.ensures c.in_ok-more.ensures
     ∙ ap counts c.row-item.is
     in
@@ -35,7 +34,7 @@ plus-sum-requires c = λ k.
 
 pub loop-row-preserved : goal.loop-row-preserved
 loop-row-preserved c = (
-  c.in_ok-lay_again.ensures ∙ ap (λ (t : State). profiles_of t.profiles c.profile_home-home.result.now c.view-names.result.now) c.view.view_is,
+  c.in_ok-lay_again.ensures,
   λ k.
       let s = c.args.view.now in
       let project = c.args.project.now in
@@ -44,8 +43,8 @@ loop-row-preserved c = (
       let item = c.row-item.result in
       let inside = c.view.inside in
       let one =
-      counted-over s project k item inside.projects.now inside.profiles.now c.profile_home-home.result.now c.view-names.result.now c.lay_again.new.expanded c.in_ok-more.more
-      (sym c.if-not-is_of.ensures) (ap (λ (t : State). t.projects) c.view.view_is) (ap (λ (t : State). t.profiles) c.view.view_is)
+      counted-over s project k item inside.projects.now s.profiles c.profile_home-home.result.now c.view-names.result.now c.lay_again.new.expanded c.in_ok-more.more
+      (sym c.if-not-is_of.ensures) (ap (λ (t : State). t.projects) c.view.view_is) refl
       c.profile_home-home.ensures c.view-names.ensures c.in_ok-lay_again.ensures c.in_ok-more.ensures
       ∙ ap counts c.row-item.is
       in

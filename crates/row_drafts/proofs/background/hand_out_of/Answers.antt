@@ -1,4 +1,4 @@
-use Rattle.std.proofs.Common.{◌≡◌, ◌∙◌, Some, IsSome, IfSome, set, ap, sym, subst}
+use Rattle.std.proofs.Common.{◌∙◌, Some, IsSome, IfSome, set, ap, sym, subst}
 use Rattle.std.specs.List.{position}
 use Rattle.operations.specs.Kept.{has_number}
 use Rattle.operations.specs.declared.operation.Operation.{Operation}

@@ -7,6 +7,9 @@ use Rattle.core_rows.specs.Kept.{Kept}
 use Rattle.core_rows.specs.Planned.{Follows}
 use Rattle.work_reports.specs.Waiting.{told_by}
 use Rattle.work_reports.proofs.Failing.{live-holds}
+use Rattle.kept_totals.specs.Totals.{AreTotals}
+use Rattle.core_rows.specs.Counted.{counted_out}
+use Rattle.core_rows.proofs.KnownTotals.{stopped-totals}
 use Rattle.core_rows.proofs.Silent.{none-wait}
 use Rattle.core_rows.proofs.Stops.{can-stop, stops-live, stopped-is, cancel-refused, cancel-follows}
 use Rattle.core_rows.proofs.estate.Estate.cancel_operation.Goals as goal
@@ -70,6 +73,10 @@ invariant_of-self c =
       settled = c.stop.ensures.log;
       room = omega (arith, c.self.invariant.room, c.stop.ensures.capacity);
       above = omega (arith, c.self.invariant.above, c.stop.ensures.greatest, stopped.next);
+      totals = subst (AreTotals c.stop.new.draft.state)
+          (ap (λ t. counted_out t c.args.number c.self.inside.totals) (sym c.view-2.ensures) ∙ sym c.count_out.ensures)
+          (stopped-totals s c.stop.new.draft.state c.args.number c.args.moment c.self.inside.totals c.self.invariant.whole c.stop.ensures.state
+          c.self.invariant.totals);
     }
 
 pub returns : goal.returns

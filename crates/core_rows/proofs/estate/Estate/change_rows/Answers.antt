@@ -18,6 +18,8 @@ use Rattle.core_rows.proofs.Changed.{accepted-from, refused-from, uncommitted-fr
 use Rattle.core_rows.proofs.Following.{follows-made}
 use Rattle.core_rows.proofs.Judging.{entries-ready}
 use Rattle.machine_laws.proofs.WholeKept.{whole-changes}
+use Rattle.kept_totals.specs.Totals.{AreTotals}
+use Rattle.kept_totals.proofs.Told.{totals-none}
 use Rattle.core_rows.proofs.estate.Estate.change_rows.Goals as goal
 
 pub returns-in_default : goal.returns-in_default
@@ -89,6 +91,7 @@ invariant_of-self-2 g c = record {
             ∙ ap (λ k. k.next) (applied-operations c.args.changes c.make_ready.new.draft.state)
             ∙ ap (λ (s : State). s.operations.next) c.make_ready.ensures.state,
       );
+  totals = subst (AreTotals c.settle.new.self.state) (sym c.forget.ensures) (totals-none c.settle.new.self.state);
 }
 
 pub push_reserved-requires : goal.push_reserved-requires

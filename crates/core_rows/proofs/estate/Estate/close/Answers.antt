@@ -6,6 +6,7 @@ use Rattle.machine_laws.proofs.ChangeKinds.{closing-keeps}
 use Rattle.work_reports.specs.Waiting.{IsSilent}
 use Rattle.core_rows.specs.Kept.{Kept}
 use Rattle.core_rows.proofs.Silent.{still-quiet, closed-silent}
+use Rattle.core_rows.proofs.KnownTotals.{closed-totals}
 use Rattle.core_rows.proofs.estate.Estate.close.Goals as goal
 
 pub invariant_of-self : goal.invariant_of-self
@@ -21,6 +22,7 @@ invariant_of-self c = record {
         ap (λ (b : Backing). b.greatest) c.close.ensures.backing,
         ap (λ (s : State). s.operations.next) c.close.ensures.state,
       );
+  totals = closed-totals c.self.inside.draft.state _ c.self.inside.totals c.close.ensures.state c.self.invariant.totals;
 }
 
 pub returns-clause-state : goal.returns-clause-state

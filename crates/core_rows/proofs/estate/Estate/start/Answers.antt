@@ -14,6 +14,8 @@ use Rattle.work_reports.specs.Waiting.{IsSilent}
 use Rattle.core_rows.specs.Kept.{Kept}
 use Rattle.core_rows.specs.Planned.{IsToStart}
 use Rattle.work_reports.specs.Waiting.{told_by}
+use Rattle.kept_totals.specs.Totals.{AreTotals}
+use Rattle.core_rows.proofs.KnownTotals.{begin-totals, roomy-totals}
 use Rattle.core_rows.proofs.Silent.{still-quiet, only-one, none-wait}
 use Rattle.core_rows.proofs.Started.{judged-claim, start-refused, start-accepted, start-made, entered-from, number-left, entered-silent}
 use Rattle.core_rows.proofs.estate.Estate.start.Goals as goal
@@ -78,6 +80,12 @@ pub settle_beginning-requires-clause-small : goal.settle_beginning-requires-clau
 settle_beginning-requires-clause-small c = λ k.
     omega (arith, low-share_of c.self.inside.draft.state c.args.work k, ap (part k) c.in-Ok.ensures.share)
 
+pub grow-requires : goal.grow-requires
+grow-requires c =
+    roomy-totals c.self.inside.draft.state c.make_beginning.new.totals c.view-2.result.now c.in-Ok.beginning.share c.self.invariant.whole
+    c.make_beginning.ensures.totals
+    (λ k. omega (arith, low-share_of c.self.inside.draft.state c.args.work k, ap (part k) c.in-Ok.ensures.share))
+
 pub invariant_of-self-2 : goal.invariant_of-self-2
 invariant_of-self-2 c =
     let old = c.self.inside.draft.state in
@@ -108,6 +116,9 @@ invariant_of-self-2 c =
             ap (λ (t : State). t.operations.next) c.settle_beginning.ensures.state,
             ap (λ (t : State). t.operations.next) claimed,
           );
+      totals = subst (AreTotals c.settle_beginning.new.draft.state) (sym c.grow.ensures)
+          (begin-totals old c.settle_beginning.new.draft.state task moment c.make_beginning.new.totals c.view-2.result.now c.in-Ok.beginning.share
+          made (c.view-2.ensures.value ∙ c.in-Ok.ensures.project) c.in-Ok.ensures.share c.make_beginning.ensures.totals);
     }
 
 pub returns : goal.returns

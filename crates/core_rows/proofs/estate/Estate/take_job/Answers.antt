@@ -5,6 +5,7 @@ use Rattle.core_rows.specs.Kept.{Kept}
 use Rattle.work_reports.specs.Turns.{shown_at}
 use Rattle.work_reports.specs.Waiting.{told_by}
 use Rattle.work_reports.proofs.Begun.{begun-whole, begun-silent, begun-taken}
+use Rattle.core_rows.proofs.KnownTotals.{begun-totals}
 use Rattle.core_rows.proofs.estate.Estate.take_job.Goals as goal
 
 pub invariant_of-self : goal.invariant_of-self
@@ -16,6 +17,8 @@ invariant_of-self c = record {
   settled = c.begin-call.ensures.log;
   room = omega (arith, c.self.invariant.room, c.tell.ensures.capacity);
   above = omega (arith, c.self.invariant.above, c.begin-call.ensures.greatest, ap (λ (s : State). s.operations.next) c.begin-call.ensures.begun.made);
+  totals = begun-totals c.self.inside.draft.state c.begin-call.new.draft.state c.in-Some.number c.args.moment c.begin-call.result c.self.inside.totals
+      c.self.invariant.whole c.begin-call.ensures.begun c.self.invariant.totals;
 }
 
 pub returns : goal.returns

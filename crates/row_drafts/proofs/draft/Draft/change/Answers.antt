@@ -1,7 +1,9 @@
 use Rattle.std.proofs.Common.{[], ◌∷◌, ◌∙◌, length, length-append, ap, sym, subst, arith}
-use Rattle.row_drafts.specs.Steps.{before_changes, FitChanges}
+use Rattle.row_readings.specs.Rising.{AreRising}
+use Rattle.row_drafts.specs.Steps.{before_changes, FitChanges, RoseBefore}
 use Rattle.row_drafts.specs.Drafted.{Drafted, former}
-use Rattle.row_drafts.proofs.Logs.{last-back, fits-more}
+use Rattle.row_drafts.proofs.Logs.{last-back, fits-more, rose-more}
+use Rattle.row_drafts.proofs.Risen.{rising-changed}
 use Rattle.row_drafts.proofs.draft.Draft.change.Goals as goal
 
 pub invariant_of-self : goal.invariant_of-self
@@ -19,6 +21,10 @@ invariant_of-self c = record {
         ap (λ (d : Drafted). length d.log) c.self.view_is,
         ap (λ (d : Drafted). d.room) c.self.view_is,
       );
+  rises = subst AreRising (sym c.change-undone.ensures.state) (rising-changed c.args.change c.self.inside.lists.state c.self.invariant.rises);
+  rose = subst (λ us. RoseBefore us c.change-undone.new.self.state) (sym c.push_reserved.ensures.items)
+      (rose-more c.self.inside.log.items c.change-undone.result c.self.inside.lists.state c.change-undone.new.self.state
+      c.change-undone.ensures.back c.self.invariant.rises c.self.invariant.rose);
 }
 
 pub returns-clause-former : goal.returns-clause-former

@@ -1,7 +1,8 @@
 use Rattle.std.proofs.Common.{◌-◌, ◌++◌, [], ◌∷◌, sym, subst, arith}
 use Rattle.reservations.specs.Holdings.{granted_more}
-use Rattle.row_drafts.specs.Steps.{FitChanges}
-use Rattle.row_drafts.proofs.HeldAside.{fits-held}
+use Rattle.row_readings.specs.Rising.{AreRising}
+use Rattle.row_drafts.specs.Steps.{FitChanges, RoseBefore}
+use Rattle.row_drafts.proofs.HeldAside.{fits-held, rose-held}
 use Rattle.row_drafts.proofs.draft.Draft.hold.Goals as goal
 
 pub invariant_of-self : goal.invariant_of-self
@@ -14,4 +15,10 @@ invariant_of-self c =
           (granted_more c.args.share s.books)
           c.self.inside.log.items s c.self.invariant.fits);
       room = omega (arith, c.self.invariant.room, c.hold.ensures.room);
+      rises = subst AreRising (sym c.hold.ensures.state) c.self.invariant.rises;
+      rose = subst (RoseBefore c.self.inside.log.items) (sym c.hold.ensures.state)
+          (rose-held
+          (s.held ++ record { op = s.operations.next - 1; project = c.args.project; share = c.args.share } ∷ [])
+          (granted_more c.args.share s.books)
+          c.self.inside.log.items s c.self.invariant.rose);
     }

@@ -1,7 +1,8 @@
 use Rattle.std.proofs.Common.{[], ◌∷◌, ◌∙◌, length, length-append, ap, sym, subst, arith}
-use Rattle.row_drafts.specs.Steps.{before_changes, FitChanges}
+use Rattle.row_readings.specs.Rising.{AreRising}
+use Rattle.row_drafts.specs.Steps.{before_changes, FitChanges, RoseBefore}
 use Rattle.row_drafts.specs.Drafted.{former}
-use Rattle.row_drafts.proofs.Logs.{last-back, fits-last, fits-less}
+use Rattle.row_drafts.proofs.Logs.{last-back, fits-last, fits-less, rose-last, rose-less}
 use Rattle.row_drafts.proofs.draft.Draft.take_last_back.Goals as goal
 
 pub take_back-requires-clause-fits : goal.take_back-requires-clause-fits
@@ -22,6 +23,12 @@ invariant_of-self c = record {
         ap length c.in-Some.ensures.items,
         length-append c.pop.new.self.items (c.in-Some.undone ∷ []),
       );
+  rises = subst AreRising (sym c.take_back.ensures.state)
+      (rose-last c.pop.new.self.items c.in-Some.undone c.self.inside.lists.state
+      (subst (λ us. RoseBefore us c.self.inside.lists.state) c.in-Some.ensures.items c.self.invariant.rose));
+  rose = subst (RoseBefore c.pop.new.self.items) (sym c.take_back.ensures.state)
+      (rose-less c.pop.new.self.items c.in-Some.undone c.self.inside.lists.state
+      (subst (λ us. RoseBefore us c.self.inside.lists.state) c.in-Some.ensures.items c.self.invariant.rose));
 }
 
 pub returns-in-Some-clause-former : goal.returns-in-Some-clause-former

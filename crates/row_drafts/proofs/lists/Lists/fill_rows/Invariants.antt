@@ -1,6 +1,6 @@
 use Rattle.std.proofs.Common.{◌≡◌, drop, fold}
 use Rattle.row_machine.specs.machine.Changes.{with_row}
-use Rattle.row_drafts.specs.Filling.{AreRising}
+use Rattle.row_readings.specs.Rising.{AreRising}
 use Rattle.row_drafts.proofs.lists.Lists.fill_rows.Given as goal
 
 -- the rows that are left lead to the same state

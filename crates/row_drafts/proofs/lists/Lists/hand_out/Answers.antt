@@ -1,4 +1,4 @@
-use Rattle.std.proofs.Common.{◌≡◌, ◌∙◌, ap}
+use Rattle.std.proofs.Common.{◌∙◌, ap}
 use Rattle.row_drafts.specs.Background.{handed_at}
 use Rattle.row_drafts.specs.Drafted.{Listed}
 use Rattle.row_drafts.proofs.Backgrounds.{other-operations}

@@ -1,10 +1,29 @@
-use Rattle.std.proofs.Common.{◌∙◌, ap, sym}
+use Rattle.std.proofs.Common.{◌∙◌, ap, sym, subst}
 use Rattle.records.specs.declared.rows.Row.TheVariants as row
 use Rattle.row_machine.specs.machine.Changes.{with_row}
+use Rattle.row_readings.specs.Rising.{AreRising}
 use Rattle.row_drafts.specs.Inside.{state_in}
 use Rattle.row_drafts.specs.Drafted.{Listed}
 use Rattle.row_drafts.proofs.Rooms.{least-step, more}
 use Rattle.row_drafts.proofs.lists.Lists.put.Goals as goal
+
+pub put-requires-clause-rises : goal.put-requires-clause-rises
+put-requires-clause-rises c = (subst (λ (x : Listed). AreRising x.state) (sym c.self.view_is) c.requires.rises).projects
+
+pub put-requires-in-Profile-clause-rises : goal.put-requires-in-Profile-clause-rises
+put-requires-in-Profile-clause-rises c = (subst (λ (x : Listed). AreRising x.state) (sym c.self-in-Profile.view_is) c.requires.rises).profiles
+
+pub put-requires-in-Network-clause-rises : goal.put-requires-in-Network-clause-rises
+put-requires-in-Network-clause-rises c = (subst (λ (x : Listed). AreRising x.state) (sym c.self-in-Network.view_is) c.requires.rises).networks
+
+pub put-requires-in-Pool-clause-rises : goal.put-requires-in-Pool-clause-rises
+put-requires-in-Pool-clause-rises c = (subst (λ (x : Listed). AreRising x.state) (sym c.self-in-Pool.view_is) c.requires.rises).pools
+
+pub put-requires-in-Volume-clause-rises : goal.put-requires-in-Volume-clause-rises
+put-requires-in-Volume-clause-rises c = (subst (λ (x : Listed). AreRising x.state) (sym c.self-in-Volume.view_is) c.requires.rises).volumes
+
+pub put-requires-in-Snapshot-clause-rises : goal.put-requires-in-Snapshot-clause-rises
+put-requires-in-Snapshot-clause-rises c = (subst (λ (x : Listed). AreRising x.state) (sym c.self-in-Snapshot.view_is) c.requires.rises).snapshots
 
 pub returns-in-Project-clause-state : goal.returns-in-Project-clause-state
 returns-in-Project-clause-state c =

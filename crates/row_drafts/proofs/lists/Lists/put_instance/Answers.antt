@@ -1,13 +1,17 @@
-use Rattle.std.proofs.Common.{◌∙◌, ap, if◌then◌else◌}
+use Rattle.std.proofs.Common.{◌∙◌, ap, sym, subst, if◌then◌else◌}
 use Rattle.std.specs.List.{list_any}
 use Rattle.records.specs.declared.rows.Row.TheVariants as row
 use Rattle.row_machine.specs.machine.State.{Standing}
 use Rattle.row_machine.specs.machine.Rows.{is_standing, with_instance, with_standing}
 use Rattle.row_machine.specs.machine.Changes.{with_row}
+use Rattle.row_readings.specs.Rising.{AreRising}
 use Rattle.row_drafts.specs.Inside.{state_in}
 use Rattle.row_drafts.specs.Drafted.{Listed}
 use Rattle.row_drafts.proofs.Rooms.{least-step, more}
 use Rattle.row_drafts.proofs.lists.Lists.put_instance.Goals as goal
+
+pub put_new-power-requires-clause-rises : goal.put_new-power-requires-clause-rises
+put_new-power-requires-clause-rises c = (subst (λ (x : Listed). AreRising x.state) (sym c.self.view_is) c.requires.rises).powers
 
 pub returns-clause-state : goal.returns-clause-state
 returns-clause-state c =

@@ -1,4 +1,4 @@
-use Rattle.std.proofs.Common.{map, sym, ap, ◌∙◌}
+use Rattle.std.proofs.Common.{map, refl, sym, ap, ◌∙◌}
 use Rattle.size_values.specs.declared.kinds.ObjectKind.TheVariants as kind
 use Rattle.expansion.specs.Layers.{laid}
 use Rattle.row_machine.specs.machine.State.{State}
@@ -18,7 +18,7 @@ returns c =
     ∙ ap (λ e. laid e (own_layer row))
     (c.in_ok-expanded.ensures
     ∙ profiles_of-same _ _ _ home _ row.profiles
-    (ap (λ (t : State). t.profiles) c.self.view_is)
+    refl
     (c.profile_home-home.ensures
     ∙ ap (λ rows. home_of rows c.view.result.now kind.Profile) (ap (λ (t : State). t.projects) c.self.view_is)
     ∙ ap (λ name. home_of s.projects name kind.Profile) c.view.ensures.value)

@@ -1,0 +1,25 @@
+-- What reports and cancels make of what projects are known to use.
+use Rattle.std.specs.Prelude.{ℕ, List, Option, if◌then◌else◌}
+use Rattle.std.specs.Option.{option_map_or}
+use Rattle.operations.specs.declared.operation.Operation.{Operation}
+use Rattle.operations.specs.Kept.{live_at}
+use Rattle.operations.specs.Statuses.{is_pending}
+use Rattle.row_machine.specs.machine.State.{State}
+use Rattle.row_machine.specs.machine.Task.{Task}
+use Rattle.row_machine.specs.machine.Work.{held_share}
+use Rattle.work_reports.specs.declared.jobs.Turned.{Turned}
+use Rattle.work_reports.specs.declared.jobs.Turned.TheVariants as turned
+use Rattle.kept_totals.specs.declared.ends.Counted.{Counted}
+use Rattle.kept_totals.specs.declared.totals.Total.{Total}
+use Rattle.kept_totals.specs.Ends.{given_back, after_end}
+
+-- after a report of an operation that counted for this, and is kept so
+abbrev pub after_turn : Turned → Option (Operation Task) → Counted → List Total → List Total
+after_turn turned.Ended kept counted totals = after_end kept counted totals
+after_turn other kept counted totals = totals
+
+-- after the cancel of an operation, by the rows before it: one that waits ends
+abbrev pub counted_out : State → ℕ → List Total → List Total
+counted_out s number totals = option_map_or
+    (λ o. if is_pending o.status then given_back o.work (held_share s number) totals else totals)
+    (live_at s.operations number) totals

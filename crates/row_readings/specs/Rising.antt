@@ -1,0 +1,48 @@
+-- Lists of rows that rise by their names, and where rows stand in them.
+use Rattle.std.specs.Prelude.{◌≡◌, ℕ, List, [], ◌∷◌, Some, None, Result, Ok, Err}
+use Rattle.std.specs.List.{position, position_or_len}
+use Rattle.records.specs.declared.rows.Instance.{Instance}
+use Rattle.records.specs.declared.rows.Network.{Network}
+use Rattle.records.specs.declared.rows.Pool.{Pool}
+use Rattle.records.specs.declared.rows.Profile.{Profile}
+use Rattle.records.specs.declared.rows.Project.{Project}
+use Rattle.records.specs.declared.rows.Snapshot.{Snapshot}
+use Rattle.records.specs.declared.rows.Volume.{Volume}
+use Rattle.row_machine.specs.facts.Whole.{Rise}
+use Rattle.row_machine.specs.machine.Rows.{same_names, texts_before, project_names, profile_names, network_names}
+use Rattle.row_machine.specs.machine.Rows.{pool_names, volume_names, instance_names, snapshot_names, standing_names}
+use Rattle.row_machine.specs.machine.State.{State, Standing}
+use Rattle.row_readings.specs.declared.named.Names.{Names}
+use Rattle.row_readings.specs.declared.named.Names.TheVariants as names_of
+
+-- lists of each kind of rows, and of statuses, that rise by their names
+pub record Rising
+    (of_projects : List Project) (of_profiles : List Profile) (of_networks : List Network) (of_pools : List Pool)
+    (of_volumes : List Volume) (of_instances : List Instance) (of_snapshots : List Snapshot) (of_powers : List Standing)
+    : Type 0 where
+  pub projects : Rise project_names of_projects
+  pub profiles : Rise profile_names of_profiles
+  pub networks : Rise network_names of_networks
+  pub pools : Rise pool_names of_pools
+  pub volumes : Rise volume_names of_volumes
+  pub instances : Rise instance_names of_instances
+  pub snapshots : Rise snapshot_names of_snapshots
+  pub powers : Rise standing_names of_powers
+
+-- the rows of each kind, and the statuses, rise by their names
+abbrev pub AreRising : State → Type 0
+AreRising s = Rising s.projects s.profiles s.networks s.pools s.volumes s.instances s.snapshots s.powers
+
+-- the names as the machine lists them
+abbrev pub names_in : Names → List (List ℕ)
+names_in (names_of.One a) = a.now ∷ []
+names_in (names_of.Two a b) = a.now ∷ b.now ∷ []
+names_in (names_of.Three a b c) = a.now ∷ b.now ∷ c.now ∷ []
+
+-- the first row of these names stands at this place, or there is none, and its place is in front of the first row that
+-- these names go before, or behind all rows
+abbrev pub FindsPlace : {X : Type 0} → (X → List (List ℕ)) → List (List ℕ) → List X → Result ℕ ℕ → Type 0
+FindsPlace names wanted rows (Ok place) = position (λ row. same_names (names row) wanted) rows ≡ Some place
+FindsPlace names wanted rows (Err place) =
+    (position (λ row. same_names (names row) wanted) rows ≡ None)
+    × (position_or_len (λ row. texts_before wanted (names row)) rows ≡ place)

@@ -1,0 +1,127 @@
+#!/usr/bin/env python3
+"""Runs incus_run with the words of each command, and with words that are not read; one line for each check.
+
+    tests/words.py [--program FILE]
+
+The program is crates/incus_run/out/incus_run without `--program` (`bin/incus_run --prove` makes it).
+
+1. `not read`: status 8, nothing on standard output, and all four commands on standard error.
+2. `make`: the bytes that `bench/stream.py instances` writes, which shares no code with the program.
+3. `drill`, `check`: 40 creations in memory and over a file, of which a project takes 32; what is kept of them, and that by then no share
+   is held. The shell `sqlite3` reads each row of the file, where it is installed.
+4. `run`: two runs over one file; and a file in a folder that is missing, which ends with status 6.
+
+It ends with status 1 where something is otherwise.
+"""
+import argparse
+import shutil
+import subprocess
+import sys
+import tempfile
+from pathlib import Path
+
+TOP = Path(__file__).resolve().parent.parent
+REQUEST = b'POST /1.0/projects HTTP/1.1\r\nHost: localhost\r\nContent-Length: 14\r\n\r\n{"name":"lab"}'
+COMMANDS = ("run [", "make SEED COUNT", "drill SEED COUNT", "check [")
+NOT_READ = [
+    [], ["help"], ["--help"], ["-h"], ["--version"], ["runs"], ["run", "run"], ["run", "--"], ["run", "--steps", "x"], ["run", "--now"],
+    ["run", "--now", "1", "--now=1"], ["run", "-s", "1"], ["run", "--now", "-1"], ["run", "--fail-host=0"], ["run", "--steps=01"],
+    ["run", "--db=rows", "--fail-keeper=1"], ["make"], ["make", "7"], ["make", "7", "10001"], ["make", "+7", "40"],
+    ["drill", "7", "40", "--now=1"], ["drill", "7", "40", "--db="], ["check", "--db"], ["check", "check"], ["--db=rows", "check"],
+]
+COUNTS = "projects 2\nprofiles 2\nnetworks 0\npools 1\nvolumes 0\ninstances 32\nsnapshots 0\n"
+NONE = "0 0 0 0 0 0 0"
+MADE = "32 32 0 77 19662897152 15400 343597383680"
+REPLIES = "requests 43\nreplies 200 3\nreplies 202 32\nreplies 403 8\n"
+DRILLED = f"{REPLIES}{COUNTS}granted {MADE}\nconverted {MADE}\nreturned {NONE}\nheld {NONE}\n"
+CHECKED = f"{COUNTS}granted {NONE}\nconverted {NONE}\nreturned {NONE}\nheld {NONE}\n"
+
+
+class Wrong(Exception):
+    """Something is otherwise than it has to be."""
+
+
+def need(holds, what):
+    if not holds:
+        raise Wrong(what)
+
+
+def run(program, words, text=b""):
+    ran = subprocess.run([program, *words], input=text, capture_output=True, check=False, timeout=600)
+    return ran.returncode, ran.stdout, ran.stderr.decode()
+
+
+def need_run(program, words, due, text=b""):
+    """The words end with status 0, and this is written."""
+    status, written, said = run(program, words, text)
+    need((status, written, said) == (0, due, ""), f"{words}: status {status}, {written[:2000]}, {said}; due: {due[:2000]}")
+
+
+def not_read(program, folder):
+    for words in NOT_READ:
+        status, written, said = run(program, words, REQUEST)
+        need(status == 8 and not written and all(each in said for each in COMMANDS), f"{words}: status {status}, {written}, {said}")
+    need(not any(folder.iterdir()), f"files were made: {list(folder.iterdir())}")
+    return f"{len(NOT_READ)} lists of words"
+
+
+def make(program, _):
+    sizes = []
+    for seed, count in ((0, 0), (7, 40), (2 ** 64 - 1, 100)):
+        due = subprocess.run([TOP / "bench/stream.py", "instances", str(count), str(seed)], capture_output=True, check=True).stdout
+        need_run(program, ["make", str(seed), str(count)], due)
+        sizes.append(len(due))
+    return f"{' and '.join(map(str, sizes))} bytes"
+
+
+def drill(program, folder):
+    file = folder / "drill.db"
+    need_run(program, ["drill", "7", "40"], DRILLED.encode())
+    need_run(program, ["drill", "7", "40", "--db", str(file)], DRILLED.encode())
+    need_run(program, ["check", "--db", str(file)], CHECKED.encode())
+    need_run(program, ["check", f"--db={file}"], CHECKED.encode())
+    return f"the file has the rows of the drill, {read_by_shell(file)}"
+
+
+def read_by_shell(file):
+    """Reads the rows of the file as a person may."""
+    if not shutil.which("sqlite3"):
+        return "and was not read by `sqlite3`, which is not installed"
+    ran = subprocess.run(["sqlite3", str(file), "SELECT kind, key, hex(body) FROM records ORDER BY kind, key"],
+                         capture_output=True, text=True, check=True)
+    rows = [line.split("|") for line in ran.stdout.splitlines()]
+    kinds = [int(kind) for kind, _, _ in rows]
+    need([kinds.count(kind) for kind in range(1, 8)] == [2, 2, 0, 1, 0, 32, 0], f"{ran.stdout}")
+    need(["6", "lab/i7"] in [row[:2] for row in rows] and all(body.startswith("01") for _, _, body in rows), f"{ran.stdout}")
+    return f"and `sqlite3` reads {len(rows)} of them"
+
+
+def two_runs(program, folder):
+    file = folder / "run.db"
+    for due in (b"HTTP/1.1 200 OK", b"HTTP/1.1 409 Conflict"):
+        status, written, said = run(program, ["run", "--db", str(file)], REQUEST)
+        need(status == 0 and written.startswith(due) and not said, f"status {status}, {written}, {said}; due: {due}")
+    status, written, said = run(program, ["run", "--db", str(folder / "none/run.db")], REQUEST)
+    need(status == 6 and not written and "none/run.db" in said, f"a missing folder: status {status}, {written}, {said}")
+    return "the second has the rows of the first; status 6 in a missing folder"
+
+
+def main():
+    words = argparse.ArgumentParser()
+    words.add_argument("--program", default=str(TOP / "crates/incus_run/out/incus_run"))
+    program = Path(words.parse_args().program).resolve()
+    if not program.exists():
+        sys.exit(f"there is no program {program}: bin/incus_run --prove makes it")
+    wrong = 0
+    with tempfile.TemporaryDirectory() as folder:
+        for name, check in {"not read": not_read, "make": make, "drill, check": drill, "run": two_runs}.items():
+            try:
+                print(f"{name}: {check(program, Path(folder))}", flush=True)
+            except (Wrong, subprocess.SubprocessError) as error:
+                wrong += 1
+                print(f"{name}: WRONG: {error!r}", flush=True)
+    return 1 if wrong else 0
+
+
+if __name__ == "__main__":
+    sys.exit(main())
