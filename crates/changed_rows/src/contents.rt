@@ -1,11 +1,11 @@
 //! What rows of most kinds have beside their names: a description and settings.
 ghost use Rattle.std.specs.Prelude.{◌≡◌, IfOk};
-ghost use Rattle.row_machine.specs.machine.NewRows.{new_description, new_config, patched_description, patched_config};
+ghost use Rattle.new_rows.specs.row_machine.specs.machine.NewRows.{new_description, new_config, patched_description, patched_config};
 
-use config_lists::Config;
+use new_rows::config_lists_crate::Config;
+use new_rows::records_crate::Body;
+use new_rows::size_values_crate::{NoMemory, Text};
 use new_rows::{new_config, new_description, patched_config, patched_description};
-use records::Body;
-use size_values::{NoMemory, Text};
 use std::alloc::Global;
 
 /// The description and the settings of a row.

@@ -1,12 +1,12 @@
 //! The row of an instance after a PATCH, which changes it at once.
 ghost use Rattle.std.specs.Prelude.{◌≡◌, unwrap_or, IfOk};
-ghost use Rattle.row_machine.specs.machine.NewRows.{patched_devices, patched_instance};
+ghost use Rattle.new_rows.specs.row_machine.specs.machine.NewRows.{patched_devices, patched_instance};
 
 use crate::contents::patched_content;
-use config_lists::Devices;
+use new_rows::config_lists_crate::Devices;
 use new_rows::patched_devices;
-use records::{Body, Instance};
-use size_values::{NoMemory, Seq, Text};
+use new_rows::records_crate::{Body, Instance};
+use new_rows::size_values_crate::{NoMemory, Seq, Text};
 use std::alloc::Global;
 
 /// What an instance has beside its own settings: its profiles and devices.

@@ -1,10 +1,10 @@
 //! The rows of networks that commands make.
 ghost use Rattle.std.specs.Prelude.{◌≡◌, IfOk};
-ghost use Rattle.row_machine.specs.machine.NewRows.{made_network, put_network, patched_network};
+ghost use Rattle.new_rows.specs.row_machine.specs.machine.NewRows.{made_network, put_network, patched_network};
 
 use crate::contents::{Content, copied_content, new_content, patched_content};
-use records::{Body, Network};
-use size_values::{NoMemory, Text};
+use new_rows::records_crate::{Body, Network};
+use new_rows::size_values_crate::{NoMemory, Text};
 use std::alloc::Global;
 
 /// The network of this name in this project.

@@ -1,13 +1,13 @@
 //! The rows of profiles that commands make.
 ghost use Rattle.std.specs.Prelude.{◌≡◌, IfOk};
-ghost use Rattle.row_machine.specs.machine.NewRows.{new_devices, patched_devices};
-ghost use Rattle.row_machine.specs.machine.NewRows.{default_profile, made_profile, put_profile, patched_profile};
+ghost use Rattle.new_rows.specs.row_machine.specs.machine.NewRows.{new_devices, patched_devices};
+ghost use Rattle.new_rows.specs.row_machine.specs.machine.NewRows.{default_profile, made_profile, put_profile, patched_profile};
 
 use crate::contents::{Content, copied_content, new_content, patched_content};
-use config_lists::{Config, Devices};
+use new_rows::config_lists_crate::{Config, Devices};
+use new_rows::records_crate::{Body, Profile};
+use new_rows::size_values_crate::{NoMemory, Text};
 use new_rows::{new_devices, patched_devices};
-use records::{Body, Profile};
-use size_values::{NoMemory, Text};
 use std::alloc::Global;
 
 /// The profile `default` of a project as it is made: without settings and devices.

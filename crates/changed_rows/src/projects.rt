@@ -1,13 +1,13 @@
 //! The rows of projects that commands make (<https://linuxcontainers.org/incus/docs/main/reference/projects/>).
 ghost use Rattle.std.specs.Prelude.{◌≡◌, ◌≢◌, [], IfOk, OnOk};
-ghost use Rattle.row_machine.specs.machine.NewRows.{new_config, feature_on, with_features, made_project, put_project};
-ghost use Rattle.row_machine.specs.machine.NewRows.{patched_project};
+ghost use Rattle.new_rows.specs.row_machine.specs.machine.NewRows.{new_config, feature_on, with_features, made_project, put_project};
+ghost use Rattle.new_rows.specs.row_machine.specs.machine.NewRows.{patched_project};
 
 use crate::contents::{Content, copied_content, new_content, patched_content};
-use config_lists::Config;
+use new_rows::config_lists_crate::Config;
+use new_rows::records_crate::{Body, Project};
+use new_rows::size_values_crate::{NoMemory, Text};
 use new_rows::{new_config, new_description};
-use records::{Body, Project};
-use size_values::{NoMemory, Text};
 use std::alloc::Global;
 
 /// Turns a feature on, unless the settings name it.

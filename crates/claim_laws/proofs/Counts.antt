@@ -1,20 +1,20 @@
 -- Where all else is countable, only what a new operation claims can break the rule on counts.
 use Rattle.std.proofs.Common.{◌≡◌, ℕ, None, refl, sym, ◌∙◌}
-use Rattle.plain_lists.specs.Firsts.{first_of}
-use Rattle.plain_lists.specs.Members.{Mem}
-use Rattle.plain_lists.proofs.Elements.{Each-left, Each-map}
-use Rattle.plain_lists.proofs.FirstLemmas.{none-first_of, first_of-only, first_of-same}
-use Rattle.plain_lists.proofs.PutsLemmas.{Puts-push}
-use Rattle.operations.specs.declared.operation.Operation.{Operation}
-use Rattle.records.specs.declared.rows.Project.{Project}
-use Rattle.records.specs.declared.rows.Instance.{Instance}
-use Rattle.records.specs.declared.rows.Volume.{Volume}
-use Rattle.row_machine.specs.machine.Claims.{of_live, claimed_instance, claimed_volume, judged_instances, judged_volumes}
-use Rattle.row_machine.specs.machine.LimitRules.{instance_uncounted, volume_uncounts, claim_uncounted, project_uncounted, counts_broken}
-use Rattle.row_machine.specs.machine.State.{State}
-use Rattle.row_machine.specs.machine.Task.{Task}
-use Rattle.row_machine.specs.machine.Work.{claiming}
-use Rattle.row_machine.specs.facts.Whole.{IsWithin, AreWithin}
+use Rattle.machine_laws.specs.plain_lists.specs.Firsts.{first_of}
+use Rattle.machine_laws.specs.plain_lists.specs.Members.{Mem}
+use Rattle.machine_laws.specs.plain_lists.proofs.Elements.{Each-left, Each-map}
+use Rattle.machine_laws.specs.plain_lists.proofs.FirstLemmas.{none-first_of, first_of-only, first_of-same}
+use Rattle.machine_laws.specs.plain_lists.proofs.PutsLemmas.{Puts-push}
+use Rattle.machine_laws.specs.operations.specs.declared.operation.Operation.{Operation}
+use Rattle.machine_laws.specs.records.specs.declared.rows.Project.{Project}
+use Rattle.machine_laws.specs.records.specs.declared.rows.Instance.{Instance}
+use Rattle.machine_laws.specs.records.specs.declared.rows.Volume.{Volume}
+use Rattle.machine_laws.specs.row_machine.specs.machine.Claims.{of_live, claimed_instance, claimed_volume, judged_instances, judged_volumes}
+use Rattle.machine_laws.specs.row_machine.specs.machine.LimitRules.{instance_uncounted, volume_uncounts, claim_uncounted, project_uncounted, counts_broken}
+use Rattle.machine_laws.specs.row_machine.specs.machine.State.{State}
+use Rattle.machine_laws.specs.row_machine.specs.machine.Task.{Task}
+use Rattle.machine_laws.specs.row_machine.specs.machine.Work.{claiming}
+use Rattle.machine_laws.specs.row_machine.specs.facts.Whole.{IsWithin, AreWithin}
 use Rattle.limit_rules.specs.Alone.{claim_uncounts}
 use Rattle.limit_rules.specs.Within.{own_instance, own_volume}
 use Rattle.limit_rules.proofs.Countables.{uncounted-split}

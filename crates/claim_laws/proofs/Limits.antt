@@ -7,29 +7,29 @@ use Rattle.std.specs.Str.{bytes_eq}
 use Rattle.std.proofs.lemmas.Bool.{false≢true}
 use Rattle.std.proofs.lemmas.Bool.Decides.{nat_tests}
 use Rattle.std.proofs.lemmas.List.Sums.{sum_by-append, sum_by-cons}
-use Rattle.plain_lists.specs.Firsts.{first_of}
-use Rattle.plain_lists.proofs.Elements.{Each-map}
-use Rattle.plain_lists.proofs.FirstLemmas.{none-first_of, first_of-same}
-use Rattle.config_lists.proofs.Keys.{same, bytes_eq-itself}
-use Rattle.size_values.specs.Amounts.{part, nothing, amount_above, fits_in}
-use Rattle.size_values.specs.declared.amounts.Amounts.{Amounts}
-use Rattle.size_values.specs.declared.amounts.Part.{Part}
-use Rattle.size_values.proofs.AmountParts.{fits-part, same-parts}
-use Rattle.project_limits.specs.Admission.{limit_on, key_of, parts}
-use Rattle.project_limits.specs.Limits.{limits_of}
-use Rattle.project_limits.specs.declared.admission.LimitKey.{LimitKey}
-use Rattle.project_limits.specs.declared.admission.LimitKey.TheVariants as limit_key
-use Rattle.project_limits.specs.declared.admission.Over.{Over}
-use Rattle.records.specs.declared.refusals.Refusal.{Refusal}
-use Rattle.records.specs.declared.rows.Project.{Project}
-use Rattle.records.specs.declared.rows.Row.{Row}
-use Rattle.row_machine.specs.machine.Claims.{of_live, share_of, share_over as share_above, replaced_instance, amounts_of_instance, project_of_row}
-use Rattle.row_machine.specs.machine.LimitRules.{limit_exceeded, over_refusal, part_exceeds, networks_exceed, limits_broken}
-use Rattle.row_machine.specs.machine.State.{State}
-use Rattle.row_machine.specs.machine.Task.{Task}
-use Rattle.row_machine.specs.machine.Usage.{Load, loads, used, usage_of, networks_of, amount_for, instance_load, volume_load, claim_load}
-use Rattle.row_machine.specs.machine.Work.{claiming, project_of_task}
-use Rattle.row_machine.specs.facts.Whole.{IsWithin, AreWithin}
+use Rattle.machine_laws.specs.plain_lists.specs.Firsts.{first_of}
+use Rattle.machine_laws.specs.plain_lists.proofs.Elements.{Each-map}
+use Rattle.machine_laws.specs.plain_lists.proofs.FirstLemmas.{none-first_of, first_of-same}
+use Rattle.machine_laws.specs.config_lists.proofs.Keys.{same, bytes_eq-itself}
+use Rattle.machine_laws.specs.size_values.specs.Amounts.{part, nothing, amount_above, fits_in}
+use Rattle.machine_laws.specs.size_values.specs.declared.amounts.Amounts.{Amounts}
+use Rattle.machine_laws.specs.size_values.specs.declared.amounts.Part.{Part}
+use Rattle.machine_laws.specs.size_values.proofs.AmountParts.{fits-part, same-parts}
+use Rattle.machine_laws.specs.project_limits.specs.Admission.{limit_on, key_of, parts}
+use Rattle.machine_laws.specs.project_limits.specs.Limits.{limits_of}
+use Rattle.machine_laws.specs.project_limits.specs.declared.admission.LimitKey.{LimitKey}
+use Rattle.machine_laws.specs.project_limits.specs.declared.admission.LimitKey.TheVariants as limit_key
+use Rattle.machine_laws.specs.project_limits.specs.declared.admission.Over.{Over}
+use Rattle.machine_laws.specs.records.specs.declared.refusals.Refusal.{Refusal}
+use Rattle.machine_laws.specs.records.specs.declared.rows.Project.{Project}
+use Rattle.machine_laws.specs.records.specs.declared.rows.Row.{Row}
+use Rattle.machine_laws.specs.row_machine.specs.machine.Claims.{of_live, share_of, share_over as share_above, replaced_instance, amounts_of_instance, project_of_row}
+use Rattle.machine_laws.specs.row_machine.specs.machine.LimitRules.{limit_exceeded, over_refusal, part_exceeds, networks_exceed, limits_broken}
+use Rattle.machine_laws.specs.row_machine.specs.machine.State.{State}
+use Rattle.machine_laws.specs.row_machine.specs.machine.Task.{Task}
+use Rattle.machine_laws.specs.row_machine.specs.machine.Usage.{Load, loads, used, usage_of, networks_of, amount_for, instance_load, volume_load, claim_load}
+use Rattle.machine_laws.specs.row_machine.specs.machine.Work.{claiming, project_of_task}
+use Rattle.machine_laws.specs.row_machine.specs.facts.Whole.{IsWithin, AreWithin}
 use Rattle.machine_laws.proofs.Base.{claiming-reads}
 use Rattle.project_usage.proofs.Parts.{none-of, part-of_usage}
 use Rattle.limit_rules.specs.Alone.{share_over, share_exceeds, share_broken}

@@ -2,15 +2,15 @@
 use Rattle.std.proofs.Common.{◌≡◌, ℕ, Bool, true, false, cond, Option, Some, None, List, [], ◌∷◌, ◌++◌, filter, refl, ◌∙◌, ap}
 use Rattle.std.specs.Option.{option_or, option_and_then, option_to_list}
 use Rattle.std.specs.Str.{bytes_eq}
-use Rattle.plain_lists.specs.Firsts.{first_of}
-use Rattle.plain_lists.specs.Members.{Mem}
-use Rattle.plain_lists.proofs.Elements.{Mem-right}
-use Rattle.plain_lists.proofs.Readings.{Mem-read}
-use Rattle.config_lists.proofs.Keys.{same}
-use Rattle.operations.specs.declared.operation.Operation.{Operation}
-use Rattle.row_machine.specs.machine.Claims.{of_live}
-use Rattle.row_machine.specs.machine.State.{State}
-use Rattle.row_machine.specs.machine.Task.{Task}
+use Rattle.machine_laws.specs.plain_lists.specs.Firsts.{first_of}
+use Rattle.machine_laws.specs.plain_lists.specs.Members.{Mem}
+use Rattle.machine_laws.specs.plain_lists.proofs.Elements.{Mem-right}
+use Rattle.machine_laws.specs.plain_lists.proofs.Readings.{Mem-read}
+use Rattle.machine_laws.specs.config_lists.proofs.Keys.{same}
+use Rattle.machine_laws.specs.operations.specs.declared.operation.Operation.{Operation}
+use Rattle.machine_laws.specs.row_machine.specs.machine.Claims.{of_live}
+use Rattle.machine_laws.specs.row_machine.specs.machine.State.{State}
+use Rattle.machine_laws.specs.row_machine.specs.machine.Task.{Task}
 
 module _ {X R : Type 0} (rule : X → Option R) (project : X → List ℕ) (name : List ℕ) where
   -- the rule asked of an object of the project alone

@@ -1,20 +1,20 @@
 -- Where nothing else is forbidden, only what a new operation claims can break a rule on policy.
 use Rattle.std.proofs.Common.{◌≡◌, ℕ, None, sym, ◌∙◌}
-use Rattle.plain_lists.specs.Firsts.{first_of}
-use Rattle.plain_lists.specs.Members.{Mem}
-use Rattle.plain_lists.proofs.Elements.{Each-left, Each-map}
-use Rattle.plain_lists.proofs.FirstLemmas.{none-first_of, first_of-only, first_of-same}
-use Rattle.plain_lists.proofs.PutsLemmas.{Puts-push}
-use Rattle.operations.specs.declared.operation.Operation.{Operation}
-use Rattle.records.specs.declared.rows.Project.{Project}
-use Rattle.records.specs.declared.rows.Profile.{Profile}
-use Rattle.records.specs.declared.rows.Instance.{Instance}
-use Rattle.row_machine.specs.machine.Claims.{of_live, claimed_instance, judged_instances}
-use Rattle.row_machine.specs.machine.PolicyRules.{forbids_profile, forbids_instance, project_forbids, policy_broken}
-use Rattle.row_machine.specs.machine.State.{State}
-use Rattle.row_machine.specs.machine.Task.{Task}
-use Rattle.row_machine.specs.machine.Work.{claiming}
-use Rattle.row_machine.specs.facts.Whole.{IsClean, AreWithin}
+use Rattle.machine_laws.specs.plain_lists.specs.Firsts.{first_of}
+use Rattle.machine_laws.specs.plain_lists.specs.Members.{Mem}
+use Rattle.machine_laws.specs.plain_lists.proofs.Elements.{Each-left, Each-map}
+use Rattle.machine_laws.specs.plain_lists.proofs.FirstLemmas.{none-first_of, first_of-only, first_of-same}
+use Rattle.machine_laws.specs.plain_lists.proofs.PutsLemmas.{Puts-push}
+use Rattle.machine_laws.specs.operations.specs.declared.operation.Operation.{Operation}
+use Rattle.machine_laws.specs.records.specs.declared.rows.Project.{Project}
+use Rattle.machine_laws.specs.records.specs.declared.rows.Profile.{Profile}
+use Rattle.machine_laws.specs.records.specs.declared.rows.Instance.{Instance}
+use Rattle.machine_laws.specs.row_machine.specs.machine.Claims.{of_live, claimed_instance, judged_instances}
+use Rattle.machine_laws.specs.row_machine.specs.machine.PolicyRules.{forbids_profile, forbids_instance, project_forbids, policy_broken}
+use Rattle.machine_laws.specs.row_machine.specs.machine.State.{State}
+use Rattle.machine_laws.specs.row_machine.specs.machine.Task.{Task}
+use Rattle.machine_laws.specs.row_machine.specs.machine.Work.{claiming}
+use Rattle.machine_laws.specs.row_machine.specs.facts.Whole.{IsClean, AreWithin}
 use Rattle.machine_laws.proofs.LimitsForbidden.{rule_numbers}
 use Rattle.policy_rules.specs.Alone.{claim_forbidden}
 use Rattle.policy_rules.specs.Within.{own_profile, own_instance, own_claim}

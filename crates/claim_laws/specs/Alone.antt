@@ -2,14 +2,14 @@
 use Rattle.std.specs.Prelude.{◌≡◌, ℕ}
 use Rattle.limit_rules.specs.Alone.{claim_uncounts, share_broken}
 use Rattle.policy_rules.specs.Alone.{claim_forbidden}
-use Rattle.row_machine.specs.facts.Whole.{IsWhole}
-use Rattle.row_machine.specs.machine.Claims.{share_of}
-use Rattle.row_machine.specs.machine.LimitRules.{counts_broken, limits_broken}
-use Rattle.row_machine.specs.machine.PolicyRules.{policy_broken}
-use Rattle.row_machine.specs.machine.State.{State}
-use Rattle.row_machine.specs.machine.Task.{Task}
-use Rattle.row_machine.specs.machine.Usage.{usage_of}
-use Rattle.row_machine.specs.machine.Work.{claiming, project_of_task}
+use Rattle.machine_laws.specs.row_machine.specs.facts.Whole.{IsWhole}
+use Rattle.machine_laws.specs.row_machine.specs.machine.Claims.{share_of}
+use Rattle.machine_laws.specs.row_machine.specs.machine.LimitRules.{counts_broken, limits_broken}
+use Rattle.machine_laws.specs.row_machine.specs.machine.PolicyRules.{policy_broken}
+use Rattle.machine_laws.specs.row_machine.specs.machine.State.{State}
+use Rattle.machine_laws.specs.row_machine.specs.machine.Task.{Task}
+use Rattle.machine_laws.specs.row_machine.specs.machine.Usage.{usage_of}
+use Rattle.machine_laws.specs.row_machine.specs.machine.Work.{claiming, project_of_task}
 
 -- Where all facts hold, a rule on what is counted (L0), on policy (F1 to F7) or on limits (L1 to L8) that the state with one
 -- more operation breaks is one that the claimed row breaks alone: of the limits, what its project uses before it and its share

@@ -1,3 +1,5 @@
+-- The libraries whose words crates above name through this one.
+pub use Rattle.size_values as size_values
 pub mod Changes
 pub mod Devices
 pub mod Entries

@@ -3,6 +3,9 @@
 //! their look-ups, and prints them in the order of their keys.
 #![tactic(auto)]
 
+// The libraries that crates above name through this one.
+pub use size_values as size_values_crate;
+
 mod changes;
 mod config;
 mod devices;

@@ -1,9 +1,9 @@
 -- A connection: a link, and then a session where a request subscribes to events.
 use Rattle.std.specs.Prelude.{ℕ}
-use Rattle.http_front.specs.Clocks.{Readings}
-use Rattle.gate_trails.specs.Gates.{Seen}
-use Rattle.rest_answers.specs.Links.{Inlet, Outlet}
-use Rattle.event_texts.specs.declared.subscriptions.Subscription.{Subscription}
+use Rattle.serve_loop.specs.http_front.specs.Clocks.{Readings}
+use Rattle.serve_loop.specs.gate_trails.specs.Gates.{Seen}
+use Rattle.serve_loop.specs.rest_answers.specs.Links.{Inlet, Outlet}
+use Rattle.serve_loop.specs.event_texts.specs.declared.subscriptions.Subscription.{Subscription}
 use Rattle.serve_loop.specs.Serving.{Line, ServingFrom}
 use Rattle.serve_loop.specs.declared.link.LinkEnd.{LinkEnd}
 use Rattle.serve_loop.specs.declared.link.LinkEnd.TheVariants as end

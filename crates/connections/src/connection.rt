@@ -1,13 +1,13 @@
 ghost use Rattle.std.specs.Prelude.{[]};
-ghost use Rattle.gate_trails.specs.Gates.{seen};
-ghost use Rattle.rest_answers.specs.Links.{inlet, outlet};
+ghost use Rattle.serve_loop.specs.gate_trails.specs.Gates.{seen};
+ghost use Rattle.serve_loop.specs.rest_answers.specs.Links.{inlet, outlet};
 ghost use Rattle.serve_loop.specs.Serving.{line};
 ghost use Rattle.connections.specs.Connections.{Connects};
 
 use event_sessions::{SessionEnd, event_session};
-use event_texts::Subscription;
-use gate_trails::Gate;
-use http_front::{Clock, Sink, Source};
+use serve_loop::event_texts_crate::Subscription;
+use serve_loop::gate_trails_crate::Gate;
+use serve_loop::http_front_crate::{Clock, Sink, Source};
 use serve_loop::{LinkEnd, serve_link};
 use std::alloc::Global;
 use std::sync::Wait;

@@ -1,19 +1,19 @@
 //! A command that begins an operation in the background.
 ghost use Rattle.std.specs.Prelude.{◌≡◌, ◌<◌, ◌∷◌, [], true, false, None};
-ghost use Rattle.plain_lists.specs.Firsts.{first};
-ghost use Rattle.record_keeper.specs.Store.{Store};
-ghost use Rattle.records.specs.Forms.{is_formed};
-ghost use Rattle.row_machine.specs.machine.Rules.{names_broken, standing_broken};
+ghost use Rattle.task_plans.specs.plain_lists.specs.Firsts.{first};
+ghost use Rattle.core_objects.specs.record_keeper.specs.Store.{Store};
+ghost use Rattle.task_plans.specs.records.specs.Forms.{is_formed};
+ghost use Rattle.task_plans.specs.row_machine.specs.machine.Rules.{names_broken, standing_broken};
 ghost use Rattle.core_objects.specs.Commands.{is_object_command};
-ghost use Rattle.core_rows.specs.Planned.{Follows};
+ghost use Rattle.core_objects.specs.core_rows.specs.Planned.{Follows};
 ghost use Rattle.core_instances.specs.Ways.{way_of};
 ghost use Rattle.core_instances.specs.declared.ways.Way.TheVariants as way;
 
-use core_rows::Estate;
-use records::{Command, Reply};
-use size_values::MOMENT_LIMIT;
+use core_objects::core_rows_crate::Estate;
 use std::alloc::Global;
 use task_plans::plan_task;
+use task_plans::records_crate::{Command, Reply};
+use task_plans::size_values_crate::MOMENT_LIMIT;
 
 /// Begins the operation of a command that breaks no rule on names and on what stands in the way. The store is not asked.
 pub(crate) fn begin_task(

@@ -1,17 +1,17 @@
 -- A command that breaks a rule on names or on what stands in the way.
 use Rattle.std.proofs.Common.{◌≡◌, ℕ, [], ◌∷◌, Option, Some, None}
-use Rattle.plain_lists.specs.Firsts.{first}
-use Rattle.plain_lists.proofs.FirstLemmas.{none_both}
-use Rattle.size_values.specs.Causes.{Refuses}
-use Rattle.size_values.specs.declared.memory.Or.{Or}
-use Rattle.size_values.specs.declared.memory.Or.TheVariants as or
-use Rattle.records.specs.declared.commands.Command.{Command}
-use Rattle.records.specs.declared.refusals.Refusal.{Refusal}
-use Rattle.row_machine.specs.machine.State.{State}
-use Rattle.row_machine.specs.machine.Plans.{plan_of}
-use Rattle.row_machine.specs.machine.Rules.{names_broken}
-use Rattle.row_machine.specs.machine.Rules.{standing_broken}
-use Rattle.row_machine.specs.machine.Rules.{broken, plan_broken}
+use Rattle.name_rules.specs.plain_lists.specs.Firsts.{first}
+use Rattle.name_rules.specs.plain_lists.proofs.FirstLemmas.{none_both}
+use Rattle.name_rules.specs.size_values.specs.Causes.{Refuses}
+use Rattle.name_rules.specs.size_values.specs.declared.memory.Or.{Or}
+use Rattle.name_rules.specs.size_values.specs.declared.memory.Or.TheVariants as or
+use Rattle.name_rules.specs.records.specs.declared.commands.Command.{Command}
+use Rattle.name_rules.specs.records.specs.declared.refusals.Refusal.{Refusal}
+use Rattle.name_rules.specs.row_machine.specs.machine.State.{State}
+use Rattle.name_rules.specs.row_machine.specs.machine.Plans.{plan_of}
+use Rattle.name_rules.specs.row_machine.specs.machine.Rules.{names_broken}
+use Rattle.name_rules.specs.row_machine.specs.machine.Rules.{standing_broken}
+use Rattle.name_rules.specs.row_machine.specs.machine.Rules.{broken, plan_broken}
 
 -- the first of two is the first of three
 first-stays : {R : Type 0} (a b c : Option R) (r : R) → first (a ∷ b ∷ []) ≡ Some r → first (a ∷ b ∷ c ∷ []) ≡ Some r

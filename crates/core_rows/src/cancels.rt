@@ -1,16 +1,16 @@
 //! Cancels of live operations. None of it takes memory.
 ghost use Rattle.std.specs.Prelude.{◌≡◌, ◌<◌, ◌≤◌, ◌++◌, [], IsSome, find, vec_len, vec_capacity};
-ghost use Rattle.operations.specs.Kept.{live_at};
-ghost use Rattle.row_machine.specs.machine.Work.{is_held_by};
+ghost use Rattle.opening_rules.specs.operations.specs.Kept.{live_at};
+ghost use Rattle.opening_rules.specs.row_machine.specs.machine.Work.{is_held_by};
 ghost use Rattle.core_rows.specs.Cancels.{waits, stopped};
 ghost use Rattle.core_rows.specs.Counted.{counted_out};
-ghost use Rattle.work_reports.specs.Turns.{shown_at};
+ghost use Rattle.judged_changes.specs.work_reports.specs.Turns.{shown_at};
 
-use kept_totals::{Totals, give_back, held_share};
-use operations::Status;
-use row_drafts::Draft;
-use row_readings::View;
-use work_reports::{Waiting, cancel, is_pending, live_at, tell};
+use judged_changes::kept_totals_crate::{Totals, give_back, held_share};
+use judged_changes::row_drafts_crate::Draft;
+use judged_changes::work_reports_crate::{Waiting, cancel, is_pending, live_at, tell};
+use opening_rules::operations_crate::Status;
+use opening_rules::row_readings_crate::View;
 
 /// Whether the live operation of a number waits for its first call.
 fn waits(view: &View<'_>, number: u64) -> bool

@@ -1,11 +1,11 @@
 //! What a report makes of what projects are known to use.
 ghost use Rattle.std.specs.Prelude.{◌≡◌};
-ghost use Rattle.operations.specs.Kept.{kept_at};
+ghost use Rattle.opening_rules.specs.operations.specs.Kept.{kept_at};
 ghost use Rattle.core_rows.specs.Counted.{after_turn};
 
-use kept_totals::{Counted, Totals, follow_end};
-use row_readings::View;
-use work_reports::Turned;
+use judged_changes::kept_totals_crate::{Counted, Totals, follow_end};
+use judged_changes::work_reports_crate::Turned;
+use opening_rules::row_readings_crate::View;
 
 /// The report of a call of an operation that counted for this came to this. Where the operation ended, what its
 /// project uses has changed. It takes no memory.

@@ -1,33 +1,35 @@
 ghost use Rattle.std.specs.Prelude.{◌≡◌, ◌<◌, ◌∷◌, [], None, true, IfOk, IfSome, IfNone, OnErr};
-ghost use Rattle.row_machine.specs.facts.Whole.{IsWhole};
-ghost use Rattle.row_machine.specs.machine.Rules.{names_broken, standing_broken};
-ghost use Rattle.records.specs.declared.commands.What.TheVariants as what;
-ghost use Rattle.size_values.specs.Moments.{moment_limit};
-ghost use Rattle.work_reports.specs.Jobs.{IsReported, IsTaken};
-ghost use Rattle.work_reports.specs.Waiting.{IsSilent, told_by};
+ghost use Rattle.opening_rules.specs.row_machine.specs.facts.Whole.{IsWhole};
+ghost use Rattle.opening_rules.specs.row_machine.specs.machine.Rules.{names_broken, standing_broken};
+ghost use Rattle.opening_rules.specs.records.specs.declared.commands.What.TheVariants as what;
+ghost use Rattle.config_lists.specs.size_values.specs.Moments.{moment_limit};
+ghost use Rattle.judged_changes.specs.work_reports.specs.Jobs.{IsReported, IsTaken};
+ghost use Rattle.judged_changes.specs.work_reports.specs.Waiting.{IsSilent, told_by};
 ghost use Rattle.core_rows.specs.Planned.{Follows, IsToDo, IsToStart};
 ghost use Rattle.core_rows.specs.Asked.{IsAsked};
-ghost use Rattle.record_keeper.specs.Store.{Store};
+ghost use Rattle.judged_changes.specs.record_keeper.specs.Store.{Store};
 
 use crate::cancels::{count_out, stop};
 use crate::counted::follow_report;
-use host_model::{HostCall, Report};
+use config_lists::size_values_crate::{NoMemory, Seq};
+use judged_changes::kept_totals_crate::{Totals, count};
+use judged_changes::record_keeper_crate::Keeper;
+use judged_changes::row_drafts_crate::Draft;
+use judged_changes::work_reports_crate::{
+    Turned, Waiting, begin, first_pending, take_report, tell, told_by,
+};
 use judged_changes::{
     commit, give_up, judge, judge_claim, make_beginning, make_ready, refused_reply,
     settle_beginning,
 };
-use kept_totals::{Totals, count};
-use plain_lists::push_reserved;
-use record_keeper::Keeper;
-use records::{Command, Reply, Untold};
-use row_drafts::Draft;
-use row_machine::{RowChange, Work};
-use row_readings::View;
-use size_values::{NoMemory, Seq};
+use opening_rules::host_model_crate::{HostCall, Report};
+use opening_rules::plain_lists_crate::push_reserved;
+use opening_rules::records_crate::{Command, Reply, Untold};
+use opening_rules::row_machine_crate::{RowChange, Work};
+use opening_rules::row_readings_crate::View;
+use opening_rules::table_rules_crate::cancel_broken;
 use std::alloc::Global;
 use std::marker::Model;
-use table_rules::cancel_broken;
-use work_reports::{Turned, Waiting, begin, first_pending, take_report, tell, told_by};
 
 /// The rows of the server, of which the facts hold at all times, what is to be told, and what projects are known to use.
 /// Contracts see the state of the row machine with these rows, and the notices that were not yet taken.

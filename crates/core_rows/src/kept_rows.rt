@@ -1,16 +1,16 @@
 //! What kept entries open to: their rows are read, put in a draft, and judged there.
 ghost use Rattle.std.specs.Prelude.{◌≢◌, ◌<◌, [], unwrap_or};
-ghost use Rattle.plain_lists.specs.Members.{Each};
-ghost use Rattle.machine_laws.specs.Openings.{HasBytes};
-ghost use Rattle.row_machine.specs.opening.Opening.{damaged, opened, opening_of, opening_with, rows_break};
+ghost use Rattle.opening_rules.specs.plain_lists.specs.Members.{Each};
+ghost use Rattle.judged_changes.specs.machine_laws.specs.Openings.{HasBytes};
+ghost use Rattle.opening_rules.specs.row_machine.specs.opening.Opening.{damaged, opened, opening_of, opening_with, rows_break};
 ghost use Rattle.core_rows.specs.Opening.{Gives, GivesDraft, GivesRows, Judges, Tells};
 
 use crate::estate::Estate;
 use crate::opening::OpenFault;
+use config_lists::size_values_crate::{Entry, NoMemory, Or, Seq};
+use judged_changes::row_drafts_crate::Draft;
+use opening_rules::records_crate::Row;
 use opening_rules::{rows_break, rows_in};
-use records::Row;
-use row_drafts::Draft;
-use size_values::{Entry, NoMemory, Or, Seq};
 use std::alloc::Global;
 
 // ---- the rows of entries

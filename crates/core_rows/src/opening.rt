@@ -1,21 +1,21 @@
 ghost use Rattle.std.specs.Prelude.{◌≡◌, [], IfOk};
-ghost use Rattle.row_machine.specs.opening.Opening.{first_rows, default_project};
-ghost use Rattle.row_machine.specs.machine.Plans.{put_all};
-ghost use Rattle.machine_laws.specs.Entries.{entry_changes};
-ghost use Rattle.plain_lists.specs.Members.{Each};
-ghost use Rattle.machine_laws.specs.Openings.{HasBytes};
+ghost use Rattle.opening_rules.specs.row_machine.specs.opening.Opening.{first_rows, default_project};
+ghost use Rattle.opening_rules.specs.row_machine.specs.machine.Plans.{put_all};
+ghost use Rattle.judged_changes.specs.machine_laws.specs.Entries.{entry_changes};
+ghost use Rattle.opening_rules.specs.plain_lists.specs.Members.{Each};
+ghost use Rattle.judged_changes.specs.machine_laws.specs.Openings.{HasBytes};
 ghost use Rattle.core_rows.specs.Opening.{Opens, Begins, Commits, GoesOn, Loads, first_state};
 
 use crate::estate::Estate;
 use crate::kept_rows::{have_bytes, open_entries};
 use config_lists::Config;
-use record_keeper::Keeper;
-use records::{Project, Row, Rule};
-use row_drafts::Draft;
-use row_machine::RowChange;
-use size_values::{Entry, EntryChange, NoMemory, Or, Seq, Text};
+use config_lists::size_values_crate::{Entry, EntryChange, NoMemory, Or, Seq, Text};
+use judged_changes::record_keeper_crate::Keeper;
+use judged_changes::row_drafts_crate::Draft;
+use judged_changes::work_reports_crate::{default_profile, entry_changes};
+use opening_rules::records_crate::{Project, Row, Rule};
+use opening_rules::row_machine_crate::RowChange;
 use std::alloc::Global;
-use work_reports::{default_profile, entry_changes};
 
 /// Why the rows could not be opened. A row is told by the number of its kind and its key, as its entry has them.
 #[derive(Drop)]

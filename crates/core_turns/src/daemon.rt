@@ -1,21 +1,21 @@
 ghost use Rattle.std.specs.Prelude.{◌≡◌, ◌<◌, is_some};
-ghost use Rattle.operations.specs.Kept.{live_at};
-ghost use Rattle.record_keeper.specs.Store.{Store};
-ghost use Rattle.row_machine.specs.declared.events.Event.TheVariants as event_of;
-ghost use Rattle.row_machine.specs.facts.Whole.{IsWhole};
-ghost use Rattle.size_values.specs.Moments.{moment_limit};
+ghost use Rattle.notice_laws.specs.operations.specs.Kept.{live_at};
+ghost use Rattle.notice_laws.specs.record_keeper.specs.Store.{Store};
+ghost use Rattle.notice_laws.specs.row_machine.specs.declared.events.Event.TheVariants as event_of;
+ghost use Rattle.notice_laws.specs.row_machine.specs.facts.Whole.{IsWhole};
+ghost use Rattle.notice_laws.specs.size_values.specs.Moments.{moment_limit};
 ghost use Rattle.core_turns.specs.Opens.{Opens};
 ghost use Rattle.core_turns.specs.Turns.{IsServed, IsTurn, without_notices};
 
 use crate::hearing::hear;
 use crate::{asking, working};
-use core_rows::{Estate, OpenFault, load_rows};
-use event_hub::Hub;
-use host_model::Report;
-use record_keeper::Keeper;
-use records::{Command, Filter};
-use row_machine::{Answer, Event};
-use row_readings::View;
+use core_instances::core_rows_crate::{Estate, OpenFault, load_rows};
+use core_instances::row_readings_crate::View;
+use notice_laws::event_hub_crate::Hub;
+use notice_laws::host_model_crate::Report;
+use notice_laws::record_keeper_crate::Keeper;
+use notice_laws::records_crate::{Command, Filter};
+use notice_laws::row_machine_crate::{Answer, Event};
 use std::alloc::Global;
 use std::marker::Model;
 
@@ -30,7 +30,7 @@ pub struct Daemon {
 }
 
 impl Model for Daemon {
-    ghost use Rattle.row_machine.specs.machine.State.{State};
+    ghost use Rattle.notice_laws.specs.row_machine.specs.machine.State.{State};
 
     ghost Value = { State };
 

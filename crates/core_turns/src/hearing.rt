@@ -1,19 +1,19 @@
 //! What is told of the rows goes to the hub of notices. It takes no memory.
 ghost use Rattle.std.specs.Prelude.{◌≡◌, []};
 ghost use Rattle.std.specs.Option.{option_copied};
-ghost use Rattle.event_hub.specs.Recent.{all_pushed, pushed};
-ghost use Rattle.event_hub.specs.Telling.{IsShort, object_in};
+ghost use Rattle.notice_laws.specs.event_hub.specs.Recent.{all_pushed, pushed};
+ghost use Rattle.notice_laws.specs.event_hub.specs.Telling.{IsShort, object_in};
 ghost use Rattle.notice_laws.specs.ShortTasks.{AreShort, IsShortTask};
-ghost use Rattle.operations.specs.Kept.{kept_at};
-ghost use Rattle.work_reports.specs.Waiting.{IsSilent, project_shown, target_shown, told_by};
+ghost use Rattle.notice_laws.specs.operations.specs.Kept.{kept_at};
+ghost use Rattle.core_instances.specs.work_reports.specs.Waiting.{IsSilent, project_shown, target_shown, told_by};
 ghost use Rattle.core_turns.specs.Hearing.{IsAbout, progress_of};
 
-use core_rows::Estate;
-use event_hub::{About, Hub, Progress};
-use row_machine::Work;
-use row_readings::{View, kept_at};
-use size_values::ObjectKind;
-use work_reports::{Shown, Waiting};
+use core_instances::core_rows_crate::Estate;
+use core_instances::row_readings_crate::{View, kept_at};
+use core_instances::work_reports_crate::{Shown, Waiting};
+use notice_laws::event_hub_crate::{About, Hub, Progress};
+use notice_laws::row_machine_crate::Work;
+use notice_laws::size_values_crate::ObjectKind;
 
 /// What an operation is about.
 fn about_work(work: &Work) -> About<'_>

@@ -1,18 +1,18 @@
 //! The turns of a worker: it asks for a call to make on the host, and reports of one.
 ghost use Rattle.std.specs.Prelude.{◌≡◌, ◌<◌, [], if◌then◌else◌};
-ghost use Rattle.record_keeper.specs.Store.{Store};
-ghost use Rattle.row_machine.specs.declared.events.Answer.TheVariants as answer;
-ghost use Rattle.row_machine.specs.declared.events.Event.TheVariants as event_of;
-ghost use Rattle.size_values.specs.Moments.{moment_limit};
-ghost use Rattle.work_reports.specs.Jobs.{answer_of};
+ghost use Rattle.notice_laws.specs.record_keeper.specs.Store.{Store};
+ghost use Rattle.notice_laws.specs.row_machine.specs.declared.events.Answer.TheVariants as answer;
+ghost use Rattle.notice_laws.specs.row_machine.specs.declared.events.Event.TheVariants as event_of;
+ghost use Rattle.notice_laws.specs.size_values.specs.Moments.{moment_limit};
+ghost use Rattle.core_instances.specs.work_reports.specs.Jobs.{answer_of};
 ghost use Rattle.core_turns.specs.Turns.{Comes};
 
-use core_rows::Estate;
-use host_model::Report;
-use record_keeper::Keeper;
-use row_machine::Answer;
+use core_instances::core_rows_crate::Estate;
+use core_instances::work_reports_crate::Turned;
+use notice_laws::host_model_crate::Report;
+use notice_laws::record_keeper_crate::Keeper;
+use notice_laws::row_machine_crate::Answer;
 use std::alloc::Global;
-use work_reports::Turned;
 
 /// What a worker gets where nothing waits.
 fn nothing_to_do(closed: bool) -> Answer

@@ -1,5 +1,5 @@
 ghost use Rattle.std.specs.Prelude.{◌≡◌, ℕ, ◌^◌, ◌<◌, List, Option};
-ghost use Rattle.size_values.specs.Causes.{HasCause};
+ghost use Rattle.http_front.specs.size_values.specs.Causes.{HasCause};
 ghost use Rattle.doors.specs.declared.link.Link.{Link};
 ghost use Rattle.doors.specs.Accepts.{Gives, Seen, Takes};
 

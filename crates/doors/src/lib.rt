@@ -2,6 +2,9 @@
 //! memory, and doors over a listener of TCP. A link is two values, its source and its sink.
 #![tactic(auto)]
 
+// The libraries that crates above name through this one.
+pub use http_front as http_front_crate;
+
 mod door;
 mod link;
 mod list;

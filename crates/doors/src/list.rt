@@ -1,12 +1,12 @@
 ghost use Rattle.std.specs.Prelude.{◌≡◌, ◌^◌, ◌<◌, Some, false, is_ok, not};
-ghost use Rattle.size_values.specs.Causes.{HasCause};
-ghost use Rattle.size_values.specs.Calls.{after_call, is_next_failing, no_calls};
+ghost use Rattle.http_front.specs.size_values.specs.Causes.{HasCause};
+ghost use Rattle.http_front.specs.size_values.specs.Calls.{after_call, is_next_failing, no_calls};
 ghost use Rattle.doors.specs.Accepts.{Gives, Takes, seen_of};
 
 use crate::door::{Doors, DoorsFailed};
 use crate::link::Link;
+use http_front::size_values_crate::{FailingCalls, Seq};
 use http_front::{Sink, Source};
-use size_values::{FailingCalls, Seq};
 use std::marker::Model;
 
 /// Doors over a list of links. The accepts are numbered from 1, and those of the listed numbers fail, and no others.

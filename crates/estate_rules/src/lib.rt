@@ -2,6 +2,10 @@
 //! networks, pools and volumes a list of devices names.
 #![tactic(auto)]
 
+// The libraries that crates above name through this one.
+pub use config_lists as config_lists_crate;
+pub use config_lists::size_values_crate;
+
 mod names;
 mod uses;
 

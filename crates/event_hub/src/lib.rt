@@ -3,6 +3,12 @@
 //! so no step of the server waits for any on account of what it tells.
 #![tactic(auto)]
 
+// The libraries that crates above name through this one.
+pub use row_machine as row_machine_crate;
+pub use row_machine::{
+    config_lists_crate, host_model_crate, operations_crate, records_crate, size_values_crate,
+};
+
 mod hub;
 mod laws;
 mod progress;

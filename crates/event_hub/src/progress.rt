@@ -1,5 +1,5 @@
-use operations::{OpFault, Status};
-use size_values::ObjectKind;
+use row_machine::operations_crate::{OpFault, Status};
+use row_machine::size_values_crate::ObjectKind;
 
 /// An operation as it was at a moment. What it is about is told beside it, as that never changes.
 #[derive(Clone, Copy)]

@@ -3,8 +3,8 @@ ghost use Rattle.event_hub.specs.Telling.{IsShort, object_in};
 
 use crate::progress::About;
 use crate::short_text::ShortText;
-use records::Target;
-use size_values::{NoMemory, ObjectKind};
+use row_machine::records_crate::Target;
+use row_machine::size_values_crate::{NoMemory, ObjectKind};
 use std::alloc::Global;
 use std::marker::Model;
 
@@ -18,7 +18,7 @@ pub(crate) struct ShortTarget {
 }
 
 impl Model for ShortTarget {
-    ghost use Rattle.records.specs.declared.commands.Target.{Target};
+    ghost use Rattle.row_machine.specs.records.specs.declared.commands.Target.{Target};
 
     ghost Value = { Target };
 

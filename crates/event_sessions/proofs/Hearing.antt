@@ -1,26 +1,26 @@
 -- A session from its parts.
 use Rattle.std.proofs.Common.{◌≡◌, ◌≢◌, length, take, drop, get_or, ◌+◌, ◌++◌, ◌⊎◌, ◌==◌, ℕ, cond, true, false, List, [], ◌∷◌, refl, ap, sym, ◌∙◌, subst}
 use Rattle.std.proofs.Common.{◌<◌, append_assoc, arith, inl, inr, Result, Ok, Err, IfOk, OnErr}
-use Rattle.size_values.specs.declared.memory.NoMemory.{NoMemory}
+use Rattle.event_texts.specs.size_values.specs.declared.memory.NoMemory.{NoMemory}
 use Rattle.std.proofs.lemmas.Bool.Decides.{nat_tests}
 use Rattle.std.proofs.lemmas.List.{append-nil, take-append-drop, take_more}
 use Rattle.std.proofs.lemmas.Grind.{flat_map-append}
-use Rattle.records.specs.declared.notices.Filter.{Filter}
-use Rattle.records.specs.declared.notices.Notice.{Notice}
-use Rattle.rest_replies.specs.Notices.{notice_text}
-use Rattle.row_machine.specs.declared.events.Answer.{Answer}
-use Rattle.row_machine.specs.declared.events.Answer.TheVariants as answer
-use Rattle.row_machine.specs.declared.events.Event.TheVariants as event
-use Rattle.row_machine.specs.declared.events.Fetched.{Fetched}
-use Rattle.row_machine.specs.declared.events.Fetched.TheVariants as fetched
-use Rattle.gate_trails.specs.Chains.{more, none}
-use Rattle.gate_trails.specs.Gates.{Between, Seen}
-use Rattle.gate_trails.specs.Trails.{Item, RestsTold, capped, rest, turn, TurnsTold}
-use Rattle.gate_trails.proofs.Trailing.{between-append, between-none, between-rest, between-turn, chain-append, chain-one}
+use Rattle.event_texts.specs.records.specs.declared.notices.Filter.{Filter}
+use Rattle.event_texts.specs.records.specs.declared.notices.Notice.{Notice}
+use Rattle.gate_replies.specs.rest_replies.specs.Notices.{notice_text}
+use Rattle.gate_replies.specs.row_machine.specs.declared.events.Answer.{Answer}
+use Rattle.gate_replies.specs.row_machine.specs.declared.events.Answer.TheVariants as answer
+use Rattle.gate_replies.specs.row_machine.specs.declared.events.Event.TheVariants as event
+use Rattle.gate_replies.specs.row_machine.specs.declared.events.Fetched.{Fetched}
+use Rattle.gate_replies.specs.row_machine.specs.declared.events.Fetched.TheVariants as fetched
+use Rattle.gate_replies.specs.gate_trails.specs.Chains.{more, none}
+use Rattle.gate_replies.specs.gate_trails.specs.Gates.{Between, Seen}
+use Rattle.gate_replies.specs.gate_trails.specs.Trails.{Item, RestsTold, capped, rest, turn, TurnsTold}
+use Rattle.gate_replies.specs.gate_trails.proofs.Trailing.{between-append, between-none, between-rest, between-turn, chain-append, chain-one}
 use Rattle.gate_replies.specs.Waits.{most_rests}
-use Rattle.rest_answers.specs.Links.{Outlet, Takes}
-use Rattle.rest_answers.specs.declared.writing.Written.{Written}
-use Rattle.rest_answers.specs.declared.writing.Written.TheVariants as ended
+use Rattle.gate_replies.specs.rest_answers.specs.Links.{Outlet, Takes}
+use Rattle.gate_replies.specs.rest_answers.specs.declared.writing.Written.{Written}
+use Rattle.gate_replies.specs.rest_answers.specs.declared.writing.Written.TheVariants as ended
 use Rattle.event_sessions.specs.Frames.{accepting_head, close_frame, text_frame}
 use Rattle.event_sessions.specs.Listening.{Asks, Ear, GoesOn, Hears, Leaves, after_sending, ear, notices_in}
 use Rattle.event_sessions.specs.Sending.{SendsFront}

@@ -1,9 +1,9 @@
 -- What a sink took of texts that were written one after the other.
 use Rattle.std.proofs.Common.{◌≡◌, ◌≤◌, ◌++◌, ℕ, List, [], take, drop, refl, ap, sym, ◌∙◌, subst, arith, append_assoc}
 use Rattle.std.proofs.lemmas.List.{take-append-drop}
-use Rattle.size_values.specs.Causes.{Rose}
-use Rattle.rest_answers.specs.Links.{BreaksOff, Outlet, Takes}
-use Rattle.rest_answers.proofs.Linking.{appends_nothing, appends_twice}
+use Rattle.event_texts.specs.size_values.specs.Causes.{Rose}
+use Rattle.gate_replies.specs.rest_answers.specs.Links.{BreaksOff, Outlet, Takes}
+use Rattle.gate_replies.specs.rest_answers.proofs.Linking.{appends_nothing, appends_twice}
 use Rattle.event_sessions.specs.Sessions.{Ends, Place, TakesFront}
 use Rattle.event_sessions.specs.declared.session.SessionEnd.{SessionEnd}
 use Rattle.event_sessions.specs.declared.session.SessionEnd.TheVariants as end

@@ -1,13 +1,13 @@
 -- Notices, each with its text.
 use Rattle.std.specs.Prelude.{◌≡◌, ℕ, true, List, [], ◌++◌, codes}
-use Rattle.size_values.specs.declared.kinds.ObjectKind.TheVariants as kind
-use Rattle.operations.specs.declared.status.Status.TheVariants as status
-use Rattle.operations.specs.declared.operation.OpFault.TheVariants as fault
-use Rattle.records.specs.declared.commands.Target.{Target}
-use Rattle.records.specs.declared.notices.Life.TheVariants as life
-use Rattle.records.specs.declared.notices.Notice.{Notice}
-use Rattle.records.specs.declared.notices.Told.TheVariants as told
-use Rattle.rest_replies.specs.Notices.{notice_text}
+use Rattle.event_texts.specs.size_values.specs.declared.kinds.ObjectKind.TheVariants as kind
+use Rattle.event_texts.specs.operations.specs.declared.status.Status.TheVariants as status
+use Rattle.event_texts.specs.operations.specs.declared.operation.OpFault.TheVariants as fault
+use Rattle.event_texts.specs.records.specs.declared.commands.Target.{Target}
+use Rattle.event_texts.specs.records.specs.declared.notices.Life.TheVariants as life
+use Rattle.event_texts.specs.records.specs.declared.notices.Notice.{Notice}
+use Rattle.event_texts.specs.records.specs.declared.notices.Told.TheVariants as told
+use Rattle.gate_replies.specs.rest_replies.specs.Notices.{notice_text}
 
 -- the instance `b`
 abbrev pub instance : Target

@@ -1,19 +1,19 @@
 -- The parts of a session: what was heard from one moment to another, and how it ended from there on.
 use Rattle.std.specs.Prelude.{◌<◌, ◌++◌, ℕ, List, [], ◌∷◌}
-use Rattle.records.specs.declared.notices.Filter.{Filter}
-use Rattle.records.specs.declared.notices.Notice.{Notice}
-use Rattle.row_machine.specs.declared.events.Answer.{Answer}
-use Rattle.row_machine.specs.declared.events.Event.TheVariants as event
-use Rattle.row_machine.specs.declared.events.Fetched.{Fetched}
-use Rattle.row_machine.specs.declared.events.Fetched.TheVariants as fetched
-use Rattle.row_machine.specs.machine.Step.{Outcome}
-use Rattle.gate_trails.specs.Chains.{Chain}
-use Rattle.gate_trails.specs.Gates.{Between, Seen}
-use Rattle.gate_trails.specs.Trails.{Item, turn}
+use Rattle.event_texts.specs.records.specs.declared.notices.Filter.{Filter}
+use Rattle.event_texts.specs.records.specs.declared.notices.Notice.{Notice}
+use Rattle.gate_replies.specs.row_machine.specs.declared.events.Answer.{Answer}
+use Rattle.gate_replies.specs.row_machine.specs.declared.events.Event.TheVariants as event
+use Rattle.gate_replies.specs.row_machine.specs.declared.events.Fetched.{Fetched}
+use Rattle.gate_replies.specs.row_machine.specs.declared.events.Fetched.TheVariants as fetched
+use Rattle.gate_replies.specs.row_machine.specs.machine.Step.{Outcome}
+use Rattle.gate_replies.specs.gate_trails.specs.Chains.{Chain}
+use Rattle.gate_replies.specs.gate_trails.specs.Gates.{Between, Seen}
+use Rattle.gate_replies.specs.gate_trails.specs.Trails.{Item, turn}
 use Rattle.gate_replies.specs.Waits.{most_rests}
-use Rattle.rest_answers.specs.Links.{Outlet, Takes}
-use Rattle.rest_answers.specs.declared.writing.Written.{Written}
-use Rattle.rest_answers.specs.declared.writing.Written.TheVariants as ended
+use Rattle.gate_replies.specs.rest_answers.specs.Links.{Outlet, Takes}
+use Rattle.gate_replies.specs.rest_answers.specs.declared.writing.Written.{Written}
+use Rattle.gate_replies.specs.rest_answers.specs.declared.writing.Written.TheVariants as ended
 use Rattle.event_sessions.specs.Sessions.{Ends, ListenAt, Place, asking, close_at, frames_of, got}
 use Rattle.event_sessions.specs.declared.listening.Post.{Post}
 use Rattle.event_sessions.specs.declared.listening.Post.TheVariants as post

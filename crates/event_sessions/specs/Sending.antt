@@ -1,10 +1,10 @@
 -- How the sending of a text ended, and what the sink took of it.
 use Rattle.std.specs.Prelude.{◌≡◌, ℕ, List}
-use Rattle.size_values.specs.Causes.{Rose}
-use Rattle.size_values.specs.declared.memory.NoMemory.{NoMemory}
-use Rattle.rest_answers.specs.Links.{BreaksOff, Outlet, Takes}
-use Rattle.rest_answers.specs.declared.writing.Written.{Written}
-use Rattle.rest_answers.specs.declared.writing.Written.TheVariants as ended
+use Rattle.event_texts.specs.size_values.specs.Causes.{Rose}
+use Rattle.event_texts.specs.size_values.specs.declared.memory.NoMemory.{NoMemory}
+use Rattle.gate_replies.specs.rest_answers.specs.Links.{BreaksOff, Outlet, Takes}
+use Rattle.gate_replies.specs.rest_answers.specs.declared.writing.Written.{Written}
+use Rattle.gate_replies.specs.rest_answers.specs.declared.writing.Written.TheVariants as ended
 use Rattle.event_sessions.specs.Sessions.{TakesFront}
 
 -- A text was written whole, or some first bytes of it and the write failed; or nothing was, since memory for it was

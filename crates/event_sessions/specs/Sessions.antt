@@ -3,19 +3,19 @@
 use Rattle.std.specs.Prelude.{◌≡◌, ◌≤◌, ◌+◌, ◌==◌, ◌++◌, ℕ, List, [], ◌∷◌, if◌then◌else◌}
 use Rattle.std.specs.List.{flat_map}
 use Rattle.std.specs.Io.KnownBytes.{Appends}
-use Rattle.size_values.specs.Causes.{Rose}
-use Rattle.records.specs.declared.notices.Filter.{Filter}
-use Rattle.records.specs.declared.notices.Notice.{Notice}
-use Rattle.row_machine.specs.declared.events.Answer.{Answer}
-use Rattle.row_machine.specs.declared.events.Answer.TheVariants as answer
-use Rattle.row_machine.specs.declared.events.Event.TheVariants as event
-use Rattle.row_machine.specs.declared.events.Fetched.{Fetched}
-use Rattle.row_machine.specs.declared.events.Fetched.TheVariants as fetched
-use Rattle.gate_trails.specs.Chains.{Chain}
-use Rattle.gate_trails.specs.Gates.{Between, Seen}
-use Rattle.gate_trails.specs.Trails.{Item, rest, turn}
-use Rattle.rest_answers.specs.Links.{Outlet, Takes}
-use Rattle.rest_replies.specs.Notices.{notice_text}
+use Rattle.event_texts.specs.size_values.specs.Causes.{Rose}
+use Rattle.event_texts.specs.records.specs.declared.notices.Filter.{Filter}
+use Rattle.event_texts.specs.records.specs.declared.notices.Notice.{Notice}
+use Rattle.gate_replies.specs.row_machine.specs.declared.events.Answer.{Answer}
+use Rattle.gate_replies.specs.row_machine.specs.declared.events.Answer.TheVariants as answer
+use Rattle.gate_replies.specs.row_machine.specs.declared.events.Event.TheVariants as event
+use Rattle.gate_replies.specs.row_machine.specs.declared.events.Fetched.{Fetched}
+use Rattle.gate_replies.specs.row_machine.specs.declared.events.Fetched.TheVariants as fetched
+use Rattle.gate_replies.specs.gate_trails.specs.Chains.{Chain}
+use Rattle.gate_replies.specs.gate_trails.specs.Gates.{Between, Seen}
+use Rattle.gate_replies.specs.gate_trails.specs.Trails.{Item, rest, turn}
+use Rattle.gate_replies.specs.rest_answers.specs.Links.{Outlet, Takes}
+use Rattle.gate_replies.specs.rest_replies.specs.Notices.{notice_text}
 use Rattle.gate_replies.specs.Waits.{most_rests}
 use Rattle.event_sessions.specs.Frames.{accepting_head, close_frame, text_frame}
 use Rattle.event_sessions.specs.declared.session.SessionEnd.{SessionEnd}

@@ -1,18 +1,18 @@
 //! What an event session writes.
 ghost use Rattle.std.specs.Prelude.{◌≡◌, IfOk, string_bytes};
 ghost use Rattle.websocket.specs.Frame.{encode_frame};
-ghost use Rattle.rest_answers.specs.Links.{outlet};
+ghost use Rattle.gate_replies.specs.rest_answers.specs.Links.{outlet};
 ghost use Rattle.event_sessions.specs.Frames.{accepting_head, close_frame, text_frame};
 ghost use Rattle.event_sessions.specs.Sending.{Sends, SendsFront};
 ghost use Rattle.event_sessions.specs.Sessions.{frames_of};
-ghost use Rattle.rest_replies.specs.Notices.{notice_text};
+ghost use Rattle.gate_replies.specs.rest_replies.specs.Notices.{notice_text};
 
 use event_texts::accept_text;
-use http_front::{Sink, SinkFailed};
-use records::Notice;
-use rest_answers::Written;
-use rest_replies::print_notice;
-use size_values::NoMemory;
+use event_texts::records_crate::Notice;
+use event_texts::size_values_crate::NoMemory;
+use gate_replies::http_front_crate::{Sink, SinkFailed};
+use gate_replies::rest_answers_crate::Written;
+use gate_replies::rest_replies_crate::print_notice;
 use std::alloc::Global;
 use websocket::protocol::frame::coding::{Control, Data, OpCode};
 use websocket::protocol::frame::{FrameHeader, write_frame};

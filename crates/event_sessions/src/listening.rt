@@ -1,23 +1,23 @@
 //! What goes on in an event session.
 ghost use Rattle.std.specs.Prelude.{◌≡◌, ◌⊎◌, ◌<◌, ℕ, [], IfOk, OnErr};
-ghost use Rattle.gate_answers.specs.Answers.{IsForListener};
+ghost use Rattle.gate_replies.specs.gate_answers.specs.Answers.{IsForListener};
 ghost use Rattle.gate_replies.specs.Waits.{most_rests};
-ghost use Rattle.gate_trails.specs.Gates.{Seen, seen};
-ghost use Rattle.records.specs.declared.notices.Filter.{Filter as FilterValue};
-ghost use Rattle.rest_answers.specs.Links.{Outlet, outlet};
-ghost use Rattle.row_machine.specs.declared.events.Answer.TheVariants as answer;
+ghost use Rattle.gate_replies.specs.gate_trails.specs.Gates.{Seen, seen};
+ghost use Rattle.event_texts.specs.records.specs.declared.notices.Filter.{Filter as FilterValue};
+ghost use Rattle.gate_replies.specs.rest_answers.specs.Links.{Outlet, outlet};
+ghost use Rattle.gate_replies.specs.row_machine.specs.declared.events.Answer.TheVariants as answer;
 ghost use Rattle.event_sessions.specs.Listening.{Asks, GoesOn, Leaves, after_sending, ear, notices_in};
 ghost use Rattle.event_sessions.specs.Sessions.{after_fetched, after_notices, asking, lagged, resting};
 
 use crate::frames::{send_close, send_notices};
 use crate::session::SessionEnd;
+use event_texts::records_crate::{Filter, Notice};
+use event_texts::size_values_crate::{NoMemory, Seq};
 use gate_replies::MOST_RESTS;
-use gate_trails::Gate;
-use http_front::Sink;
-use records::{Filter, Notice};
-use rest_answers::Written;
-use row_machine::{Answer, Event, Fetched};
-use size_values::{NoMemory, Seq};
+use gate_replies::gate_trails_crate::Gate;
+use gate_replies::http_front_crate::Sink;
+use gate_replies::rest_answers_crate::Written;
+use gate_replies::row_machine_crate::{Answer, Event, Fetched};
 use std::alloc::Global;
 use std::sync::Wait;
 

@@ -1,18 +1,18 @@
 //! An event session from its handshake to its end.
 ghost use Rattle.std.specs.Prelude.{◌≡◌};
-ghost use Rattle.gate_trails.specs.Gates.{seen};
-ghost use Rattle.rest_answers.specs.Links.{outlet};
+ghost use Rattle.gate_replies.specs.gate_trails.specs.Gates.{seen};
+ghost use Rattle.gate_replies.specs.rest_answers.specs.Links.{outlet};
 ghost use Rattle.event_sessions.specs.Listening.{Leaves, ear, notices_in};
 ghost use Rattle.event_sessions.specs.Sessions.{Session, after_fetched};
 
 use crate::frames::send_head;
 use crate::listening::{Post, ask, heard, listen};
-use gate_trails::Gate;
-use http_front::Sink;
-use records::Filter;
-use rest_answers::Written;
-use row_machine::Fetched;
-use size_values::NoMemory;
+use event_texts::records_crate::Filter;
+use event_texts::size_values_crate::NoMemory;
+use gate_replies::gate_trails_crate::Gate;
+use gate_replies::http_front_crate::Sink;
+use gate_replies::rest_answers_crate::Written;
+use gate_replies::row_machine_crate::Fetched;
 use std::alloc::Global;
 use std::sync::Wait;
 

@@ -2,7 +2,7 @@
 use Rattle.std.proofs.Common.{◌≡◌, Bool, true, false, cond, Some, None, Result, Ok, Err, refl}
 use Rattle.std.specs.Prelude.{◌↔◌}
 use Rattle.http_heads.specs.declared.request.Request.{Request}
-use Rattle.records.specs.declared.refusals.Refusal.{Refusal}
+use Rattle.rest_paths.specs.records.specs.declared.refusals.Refusal.{Refusal}
 use Rattle.rest_paths.specs.Answers.{mapped}
 use Rattle.rest_paths.specs.Paths.{query_of}
 use Rattle.rest_paths.specs.Queries.{query_from_text}

@@ -3,8 +3,8 @@ use Rattle.std.proofs.Common.{◌≡◌, ◌&&◌, ℕ, List, Bool, true, false,
 use Rattle.std.specs.Prelude.{codes}
 use Rattle.std.specs.Str.{bytes_eq}
 use Rattle.http_heads.specs.declared.request.Request.{Request}
-use Rattle.records.specs.declared.notices.Filter.{Filter}
-use Rattle.records.specs.declared.refusals.Refusal.{Refusal}
+use Rattle.rest_paths.specs.records.specs.declared.notices.Filter.{Filter}
+use Rattle.rest_paths.specs.records.specs.declared.refusals.Refusal.{Refusal}
 use Rattle.rest_paths.specs.Answers.{mapped}
 use Rattle.rest_paths.specs.Paths.{path_of, query_of}
 use Rattle.rest_paths.specs.Queries.{query_from_text}

@@ -1,9 +1,9 @@
 -- Requests for events, each with the events that it asks for.
 use Rattle.std.specs.Prelude.{◌≡◌, ℕ, Bool, true, false, List, [], ◌++◌, Option, Some, None, Result, Ok, Err, codes}
 use Rattle.http_heads.specs.declared.request.Request.{Request}
-use Rattle.records.specs.declared.notices.Filter.{Filter}
-use Rattle.records.specs.declared.refusals.Rule.TheVariants as rule
-use Rattle.records.specs.declared.refusals.Refusal.{Refusal}
+use Rattle.rest_paths.specs.records.specs.declared.notices.Filter.{Filter}
+use Rattle.rest_paths.specs.records.specs.declared.refusals.Rule.TheVariants as rule
+use Rattle.rest_paths.specs.records.specs.declared.refusals.Refusal.{Refusal}
 use Rattle.rest_paths.specs.Refusals.{on_key}
 use Rattle.event_texts.specs.Filters.{filter_of}
 

@@ -2,8 +2,8 @@
 use Rattle.std.specs.Prelude.{Bool, ◌&&◌, if◌then◌else◌, Option, Some, None, Result, Ok, is_some, codes}
 use Rattle.std.specs.Str.{bytes_eq}
 use Rattle.http_heads.specs.declared.request.Request.{Request}
-use Rattle.records.specs.declared.notices.Filter.{Filter}
-use Rattle.records.specs.declared.refusals.Refusal.{Refusal}
+use Rattle.rest_paths.specs.records.specs.declared.notices.Filter.{Filter}
+use Rattle.rest_paths.specs.records.specs.declared.refusals.Refusal.{Refusal}
 use Rattle.rest_paths.specs.Answers.{mapped}
 use Rattle.rest_paths.specs.Paths.{path_of, query_of}
 use Rattle.rest_paths.specs.Queries.{query_from_text, project_of, wanted_types}

@@ -1,8 +1,8 @@
 -- The subscription of a request for events.
 use Rattle.std.specs.Prelude.{ℕ, List, Option, Some, None, Result, Ok, Err}
 use Rattle.http_heads.specs.declared.request.Request.{Request}
-use Rattle.records.specs.declared.notices.Filter.{Filter}
-use Rattle.records.specs.declared.refusals.Refusal.{Refusal}
+use Rattle.rest_paths.specs.records.specs.declared.notices.Filter.{Filter}
+use Rattle.rest_paths.specs.records.specs.declared.refusals.Refusal.{Refusal}
 use Rattle.event_texts.specs.Filters.{filter_of}
 use Rattle.event_texts.specs.declared.subscriptions.Subscription.{Subscription}
 

@@ -3,8 +3,8 @@ ghost use Rattle.std.specs.Prelude.{◌≡◌, IfOk};
 ghost use Rattle.event_texts.specs.Accepting.{accept_text};
 
 use base64::engine::general_purpose::STANDARD;
+use http_heads::size_values_crate::{NoMemory, Text};
 use sha1::Sha1;
-use size_values::{NoMemory, Text};
 use std::alloc::Global;
 
 /// What each server puts after the key of a handshake (RFC 6455, section 1.3).

@@ -4,9 +4,9 @@ ghost use Rattle.rest_paths.specs.Answers.{Gives};
 ghost use Rattle.event_texts.specs.Filters.{asks_events, filter_from, filter_of};
 
 use http_heads::Request;
-use records::{Filter, Refusal};
+use http_heads::size_values_crate::{NoMemory, Or};
+use rest_paths::records_crate::{Filter, Refusal};
 use rest_paths::{Query, path_of, project_of, query_from_text, query_of, wanted_types};
-use size_values::{NoMemory, Or};
 use std::alloc::Global;
 
 /// Whether the request is a GET of `/1.0/events` that asks for the WebSocket protocol.

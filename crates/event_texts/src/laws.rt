@@ -1,6 +1,6 @@
 //! Laws of the definitions: functions that do nothing, whose contracts are the laws.
 ghost use Rattle.std.specs.Prelude.{◌≡◌, ℕ, ◌↔◌, List, Ok, Some, None, false, codes};
-ghost use Rattle.records.specs.declared.notices.Filter.{Filter as FilterValue};
+ghost use Rattle.rest_paths.specs.records.specs.declared.notices.Filter.{Filter as FilterValue};
 ghost use Rattle.http_heads.specs.declared.request.Request.{Request as RequestValue};
 ghost use Rattle.event_texts.specs.Accepting.{accept_text as accepting};
 ghost use Rattle.event_texts.specs.Examples.{AreExamples};

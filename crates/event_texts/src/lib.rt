@@ -2,6 +2,11 @@
 //! text that accepts its WebSocket handshake (RFC 6455).
 #![tactic(auto)]
 
+// The libraries that crates above name through this one.
+pub use http_heads as http_heads_crate;
+pub use http_heads::size_values_crate;
+pub use rest_paths::records_crate;
+
 mod accepting;
 mod filters;
 mod laws;

@@ -2,6 +2,10 @@
 //! its own. Everything that speaks of what an instance has reads it here.
 #![tactic(auto)]
 
+// The libraries that crates above name through this one.
+pub use config_lists as config_lists_crate;
+pub use config_lists::size_values_crate;
+
 mod expanded;
 mod laws;
 

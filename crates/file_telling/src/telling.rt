@@ -1,6 +1,6 @@
-use size_values::NoMemory;
 use sqlite_keeper::SqliteKeeper;
-use start_faults::StartFault;
+use sqlite_keeper::size_values_crate::NoMemory;
+use start_telling::start_faults_crate::StartFault;
 use start_telling::{tell_fault, tell_line};
 use std::alloc::Global;
 

@@ -1,26 +1,26 @@
 -- Which answers each event can have.
 use Rattle.std.proofs.Common.{ℕ, Bool, cond, true, false, List, [], ◌∷◌, Option, Some, None}
-use Rattle.host_model.specs.declared.call.HostCall.{HostCall}
-use Rattle.host_model.specs.declared.report.Report.{Report}
-use Rattle.host_model.specs.declared.report.Report.TheVariants as report
-use Rattle.operations.specs.declared.operation.Operation.{Operation}
-use Rattle.operations.specs.declared.operation.OpFault.{OpFault}
-use Rattle.operations.specs.declared.status.Status.{Status}
-use Rattle.operations.specs.declared.status.Status.TheVariants as status
-use Rattle.operations.specs.Kept.{live_at}
-use Rattle.row_machine.specs.declared.changes.RowChange.{RowChange}
-use Rattle.row_machine.specs.declared.events.Answer.{Answer}
-use Rattle.row_machine.specs.declared.events.Answer.TheVariants as answer
-use Rattle.row_machine.specs.declared.events.Event.{Event}
-use Rattle.row_machine.specs.declared.events.Event.TheVariants as event
-use Rattle.row_machine.specs.machine.State.{State}
-use Rattle.row_machine.specs.machine.Task.{Task}
-use Rattle.row_machine.specs.machine.Work.{success_changes}
-use Rattle.row_machine.specs.machine.Accept.{After}
-use Rattle.row_machine.specs.machine.Step.{Outcome, well, keeper_failed, no_memory, step, always, call_done}
-use Rattle.row_machine.specs.machine.Step.{call_failed, committed, done, first_pending, handed_out, reported, stray}
-use Rattle.row_machine.specs.machine.Step.{taken, while_cancelling, while_running}
-use Rattle.records.specs.declared.notices.Filter.{Filter}
+use Rattle.gate_trails.specs.host_model.specs.declared.call.HostCall.{HostCall}
+use Rattle.gate_trails.specs.host_model.specs.declared.report.Report.{Report}
+use Rattle.gate_trails.specs.host_model.specs.declared.report.Report.TheVariants as report
+use Rattle.gate_trails.specs.operations.specs.declared.operation.Operation.{Operation}
+use Rattle.gate_trails.specs.operations.specs.declared.operation.OpFault.{OpFault}
+use Rattle.gate_trails.specs.operations.specs.declared.status.Status.{Status}
+use Rattle.gate_trails.specs.operations.specs.declared.status.Status.TheVariants as status
+use Rattle.gate_trails.specs.operations.specs.Kept.{live_at}
+use Rattle.gate_trails.specs.row_machine.specs.declared.changes.RowChange.{RowChange}
+use Rattle.gate_trails.specs.row_machine.specs.declared.events.Answer.{Answer}
+use Rattle.gate_trails.specs.row_machine.specs.declared.events.Answer.TheVariants as answer
+use Rattle.gate_trails.specs.row_machine.specs.declared.events.Event.{Event}
+use Rattle.gate_trails.specs.row_machine.specs.declared.events.Event.TheVariants as event
+use Rattle.gate_trails.specs.row_machine.specs.machine.State.{State}
+use Rattle.gate_trails.specs.row_machine.specs.machine.Task.{Task}
+use Rattle.gate_trails.specs.row_machine.specs.machine.Work.{success_changes}
+use Rattle.gate_trails.specs.row_machine.specs.machine.Accept.{After}
+use Rattle.gate_trails.specs.row_machine.specs.machine.Step.{Outcome, well, keeper_failed, no_memory, step, always, call_done}
+use Rattle.gate_trails.specs.row_machine.specs.machine.Step.{call_failed, committed, done, first_pending, handed_out, reported, stray}
+use Rattle.gate_trails.specs.row_machine.specs.machine.Step.{taken, while_cancelling, while_running}
+use Rattle.gate_trails.specs.records.specs.declared.notices.Filter.{Filter}
 use Rattle.gate_trails.specs.Trails.{MayAnswer}
 use Rattle.rest_answers.proofs.ForClients.{Speaks, turned_speaks}
 use Rattle.gate_answers.specs.Answers.{IsForListener, IsForLooker, IsForReporter, IsForTaker}

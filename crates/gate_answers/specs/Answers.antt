@@ -1,6 +1,6 @@
 -- The answers that the events of a gate can have.
-use Rattle.row_machine.specs.declared.events.Answer.{Answer}
-use Rattle.row_machine.specs.declared.events.Answer.TheVariants as answer
+use Rattle.gate_trails.specs.row_machine.specs.declared.events.Answer.{Answer}
+use Rattle.gate_trails.specs.row_machine.specs.declared.events.Answer.TheVariants as answer
 
 -- the answers to a look
 abbrev pub IsForLooker : Answer → Type 0

@@ -1,9 +1,9 @@
 //! Laws: functions that do nothing, whose contracts are the laws.
 ghost use Rattle.std.specs.Prelude.{ℕ};
-ghost use Rattle.host_model.specs.declared.report.Report.{Report};
-ghost use Rattle.records.specs.declared.notices.Filter.{Filter};
-ghost use Rattle.row_machine.specs.declared.events.Answer.{Answer};
-ghost use Rattle.row_machine.specs.declared.events.Event.TheVariants as event;
+ghost use Rattle.gate_trails.specs.host_model.specs.declared.report.Report.{Report};
+ghost use Rattle.gate_trails.specs.records.specs.declared.notices.Filter.{Filter};
+ghost use Rattle.gate_trails.specs.row_machine.specs.declared.events.Answer.{Answer};
+ghost use Rattle.gate_trails.specs.row_machine.specs.declared.events.Event.TheVariants as event;
 ghost use Rattle.gate_trails.specs.Trails.{MayAnswer};
 ghost use Rattle.gate_answers.specs.Answers.{IsForListener, IsForLooker, IsForReporter, IsForTaker};
 

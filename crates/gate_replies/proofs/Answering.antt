@@ -1,22 +1,22 @@
 -- Which answers a command can have.
 use Rattle.std.proofs.Common.{◌≡◌, ◌≢◌, ℕ, Bool, cond, true, false, List, Option, Some, None, refl, sym, subst}
-use Rattle.records.specs.declared.commands.Command.{Command}
-use Rattle.records.specs.declared.commands.What.{What}
-use Rattle.records.specs.declared.commands.What.TheVariants as what
-use Rattle.records.specs.declared.refusals.Refusal.{Refusal}
-use Rattle.row_machine.specs.declared.events.Answer.{Answer}
-use Rattle.row_machine.specs.declared.events.Answer.TheVariants as answer
-use Rattle.row_machine.specs.declared.events.Event.TheVariants as event
-use Rattle.row_machine.specs.machine.State.{State}
-use Rattle.row_machine.specs.machine.Plans.{Plan, nothing, changes, starts, plan_of}
-use Rattle.row_machine.specs.machine.Rules.{broken}
-use Rattle.row_machine.specs.machine.Accept.{accepted, cancel_or_read, carried_out}
-use Rattle.row_machine.specs.machine.Step.{Outcome, well, keeper_failed, no_memory, step, asked}
-use Rattle.row_machine.specs.machine.Step.{unavailable}
-use Rattle.row_machine.specs.shown.Views.{read}
-use Rattle.gate_trails.specs.Trails.{MayAnswer}
-use Rattle.rest_answers.specs.Asked.{IsAtOnce, IsForClient}
-use Rattle.rest_answers.proofs.ForClients.{Speaks, turned_at_once, turned_for_client}
+use Rattle.rest_routes.specs.records.specs.declared.commands.Command.{Command}
+use Rattle.rest_routes.specs.records.specs.declared.commands.What.{What}
+use Rattle.rest_routes.specs.records.specs.declared.commands.What.TheVariants as what
+use Rattle.rest_routes.specs.records.specs.declared.refusals.Refusal.{Refusal}
+use Rattle.rest_routes.specs.row_machine.specs.declared.events.Answer.{Answer}
+use Rattle.rest_routes.specs.row_machine.specs.declared.events.Answer.TheVariants as answer
+use Rattle.rest_routes.specs.row_machine.specs.declared.events.Event.TheVariants as event
+use Rattle.rest_routes.specs.row_machine.specs.machine.State.{State}
+use Rattle.rest_routes.specs.row_machine.specs.machine.Plans.{Plan, nothing, changes, starts, plan_of}
+use Rattle.rest_routes.specs.row_machine.specs.machine.Rules.{broken}
+use Rattle.rest_routes.specs.row_machine.specs.machine.Accept.{accepted, cancel_or_read, carried_out}
+use Rattle.rest_routes.specs.row_machine.specs.machine.Step.{Outcome, well, keeper_failed, no_memory, step, asked}
+use Rattle.rest_routes.specs.row_machine.specs.machine.Step.{unavailable}
+use Rattle.rest_routes.specs.row_machine.specs.shown.Views.{read}
+use Rattle.gate_answers.specs.gate_trails.specs.Trails.{MayAnswer}
+use Rattle.gate_answers.specs.rest_answers.specs.Asked.{IsAtOnce, IsForClient}
+use Rattle.gate_answers.specs.rest_answers.proofs.ForClients.{Speaks, turned_at_once, turned_for_client}
 use Rattle.gate_answers.proofs.Answering.{may}
 use Rattle.gate_replies.specs.Waits.{wait_in, wait_of}
 

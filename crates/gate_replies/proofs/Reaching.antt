@@ -1,17 +1,17 @@
 -- How what a request asks for comes to its reply, from what the parts ensure.
 use Rattle.std.proofs.Common.{[], refl}
 use Rattle.std.proofs.Common.{inl, inr, Result, Ok}
-use Rattle.size_values.specs.declared.memory.Or.{Or}
-use Rattle.size_values.specs.declared.memory.Or.TheVariants as or
-use Rattle.http_front.specs.Clocks.{Readings}
-use Rattle.records.specs.declared.commands.Command.{Command}
-use Rattle.records.specs.declared.refusals.Refusal.{Refusal}
-use Rattle.records.specs.declared.replies.Reply.{Reply}
-use Rattle.records.specs.declared.replies.Reply.TheVariants as reply
-use Rattle.judged_changes.specs.Judged.{reply_for}
-use Rattle.gate_trails.specs.Gates.{Seen, Walk}
-use Rattle.gate_trails.proofs.Trailing.{between-none}
-use Rattle.rest_paths.specs.Answers.{IsDue}
+use Rattle.rest_routes.specs.size_values.specs.declared.memory.Or.{Or}
+use Rattle.rest_routes.specs.size_values.specs.declared.memory.Or.TheVariants as or
+use Rattle.rest_routes.specs.http_front.specs.Clocks.{Readings}
+use Rattle.rest_routes.specs.records.specs.declared.commands.Command.{Command}
+use Rattle.rest_routes.specs.records.specs.declared.refusals.Refusal.{Refusal}
+use Rattle.rest_routes.specs.records.specs.declared.replies.Reply.{Reply}
+use Rattle.rest_routes.specs.records.specs.declared.replies.Reply.TheVariants as reply
+use Rattle.gate_answers.specs.judged_changes.specs.Judged.{reply_for}
+use Rattle.gate_answers.specs.gate_trails.specs.Gates.{Seen, Walk}
+use Rattle.gate_answers.specs.gate_trails.proofs.Trailing.{between-none}
+use Rattle.rest_routes.specs.rest_paths.specs.Answers.{IsDue}
 use Rattle.gate_replies.specs.Replying.{Reaches}
 use Rattle.gate_replies.specs.Waits.{ServeBy, replied, stand, unasked}
 

@@ -2,20 +2,20 @@
 use Rattle.std.proofs.Common.{◌≡◌, ◌==◌, ◌<◌, ◌≤◌, ◌+◌, ℕ, Bool, true, false, cond, List, [], ◌∷◌, Option, Some}
 use Rattle.std.proofs.Common.{refl, ap, sym, ◌∙◌, subst, arith}
 use Rattle.std.proofs.lemmas.Bool.Decides.{nat_tests}
-use Rattle.size_values.specs.Moments.{moment_limit}
-use Rattle.http_front.specs.Clocks.{Readings, Reads}
-use Rattle.records.specs.declared.commands.Command.{Command}
-use Rattle.records.specs.declared.commands.What.{What}
-use Rattle.records.specs.declared.commands.What.TheVariants as what
-use Rattle.records.specs.declared.replies.Reply.{Reply}
-use Rattle.records.specs.declared.replies.Reply.TheVariants as reply
-use Rattle.row_machine.specs.declared.events.Answer.{Answer}
-use Rattle.row_machine.specs.declared.events.Answer.TheVariants as answer
-use Rattle.row_machine.specs.declared.events.Event.TheVariants as event
-use Rattle.core_rows.specs.Asked.{answered}
-use Rattle.gate_trails.specs.Gates.{Seen, Walk}
-use Rattle.gate_trails.specs.Trails.{RestsTold, TurnsTold, capped}
-use Rattle.gate_trails.proofs.Walking.{walk-append, walk-rest, walk-turn}
+use Rattle.rest_routes.specs.size_values.specs.Moments.{moment_limit}
+use Rattle.rest_routes.specs.http_front.specs.Clocks.{Readings, Reads}
+use Rattle.rest_routes.specs.records.specs.declared.commands.Command.{Command}
+use Rattle.rest_routes.specs.records.specs.declared.commands.What.{What}
+use Rattle.rest_routes.specs.records.specs.declared.commands.What.TheVariants as what
+use Rattle.rest_routes.specs.records.specs.declared.replies.Reply.{Reply}
+use Rattle.rest_routes.specs.records.specs.declared.replies.Reply.TheVariants as reply
+use Rattle.rest_routes.specs.row_machine.specs.declared.events.Answer.{Answer}
+use Rattle.rest_routes.specs.row_machine.specs.declared.events.Answer.TheVariants as answer
+use Rattle.rest_routes.specs.row_machine.specs.declared.events.Event.TheVariants as event
+use Rattle.gate_answers.specs.core_rows.specs.Asked.{answered}
+use Rattle.gate_answers.specs.gate_trails.specs.Gates.{Seen, Walk}
+use Rattle.gate_answers.specs.gate_trails.specs.Trails.{RestsTold, TurnsTold, capped}
+use Rattle.gate_answers.specs.gate_trails.proofs.Walking.{walk-append, walk-rest, walk-turn}
 use Rattle.gate_replies.specs.Moments.{IsLate, deadline_by, deadline_of}
 use Rattle.gate_replies.specs.Waits.{Brings, Looked, Place, Sees, ServeBy, Stand, after_rest, due, looking}
 use Rattle.gate_replies.specs.Waits.{most_rests, replied}

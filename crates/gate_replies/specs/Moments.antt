@@ -1,8 +1,8 @@
 -- The deadlines of waits.
 use Rattle.std.specs.Prelude.{◌≡◌, ◌+◌, ℕ, ℤ, pos, negsuc, nat_le, Bool, false, Option, Some, None}
-use Rattle.http_front.specs.Clocks.{Readings}
-use Rattle.records.specs.declared.commands.What.{What}
-use Rattle.records.specs.declared.commands.What.TheVariants as what
+use Rattle.rest_routes.specs.http_front.specs.Clocks.{Readings}
+use Rattle.rest_routes.specs.records.specs.declared.commands.What.{What}
+use Rattle.rest_routes.specs.records.specs.declared.commands.What.TheVariants as what
 use Rattle.gate_answers.specs.Moments.{IsRead}
 
 -- when a wait of so many seconds ends that was asked for at this moment; a negative number is no end

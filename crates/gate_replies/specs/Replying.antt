@@ -1,13 +1,13 @@
 -- How what a request asks for comes to its reply at a gate.
 use Rattle.std.specs.Prelude.{◌≡◌, ◌⊎◌, List, [], Result, Err, Ok}
-use Rattle.http_front.specs.Clocks.{Readings}
-use Rattle.records.specs.declared.commands.Command.{Command}
-use Rattle.records.specs.declared.refusals.Refusal.{Refusal}
-use Rattle.records.specs.declared.replies.Reply.{Reply}
-use Rattle.records.specs.declared.replies.Reply.TheVariants as reply
-use Rattle.gate_trails.specs.Chains.{Chain}
-use Rattle.gate_trails.specs.Gates.{Between, Seen}
-use Rattle.gate_trails.specs.Trails.{Item}
+use Rattle.rest_routes.specs.http_front.specs.Clocks.{Readings}
+use Rattle.rest_routes.specs.records.specs.declared.commands.Command.{Command}
+use Rattle.rest_routes.specs.records.specs.declared.refusals.Refusal.{Refusal}
+use Rattle.rest_routes.specs.records.specs.declared.replies.Reply.{Reply}
+use Rattle.rest_routes.specs.records.specs.declared.replies.Reply.TheVariants as reply
+use Rattle.gate_answers.specs.gate_trails.specs.Chains.{Chain}
+use Rattle.gate_answers.specs.gate_trails.specs.Gates.{Between, Seen}
+use Rattle.gate_answers.specs.gate_trails.specs.Trails.{Item}
 use Rattle.gate_replies.specs.Waits.{ServeBy, replied, stand, unasked}
 
 -- It asks for no command, by its form; or memory was refused before its command was asked. No turn and no rest was made,

@@ -1,19 +1,19 @@
 -- How a command comes to its reply at a gate: it is asked, and the answer of a wait is held back while its operation is
 -- live.
 use Rattle.std.specs.Prelude.{◌≡◌, ◌+◌, ◌==◌, ◌||◌, ℕ, List, Bool, true, false, Option, Some, None, if◌then◌else◌}
-use Rattle.http_front.specs.Clocks.{Readings}
-use Rattle.records.specs.declared.commands.Command.{Command}
-use Rattle.records.specs.declared.commands.What.{What}
-use Rattle.records.specs.declared.commands.What.TheVariants as what
-use Rattle.records.specs.declared.replies.Reply.{Reply}
-use Rattle.records.specs.declared.replies.Reply.TheVariants as reply
-use Rattle.row_machine.specs.declared.events.Answer.{Answer}
-use Rattle.row_machine.specs.declared.events.Answer.TheVariants as answer
-use Rattle.row_machine.specs.declared.events.Event.{Event}
-use Rattle.row_machine.specs.declared.events.Event.TheVariants as event
-use Rattle.core_rows.specs.Asked.{answered}
-use Rattle.gate_trails.specs.Trails.{Item, rest, turn}
-use Rattle.rest_answers.specs.Asked.{showing}
+use Rattle.rest_routes.specs.http_front.specs.Clocks.{Readings}
+use Rattle.rest_routes.specs.records.specs.declared.commands.Command.{Command}
+use Rattle.rest_routes.specs.records.specs.declared.commands.What.{What}
+use Rattle.rest_routes.specs.records.specs.declared.commands.What.TheVariants as what
+use Rattle.rest_routes.specs.records.specs.declared.replies.Reply.{Reply}
+use Rattle.rest_routes.specs.records.specs.declared.replies.Reply.TheVariants as reply
+use Rattle.rest_routes.specs.row_machine.specs.declared.events.Answer.{Answer}
+use Rattle.rest_routes.specs.row_machine.specs.declared.events.Answer.TheVariants as answer
+use Rattle.rest_routes.specs.row_machine.specs.declared.events.Event.{Event}
+use Rattle.rest_routes.specs.row_machine.specs.declared.events.Event.TheVariants as event
+use Rattle.gate_answers.specs.core_rows.specs.Asked.{answered}
+use Rattle.gate_answers.specs.gate_trails.specs.Trails.{Item, rest, turn}
+use Rattle.gate_answers.specs.rest_answers.specs.Asked.{showing}
 use Rattle.gate_answers.specs.Moments.{IsRead}
 use Rattle.gate_replies.specs.Moments.{IsLate, deadline_by}
 use Rattle.gate_replies.specs.declared.wait.Waiting.{Waiting}

@@ -1,17 +1,17 @@
 //! How a request comes to its reply at a gate.
 ghost use Rattle.std.specs.Prelude.{◌≡◌, true, Ok};
-ghost use Rattle.records.specs.Forms.{is_formed};
+ghost use Rattle.rest_routes.specs.records.specs.Forms.{is_formed};
 ghost use Rattle.rest_routes.specs.Commands.{command_of};
-ghost use Rattle.gate_trails.specs.Gates.{seen};
+ghost use Rattle.gate_answers.specs.gate_trails.specs.Gates.{seen};
 ghost use Rattle.gate_replies.specs.Replying.{Reaches};
 
 use crate::wait::{ask, wait_of};
-use core_rows::refused_reply;
-use gate_trails::Gate;
-use http_front::{Clock, Request};
-use records::{Command, Reply};
+use gate_answers::core_rows_crate::refused_reply;
+use gate_answers::gate_trails_crate::Gate;
 use rest_routes::Router;
-use size_values::NoMemory;
+use rest_routes::http_front_crate::{Clock, Request};
+use rest_routes::records_crate::{Command, Reply};
+use rest_routes::size_values_crate::NoMemory;
 use std::alloc::Global;
 
 /// Asks for a command. What a wait needs later is taken beforehand.

@@ -1,22 +1,22 @@
 //! How a command comes to its reply at a gate: the answer of a wait is held back while its
 //! operation is live.
 ghost use Rattle.std.specs.Prelude.{◌≡◌, ◌≢◌, ◌<◌, ◌+◌, true, IfOk, if◌then◌else◌, None, Some, Option, ℕ};
-ghost use Rattle.size_values.specs.Moments.{moment_limit};
-ghost use Rattle.http_front.specs.Clocks.{Readings};
-ghost use Rattle.records.specs.Forms.{is_formed};
-ghost use Rattle.records.specs.declared.commands.Command.{Command as CommandValue};
-ghost use Rattle.gate_trails.specs.Gates.{Walk, seen};
+ghost use Rattle.rest_routes.specs.size_values.specs.Moments.{moment_limit};
+ghost use Rattle.rest_routes.specs.http_front.specs.Clocks.{Readings};
+ghost use Rattle.rest_routes.specs.records.specs.Forms.{is_formed};
+ghost use Rattle.rest_routes.specs.records.specs.declared.commands.Command.{Command as CommandValue};
+ghost use Rattle.gate_answers.specs.gate_trails.specs.Gates.{Walk, seen};
 ghost use Rattle.gate_replies.specs.Moments.{IsLate, deadline_by, deadline_of};
 ghost use Rattle.gate_answers.specs.Answers.{IsForLooker};
 ghost use Rattle.gate_replies.specs.Waits.{Looked, ServeBy, after_rest, due};
 ghost use Rattle.gate_replies.specs.Waits.{looking, most_rests, replied, stand, unasked, wait_of, waiting};
 
-use gate_trails::Gate;
-use http_front::Clock;
-use records::{Command, Reply, What};
-use rest_answers::{Asked, asked_of, reply_of};
-use row_machine::{Answer, Event};
-use size_values::{NoMemory, Text};
+use gate_answers::gate_trails_crate::Gate;
+use gate_answers::rest_answers_crate::{Asked, asked_of, reply_of};
+use rest_routes::http_front_crate::Clock;
+use rest_routes::records_crate::{Command, Reply, What};
+use rest_routes::row_machine_crate::{Answer, Event};
+use rest_routes::size_values_crate::{NoMemory, Text};
 use std::alloc::Global;
 
 /// The most rests that are made for one wait.

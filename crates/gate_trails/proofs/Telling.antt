@@ -1,11 +1,11 @@
 -- A turn of the server, told of a gate.
 use Rattle.std.proofs.Common.{Some, refl}
-use Rattle.record_keeper.specs.Store.{Store}
-use Rattle.row_machine.specs.declared.events.Answer.{Answer}
-use Rattle.row_machine.specs.declared.events.Event.{Event}
-use Rattle.row_machine.specs.machine.State.{State}
-use Rattle.row_machine.specs.facts.Whole.{IsWhole}
-use Rattle.core_turns.specs.Turns.{IsTurn}
+use Rattle.serial_steps.specs.record_keeper.specs.Store.{Store}
+use Rattle.serial_steps.specs.row_machine.specs.declared.events.Answer.{Answer}
+use Rattle.serial_steps.specs.row_machine.specs.declared.events.Event.{Event}
+use Rattle.serial_steps.specs.row_machine.specs.machine.State.{State}
+use Rattle.serial_steps.specs.row_machine.specs.facts.Whole.{IsWhole}
+use Rattle.serial_steps.specs.core_turns.specs.Turns.{IsTurn}
 use Rattle.gate_trails.specs.Trails.{MayAnswer, TurnBy, TurnsTold, told_as}
 
 pub turn-by : {s s' : State} {store store' : Store} {e : Event} {a : Answer} (t : IsTurn s store e a s' store')

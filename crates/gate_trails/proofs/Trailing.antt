@@ -3,10 +3,10 @@ use Rattle.std.proofs.Common.{◌≡◌, ◌<◌, ◌≤◌, ◌+◌, ◌-◌, �
 use Rattle.std.proofs.Common.{add-zero, arith}
 use Rattle.std.proofs.lemmas.List.Sums.{sum_by-append, sum_by-cons}
 use Rattle.std.specs.List.{sum_by}
-use Rattle.size_values.specs.Causes.{RoseBy}
-use Rattle.row_machine.specs.declared.events.Answer.{Answer}
-use Rattle.row_machine.specs.declared.events.Event.{Event}
-use Rattle.row_machine.specs.machine.Step.{Outcome}
+use Rattle.serial_steps.specs.size_values.specs.Causes.{RoseBy}
+use Rattle.serial_steps.specs.row_machine.specs.declared.events.Answer.{Answer}
+use Rattle.serial_steps.specs.row_machine.specs.declared.events.Event.{Event}
+use Rattle.serial_steps.specs.row_machine.specs.machine.Step.{Outcome}
 use Rattle.serial_steps.specs.Counts.{failed_commits}
 use Rattle.serial_steps.proofs.Counting.{caused-rose, rose-twice}
 use Rattle.gate_trails.specs.Chains.{Chain, none, more}

@@ -1,7 +1,7 @@
 -- Walks one after the other.
 use Rattle.std.proofs.Common.{◌≡◌, ◌+◌, ◌++◌, [], ◌∷◌}
-use Rattle.row_machine.specs.declared.events.Answer.{Answer}
-use Rattle.row_machine.specs.declared.events.Event.{Event}
+use Rattle.serial_steps.specs.row_machine.specs.declared.events.Answer.{Answer}
+use Rattle.serial_steps.specs.row_machine.specs.declared.events.Event.{Event}
 use Rattle.gate_trails.specs.Chains.{none}
 use Rattle.gate_trails.specs.Gates.{Seen, Walk}
 use Rattle.gate_trails.specs.Trails.{Item, RestsTold, TurnsTold, capped, rest, turn}

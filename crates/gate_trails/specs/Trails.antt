@@ -1,15 +1,15 @@
 -- Trails: what was done at a gate, one thing after the other, and how it leads from one moment of the server to another.
 use Rattle.std.specs.Prelude.{◌≡◌, ◌<◌, ◌+◌, ◌-◌, ◌^◌, ℕ, List, [], ◌∷◌, min, Option, Some, None}
 use Rattle.std.specs.List.{sum_by}
-use Rattle.size_values.specs.Causes.{RoseBy}
-use Rattle.record_keeper.specs.Store.{Store}
-use Rattle.row_machine.specs.declared.events.Answer.{Answer}
-use Rattle.row_machine.specs.declared.events.Event.{Event}
-use Rattle.row_machine.specs.machine.State.{State}
-use Rattle.row_machine.specs.machine.Step.{Outcome}
-use Rattle.row_machine.specs.facts.Whole.{IsWhole}
-use Rattle.work_reports.specs.Stores.{IsCaused, KeepsRecords}
-use Rattle.core_turns.specs.Turns.{Turns}
+use Rattle.serial_steps.specs.size_values.specs.Causes.{RoseBy}
+use Rattle.serial_steps.specs.record_keeper.specs.Store.{Store}
+use Rattle.serial_steps.specs.row_machine.specs.declared.events.Answer.{Answer}
+use Rattle.serial_steps.specs.row_machine.specs.declared.events.Event.{Event}
+use Rattle.serial_steps.specs.row_machine.specs.machine.State.{State}
+use Rattle.serial_steps.specs.row_machine.specs.machine.Step.{Outcome}
+use Rattle.serial_steps.specs.row_machine.specs.facts.Whole.{IsWhole}
+use Rattle.serial_steps.specs.work_reports.specs.Stores.{IsCaused, KeepsRecords}
+use Rattle.serial_steps.specs.core_turns.specs.Turns.{Turns}
 use Rattle.serial_steps.specs.Counts.{failed_commits}
 use Rattle.gate_trails.specs.Chains.{Chain}
 

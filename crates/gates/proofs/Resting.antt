@@ -1,9 +1,9 @@
 -- A step of the worker is a rest.
 use Rattle.std.proofs.Common.{◌≡◌, Some, refl, [], ◌∷◌, ap}
-use Rattle.record_keeper.specs.Store.{Store}
-use Rattle.row_machine.specs.declared.events.Event.TheVariants as event
-use Rattle.row_machine.specs.machine.Step.{well}
-use Rattle.serial_steps.specs.Steps.{Site, Step, Steps, took, reported}
+use Rattle.gate_trails.specs.record_keeper.specs.Store.{Store}
+use Rattle.gate_trails.specs.row_machine.specs.declared.events.Event.TheVariants as event
+use Rattle.gate_trails.specs.row_machine.specs.machine.Step.{well}
+use Rattle.gate_trails.specs.serial_steps.specs.Steps.{Site, Step, Steps, took, reported}
 use Rattle.gate_trails.specs.Chains.{Chain, none, more}
 use Rattle.gate_trails.specs.Trails.{EventBy, RestsTold}
 use Rattle.gate_trails.proofs.Trailing.{chain-one}

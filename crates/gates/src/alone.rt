@@ -1,16 +1,16 @@
 ghost use Rattle.std.specs.Prelude.{◌≡◌, ◌+◌, None, Some};
-ghost use Rattle.core_turns.specs.Turns.{IsServed};
+ghost use Rattle.gate_trails.specs.core_turns.specs.Turns.{IsServed};
 ghost use Rattle.gate_trails.specs.Trails.{RestsTold, capped};
-ghost use Rattle.serial_steps.specs.Steps.{Step, Steps, hosted, serial, site};
+ghost use Rattle.gate_trails.specs.serial_steps.specs.Steps.{Step, Steps, hosted, serial, site};
 ghost use Rattle.gates.specs.Alone.{site_of, told_at};
 
-use core_turns::Daemon;
 use gate_trails::Gate;
-use host_model::{Host, HostCall};
-use http_front::Clock;
-use record_keeper::Keeper;
-use row_machine::{Answer, Event};
-use serial_steps::{facts_hold, go_on};
+use gate_trails::core_turns_crate::Daemon;
+use gate_trails::host_model_crate::{Host, HostCall};
+use gate_trails::http_front_crate::Clock;
+use gate_trails::record_keeper_crate::Keeper;
+use gate_trails::row_machine_crate::{Answer, Event};
+use gate_trails::serial_steps_crate::{facts_hold, go_on};
 use std::alloc::Global;
 use std::mem;
 

@@ -1,10 +1,10 @@
-ghost use Rattle.core_turns.specs.Turns.{IsServed};
+ghost use Rattle.gate_trails.specs.core_turns.specs.Turns.{IsServed};
 ghost use Rattle.gate_trails.specs.Trails.{MayAnswer};
 
-use core_turns::Daemon;
-use record_keeper::Keeper;
-use row_machine::{Answer, Event};
-use serial_steps::facts_hold;
+use gate_trails::core_turns_crate::Daemon;
+use gate_trails::record_keeper_crate::Keeper;
+use gate_trails::row_machine_crate::{Answer, Event};
+use gate_trails::serial_steps_crate::facts_hold;
 use std::alloc::Global;
 use turnstile::Machine;
 

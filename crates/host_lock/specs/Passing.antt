@@ -1,7 +1,7 @@
 -- A call that is passed on to a host, and the count of failures beside it.
 use Rattle.std.specs.Prelude.{◌≡◌, ℕ, ◌+◌, ◌≤◌, min, if◌then◌else◌, Result}
-use Rattle.size_values.specs.declared.memory.Or.{Or}
-use Rattle.size_values.specs.Calls.{has_failed, last_number}
+use Rattle.host_model.specs.size_values.specs.declared.memory.Or.{Or}
+use Rattle.host_model.specs.size_values.specs.Calls.{has_failed, last_number}
 
 -- the count after a call: one more where the call failed; it stops at the last number
 abbrev pub counted : {T E : Type 0} → ℕ → Result T (Or E) → ℕ

@@ -2,8 +2,8 @@ ghost use Rattle.std.specs.Prelude.{◌≡◌, IfOk};
 ghost use Rattle.host_lock.specs.Passing.{counted};
 
 use crate::passing::{counted, pass_on};
+use host_model::size_values_crate::{NoMemory, Or};
 use host_model::{Host, HostCall, HostFailed};
-use size_values::{NoMemory, Or};
 use std::alloc::Global;
 use std::marker::Model;
 use std::sync::{Arc, Mutex, Wait};

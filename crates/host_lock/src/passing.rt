@@ -1,10 +1,10 @@
 ghost use Rattle.std.specs.Prelude.{◌≡◌, option_map, OnErr, OnOk};
-ghost use Rattle.size_values.specs.Causes.{HasCauseOrMemory};
+ghost use Rattle.host_model.specs.size_values.specs.Causes.{HasCauseOrMemory};
 ghost use Rattle.host_model.specs.Effects.{effect_of};
 ghost use Rattle.host_lock.specs.Passing.{counted};
 
+use host_model::size_values_crate::Or;
 use host_model::{Host, HostCall, HostFailed};
-use size_values::Or;
 
 /// Makes one call on the host and answers what it answered. The count rises by one exactly where the call failed; it
 /// stops at 2^64 - 1.

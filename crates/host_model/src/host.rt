@@ -1,10 +1,10 @@
 ghost use Rattle.std.specs.Prelude.{◌≡◌, ℕ, List, Option, option_map, OnOk, OnErr};
-ghost use Rattle.size_values.specs.Causes.{HasCauseOrMemory};
+ghost use Rattle.config_lists.specs.size_values.specs.Causes.{HasCauseOrMemory};
 ghost use Rattle.host_model.specs.declared.root.HostRoot.{HostRoot as HostRootValue};
 ghost use Rattle.host_model.specs.Effects.{effect_of};
 
 use crate::call::HostCall;
-use size_values::Or;
+use config_lists::size_values_crate::Or;
 use thiserror::Error;
 
 /// A call of a host failed.

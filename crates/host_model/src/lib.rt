@@ -2,6 +2,9 @@
 //! modelled host in memory whose listed calls fail.
 #![tactic(auto)]
 
+// The libraries that crates above name through this one.
+pub use config_lists::size_values_crate;
+
 mod call;
 mod effects;
 mod host;

@@ -1,12 +1,12 @@
 ghost use Rattle.std.specs.Prelude.{◌≡◌, ◌+◌, ◌<◌, ◌≤◌, [], length, drop, vec_len, vec_capacity, IfOk, OnErr};
 ghost use Rattle.std.specs.Io.KnownBytes.{IsAtEnd};
-ghost use Rattle.size_values.specs.Causes.{HasCauseOrMemory};
+ghost use Rattle.http_heads.specs.size_values.specs.Causes.{HasCauseOrMemory};
 ghost use Rattle.http_heads.specs.Limits.{max_head, max_body};
 ghost use Rattle.http_front.specs.Streams.{Ends};
 ghost use Rattle.http_front.specs.Held.{TakesIn, max_piece, most_held};
 
 use crate::source::{Source, SourceFailed};
-use size_values::{NoMemory, Or};
+use http_heads::size_values_crate::{NoMemory, Or};
 use std::alloc::Global;
 use std::marker::Model;
 

@@ -2,6 +2,10 @@
 //! outside, `Source`, `Sink` and `Clock`, with an object in memory and one over std or the system for each.
 #![tactic(auto)]
 
+// The libraries that crates above name through this one.
+pub use http_heads as http_heads_crate;
+pub use http_heads::size_values_crate;
+
 mod buffer;
 mod clock;
 mod laws;

@@ -2,6 +2,9 @@
 //! whole text has. The readers take slices, and nothing here reads from outside.
 #![tactic(auto)]
 
+// The libraries that crates above name through this one.
+pub use size_values as size_values_crate;
+
 mod fields;
 mod head;
 mod laws;

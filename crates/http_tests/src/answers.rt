@@ -1,7 +1,7 @@
 //! What calls of `read_request` are to answer.
 
+use http_front::size_values_crate::Seq;
 use http_front::{Buffer, ByteSource, Got, HeadFault, Request, Source, read_request};
-use size_values::Seq;
 use std::alloc::Global;
 
 /// What one call is to answer.

@@ -1,7 +1,7 @@
 //! Clocks.
 
+use http_front::size_values_crate::MOMENT_LIMIT;
 use http_front::{Clock, StillClock, SystemClock};
-use size_values::MOMENT_LIMIT;
 use std::time::Duration;
 use std::{io, time};
 

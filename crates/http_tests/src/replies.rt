@@ -1,7 +1,7 @@
 //! Replies, and their bytes.
 
+use http_front::size_values_crate::{NoMemory, Seq, Text};
 use http_front::{Printed, no_memory_reply, reply_bytes};
-use size_values::{NoMemory, Seq, Text};
 use std::alloc::Global;
 
 /// The parts of replies, and their bytes.

@@ -2,8 +2,8 @@
 
 use crate::answers::Want::{Cut, Next, ReadFault};
 use crate::answers::{Want, answers_all};
+use http_front::size_values_crate::Seq;
 use http_front::{ByteSink, ReaderSource, Sink, Source, WriterSink};
-use size_values::Seq;
 use std::alloc::Global;
 use std::io;
 use std::io::{ErrorKind, Read, Write};

@@ -1,8 +1,8 @@
 //! Heads, and the key of the WebSocket handshake that each of them asks for.
 
+use http_front::http_heads_crate::read_head;
+use http_front::size_values_crate::{NoMemory, Seq};
 use http_front::{Buffer, ByteSource, Got, read_request};
-use http_heads::read_head;
-use size_values::{NoMemory, Seq};
 use std::alloc::Global;
 
 const GET: &str = "GET /1.0/events HTTP/1.1\n";

@@ -3,10 +3,10 @@ ghost use Rattle.std.specs.Prelude.{◌≤◌, length};
 ghost use Rattle.event_hub.specs.Short.{most_bytes};
 ghost use Rattle.event_hub.specs.Telling.{IsShort};
 
+use event_hub::records_crate::{Filter, Life, Notice, OpFault, Status, Told, Untold};
+use event_hub::row_machine_crate::Fetched;
+use event_hub::size_values_crate::{NoMemory, ObjectKind, Text};
 use event_hub::{About, Hub, Progress};
-use records::{Filter, Life, Notice, OpFault, Status, Told, Untold};
-use row_machine::Fetched;
-use size_values::{NoMemory, ObjectKind, Text};
 use std::alloc::Global;
 
 /// A notice of a project: of an action, or of an operation.

@@ -3,10 +3,10 @@
 //! (`serve_words::serve_usage`).
 #![tactic(auto)]
 
-use serve_words::serve_usage;
-use start_faults::StartFault;
-use start_telling::{fault_of, tell, words_of};
 use std::process::ExitCode;
+use threaded_server::serve_words_crate::serve_usage;
+use threaded_server::start_faults_crate::StartFault;
+use threaded_server::start_telling_crate::{fault_of, tell, words_of};
 use threaded_server::{serve, tell_end};
 
 fn main(rt: HostRuntime) -> ExitCode {

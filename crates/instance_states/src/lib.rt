@@ -1,6 +1,10 @@
 //! The state table of instances, the plan of host calls of each deed, and the numbers in the names of snapshots.
 #![tactic(auto)]
 
+// The libraries that crates above name through this one.
+pub use host_model as host_model_crate;
+pub use host_model::size_values_crate;
+
 mod numbers;
 mod plan;
 mod states;

@@ -1,11 +1,11 @@
 //! Where the roots of instances stand, and the calls that make new ones.
 ghost use Rattle.std.specs.Prelude.{◌≡◌, IfOk, OnOk, ◌++◌, ◌∷◌, []};
-ghost use Rattle.host_model.specs.declared.call.HostCall.TheVariants as call;
-ghost use Rattle.row_machine.specs.machine.HostCalls.{place_of, create_calls, copy_calls};
+ghost use Rattle.new_rows.specs.host_model.specs.declared.call.HostCall.TheVariants as call;
+ghost use Rattle.new_rows.specs.row_machine.specs.machine.HostCalls.{place_of, create_calls, copy_calls};
 
 use crate::pairs::zip_or_drop;
-use host_model::{HostCall, Place};
-use size_values::{NoMemory, Seq, Text};
+use new_rows::host_model_crate::{HostCall, Place};
+use new_rows::size_values_crate::{NoMemory, Seq, Text};
 use std::alloc::Global;
 
 /// Where the root of an instance stands.

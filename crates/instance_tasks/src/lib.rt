@@ -2,6 +2,10 @@
 //! parts serves other operations too.
 #![tactic(auto)]
 
+// The libraries that crates above name through this one.
+pub use new_rows as new_rows_crate;
+pub use row_readings as row_readings_crate;
+
 mod calls;
 mod making;
 mod pairs;

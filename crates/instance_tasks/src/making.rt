@@ -1,14 +1,14 @@
 //! The rows that the creation of an instance makes.
 ghost use Rattle.std.specs.Prelude.{◌≡◌, IfOk, ◌∷◌, [], unwrap_or};
-ghost use Rattle.row_machine.specs.machine.Rows.{default_name};
-ghost use Rattle.row_machine.specs.machine.NewRows.{new_description, new_config, new_devices, patched_config};
-ghost use Rattle.row_machine.specs.machine.NewRows.{patched_devices, image_of, made_instance, copied_instance};
+ghost use Rattle.new_rows.specs.row_machine.specs.machine.Rows.{default_name};
+ghost use Rattle.new_rows.specs.row_machine.specs.machine.NewRows.{new_description, new_config, new_devices, patched_config};
+ghost use Rattle.new_rows.specs.row_machine.specs.machine.NewRows.{patched_devices, image_of, made_instance, copied_instance};
 
 use crate::pairs::zip_or_drop;
-use config_lists::{Config, Devices};
+use new_rows::config_lists_crate::{Config, Devices};
+use new_rows::records_crate::{Body, Instance, Origin};
+use new_rows::size_values_crate::{Kind, NoMemory, Seq, Text};
 use new_rows::{new_config, new_description, new_devices, patched_config, patched_devices};
-use records::{Body, Instance, Origin};
-use size_values::{Kind, NoMemory, Seq, Text};
 use std::alloc::Global;
 
 /// The alias or fingerprint of an image.

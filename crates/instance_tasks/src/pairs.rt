@@ -1,6 +1,6 @@
 ghost use Rattle.std.specs.Prelude.{◌≡◌, IfOk};
 
-use size_values::NoMemory;
+use new_rows::size_values_crate::NoMemory;
 
 /// Both values, where there was memory for both. Neither is then alive where the other one is missing.
 pub fn zip_or_drop<A: Drop, B: Drop>(

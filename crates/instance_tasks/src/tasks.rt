@@ -1,23 +1,23 @@
 //! What the creation of an instance does in the background, and the row that it claims.
 ghost use Rattle.std.specs.Prelude.{◌≡◌, IfOk, Some};
 ghost use Rattle.std.specs.Option.{option_copied};
-ghost use Rattle.size_values.specs.declared.kinds.Deed.TheVariants as deed;
-ghost use Rattle.host_model.specs.declared.call.HostCall.TheVariants as call;
-ghost use Rattle.records.specs.declared.rows.Row.TheVariants as row_of;
-ghost use Rattle.row_machine.specs.machine.NewRows.{source_instance, source_snapshot};
-ghost use Rattle.row_machine.specs.machine.HostCalls.{place_of, create_calls, copy_calls};
-ghost use Rattle.row_machine.specs.machine.Plans.{instance_target, snapshot_target, copy_from, instance_creation};
-ghost use Rattle.row_machine.specs.machine.Tasks.{plain_task, creation_task, copy};
+ghost use Rattle.new_rows.specs.size_values.specs.declared.kinds.Deed.TheVariants as deed;
+ghost use Rattle.new_rows.specs.host_model.specs.declared.call.HostCall.TheVariants as call;
+ghost use Rattle.new_rows.specs.records.specs.declared.rows.Row.TheVariants as row_of;
+ghost use Rattle.new_rows.specs.row_machine.specs.machine.NewRows.{source_instance, source_snapshot};
+ghost use Rattle.new_rows.specs.row_machine.specs.machine.HostCalls.{place_of, create_calls, copy_calls};
+ghost use Rattle.new_rows.specs.row_machine.specs.machine.Plans.{instance_target, snapshot_target, copy_from, instance_creation};
+ghost use Rattle.new_rows.specs.row_machine.specs.machine.Tasks.{plain_task, creation_task, copy};
 ghost use Rattle.instance_tasks.specs.Planned.{planned};
 
 use crate::calls::{copy_calls, create_calls, place_of};
 use crate::making::{Source, copied_instance, image_of, made_instance};
 use crate::pairs::zip_or_drop;
-use host_model::{HostCall, Place};
-use records::{Body, Instance, Origin, Row, Snapshot, Target};
-use row_machine::Work;
+use new_rows::host_model_crate::{HostCall, Place};
+use new_rows::records_crate::{Body, Instance, Origin, Row, Snapshot, Target};
+use new_rows::row_machine_crate::Work;
+use new_rows::size_values_crate::{Deed, NoMemory, ObjectKind, Seq, Text};
 use row_readings::View;
-use size_values::{Deed, NoMemory, ObjectKind, Seq, Text};
 use std::alloc::Global;
 
 /// What a task is about, where the new root will stand, and the calls that make it.

@@ -1,5 +1,7 @@
-use host_model::{Host, HostCall, HostFailed, HostRoot, ModelHost, Place, Report, Spec, perform};
-use size_values::{NoMemory, Or, Power, Seq, Text};
+use instance_states::host_model_crate::{
+    Host, HostCall, HostFailed, HostRoot, ModelHost, Place, Report, Spec, perform,
+};
+use instance_states::size_values_crate::{NoMemory, Or, Power, Seq, Text};
 use std::alloc::Global;
 
 /// A host that does not tell its roots and always fails, with a count of faults at its last value.

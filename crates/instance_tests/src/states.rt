@@ -1,5 +1,5 @@
+use instance_states::size_values_crate::{Action, Deed, Power};
 use instance_states::{CallName, Plan, after, is_allowed, plan_of};
-use size_values::{Action, Deed, Power};
 
 /// A deed, its calls, and the call that takes them back.
 type Case = (Deed, CallName, Option<CallName>, Option<CallName>);

@@ -1,12 +1,12 @@
 -- What the commit of a change does to the store.
 use Rattle.std.specs.Prelude.{◌≡◌, List, Result, Ok, Err}
-use Rattle.size_values.specs.declared.entry.EntryChange.{EntryChange}
-use Rattle.size_values.specs.declared.memory.Or.{Or}
-use Rattle.size_values.specs.declared.memory.Or.TheVariants as or
-use Rattle.record_keeper.specs.Store.{Store, FailsAtCall, IsAfterUpTo, after_commit}
-use Rattle.records.specs.declared.refusals.Rule.TheVariants as rule
-use Rattle.records.specs.declared.refusals.Refusal.{Refusal}
-use Rattle.row_machine.specs.machine.Refusals.{plain_refusal}
+use Rattle.setting_rules.specs.size_values.specs.declared.entry.EntryChange.{EntryChange}
+use Rattle.setting_rules.specs.size_values.specs.declared.memory.Or.{Or}
+use Rattle.setting_rules.specs.size_values.specs.declared.memory.Or.TheVariants as or
+use Rattle.kept_totals.specs.record_keeper.specs.Store.{Store, FailsAtCall, IsAfterUpTo, after_commit}
+use Rattle.setting_rules.specs.records.specs.declared.refusals.Rule.TheVariants as rule
+use Rattle.setting_rules.specs.records.specs.declared.refusals.Refusal.{Refusal}
+use Rattle.setting_rules.specs.row_machine.specs.machine.Refusals.{plain_refusal}
 
 -- Entries were changed in one call to the store; or that call failed, which is told; or memory was refused, before it or in it.
 abbrev pub Commits : {T : Type 0} → Result T (Or Refusal) → List EntryChange → Store → Store → Type 0

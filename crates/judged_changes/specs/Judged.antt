@@ -1,24 +1,24 @@
 -- What changes of rows and new operations break, and the reply that tells it.
 use Rattle.std.specs.Prelude.{ℕ, List, [], ◌∷◌, Option, option_map}
 use Rattle.std.specs.Option.{option_to_list}
-use Rattle.plain_lists.specs.Firsts.{first}
-use Rattle.size_values.specs.declared.amounts.Amounts.{Amounts}
-use Rattle.size_values.specs.declared.memory.Or.{Or}
-use Rattle.size_values.specs.declared.memory.Or.TheVariants as or
-use Rattle.operations.specs.declared.faults.EnterFault.{EnterFault}
-use Rattle.records.specs.declared.commands.Command.{Command}
-use Rattle.records.specs.declared.refusals.Refusal.{Refusal}
-use Rattle.records.specs.declared.replies.Reply.{Reply}
-use Rattle.records.specs.declared.replies.Reply.TheVariants as reply
-use Rattle.records.specs.declared.rows.Row.{Row}
-use Rattle.row_machine.specs.machine.State.{State}
-use Rattle.row_machine.specs.machine.SettingRules.{settings_broken}
-use Rattle.row_machine.specs.machine.PolicyRules.{policy_broken, snapshot_blocked}
-use Rattle.row_machine.specs.machine.LimitRules.{counts_broken, limits_broken}
-use Rattle.row_machine.specs.machine.TableRules.{enter_refusal, tables_broken}
-use Rattle.row_machine.specs.machine.Task.{Task}
-use Rattle.limit_rules.specs.Alone.{claim_uncounts, share_broken}
-use Rattle.policy_rules.specs.Alone.{claim_forbidden}
+use Rattle.setting_rules.specs.plain_lists.specs.Firsts.{first}
+use Rattle.setting_rules.specs.size_values.specs.declared.amounts.Amounts.{Amounts}
+use Rattle.setting_rules.specs.size_values.specs.declared.memory.Or.{Or}
+use Rattle.setting_rules.specs.size_values.specs.declared.memory.Or.TheVariants as or
+use Rattle.setting_rules.specs.operations.specs.declared.faults.EnterFault.{EnterFault}
+use Rattle.setting_rules.specs.records.specs.declared.commands.Command.{Command}
+use Rattle.setting_rules.specs.records.specs.declared.refusals.Refusal.{Refusal}
+use Rattle.setting_rules.specs.records.specs.declared.replies.Reply.{Reply}
+use Rattle.setting_rules.specs.records.specs.declared.replies.Reply.TheVariants as reply
+use Rattle.setting_rules.specs.records.specs.declared.rows.Row.{Row}
+use Rattle.setting_rules.specs.row_machine.specs.machine.State.{State}
+use Rattle.setting_rules.specs.row_machine.specs.machine.SettingRules.{settings_broken}
+use Rattle.setting_rules.specs.row_machine.specs.machine.PolicyRules.{policy_broken, snapshot_blocked}
+use Rattle.setting_rules.specs.row_machine.specs.machine.LimitRules.{counts_broken, limits_broken}
+use Rattle.setting_rules.specs.row_machine.specs.machine.TableRules.{enter_refusal, tables_broken}
+use Rattle.setting_rules.specs.row_machine.specs.machine.Task.{Task}
+use Rattle.kept_totals.specs.limit_rules.specs.Alone.{claim_uncounts, share_broken}
+use Rattle.kept_totals.specs.policy_rules.specs.Alone.{claim_forbidden}
 
 -- the first rule that changes break which put these rows, judged over the state after them
 unfoldable pub changes_judged : State → State → List Row → Option Refusal

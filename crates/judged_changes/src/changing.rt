@@ -1,31 +1,31 @@
 //! The parts of a change: what it needs is made ready, it is judged by the state after it, and it is committed or given up.
 ghost use Rattle.std.specs.Prelude.{◌≡◌, [], IfOk, OnOk};
 ghost use Rattle.std.specs.List.{AllByRecursion};
-ghost use Rattle.size_values.specs.Causes.{Says};
-ghost use Rattle.records.specs.declared.refusals.Rule.TheVariants as rule_of;
-ghost use Rattle.row_machine.specs.machine.Changes.{applied, rows_put};
-ghost use Rattle.row_machine.specs.machine.Refusals.{plain_refusal};
-ghost use Rattle.row_machine.specs.machine.State.{State};
-ghost use Rattle.limit_rules.specs.Exceeding.{Serves};
-ghost use Rattle.row_drafts.specs.Drafted.{former, IsReady};
-ghost use Rattle.machine_laws.specs.Entries.{entry_changes};
-ghost use Rattle.work_reports.specs.Entries.{HasEntry};
+ghost use Rattle.setting_rules.specs.size_values.specs.Causes.{Says};
+ghost use Rattle.setting_rules.specs.records.specs.declared.refusals.Rule.TheVariants as rule_of;
+ghost use Rattle.setting_rules.specs.row_machine.specs.machine.Changes.{applied, rows_put};
+ghost use Rattle.setting_rules.specs.row_machine.specs.machine.Refusals.{plain_refusal};
+ghost use Rattle.setting_rules.specs.row_machine.specs.machine.State.{State};
+ghost use Rattle.kept_totals.specs.limit_rules.specs.Exceeding.{Serves};
+ghost use Rattle.kept_totals.specs.row_drafts.specs.Drafted.{former, IsReady};
+ghost use Rattle.kept_totals.specs.machine_laws.specs.Entries.{entry_changes};
+ghost use Rattle.kept_totals.specs.work_reports.specs.Entries.{HasEntry};
 ghost use Rattle.judged_changes.specs.Judged.{changes_judged, reply_for};
 ghost use Rattle.judged_changes.specs.Commits.{Commits};
 
-use limit_rules::{Usage, counts_broken, limits_broken, usage_before_changes};
-use policy_rules::policy_broken;
-use record_keeper::Keeper;
-use records::{Refusal, Reply, Rule};
-use row_drafts::Draft;
-use row_machine::RowChange;
-use row_readings::View;
-use rule_refusals::nothing_told;
+use kept_totals::limit_rules_crate::{Usage, counts_broken, limits_broken, usage_before_changes};
+use kept_totals::policy_rules_crate::policy_broken;
+use kept_totals::record_keeper_crate::Keeper;
+use kept_totals::row_drafts_crate::Draft;
+use kept_totals::work_reports_crate::entry_changes;
+use setting_rules::records_crate::{Refusal, Reply, Rule};
+use setting_rules::row_machine_crate::RowChange;
+use setting_rules::row_readings_crate::View;
+use setting_rules::rule_refusals_crate::nothing_told;
 use setting_rules::settings_broken;
-use size_values::{NoMemory, Or, Seq};
+use setting_rules::size_values_crate::{NoMemory, Or, Seq};
 use std::alloc::Global;
 use table_rules::tables_broken;
-use work_reports::entry_changes;
 
 /// The reply that tells a refusal, or that memory was refused.
 pub fn refused_reply(why: Or<Refusal>) -> Reply

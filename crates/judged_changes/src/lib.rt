@@ -2,6 +2,10 @@
 //! judged by the state after them, and committed or given up.
 #![tactic(auto)]
 
+// The libraries that crates above name through this one.
+pub use kept_totals as kept_totals_crate;
+pub use kept_totals::{record_keeper_crate, row_drafts_crate, work_reports_crate};
+
 mod changing;
 mod starting;
 

@@ -1,6 +1,6 @@
 //! Lines of a run, and the bytes for which they stand.
 
-use size_values::NoMemory;
+use serial_run::size_values_crate::NoMemory;
 use std::alloc::Global;
 
 /// Whether a line is a reply: it begins with its code.

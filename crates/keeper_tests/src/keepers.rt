@@ -1,6 +1,6 @@
 //! What a keeper in memory keeps, and which of its calls fail.
+use record_keeper::size_values_crate::{Entry, EntryChange, NoMemory, Or, Seq, Text};
 use record_keeper::{Keeper, KeeperFailed, MapKeeper};
-use size_values::{Entry, EntryChange, NoMemory, Or, Seq, Text};
 use std::alloc::Global;
 
 /// An entry as a kind, a key and a body of one byte. As a change, a body of 0 removes the entry of that kind and key.

@@ -6,36 +6,36 @@ use Rattle.std.specs.Str.{bytes_eq}
 use Rattle.std.specs.Option.{option_map, option_and_then, is_some, is_none}
 use Rattle.std.proofs.lemmas.Bool.Decides.{nat_tests}
 use Rattle.std.proofs.lemmas.List.Sums.{sum_by-append}
-use Rattle.plain_lists.specs.Firsts.{first_of}
-use Rattle.plain_lists.specs.Members.{Mem, Each}
-use Rattle.plain_lists.proofs.Elements.{Mem-left, Mem-append, Each-none, Each-cons, Each-left, Each-map}
-use Rattle.plain_lists.proofs.FirstLemmas.{none-first_of}
-use Rattle.plain_lists.proofs.Searches.{find-some, find-mem}
-use Rattle.config_lists.proofs.Keys.{same}
-use Rattle.size_values.specs.Amounts.{amount_above}
-use Rattle.size_values.specs.declared.amounts.Part.{Part}
-use Rattle.project_limits.specs.Admission.{limit_on, key_of, parts}
-use Rattle.project_limits.specs.declared.admission.LimitKey.{LimitKey}
-use Rattle.project_limits.specs.declared.admission.LimitKey.TheVariants as limit_key
-use Rattle.project_limits.specs.Limits.{limits_of}
-use Rattle.records.specs.declared.refusals.Rule.{Rule}
-use Rattle.records.specs.declared.refusals.Rule.TheVariants as rule
-use Rattle.records.specs.declared.refusals.Refusal.{Refusal}
-use Rattle.records.specs.declared.rows.Project.{Project}
-use Rattle.records.specs.declared.rows.Volume.{Volume}
-use Rattle.records.specs.declared.rows.Instance.{Instance}
-use Rattle.records.specs.declared.rows.Row.{Row}
-use Rattle.row_machine.specs.machine.State.{State}
-use Rattle.row_machine.specs.machine.Rows.{default_name, project_named, profile_named, is_project, project_names}
-use Rattle.row_machine.specs.machine.Homes.{is_on}
-use Rattle.row_machine.specs.machine.Expansions.{expanded_of}
-use Rattle.row_machine.specs.machine.Claims.{judged_instances, judged_volumes, amounts_of_instance, of_live, claimed_instance, claimed_volume, claimed_snapshot}
-use Rattle.row_machine.specs.machine.Usage.{used, networks_of, loads, amount_for, instance_load, volume_load, claim_load}
-use Rattle.row_machine.specs.machine.SettingRules.{root_missing, profile_missing, devices_miss}
-use Rattle.row_machine.specs.machine.PolicyRules.{forbids_profile, forbids_instance}
-use Rattle.row_machine.specs.machine.LimitRules.{limit_exceeded, part_exceeds, networks_exceed, limits_broken, instance_uncounted, volume_uncounts}
-use Rattle.row_machine.specs.opening.Opening.{if_so, rule_of, home_missing, parent_row_missing, profiles_malformed, defaults_missing, settings_invalid, devices_invalid, root_disk_missing, named_row_missing, has_all_features, forbidden, uncountable}
-use Rattle.row_machine.specs.facts.Whole.{IsWhole, IsLinked, IsWithin, AreWithin, claims_of}
+use Rattle.row_sizes.specs.plain_lists.specs.Firsts.{first_of}
+use Rattle.row_sizes.specs.plain_lists.specs.Members.{Mem, Each}
+use Rattle.row_sizes.specs.plain_lists.proofs.Elements.{Mem-left, Mem-append, Each-none, Each-cons, Each-left, Each-map}
+use Rattle.row_sizes.specs.plain_lists.proofs.FirstLemmas.{none-first_of}
+use Rattle.row_sizes.specs.plain_lists.proofs.Searches.{find-some, find-mem}
+use Rattle.row_sizes.specs.config_lists.proofs.Keys.{same}
+use Rattle.row_sizes.specs.size_values.specs.Amounts.{amount_above}
+use Rattle.row_sizes.specs.size_values.specs.declared.amounts.Part.{Part}
+use Rattle.machine_laws.specs.project_limits.specs.Admission.{limit_on, key_of, parts}
+use Rattle.machine_laws.specs.project_limits.specs.declared.admission.LimitKey.{LimitKey}
+use Rattle.machine_laws.specs.project_limits.specs.declared.admission.LimitKey.TheVariants as limit_key
+use Rattle.machine_laws.specs.project_limits.specs.Limits.{limits_of}
+use Rattle.row_sizes.specs.records.specs.declared.refusals.Rule.{Rule}
+use Rattle.row_sizes.specs.records.specs.declared.refusals.Rule.TheVariants as rule
+use Rattle.row_sizes.specs.records.specs.declared.refusals.Refusal.{Refusal}
+use Rattle.row_sizes.specs.records.specs.declared.rows.Project.{Project}
+use Rattle.row_sizes.specs.records.specs.declared.rows.Volume.{Volume}
+use Rattle.row_sizes.specs.records.specs.declared.rows.Instance.{Instance}
+use Rattle.row_sizes.specs.records.specs.declared.rows.Row.{Row}
+use Rattle.machine_laws.specs.row_machine.specs.machine.State.{State}
+use Rattle.machine_laws.specs.row_machine.specs.machine.Rows.{default_name, project_named, profile_named, is_project, project_names}
+use Rattle.machine_laws.specs.row_machine.specs.machine.Homes.{is_on}
+use Rattle.machine_laws.specs.row_machine.specs.machine.Expansions.{expanded_of}
+use Rattle.machine_laws.specs.row_machine.specs.machine.Claims.{judged_instances, judged_volumes, amounts_of_instance, of_live, claimed_instance, claimed_volume, claimed_snapshot}
+use Rattle.machine_laws.specs.row_machine.specs.machine.Usage.{used, networks_of, loads, amount_for, instance_load, volume_load, claim_load}
+use Rattle.machine_laws.specs.row_machine.specs.machine.SettingRules.{root_missing, profile_missing, devices_miss}
+use Rattle.machine_laws.specs.row_machine.specs.machine.PolicyRules.{forbids_profile, forbids_instance}
+use Rattle.machine_laws.specs.row_machine.specs.machine.LimitRules.{limit_exceeded, part_exceeds, networks_exceed, limits_broken, instance_uncounted, volume_uncounts}
+use Rattle.machine_laws.specs.row_machine.specs.opening.Opening.{if_so, rule_of, home_missing, parent_row_missing, profiles_malformed, defaults_missing, settings_invalid, devices_invalid, root_disk_missing, named_row_missing, has_all_features, forbidden, uncountable}
+use Rattle.machine_laws.specs.row_machine.specs.facts.Whole.{IsWhole, IsLinked, IsWithin, AreWithin, claims_of}
 use Rattle.machine_laws.proofs.NamesRise.{Rise-Distinct}
 use Rattle.machine_laws.proofs.NamesRows.{EachRow, rows-each, each-row}
 use Rattle.machine_laws.proofs.LimitsLess.{IsLess, within-less}

@@ -2,19 +2,19 @@
 use Rattle.std.proofs.Common.{◌≡◌, true, Option, Some, None, List, [], ◌∷◌, refl, sym, ap, subst, ◌∙◌}
 use Rattle.std.specs.Prelude.{unwrap_or}
 use Rattle.std.specs.Option.{option_map}
-use Rattle.plain_lists.specs.Members.{Mem, Each}
-use Rattle.plain_lists.proofs.Elements.{Mem-map}
-use Rattle.plain_lists.proofs.Searches.{find-some}
-use Rattle.size_values.specs.declared.entry.Entry.{Entry}
-use Rattle.records.specs.declared.rows.Project.{Project}
-use Rattle.records.specs.declared.rows.Row.TheVariants as row
-use Rattle.row_codec.specs.Rows.{HasTypedParts}
-use Rattle.row_codec.specs.Spelling.{entry_of}
-use Rattle.row_machine.specs.machine.State.{State}
-use Rattle.row_machine.specs.machine.Rows.{default_name, project_named, is_project}
-use Rattle.row_machine.specs.opening.Records.{rows_of, records_of}
-use Rattle.row_machine.specs.opening.Opening.{opened, has_all_features, rows_in, rows_break, with_rows, opening_with, opening_by, opening_of}
-use Rattle.row_machine.specs.facts.Whole.{IsWhole}
+use Rattle.row_sizes.specs.plain_lists.specs.Members.{Mem, Each}
+use Rattle.row_sizes.specs.plain_lists.proofs.Elements.{Mem-map}
+use Rattle.row_sizes.specs.plain_lists.proofs.Searches.{find-some}
+use Rattle.row_sizes.specs.size_values.specs.declared.entry.Entry.{Entry}
+use Rattle.row_sizes.specs.records.specs.declared.rows.Project.{Project}
+use Rattle.row_sizes.specs.records.specs.declared.rows.Row.TheVariants as row
+use Rattle.row_sizes.specs.row_codec.specs.Rows.{HasTypedParts}
+use Rattle.row_sizes.specs.row_codec.specs.Spelling.{entry_of}
+use Rattle.machine_laws.specs.row_machine.specs.machine.State.{State}
+use Rattle.machine_laws.specs.row_machine.specs.machine.Rows.{default_name, project_named, is_project}
+use Rattle.machine_laws.specs.row_machine.specs.opening.Records.{rows_of, records_of}
+use Rattle.machine_laws.specs.row_machine.specs.opening.Opening.{opened, has_all_features, rows_in, rows_break, with_rows, opening_with, opening_by, opening_of}
+use Rattle.machine_laws.specs.row_machine.specs.facts.Whole.{IsWhole}
 use Rattle.machine_laws.proofs.NamesRows.{EachRow, each-row}
 use Rattle.kept_laws.specs.Reopening.{reopened, KeptRowsOpen}
 use Rattle.kept_laws.proofs.Sections.{sorted_rows, records-spelled, to-rows}

@@ -1,11 +1,11 @@
 -- The entries of rows that have spellings are read as these rows.
 use Rattle.std.proofs.Common.{◌≡◌, Ok, List, [], ◌∷◌, map, refl}
-use Rattle.plain_lists.specs.Members.{Each}
-use Rattle.plain_lists.proofs.Elements.{Each-head, Each-tail}
-use Rattle.records.specs.declared.rows.Row.{Row}
-use Rattle.row_codec.specs.Spelling.{entry_of}
-use Rattle.row_codec.specs.Reading.{row_of}
-use Rattle.row_machine.specs.opening.Opening.{rows_in}
+use Rattle.row_sizes.specs.plain_lists.specs.Members.{Each}
+use Rattle.row_sizes.specs.plain_lists.proofs.Elements.{Each-head, Each-tail}
+use Rattle.row_sizes.specs.records.specs.declared.rows.Row.{Row}
+use Rattle.row_sizes.specs.row_codec.specs.Spelling.{entry_of}
+use Rattle.row_sizes.specs.row_codec.specs.Reading.{row_of}
+use Rattle.machine_laws.specs.row_machine.specs.opening.Opening.{rows_in}
 
 -- a row that is read off its entry
 abbrev pub ReadsBack : Row → Type 0

@@ -1,22 +1,22 @@
 -- The rows of a state in the order of their entries, put one after the other, make the state that is opened again.
 use Rattle.std.proofs.Common.{◌≡◌, false, Ok, [], map, sym, ap, subst, ◌∙◌}
-use Rattle.plain_lists.specs.Members.{Mem, Each}
-use Rattle.plain_lists.proofs.Elements.{Mem-left, Mem-map, Mem-from_map}
-use Rattle.operations.specs.Kept.{no_operations}
-use Rattle.reservations.specs.Holdings.{no_books}
-use Rattle.record_keeper.specs.Entries.{IsOrderedEntries}
-use Rattle.records.specs.declared.rows.Row.{Row}
-use Rattle.records.specs.declared.rows.Row.TheVariants as row
-use Rattle.row_codec.specs.Rows.{HasTypedParts}
-use Rattle.row_codec.specs.Spelling.{entry_of}
-use Rattle.row_codec.specs.Reading.{row_of}
-use Rattle.row_codec.proofs.Entries.{row_spelled}
+use Rattle.row_sizes.specs.plain_lists.specs.Members.{Mem, Each}
+use Rattle.row_sizes.specs.plain_lists.proofs.Elements.{Mem-left, Mem-map, Mem-from_map}
+use Rattle.row_sizes.specs.operations.specs.Kept.{no_operations}
+use Rattle.machine_laws.specs.reservations.specs.Holdings.{no_books}
+use Rattle.machine_laws.specs.record_keeper.specs.Entries.{IsOrderedEntries}
+use Rattle.row_sizes.specs.records.specs.declared.rows.Row.{Row}
+use Rattle.row_sizes.specs.records.specs.declared.rows.Row.TheVariants as row
+use Rattle.row_sizes.specs.row_codec.specs.Rows.{HasTypedParts}
+use Rattle.row_sizes.specs.row_codec.specs.Spelling.{entry_of}
+use Rattle.row_sizes.specs.row_codec.specs.Reading.{row_of}
+use Rattle.row_sizes.specs.row_codec.proofs.Entries.{row_spelled}
 use Rattle.row_sizes.proofs.ShortParts.{short-parts}
-use Rattle.row_machine.specs.machine.State.{State, empty_state}
-use Rattle.row_machine.specs.machine.Rows.{project_names, profile_names, network_names, pool_names, volume_names, instance_names, snapshot_names}
-use Rattle.row_machine.specs.opening.Records.{rows_of, records_of}
-use Rattle.row_machine.specs.opening.Opening.{with_rows, rows_in}
-use Rattle.row_machine.specs.facts.Whole.{IsWhole, AreNamed, claims_of}
+use Rattle.machine_laws.specs.row_machine.specs.machine.State.{State, empty_state}
+use Rattle.machine_laws.specs.row_machine.specs.machine.Rows.{project_names, profile_names, network_names, pool_names, volume_names, instance_names, snapshot_names}
+use Rattle.machine_laws.specs.row_machine.specs.opening.Records.{rows_of, records_of}
+use Rattle.machine_laws.specs.row_machine.specs.opening.Opening.{with_rows, rows_in}
+use Rattle.machine_laws.specs.row_machine.specs.facts.Whole.{IsWhole, AreNamed, claims_of}
 use Rattle.machine_laws.proofs.NamesRows.{EachRow, rows-each, each-row}
 use Rattle.machine_laws.proofs.RecordsOrdered.{records-ordered}
 use Rattle.machine_laws.proofs.OpeningRows.{IsKeyed, with_all, with_rows-is, only-rows, rows-named, rows_alone, opened-alone}

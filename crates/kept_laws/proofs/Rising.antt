@@ -1,9 +1,9 @@
 -- Two lists that rise by their names and have the same elements are the same list.
 use Rattle.std.proofs.Common.{◌≡◌, ℕ, true, List, [], ◌∷◌, refl, sym, ap, ◌∙◌, inl, inr}
-use Rattle.plain_lists.specs.Members.{Mem, Each}
-use Rattle.plain_lists.proofs.Elements.{Each-none, Each-cons, Each-head}
-use Rattle.row_machine.specs.machine.Rows.{texts_before}
-use Rattle.row_machine.specs.facts.Whole.{Rise}
+use Rattle.row_sizes.specs.plain_lists.specs.Members.{Mem, Each}
+use Rattle.row_sizes.specs.plain_lists.proofs.Elements.{Each-none, Each-cons, Each-head}
+use Rattle.machine_laws.specs.row_machine.specs.machine.Rows.{texts_before}
+use Rattle.machine_laws.specs.row_machine.specs.facts.Whole.{Rise}
 use Rattle.machine_laws.proofs.NamesRise.{before_trans, Rise-Distinct}
 
 module _ {X : Type 0} (names : X → List (List ℕ)) where

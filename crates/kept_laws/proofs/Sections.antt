@@ -3,17 +3,17 @@
 use Rattle.std.proofs.Common.{◌≡◌, ℕ, suc, ◌+◌, ◌==◌, ◌≤◌, Bool, true, false, cond, List, [], ◌∷◌, ◌++◌, map, length, refl, sym, ap, ◌∙◌, inl, inr, arith, length-append}
 use Rattle.std.proofs.lemmas.List.{map-append, length-map}
 use Rattle.std.proofs.lemmas.List.Elements.{filter-append}
-use Rattle.plain_lists.specs.Members.{Mem, Each}
-use Rattle.plain_lists.proofs.Elements.{Mem-left, Mem-right, Mem-append, Mem-from_map, Each-map}
-use Rattle.size_values.specs.declared.entry.Entry.{Entry}
-use Rattle.size_values.specs.declared.kinds.ObjectKind.{ObjectKind}
-use Rattle.size_values.specs.declared.kinds.ObjectKind.TheVariants as kind
-use Rattle.records.specs.declared.rows.Row.{Row}
-use Rattle.records.specs.declared.rows.Row.TheVariants as row
-use Rattle.row_codec.specs.Spelling.{entry_of, kind_of}
-use Rattle.row_machine.specs.machine.State.{State}
-use Rattle.row_machine.specs.machine.TableRules.{count_of}
-use Rattle.row_machine.specs.opening.Records.{entries_in, rows_of, records_of}
+use Rattle.row_sizes.specs.plain_lists.specs.Members.{Mem, Each}
+use Rattle.row_sizes.specs.plain_lists.proofs.Elements.{Mem-left, Mem-right, Mem-append, Mem-from_map, Each-map}
+use Rattle.row_sizes.specs.size_values.specs.declared.entry.Entry.{Entry}
+use Rattle.row_sizes.specs.size_values.specs.declared.kinds.ObjectKind.{ObjectKind}
+use Rattle.row_sizes.specs.size_values.specs.declared.kinds.ObjectKind.TheVariants as kind
+use Rattle.row_sizes.specs.records.specs.declared.rows.Row.{Row}
+use Rattle.row_sizes.specs.records.specs.declared.rows.Row.TheVariants as row
+use Rattle.row_sizes.specs.row_codec.specs.Spelling.{entry_of, kind_of}
+use Rattle.machine_laws.specs.row_machine.specs.machine.State.{State}
+use Rattle.machine_laws.specs.row_machine.specs.machine.TableRules.{count_of}
+use Rattle.machine_laws.specs.row_machine.specs.opening.Records.{entries_in, rows_of, records_of}
 use Rattle.machine_laws.specs.Entries.{number_of}
 use Rattle.machine_laws.proofs.RecordsPlaces.{filter-all, filter-none}
 use Rattle.machine_laws.proofs.OpeningRows.{of_kind}

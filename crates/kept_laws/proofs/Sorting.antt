@@ -1,13 +1,13 @@
 -- Rows in the order of their keys: their entries are in order, and they are the same rows.
 use Rattle.std.proofs.Common.{◌≡◌, List, [], ◌∷◌, map, length, refl, sym, ap, subst, ◌∙◌, inl, inr, arith}
-use Rattle.plain_lists.specs.Edits.{inserted}
-use Rattle.plain_lists.specs.Members.{Mem}
-use Rattle.plain_lists.proofs.EditLemmas.{inserted-Puts}
-use Rattle.plain_lists.proofs.PutsLemmas.{Mem-Puts, Mem-unputs, Mem-puts, length-Puts}
-use Rattle.records.specs.declared.rows.Row.{Row}
-use Rattle.row_codec.specs.Spelling.{entry_of, key_of}
-use Rattle.row_machine.specs.machine.Rows.{text_before}
-use Rattle.row_machine.specs.opening.Records.{entries_in}
+use Rattle.row_sizes.specs.plain_lists.specs.Edits.{inserted}
+use Rattle.row_sizes.specs.plain_lists.specs.Members.{Mem}
+use Rattle.row_sizes.specs.plain_lists.proofs.EditLemmas.{inserted-Puts}
+use Rattle.row_sizes.specs.plain_lists.proofs.PutsLemmas.{Mem-Puts, Mem-unputs, Mem-puts, length-Puts}
+use Rattle.row_sizes.specs.records.specs.declared.rows.Row.{Row}
+use Rattle.row_sizes.specs.row_codec.specs.Spelling.{entry_of, key_of}
+use Rattle.machine_laws.specs.row_machine.specs.machine.Rows.{text_before}
+use Rattle.machine_laws.specs.row_machine.specs.opening.Records.{entries_in}
 use Rattle.machine_laws.proofs.NamesLists.{map-inserted}
 
 abbrev pub sorted : List Row → List Row

@@ -1,16 +1,16 @@
 -- The statuses of instances that rows open to: each is stopped.
 use Rattle.std.proofs.Common.{◌≡◌, Bool, true, false, cond, List, [], ◌∷◌, map, refl}
 use Rattle.std.specs.List.{list_any}
-use Rattle.plain_lists.specs.Members.{Each}
-use Rattle.plain_lists.proofs.Elements.{Each-none, Each-head, Each-tail}
-use Rattle.plain_lists.proofs.EditLemmas.{replaced-is, Each-Replaces}
-use Rattle.size_values.specs.declared.kinds.Power.TheVariants.{Stopped}
-use Rattle.records.specs.declared.rows.Instance.{Instance}
-use Rattle.records.specs.declared.rows.Row.{Row}
-use Rattle.records.specs.declared.rows.Row.TheVariants as row
-use Rattle.row_machine.specs.machine.State.{State, Standing, empty_state}
-use Rattle.row_machine.specs.machine.Rows.{same_names, texts_before, standing_names, instance_names, is_standing, with_standing}
-use Rattle.row_machine.specs.machine.Changes.{with_row}
+use Rattle.row_sizes.specs.plain_lists.specs.Members.{Each}
+use Rattle.row_sizes.specs.plain_lists.proofs.Elements.{Each-none, Each-head, Each-tail}
+use Rattle.row_sizes.specs.plain_lists.proofs.EditLemmas.{replaced-is, Each-Replaces}
+use Rattle.row_sizes.specs.size_values.specs.declared.kinds.Power.TheVariants.{Stopped}
+use Rattle.row_sizes.specs.records.specs.declared.rows.Instance.{Instance}
+use Rattle.row_sizes.specs.records.specs.declared.rows.Row.{Row}
+use Rattle.row_sizes.specs.records.specs.declared.rows.Row.TheVariants as row
+use Rattle.machine_laws.specs.row_machine.specs.machine.State.{State, Standing, empty_state}
+use Rattle.machine_laws.specs.row_machine.specs.machine.Rows.{same_names, texts_before, standing_names, instance_names, is_standing, with_standing}
+use Rattle.machine_laws.specs.row_machine.specs.machine.Changes.{with_row}
 use Rattle.machine_laws.proofs.OpeningRows.{with_all}
 use Rattle.kept_laws.specs.Reopening.{stopped}
 

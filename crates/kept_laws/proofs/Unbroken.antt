@@ -5,24 +5,24 @@ use Rattle.std.specs.List.{slice_get}
 use Rattle.std.specs.Option.{option_map}
 use Rattle.std.proofs.lemmas.Option.{slice_get_cases}
 use Rattle.std.proofs.lemmas.Bool.Decides.{nat_tests}
-use Rattle.plain_lists.specs.Firsts.{first_of}
-use Rattle.plain_lists.specs.Members.{Mem, Each}
-use Rattle.plain_lists.proofs.Elements.{Each-none, Each-cons, Each-map}
-use Rattle.plain_lists.proofs.FirstLemmas.{none_both, first_of-none, none-first_of}
-use Rattle.project_limits.specs.Admission.{parts}
-use Rattle.size_values.specs.declared.kinds.ObjectKind.{ObjectKind}
-use Rattle.size_values.specs.declared.kinds.ObjectKind.TheVariants as kind
-use Rattle.records.specs.declared.refusals.Refusal.{Refusal}
-use Rattle.records.specs.declared.refusals.Rule.{Rule}
-use Rattle.records.specs.declared.refusals.Rule.TheVariants as rule
-use Rattle.records.specs.declared.rows.Project.{Project}
-use Rattle.records.specs.declared.rows.Row.{Row}
-use Rattle.row_machine.specs.machine.State.{State}
-use Rattle.row_machine.specs.machine.Rows.{default_name}
-use Rattle.row_machine.specs.machine.Kinds.{cap_of}
-use Rattle.row_machine.specs.machine.LimitRules.{part_exceeds, networks_exceed, limits_broken}
-use Rattle.row_machine.specs.machine.TableRules.{row_kinds, too_large, size_of, largest_row}
-use Rattle.row_machine.specs.opening.Opening.{Opening, broken, broken_at, home_missing, parent_row_missing, profiles_malformed, defaults_missing, settings_invalid, devices_invalid, root_disk_missing, named_row_missing, forbidden, uncountable, row_rules, row_breaks, limit_breaks, past_cap, size_breaks, rows_break}
+use Rattle.row_sizes.specs.plain_lists.specs.Firsts.{first_of}
+use Rattle.row_sizes.specs.plain_lists.specs.Members.{Mem, Each}
+use Rattle.row_sizes.specs.plain_lists.proofs.Elements.{Each-none, Each-cons, Each-map}
+use Rattle.row_sizes.specs.plain_lists.proofs.FirstLemmas.{none_both, first_of-none, none-first_of}
+use Rattle.machine_laws.specs.project_limits.specs.Admission.{parts}
+use Rattle.row_sizes.specs.size_values.specs.declared.kinds.ObjectKind.{ObjectKind}
+use Rattle.row_sizes.specs.size_values.specs.declared.kinds.ObjectKind.TheVariants as kind
+use Rattle.row_sizes.specs.records.specs.declared.refusals.Refusal.{Refusal}
+use Rattle.row_sizes.specs.records.specs.declared.refusals.Rule.{Rule}
+use Rattle.row_sizes.specs.records.specs.declared.refusals.Rule.TheVariants as rule
+use Rattle.row_sizes.specs.records.specs.declared.rows.Project.{Project}
+use Rattle.row_sizes.specs.records.specs.declared.rows.Row.{Row}
+use Rattle.machine_laws.specs.row_machine.specs.machine.State.{State}
+use Rattle.machine_laws.specs.row_machine.specs.machine.Rows.{default_name}
+use Rattle.machine_laws.specs.row_machine.specs.machine.Kinds.{cap_of}
+use Rattle.machine_laws.specs.row_machine.specs.machine.LimitRules.{part_exceeds, networks_exceed, limits_broken}
+use Rattle.machine_laws.specs.row_machine.specs.machine.TableRules.{row_kinds, too_large, size_of, largest_row}
+use Rattle.machine_laws.specs.row_machine.specs.opening.Opening.{Opening, broken, broken_at, home_missing, parent_row_missing, profiles_malformed, defaults_missing, settings_invalid, devices_invalid, root_disk_missing, named_row_missing, forbidden, uncountable, row_rules, row_breaks, limit_breaks, past_cap, size_breaks, rows_break}
 use Rattle.machine_laws.proofs.OpeningRows.{of_kind}
 use Rattle.machine_laws.proofs.OpeningRules.{AreAccepted}
 

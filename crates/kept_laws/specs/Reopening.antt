@@ -1,15 +1,15 @@
 -- What a server keeps opens again: the records of its rows open to these rows.
 use Rattle.std.specs.Prelude.{◌≡◌, [], map, false}
-use Rattle.plain_lists.specs.Members.{Each}
-use Rattle.size_values.specs.declared.kinds.Power.TheVariants.{Stopped}
-use Rattle.operations.specs.Kept.{no_operations}
-use Rattle.reservations.specs.Holdings.{no_books}
-use Rattle.records.specs.declared.rows.Instance.{Instance}
-use Rattle.row_codec.specs.Rows.{HasTypedParts}
-use Rattle.row_machine.specs.machine.State.{State, Standing}
-use Rattle.row_machine.specs.opening.Records.{records_of, rows_of}
-use Rattle.row_machine.specs.opening.Opening.{opened, opening_of}
-use Rattle.row_machine.specs.facts.Whole.{IsWhole}
+use Rattle.row_sizes.specs.plain_lists.specs.Members.{Each}
+use Rattle.row_sizes.specs.size_values.specs.declared.kinds.Power.TheVariants.{Stopped}
+use Rattle.row_sizes.specs.operations.specs.Kept.{no_operations}
+use Rattle.machine_laws.specs.reservations.specs.Holdings.{no_books}
+use Rattle.row_sizes.specs.records.specs.declared.rows.Instance.{Instance}
+use Rattle.row_sizes.specs.row_codec.specs.Rows.{HasTypedParts}
+use Rattle.machine_laws.specs.row_machine.specs.machine.State.{State, Standing}
+use Rattle.machine_laws.specs.row_machine.specs.opening.Records.{records_of, rows_of}
+use Rattle.machine_laws.specs.row_machine.specs.opening.Opening.{opened, opening_of}
+use Rattle.machine_laws.specs.row_machine.specs.facts.Whole.{IsWhole}
 
 -- a stopped instance
 abbrev pub stopped : Instance → Standing

@@ -1,13 +1,13 @@
 -- No part of what a project uses is great.
 use Rattle.std.proofs.Common.{◌≡◌, ℕ, ◌+◌, ◌≤◌, ◌<◌, ◌^◌, List, length, refl, inl, inr, arith}
-use Rattle.size_values.specs.Amounts.{part}
-use Rattle.size_values.specs.declared.amounts.Part.{Part}
-use Rattle.size_values.specs.declared.kinds.ObjectKind.TheVariants as kind
-use Rattle.row_machine.specs.machine.State.{State}
-use Rattle.row_machine.specs.machine.TableRules.{count_of}
-use Rattle.row_machine.specs.machine.Usage.{usage_of}
-use Rattle.row_machine.specs.facts.Whole.{IsWhole}
-use Rattle.project_usage.proofs.Parts.{few-instances, few-volumes, few-claims, used-parts, part-of_usage}
+use Rattle.work_reports.specs.size_values.specs.Amounts.{part}
+use Rattle.work_reports.specs.size_values.specs.declared.amounts.Part.{Part}
+use Rattle.work_reports.specs.size_values.specs.declared.kinds.ObjectKind.TheVariants as kind
+use Rattle.work_reports.specs.row_machine.specs.machine.State.{State}
+use Rattle.work_reports.specs.row_machine.specs.machine.TableRules.{count_of}
+use Rattle.work_reports.specs.row_machine.specs.machine.Usage.{usage_of}
+use Rattle.work_reports.specs.row_machine.specs.facts.Whole.{IsWhole}
+use Rattle.claim_laws.specs.project_usage.proofs.Parts.{few-instances, few-volumes, few-claims, used-parts, part-of_usage}
 
 pub few-used : (s : State) (project : List ℕ) (k : Part) → IsWhole s → part k (usage_of s project) ≤ 2 ^ 127 + 2 ^ 126
 few-used s project k h =

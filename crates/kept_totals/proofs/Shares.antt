@@ -3,24 +3,24 @@ use Rattle.std.proofs.Common.{◌≡◌, ◌≢◌, ℕ, ◌+◌, ◌-◌, ◌�
 use Rattle.std.specs.List.{find}
 use Rattle.std.specs.Option.{option_map, option_map_or}
 use Rattle.std.specs.Str.{bytes_eq}
-use Rattle.config_lists.proofs.Keys.{same, bytes_eq-itself}
-use Rattle.size_values.specs.Amounts.{part, nothing, plus_of, excess_of}
-use Rattle.size_values.specs.declared.amounts.Amounts.{Amounts}
-use Rattle.size_values.specs.declared.amounts.Part.{Part}
-use Rattle.size_values.proofs.AmountParts.{same-parts, part-plus, part-excess}
-use Rattle.operations.specs.declared.operation.Operation.{Operation}
-use Rattle.operations.specs.Kept.{has_number, live_at}
-use Rattle.records.specs.declared.rows.Row.{Row}
-use Rattle.reservations.specs.declared.books.Hold.{Hold}
-use Rattle.row_machine.specs.machine.Claims.{share_of, project_of_row, amounts_of_instance}
-use Rattle.row_machine.specs.machine.State.{State}
-use Rattle.row_machine.specs.machine.Task.{Task}
-use Rattle.row_machine.specs.machine.Usage.{Load, loads, used, usage_of, amount_for}
-use Rattle.row_machine.specs.machine.Work.{is_held_by, held_share, claiming, entered, project_of_task}
-use Rattle.row_machine.specs.facts.Whole.{IsWhole, held_by}
-use Rattle.machine_laws.proofs.EndsLive.{find-map}
-use Rattle.machine_laws.proofs.ExpansionsApart.{fails-by}
-use Rattle.machine_laws.proofs.LimitsSums.{claim_part}
+use Rattle.work_reports.specs.config_lists.proofs.Keys.{same, bytes_eq-itself}
+use Rattle.work_reports.specs.size_values.specs.Amounts.{part, nothing, plus_of, excess_of}
+use Rattle.work_reports.specs.size_values.specs.declared.amounts.Amounts.{Amounts}
+use Rattle.work_reports.specs.size_values.specs.declared.amounts.Part.{Part}
+use Rattle.work_reports.specs.size_values.proofs.AmountParts.{same-parts, part-plus, part-excess}
+use Rattle.work_reports.specs.operations.specs.declared.operation.Operation.{Operation}
+use Rattle.work_reports.specs.operations.specs.Kept.{has_number, live_at}
+use Rattle.work_reports.specs.records.specs.declared.rows.Row.{Row}
+use Rattle.work_reports.specs.reservations.specs.declared.books.Hold.{Hold}
+use Rattle.work_reports.specs.row_machine.specs.machine.Claims.{share_of, project_of_row, amounts_of_instance}
+use Rattle.work_reports.specs.row_machine.specs.machine.State.{State}
+use Rattle.work_reports.specs.row_machine.specs.machine.Task.{Task}
+use Rattle.work_reports.specs.row_machine.specs.machine.Usage.{Load, loads, used, usage_of, amount_for}
+use Rattle.work_reports.specs.row_machine.specs.machine.Work.{is_held_by, held_share, claiming, entered, project_of_task}
+use Rattle.work_reports.specs.row_machine.specs.facts.Whole.{IsWhole, held_by}
+use Rattle.claim_laws.specs.machine_laws.proofs.EndsLive.{find-map}
+use Rattle.claim_laws.specs.machine_laws.proofs.ExpansionsApart.{fails-by}
+use Rattle.claim_laws.specs.machine_laws.proofs.LimitsSums.{claim_part}
 use Rattle.claim_laws.proofs.Limits.{share_for, used-after}
 use Rattle.kept_totals.specs.declared.totals.Total.{Total}
 use Rattle.kept_totals.specs.Totals.{AreTotals, grown, lowered}

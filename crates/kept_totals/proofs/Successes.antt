@@ -6,58 +6,58 @@ use Rattle.std.specs.Option.{option_map, option_map_or, option_and_then, option_
 use Rattle.std.specs.Str.{bytes_eq}
 use Rattle.std.proofs.lemmas.Bool.{false≢true}
 use Rattle.std.proofs.lemmas.List.{map-append}
-use Rattle.plain_lists.specs.Members.{Mem, Each}
-use Rattle.plain_lists.specs.Edits.{dropped}
-use Rattle.plain_lists.proofs.PutsLemmas.{sum_by-Puts}
-use Rattle.plain_lists.proofs.Elements.{Each-head, Each-tail}
-use Rattle.plain_lists.proofs.EditLemmas.{dropped-Puts}
-use Rattle.plain_lists.proofs.Readings.{sum_by-same}
-use Rattle.plain_lists.proofs.Searches.{find-some}
-use Rattle.config_lists.proofs.Keys.{same, bytes_eq-itself}
-use Rattle.size_values.specs.Amounts.{part, nothing, excess_of, minus_of}
-use Rattle.size_values.specs.declared.amounts.Amounts.{Amounts}
-use Rattle.size_values.specs.declared.amounts.Part.{Part}
-use Rattle.size_values.proofs.AmountParts.{same-parts, part-excess, part-minus}
-use Rattle.size_values.specs.declared.kinds.Action.{Action}
-use Rattle.size_values.specs.declared.kinds.Action.TheVariants as action
-use Rattle.size_values.specs.declared.kinds.Deed.{Deed}
-use Rattle.size_values.specs.declared.kinds.Deed.TheVariants as deed
-use Rattle.size_values.specs.declared.kinds.ObjectKind.{ObjectKind}
-use Rattle.size_values.specs.declared.kinds.ObjectKind.TheVariants as kind
-use Rattle.operations.specs.declared.operation.Operation.{Operation}
-use Rattle.operations.specs.declared.operation.OpFault.TheVariants as fault
-use Rattle.operations.specs.declared.status.Status.TheVariants as status
-use Rattle.operations.specs.Kept.{has_number, live_at}
-use Rattle.records.specs.declared.notices.Untold.{Untold}
-use Rattle.records.specs.declared.rows.Instance.{Instance}
-use Rattle.records.specs.declared.rows.Snapshot.{Snapshot}
-use Rattle.records.specs.declared.rows.Row.{Row}
-use Rattle.records.specs.declared.rows.Row.TheVariants as row
-use Rattle.row_codec.specs.Spelling.{two_names}
-use Rattle.row_machine.specs.declared.changes.RowChange.TheVariants as change
-use Rattle.row_machine.specs.machine.Task.{Task}
-use Rattle.row_machine.specs.machine.State.{State}
-use Rattle.row_machine.specs.machine.Rows.{is_instance, instance_named, snapshot_named, instance_names, with_instance, texts_before}
-use Rattle.row_machine.specs.machine.Asked.{snapshots_of}
-use Rattle.row_machine.specs.machine.Changes.{has_key, applied, removal}
-use Rattle.row_machine.specs.machine.Claims.{claimed_instance, replaced_instance, amounts_of, amounts_of_instance, share_of, share_over, project_of_row}
-use Rattle.row_machine.specs.machine.Deeds.{claim_kind, replaces_target, has_target, target_kind, keeps_name}
-use Rattle.row_machine.specs.shown.Links.{target_of}
-use Rattle.row_machine.specs.shown.Notices.{telling}
-use Rattle.row_machine.specs.machine.Usage.{used, usage_of, amount_for}
-use Rattle.row_machine.specs.machine.Work.{converted, ended, succeeded, success_changes, with_power_after, power_after}
-use Rattle.row_machine.specs.facts.Whole.{IsWhole, IsByDeed, IsPlaced, instance_there, new_instance}
-use Rattle.machine_laws.specs.Lowered.{IsLastDone, LowersUsage}
-use Rattle.machine_laws.proofs.BooksSteps.{applied-same, power-keeps}
-use Rattle.machine_laws.proofs.ExpansionsApart.{fails-by}
-use Rattle.machine_laws.proofs.Found.{there-is, instance-found}
-use Rattle.machine_laws.proofs.LimitsEnds.{claims-same}
-use Rattle.machine_laws.proofs.LimitsRows.{Tables, tables, IsDone, applied-append, unsnapped, with-instance}
-use Rattle.machine_laws.proofs.LimitsSuccess.{success-rows, power-tables, ClaimsInstance, none, some, claims-instance}
-use Rattle.machine_laws.proofs.LimitsSums.{instance_part, volume_part, claim_part, used-split, sum-more}
-use Rattle.machine_laws.proofs.LoweredUsage.{lowers}
-use Rattle.machine_laws.proofs.SharesApart.{new-no_row, instance-so, instance-key, instance-row}
-use Rattle.machine_laws.proofs.SharesSuccess.{share-done, done-projects, amounts-tables}
+use Rattle.work_reports.specs.plain_lists.specs.Members.{Mem, Each}
+use Rattle.work_reports.specs.plain_lists.specs.Edits.{dropped}
+use Rattle.work_reports.specs.plain_lists.proofs.PutsLemmas.{sum_by-Puts}
+use Rattle.work_reports.specs.plain_lists.proofs.Elements.{Each-head, Each-tail}
+use Rattle.work_reports.specs.plain_lists.proofs.EditLemmas.{dropped-Puts}
+use Rattle.work_reports.specs.plain_lists.proofs.Readings.{sum_by-same}
+use Rattle.work_reports.specs.plain_lists.proofs.Searches.{find-some}
+use Rattle.work_reports.specs.config_lists.proofs.Keys.{same, bytes_eq-itself}
+use Rattle.work_reports.specs.size_values.specs.Amounts.{part, nothing, excess_of, minus_of}
+use Rattle.work_reports.specs.size_values.specs.declared.amounts.Amounts.{Amounts}
+use Rattle.work_reports.specs.size_values.specs.declared.amounts.Part.{Part}
+use Rattle.work_reports.specs.size_values.proofs.AmountParts.{same-parts, part-excess, part-minus}
+use Rattle.work_reports.specs.size_values.specs.declared.kinds.Action.{Action}
+use Rattle.work_reports.specs.size_values.specs.declared.kinds.Action.TheVariants as action
+use Rattle.work_reports.specs.size_values.specs.declared.kinds.Deed.{Deed}
+use Rattle.work_reports.specs.size_values.specs.declared.kinds.Deed.TheVariants as deed
+use Rattle.work_reports.specs.size_values.specs.declared.kinds.ObjectKind.{ObjectKind}
+use Rattle.work_reports.specs.size_values.specs.declared.kinds.ObjectKind.TheVariants as kind
+use Rattle.work_reports.specs.operations.specs.declared.operation.Operation.{Operation}
+use Rattle.work_reports.specs.operations.specs.declared.operation.OpFault.TheVariants as fault
+use Rattle.work_reports.specs.operations.specs.declared.status.Status.TheVariants as status
+use Rattle.work_reports.specs.operations.specs.Kept.{has_number, live_at}
+use Rattle.work_reports.specs.records.specs.declared.notices.Untold.{Untold}
+use Rattle.work_reports.specs.records.specs.declared.rows.Instance.{Instance}
+use Rattle.work_reports.specs.records.specs.declared.rows.Snapshot.{Snapshot}
+use Rattle.work_reports.specs.records.specs.declared.rows.Row.{Row}
+use Rattle.work_reports.specs.records.specs.declared.rows.Row.TheVariants as row
+use Rattle.work_reports.specs.row_codec.specs.Spelling.{two_names}
+use Rattle.work_reports.specs.row_machine.specs.declared.changes.RowChange.TheVariants as change
+use Rattle.work_reports.specs.row_machine.specs.machine.Task.{Task}
+use Rattle.work_reports.specs.row_machine.specs.machine.State.{State}
+use Rattle.work_reports.specs.row_machine.specs.machine.Rows.{is_instance, instance_named, snapshot_named, instance_names, with_instance, texts_before}
+use Rattle.work_reports.specs.row_machine.specs.machine.Asked.{snapshots_of}
+use Rattle.work_reports.specs.row_machine.specs.machine.Changes.{has_key, applied, removal}
+use Rattle.work_reports.specs.row_machine.specs.machine.Claims.{claimed_instance, replaced_instance, amounts_of, amounts_of_instance, share_of, share_over, project_of_row}
+use Rattle.work_reports.specs.row_machine.specs.machine.Deeds.{claim_kind, replaces_target, has_target, target_kind, keeps_name}
+use Rattle.work_reports.specs.row_machine.specs.shown.Links.{target_of}
+use Rattle.work_reports.specs.row_machine.specs.shown.Notices.{telling}
+use Rattle.work_reports.specs.row_machine.specs.machine.Usage.{used, usage_of, amount_for}
+use Rattle.work_reports.specs.row_machine.specs.machine.Work.{converted, ended, succeeded, success_changes, with_power_after, power_after}
+use Rattle.work_reports.specs.row_machine.specs.facts.Whole.{IsWhole, IsByDeed, IsPlaced, instance_there, new_instance}
+use Rattle.claim_laws.specs.machine_laws.specs.Lowered.{IsLastDone, LowersUsage}
+use Rattle.claim_laws.specs.machine_laws.proofs.BooksSteps.{applied-same, power-keeps}
+use Rattle.claim_laws.specs.machine_laws.proofs.ExpansionsApart.{fails-by}
+use Rattle.claim_laws.specs.machine_laws.proofs.Found.{there-is, instance-found}
+use Rattle.claim_laws.specs.machine_laws.proofs.LimitsEnds.{claims-same}
+use Rattle.claim_laws.specs.machine_laws.proofs.LimitsRows.{Tables, tables, IsDone, applied-append, unsnapped, with-instance}
+use Rattle.claim_laws.specs.machine_laws.proofs.LimitsSuccess.{success-rows, power-tables, ClaimsInstance, none, some, claims-instance}
+use Rattle.claim_laws.specs.machine_laws.proofs.LimitsSums.{instance_part, volume_part, claim_part, used-split, sum-more}
+use Rattle.claim_laws.specs.machine_laws.proofs.LoweredUsage.{lowers}
+use Rattle.claim_laws.specs.machine_laws.proofs.SharesApart.{new-no_row, instance-so, instance-key, instance-row}
+use Rattle.claim_laws.specs.machine_laws.proofs.SharesSuccess.{share-done, done-projects, amounts-tables}
 use Rattle.kept_totals.specs.Ends.{leaves_usage, has_fall, fall_of}
 use Rattle.kept_totals.proofs.Usage.{SameUsage, part-used, usage-parts, usage-telling, told-usage}
 

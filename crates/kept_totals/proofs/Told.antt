@@ -6,13 +6,13 @@ use Rattle.std.specs.Option.{option_map, option_or}
 use Rattle.std.specs.Str.{bytes_eq}
 use Rattle.std.proofs.lemmas.Bool.{false≢true}
 use Rattle.std.proofs.lemmas.List.Folds.{find-append}
-use Rattle.config_lists.proofs.Keys.{same, bytes_eq-itself}
-use Rattle.size_values.specs.Amounts.{part, plus_of, excess_of}
-use Rattle.size_values.specs.declared.amounts.Amounts.{Amounts}
-use Rattle.size_values.specs.declared.amounts.Part.{Part}
-use Rattle.size_values.proofs.AmountParts.{same-parts, part-plus, part-excess}
-use Rattle.row_machine.specs.machine.State.{State}
-use Rattle.row_machine.specs.machine.Usage.{usage_of}
+use Rattle.work_reports.specs.config_lists.proofs.Keys.{same, bytes_eq-itself}
+use Rattle.work_reports.specs.size_values.specs.Amounts.{part, plus_of, excess_of}
+use Rattle.work_reports.specs.size_values.specs.declared.amounts.Amounts.{Amounts}
+use Rattle.work_reports.specs.size_values.specs.declared.amounts.Part.{Part}
+use Rattle.work_reports.specs.size_values.proofs.AmountParts.{same-parts, part-plus, part-excess}
+use Rattle.work_reports.specs.row_machine.specs.machine.State.{State}
+use Rattle.work_reports.specs.row_machine.specs.machine.Usage.{usage_of}
 use Rattle.kept_totals.specs.declared.totals.Total.{Total}
 use Rattle.kept_totals.specs.Totals.{AreTotals, is_of, known, changed, grown, lowered}
 use Rattle.kept_totals.proofs.Usage.{SameUsage}

@@ -1,31 +1,31 @@
 -- What is known of projects after a report was taken, and after a cancel.
 use Rattle.std.proofs.Common.{◌≡◌, ◌≢◌, ℕ, ◌⊎◌, Bool, true, false, cond, Option, Some, None, List, [], ◌∷◌, inl, inr, refl, sym, ◌∙◌, ap, subst}
-use Rattle.host_model.specs.declared.call.HostCall.{HostCall}
-use Rattle.host_model.specs.declared.report.Report.{Report}
-use Rattle.host_model.specs.declared.report.Report.TheVariants as report
-use Rattle.operations.specs.declared.operation.Operation.{Operation}
-use Rattle.operations.specs.declared.operation.OpFault.{OpFault}
-use Rattle.operations.specs.declared.operation.OpFault.TheVariants as fault
-use Rattle.operations.specs.declared.status.Status.{Status}
-use Rattle.operations.specs.declared.status.Status.TheVariants as status
-use Rattle.operations.specs.Kept.{live_at, kept_at}
-use Rattle.records.specs.declared.notices.Untold.{Untold}
-use Rattle.row_machine.specs.declared.changes.RowChange.{RowChange}
-use Rattle.row_machine.specs.declared.events.Answer.{Answer}
-use Rattle.row_machine.specs.declared.events.Answer.TheVariants as answer
-use Rattle.row_machine.specs.declared.events.Event.TheVariants as event
-use Rattle.row_machine.specs.machine.Accept.{After}
-use Rattle.row_machine.specs.machine.State.{State}
-use Rattle.row_machine.specs.machine.Step.{Outcome, well, keeper_failed, no_memory, step, done, reported, while_running, while_cancelling, call_done, call_failed, committed, failure, success, stray}
-use Rattle.row_machine.specs.machine.Task.{Task}
-use Rattle.row_machine.specs.machine.Work.{with_task, one_more_done, undone, failed, cancelled, succeeded, success_changes}
-use Rattle.row_machine.specs.shown.Notices.{telling, operation_notice, success_notices}
-use Rattle.row_machine.specs.facts.Whole.{IsWhole}
-use Rattle.machine_laws.proofs.Base.{live-number}
-use Rattle.machine_laws.proofs.EndsShares.{told-same}
-use Rattle.machine_laws.proofs.SharesCores.{cores-work}
+use Rattle.work_reports.specs.host_model.specs.declared.call.HostCall.{HostCall}
+use Rattle.work_reports.specs.host_model.specs.declared.report.Report.{Report}
+use Rattle.work_reports.specs.host_model.specs.declared.report.Report.TheVariants as report
+use Rattle.work_reports.specs.operations.specs.declared.operation.Operation.{Operation}
+use Rattle.work_reports.specs.operations.specs.declared.operation.OpFault.{OpFault}
+use Rattle.work_reports.specs.operations.specs.declared.operation.OpFault.TheVariants as fault
+use Rattle.work_reports.specs.operations.specs.declared.status.Status.{Status}
+use Rattle.work_reports.specs.operations.specs.declared.status.Status.TheVariants as status
+use Rattle.work_reports.specs.operations.specs.Kept.{live_at, kept_at}
+use Rattle.work_reports.specs.records.specs.declared.notices.Untold.{Untold}
+use Rattle.work_reports.specs.row_machine.specs.declared.changes.RowChange.{RowChange}
+use Rattle.work_reports.specs.row_machine.specs.declared.events.Answer.{Answer}
+use Rattle.work_reports.specs.row_machine.specs.declared.events.Answer.TheVariants as answer
+use Rattle.work_reports.specs.row_machine.specs.declared.events.Event.TheVariants as event
+use Rattle.work_reports.specs.row_machine.specs.machine.Accept.{After}
+use Rattle.work_reports.specs.row_machine.specs.machine.State.{State}
+use Rattle.work_reports.specs.row_machine.specs.machine.Step.{Outcome, well, keeper_failed, no_memory, step, done, reported, while_running, while_cancelling, call_done, call_failed, committed, failure, success, stray}
+use Rattle.work_reports.specs.row_machine.specs.machine.Task.{Task}
+use Rattle.work_reports.specs.row_machine.specs.machine.Work.{with_task, one_more_done, undone, failed, cancelled, succeeded, success_changes}
+use Rattle.work_reports.specs.row_machine.specs.shown.Notices.{telling, operation_notice, success_notices}
+use Rattle.work_reports.specs.row_machine.specs.facts.Whole.{IsWhole}
+use Rattle.claim_laws.specs.machine_laws.proofs.Base.{live-number}
+use Rattle.claim_laws.specs.machine_laws.proofs.EndsShares.{told-same}
+use Rattle.claim_laws.specs.machine_laws.proofs.SharesCores.{cores-work}
 use Rattle.work_reports.proofs.Reporting.{as_ended, failed-kept, cancelled-kept, succeeded-kept}
-use Rattle.size_values.specs.declared.amounts.Amounts.{Amounts}
+use Rattle.work_reports.specs.size_values.specs.declared.amounts.Amounts.{Amounts}
 use Rattle.kept_totals.specs.declared.totals.Total.{Total}
 use Rattle.kept_totals.specs.Totals.{AreTotals}
 use Rattle.std.specs.Prelude.{IfSome}

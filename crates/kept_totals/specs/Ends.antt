@@ -1,20 +1,20 @@
 -- What the end of an operation makes of totals.
 use Rattle.std.specs.Prelude.{◌≡◌, ℕ, Bool, true, false, List, [], Option, Some, None, IfSome, if◌then◌else◌}
 use Rattle.std.specs.Option.{option_map_or}
-use Rattle.size_values.specs.Amounts.{nothing, excess_of}
-use Rattle.size_values.specs.declared.amounts.Amounts.{Amounts}
-use Rattle.size_values.specs.declared.kinds.Action.TheVariants as action
-use Rattle.size_values.specs.declared.kinds.Deed.{Deed}
-use Rattle.size_values.specs.declared.kinds.Deed.TheVariants as deed
-use Rattle.operations.specs.declared.operation.Operation.{Operation}
-use Rattle.operations.specs.declared.status.Status.{Status}
-use Rattle.operations.specs.declared.status.Status.TheVariants as status
-use Rattle.operations.specs.Kept.{live_at}
-use Rattle.row_machine.specs.machine.Claims.{claimed_instance, amounts_of_instance, project_of_row}
-use Rattle.row_machine.specs.machine.Rows.{instance_named}
-use Rattle.row_machine.specs.machine.State.{State}
-use Rattle.row_machine.specs.machine.Task.{Task}
-use Rattle.row_machine.specs.machine.Work.{held_share}
+use Rattle.work_reports.specs.size_values.specs.Amounts.{nothing, excess_of}
+use Rattle.work_reports.specs.size_values.specs.declared.amounts.Amounts.{Amounts}
+use Rattle.work_reports.specs.size_values.specs.declared.kinds.Action.TheVariants as action
+use Rattle.work_reports.specs.size_values.specs.declared.kinds.Deed.{Deed}
+use Rattle.work_reports.specs.size_values.specs.declared.kinds.Deed.TheVariants as deed
+use Rattle.work_reports.specs.operations.specs.declared.operation.Operation.{Operation}
+use Rattle.work_reports.specs.operations.specs.declared.status.Status.{Status}
+use Rattle.work_reports.specs.operations.specs.declared.status.Status.TheVariants as status
+use Rattle.work_reports.specs.operations.specs.Kept.{live_at}
+use Rattle.work_reports.specs.row_machine.specs.machine.Claims.{claimed_instance, amounts_of_instance, project_of_row}
+use Rattle.work_reports.specs.row_machine.specs.machine.Rows.{instance_named}
+use Rattle.work_reports.specs.row_machine.specs.machine.State.{State}
+use Rattle.work_reports.specs.row_machine.specs.machine.Task.{Task}
+use Rattle.work_reports.specs.row_machine.specs.machine.Work.{held_share}
 use Rattle.kept_totals.specs.declared.ends.Counted.{Counted}
 use Rattle.kept_totals.specs.declared.totals.Total.{Total}
 use Rattle.kept_totals.specs.Totals.{lowered}

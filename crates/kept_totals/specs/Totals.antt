@@ -3,11 +3,11 @@ use Rattle.std.specs.Prelude.{◌≡◌, ℕ, Bool, List, Option, IfSome}
 use Rattle.std.specs.List.{find}
 use Rattle.std.specs.Option.{option_map}
 use Rattle.std.specs.Str.{bytes_eq}
-use Rattle.plain_lists.specs.Edits.{changed_first}
-use Rattle.size_values.specs.Amounts.{plus_of, excess_of}
-use Rattle.size_values.specs.declared.amounts.Amounts.{Amounts}
-use Rattle.row_machine.specs.machine.State.{State}
-use Rattle.row_machine.specs.machine.Usage.{usage_of}
+use Rattle.work_reports.specs.plain_lists.specs.Edits.{changed_first}
+use Rattle.work_reports.specs.size_values.specs.Amounts.{plus_of, excess_of}
+use Rattle.work_reports.specs.size_values.specs.declared.amounts.Amounts.{Amounts}
+use Rattle.work_reports.specs.row_machine.specs.machine.State.{State}
+use Rattle.work_reports.specs.row_machine.specs.machine.Usage.{usage_of}
 use Rattle.kept_totals.specs.declared.totals.Total.{Total}
 
 -- whether it is the total of this project

@@ -2,20 +2,22 @@
 ghost use Rattle.std.specs.Prelude.{◌≡◌, true, IfOk, IfSome};
 ghost use Rattle.std.specs.List.{find};
 ghost use Rattle.std.specs.Option.{option_copied, option_map_or};
-ghost use Rattle.operations.specs.Kept.{kept_at};
-ghost use Rattle.size_values.specs.Amounts.{nothing};
-ghost use Rattle.row_machine.specs.machine.Claims.{claimed_instance, amounts_of_instance};
-ghost use Rattle.row_machine.specs.machine.Work.{held_share, is_held_by};
+ghost use Rattle.work_reports.specs.operations.specs.Kept.{kept_at};
+ghost use Rattle.work_reports.specs.size_values.specs.Amounts.{nothing};
+ghost use Rattle.work_reports.specs.row_machine.specs.machine.Claims.{claimed_instance, amounts_of_instance};
+ghost use Rattle.work_reports.specs.row_machine.specs.machine.Work.{held_share, is_held_by};
 ghost use Rattle.kept_totals.specs.Ends.{given_back, leaves_usage, has_fall, fall_of, IsCounted, after_success, after_end_of, after_end};
 
 use crate::totals::Totals;
-use operations::{Operation, Status};
-use reservations::Hold;
-use row_machine::Work;
-use row_readings::{View, amounts_of_instance, claimed_instance, kept_at, project_of_row};
-use size_values::{Action, Amounts, Deed, NoMemory};
 use std::alloc::Global;
 use work_reports::live_at;
+use work_reports::operations_crate::{Operation, Status};
+use work_reports::reservations_crate::Hold;
+use work_reports::row_machine_crate::Work;
+use work_reports::row_readings_crate::{
+    View, amounts_of_instance, claimed_instance, kept_at, project_of_row,
+};
+use work_reports::size_values_crate::{Action, Amounts, Deed, NoMemory};
 
 /// What an operation counts for while it is live: the share that it holds, and by how much its success lowers what its
 /// project uses, where that is known.

@@ -1,18 +1,18 @@
 ghost use Rattle.std.specs.Prelude.{◌≡◌, ◌+◌, ◌<◌, ◌≤◌, ◌^◌, ◌∷◌, ◌++◌, [], length, IfOk, IfSome, OnOk, OnErr};
 ghost use Rattle.std.specs.List.{position};
-ghost use Rattle.size_values.specs.Amounts.{part};
-ghost use Rattle.size_values.specs.declared.amounts.Part.{Part};
-ghost use Rattle.limit_rules.specs.Alone.{share_broken};
-ghost use Rattle.row_machine.specs.facts.Whole.{IsWhole};
-ghost use Rattle.row_machine.specs.machine.Usage.{usage_of};
+ghost use Rattle.work_reports.specs.size_values.specs.Amounts.{part};
+ghost use Rattle.work_reports.specs.size_values.specs.declared.amounts.Part.{Part};
+ghost use Rattle.claim_laws.specs.limit_rules.specs.Alone.{share_broken};
+ghost use Rattle.work_reports.specs.row_machine.specs.facts.Whole.{IsWhole};
+ghost use Rattle.work_reports.specs.row_machine.specs.machine.Usage.{usage_of};
 ghost use Rattle.kept_totals.specs.Totals.{AreTotals, is_of, known, grown, lowered};
 
-use limit_rules::needs_usage;
-use project_usage::usage_of;
-use row_readings::View;
-use size_values::{Amounts, NoMemory, Text};
+use claim_laws::limit_rules_crate::needs_usage;
+use claim_laws::project_usage_crate::usage_of;
 use std::alloc::Global;
 use std::marker::Model;
+use work_reports::row_readings_crate::View;
+use work_reports::size_values_crate::{Amounts, NoMemory, Text};
 
 /// What one project uses of its limits.
 #[derive(Drop)]

@@ -1,14 +1,14 @@
 //! Rows of a server for tests, and what is put into them.
 ghost use Rattle.std.specs.Prelude.{◌≡◌, IfOk};
-ghost use Rattle.row_machine.specs.facts.Whole.{Rise};
+ghost use Rattle.row_readings.specs.row_machine.specs.facts.Whole.{Rise};
 
-use config_lists::{Config, Devices};
-use operations::Operation;
-use records::{Instance, Network, Pool, Profile, Project, Snapshot, Volume};
-use reservations::{Books, Hold};
-use row_machine::Work;
+use row_readings::config_lists_crate::{Config, Devices};
+use row_readings::operations_crate::Operation;
+use row_readings::records_crate::{Instance, Network, Pool, Profile, Project, Snapshot, Volume};
+use row_readings::reservations_crate::{Books, Hold};
+use row_readings::row_machine_crate::Work;
+use row_readings::size_values_crate::{Amounts, NoMemory, Text};
 use row_readings::{InstancePower, Named, View, rises};
-use size_values::{Amounts, NoMemory, Text};
 use std::alloc::Global;
 
 /// Both values, where there was memory for both. Neither is then alive where the other one is missing.

@@ -2,8 +2,8 @@
 use Rattle.std.proofs.Common.{◌≡◌, None, filter, sym, ap, ◌∙◌}
 use Rattle.std.specs.Option.{option_or}
 use Rattle.std.specs.Str.{bytes_eq}
-use Rattle.plain_lists.specs.Firsts.{first_of}
-use Rattle.records.specs.declared.rows.Project.{Project}
+use Rattle.row_machine.specs.plain_lists.specs.Firsts.{first_of}
+use Rattle.row_machine.specs.records.specs.declared.rows.Project.{Project}
 use Rattle.row_machine.specs.machine.State.{State}
 use Rattle.row_machine.specs.machine.LimitRules.{instance_uncounted, volume_uncounts, claim_uncounted, project_uncounted}
 use Rattle.limit_rules.specs.Within.{own_instance, own_objects}

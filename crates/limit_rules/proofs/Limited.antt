@@ -2,11 +2,11 @@
 use Rattle.std.proofs.Common.{◌≡◌, ℕ, suc, Bool, true, false, cond, None, List, [], ◌∷◌, map, filter, length, refl, sym, ap, ◌∙◌, inl, inr}
 use Rattle.std.specs.Option.{option_or}
 use Rattle.std.specs.Str.{bytes_eq}
-use Rattle.plain_lists.specs.Firsts.{first_of}
-use Rattle.project_limits.specs.declared.admission.LimitKey.TheVariants.{Networks}
-use Rattle.project_limits.specs.Limits.{limits_of}
-use Rattle.records.specs.declared.rows.Network.{Network}
-use Rattle.records.specs.declared.rows.Project.{Project}
+use Rattle.row_machine.specs.plain_lists.specs.Firsts.{first_of}
+use Rattle.row_machine.specs.project_limits.specs.declared.admission.LimitKey.TheVariants.{Networks}
+use Rattle.row_machine.specs.project_limits.specs.Limits.{limits_of}
+use Rattle.row_machine.specs.records.specs.declared.rows.Network.{Network}
+use Rattle.row_machine.specs.records.specs.declared.rows.Project.{Project}
 use Rattle.row_machine.specs.machine.State.{State}
 use Rattle.row_machine.specs.machine.Usage.{loads, networks_of}
 use Rattle.row_machine.specs.machine.LimitRules.{limit_exceeded, part_exceeds, networks_exceed, limits_broken}

@@ -1,15 +1,15 @@
 -- Changes that put no project with a limit leave projects without limits.
 use Rattle.std.proofs.Common.{◌≡◌, ℕ, false, List, [], ◌∷◌}
 use Rattle.std.specs.List.{list_any}
-use Rattle.plain_lists.specs.Members.{Each}
-use Rattle.plain_lists.proofs.EditLemmas.{replaced-is, Each-Replaces, Each-dropped}
-use Rattle.plain_lists.proofs.Searches.{any-none, none-any}
-use Rattle.size_values.specs.declared.kinds.ObjectKind.{ObjectKind}
-use Rattle.size_values.specs.declared.kinds.ObjectKind.TheVariants as kind
-use Rattle.project_limits.specs.Limits.{limits_of}
-use Rattle.records.specs.declared.rows.Project.{Project}
-use Rattle.records.specs.declared.rows.Row.{Row}
-use Rattle.records.specs.declared.rows.Row.TheVariants as row
+use Rattle.row_machine.specs.plain_lists.specs.Members.{Each}
+use Rattle.row_machine.specs.plain_lists.proofs.EditLemmas.{replaced-is, Each-Replaces, Each-dropped}
+use Rattle.row_machine.specs.plain_lists.proofs.Searches.{any-none, none-any}
+use Rattle.row_machine.specs.size_values.specs.declared.kinds.ObjectKind.{ObjectKind}
+use Rattle.row_machine.specs.size_values.specs.declared.kinds.ObjectKind.TheVariants as kind
+use Rattle.row_machine.specs.project_limits.specs.Limits.{limits_of}
+use Rattle.row_machine.specs.records.specs.declared.rows.Project.{Project}
+use Rattle.row_machine.specs.records.specs.declared.rows.Row.{Row}
+use Rattle.row_machine.specs.records.specs.declared.rows.Row.TheVariants as row
 use Rattle.row_machine.specs.declared.changes.RowChange.{RowChange}
 use Rattle.row_machine.specs.declared.changes.RowChange.TheVariants as change
 use Rattle.row_machine.specs.machine.State.{State}

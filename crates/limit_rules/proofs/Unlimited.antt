@@ -1,27 +1,27 @@
 -- Where a project limits no sum, all is countable; where no project has a limit, none is exceeded.
 use Rattle.std.proofs.Common.{◌≡◌, ℕ, Bool, true, false, ◌||◌, Option, Some, None, List, [], ◌∷◌, refl, ap}
 use Rattle.std.specs.Prelude.{codes, is_some}
-use Rattle.plain_lists.specs.Members.{Each}
-use Rattle.plain_lists.specs.Firsts.{first_of}
-use Rattle.plain_lists.proofs.Elements.{Each-none, Each-cons, Each-map}
-use Rattle.plain_lists.proofs.FirstLemmas.{none-first_of}
-use Rattle.size_values.specs.declared.amounts.Part.{Part}
-use Rattle.size_values.specs.declared.amounts.Part.TheVariants as part_of
-use Rattle.size_values.specs.declared.kinds.Kind.{Kind}
-use Rattle.config_lists.specs.Settings.{Settings}
-use Rattle.config_lists.specs.Devices.{NamedDevices}
-use Rattle.project_limits.specs.declared.limits.Limits.{Limits}
-use Rattle.project_limits.specs.declared.sums.SumKey.{SumKey}
-use Rattle.project_limits.specs.declared.sums.SumKey.TheVariants as sum
-use Rattle.project_limits.specs.Admission.{limit_on, parts, key_of}
-use Rattle.project_limits.specs.declared.admission.LimitKey.TheVariants.{Networks}
-use Rattle.project_limits.specs.Countable.{first_uncounted, volume_uncounted, sum_limit, sums, uncounted as sum_uncounted}
-use Rattle.project_limits.specs.Instance.{counted}
-use Rattle.project_limits.specs.Limits.{size_in, limits_of}
-use Rattle.records.specs.declared.rows.Project.{Project}
-use Rattle.records.specs.declared.rows.Volume.{Volume}
-use Rattle.records.specs.declared.rows.Instance.{Instance}
-use Rattle.operations.specs.declared.operation.Operation.{Operation}
+use Rattle.row_machine.specs.plain_lists.specs.Members.{Each}
+use Rattle.row_machine.specs.plain_lists.specs.Firsts.{first_of}
+use Rattle.row_machine.specs.plain_lists.proofs.Elements.{Each-none, Each-cons, Each-map}
+use Rattle.row_machine.specs.plain_lists.proofs.FirstLemmas.{none-first_of}
+use Rattle.row_machine.specs.size_values.specs.declared.amounts.Part.{Part}
+use Rattle.row_machine.specs.size_values.specs.declared.amounts.Part.TheVariants as part_of
+use Rattle.row_machine.specs.size_values.specs.declared.kinds.Kind.{Kind}
+use Rattle.row_machine.specs.config_lists.specs.Settings.{Settings}
+use Rattle.row_machine.specs.config_lists.specs.Devices.{NamedDevices}
+use Rattle.row_machine.specs.project_limits.specs.declared.limits.Limits.{Limits}
+use Rattle.row_machine.specs.project_limits.specs.declared.sums.SumKey.{SumKey}
+use Rattle.row_machine.specs.project_limits.specs.declared.sums.SumKey.TheVariants as sum
+use Rattle.row_machine.specs.project_limits.specs.Admission.{limit_on, parts, key_of}
+use Rattle.row_machine.specs.project_limits.specs.declared.admission.LimitKey.TheVariants.{Networks}
+use Rattle.row_machine.specs.project_limits.specs.Countable.{first_uncounted, volume_uncounted, sum_limit, sums, uncounted as sum_uncounted}
+use Rattle.row_machine.specs.project_limits.specs.Instance.{counted}
+use Rattle.row_machine.specs.project_limits.specs.Limits.{size_in, limits_of}
+use Rattle.row_machine.specs.records.specs.declared.rows.Project.{Project}
+use Rattle.row_machine.specs.records.specs.declared.rows.Volume.{Volume}
+use Rattle.row_machine.specs.records.specs.declared.rows.Instance.{Instance}
+use Rattle.row_machine.specs.operations.specs.declared.operation.Operation.{Operation}
 use Rattle.row_machine.specs.machine.Task.{Task}
 use Rattle.row_machine.specs.machine.State.{State}
 use Rattle.row_machine.specs.machine.Usage.{used, networks_of}

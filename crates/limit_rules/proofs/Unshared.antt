@@ -1,17 +1,17 @@
 -- A share of a project without a limit exceeds none, whatever is used beside it.
 use Rattle.std.proofs.Common.{◌≡◌, ℕ, ◌+◌, ◌&&◌, Bool, true, false, cond, None, List, [], ◌∷◌, Option, Some, refl, sym, ap, ◌∙◌}
 use Rattle.std.specs.Str.{bytes_eq}
-use Rattle.plain_lists.specs.Members.{Each}
-use Rattle.plain_lists.specs.Firsts.{first_of}
-use Rattle.plain_lists.proofs.FirstLemmas.{none-first_of}
-use Rattle.plain_lists.proofs.Searches.{any-none}
-use Rattle.project_limits.specs.Admission.{key_of, limit_on, parts}
-use Rattle.project_limits.specs.Limits.{limits_of}
-use Rattle.records.specs.declared.rows.Project.{Project}
+use Rattle.row_machine.specs.plain_lists.specs.Members.{Each}
+use Rattle.row_machine.specs.plain_lists.specs.Firsts.{first_of}
+use Rattle.row_machine.specs.plain_lists.proofs.FirstLemmas.{none-first_of}
+use Rattle.row_machine.specs.plain_lists.proofs.Searches.{any-none}
+use Rattle.row_machine.specs.project_limits.specs.Admission.{key_of, limit_on, parts}
+use Rattle.row_machine.specs.project_limits.specs.Limits.{limits_of}
+use Rattle.row_machine.specs.records.specs.declared.rows.Project.{Project}
 use Rattle.row_machine.specs.machine.LimitRules.{limit_exceeded}
-use Rattle.size_values.specs.Amounts.{part, nothing, fits_in}
-use Rattle.size_values.specs.declared.amounts.Amounts.{Amounts}
-use Rattle.size_values.specs.declared.amounts.Part.{Part}
+use Rattle.row_machine.specs.size_values.specs.Amounts.{part, nothing, fits_in}
+use Rattle.row_machine.specs.size_values.specs.declared.amounts.Amounts.{Amounts}
+use Rattle.row_machine.specs.size_values.specs.declared.amounts.Part.{Part}
 use Rattle.limit_rules.specs.Exceeding.{limits_any}
 use Rattle.limit_rules.specs.Alone.{share_over, share_exceeds, share_broken, has_limits}
 use Rattle.limit_rules.proofs.Unlimited.{no-limit}

@@ -2,14 +2,14 @@
 use Rattle.std.specs.Prelude.{ℕ, ◌+◌, Bool, ◌&&◌, List, Option, None, if◌then◌else◌}
 use Rattle.std.specs.List.{list_any}
 use Rattle.std.specs.Str.{bytes_eq}
-use Rattle.plain_lists.specs.Firsts.{first_of}
-use Rattle.size_values.specs.Amounts.{part, nothing, fits_in}
-use Rattle.size_values.specs.declared.amounts.Amounts.{Amounts}
-use Rattle.size_values.specs.declared.amounts.Part.{Part}
-use Rattle.project_limits.specs.Admission.{key_of, limit_on, parts}
-use Rattle.project_limits.specs.Limits.{limits_of}
-use Rattle.records.specs.declared.refusals.Refusal.{Refusal}
-use Rattle.records.specs.declared.rows.Project.{Project}
+use Rattle.row_machine.specs.plain_lists.specs.Firsts.{first_of}
+use Rattle.row_machine.specs.size_values.specs.Amounts.{part, nothing, fits_in}
+use Rattle.row_machine.specs.size_values.specs.declared.amounts.Amounts.{Amounts}
+use Rattle.row_machine.specs.size_values.specs.declared.amounts.Part.{Part}
+use Rattle.row_machine.specs.project_limits.specs.Admission.{key_of, limit_on, parts}
+use Rattle.row_machine.specs.project_limits.specs.Limits.{limits_of}
+use Rattle.row_machine.specs.records.specs.declared.refusals.Refusal.{Refusal}
+use Rattle.row_machine.specs.records.specs.declared.rows.Project.{Project}
 use Rattle.row_machine.specs.machine.LimitRules.{claim_uncounted, limit_exceeded}
 use Rattle.row_machine.specs.machine.State.{State}
 use Rattle.row_machine.specs.machine.Task.{Task}

@@ -2,17 +2,17 @@
 use Rattle.std.specs.Prelude.{◌≡◌, ℕ, Bool, false, ◌||◌, List, [], ◌∷◌, Option, is_some, filter, length, ◌⊎◌}
 use Rattle.std.specs.List.{sum_by, list_any}
 use Rattle.std.specs.Str.{bytes_eq}
-use Rattle.plain_lists.specs.Firsts.{first, first_of}
-use Rattle.size_values.specs.declared.amounts.Part.{Part}
-use Rattle.project_limits.specs.Admission.{key_of, limit_on, parts}
-use Rattle.project_limits.specs.Limits.{limits_of}
-use Rattle.project_limits.specs.declared.admission.LimitKey.TheVariants.{Networks}
-use Rattle.project_limits.specs.declared.limits.Limits.{Limits}
-use Rattle.records.specs.declared.refusals.Refusal.{Refusal}
-use Rattle.records.specs.declared.rows.Network.{Network}
-use Rattle.records.specs.declared.rows.Project.{Project}
-use Rattle.records.specs.declared.rows.Row.{Row}
-use Rattle.records.specs.declared.rows.Row.TheVariants as row
+use Rattle.row_machine.specs.plain_lists.specs.Firsts.{first, first_of}
+use Rattle.row_machine.specs.size_values.specs.declared.amounts.Part.{Part}
+use Rattle.row_machine.specs.project_limits.specs.Admission.{key_of, limit_on, parts}
+use Rattle.row_machine.specs.project_limits.specs.Limits.{limits_of}
+use Rattle.row_machine.specs.project_limits.specs.declared.admission.LimitKey.TheVariants.{Networks}
+use Rattle.row_machine.specs.project_limits.specs.declared.limits.Limits.{Limits}
+use Rattle.row_machine.specs.records.specs.declared.refusals.Refusal.{Refusal}
+use Rattle.row_machine.specs.records.specs.declared.rows.Network.{Network}
+use Rattle.row_machine.specs.records.specs.declared.rows.Project.{Project}
+use Rattle.row_machine.specs.records.specs.declared.rows.Row.{Row}
+use Rattle.row_machine.specs.records.specs.declared.rows.Row.TheVariants as row
 use Rattle.row_machine.specs.declared.changes.RowChange.{RowChange}
 use Rattle.row_machine.specs.declared.changes.RowChange.TheVariants as change
 use Rattle.row_machine.specs.machine.State.{State}

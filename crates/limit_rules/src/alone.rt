@@ -1,22 +1,22 @@
 //! The rules on limits for a new operation, by what it claims alone: where all facts hold before it, nothing else can break
 //! them.
 ghost use Rattle.std.specs.Prelude.{◌≡◌, ◌+◌, ◌<◌, ◌≤◌, ◌^◌, IsFalse};
-ghost use Rattle.plain_lists.specs.Firsts.{first_of};
-ghost use Rattle.size_values.specs.Amounts.{part, nothing, fits_in};
-ghost use Rattle.size_values.specs.Causes.{Says};
-ghost use Rattle.size_values.specs.declared.amounts.Amounts.{Amounts as AmountsValue};
-ghost use Rattle.size_values.specs.declared.amounts.Part.{Part as PartValue};
+ghost use Rattle.row_machine.specs.plain_lists.specs.Firsts.{first_of};
+ghost use Rattle.row_machine.specs.size_values.specs.Amounts.{part, nothing, fits_in};
+ghost use Rattle.row_machine.specs.size_values.specs.Causes.{Says};
+ghost use Rattle.row_machine.specs.size_values.specs.declared.amounts.Amounts.{Amounts as AmountsValue};
+ghost use Rattle.row_machine.specs.size_values.specs.declared.amounts.Part.{Part as PartValue};
 ghost use Rattle.row_machine.specs.machine.LimitRules.{claim_uncounted};
 ghost use Rattle.limit_rules.specs.Alone.{claim_uncounts, share_over, share_exceeds, share_broken, has_limits};
 
 use crate::counts::claim_uncounted;
 use crate::limits::limit_exceeded;
 use crate::parts::{PARTS, is_limited, key_of, limit_on, part_of};
-use project_limits::limits_of;
-use records::{Project, Refusal};
 use row_machine::Work;
+use row_machine::project_limits_crate::limits_of;
+use row_machine::records_crate::{Project, Refusal};
+use row_machine::size_values_crate::{Amounts, Or, Part};
 use row_readings::View;
-use size_values::{Amounts, Or, Part};
 use std::alloc::Global;
 
 fn projects_uncount(

@@ -1,20 +1,20 @@
 //! L0: that each instance and volume gives a number for each limited sum.
 ghost use Rattle.std.specs.Prelude.{◌≡◌, option_and_then};
-ghost use Rattle.plain_lists.specs.Firsts.{first_of};
-ghost use Rattle.size_values.specs.Causes.{Says};
+ghost use Rattle.row_machine.specs.plain_lists.specs.Firsts.{first_of};
+ghost use Rattle.row_machine.specs.size_values.specs.Causes.{Says};
 ghost use Rattle.row_machine.specs.machine.Claims.{claimed_instance, claimed_volume};
 ghost use Rattle.row_machine.specs.machine.LimitRules.{sum_text, object_uncounted, claim_uncounted, project_uncounted};
 ghost use Rattle.row_machine.specs.machine.LimitRules.{counts_broken};
 ghost use Rattle.limit_rules.specs.Within.{own_instance, own_volume, own_objects};
 
 use crate::parts::limits_sum;
-use operations::Operation;
-use project_limits::{SumKey, countable, limits_of, volume_countable};
-use records::{Instance, Project, Refusal, Rule, Volume};
 use row_machine::Work;
+use row_machine::operations_crate::Operation;
+use row_machine::project_limits_crate::{SumKey, countable, limits_of, volume_countable};
+use row_machine::records_crate::{Instance, Project, Refusal, Rule, Volume};
+use row_machine::size_values_crate::{Or, Text};
 use row_readings::{View, claimed_instance, claimed_volume};
 use rule_refusals::on_key_of;
-use size_values::{Or, Text};
 use std::alloc::Global;
 
 fn sum_text(key: SumKey) -> &'static str

@@ -1,6 +1,9 @@
 //! Rules on limits, L0 to L8: that what counts gives its numbers, and that each project stands within its limits.
 #![tactic(auto)]
 
+// The libraries that crates above name through this one.
+pub use row_readings as row_readings_crate;
+
 mod alone;
 mod counts;
 mod limits;

@@ -1,9 +1,9 @@
 //! L1 to L8: that each project stands within its limits.
 ghost use Rattle.std.specs.Prelude.{◌≡◌, ◌<◌, ◌^◌, IfOk, Some, filter, length};
 ghost use Rattle.std.specs.Str.{bytes_eq};
-ghost use Rattle.plain_lists.specs.Firsts.{first_of};
-ghost use Rattle.size_values.specs.Causes.{Says};
-ghost use Rattle.project_limits.specs.Admission.{parts};
+ghost use Rattle.row_machine.specs.plain_lists.specs.Firsts.{first_of};
+ghost use Rattle.row_machine.specs.size_values.specs.Causes.{Says};
+ghost use Rattle.row_machine.specs.project_limits.specs.Admission.{parts};
 ghost use Rattle.row_machine.specs.machine.State.{State};
 ghost use Rattle.row_machine.specs.machine.Usage.{loads};
 ghost use Rattle.row_machine.specs.machine.LimitRules.{over_refusal, limit_exceeded, limits_broken};
@@ -13,10 +13,10 @@ ghost use Rattle.limit_rules.specs.Exceeding.{part_over, parts_over, networks_ov
 
 use crate::parts::{PARTS, is_any_limited, key_of, limit_on, limit_rule, limit_text, part_of};
 use crate::usage::Usage;
-use project_limits::{LimitKey, Over, limits_of};
-use records::{Kept, Network, Project, Refusal};
+use row_machine::project_limits_crate::{LimitKey, Over, limits_of};
+use row_machine::records_crate::{Kept, Network, Project, Refusal};
+use row_machine::size_values_crate::{NoMemory, Or, Part, Text};
 use row_readings::{Load, View, loads, usage_in};
-use size_values::{NoMemory, Or, Part, Text};
 use std::alloc::Global;
 
 /// A refusal by a limit of a project.

@@ -1,16 +1,16 @@
 //! The limits of a project by their parts: which are set, and how a refusal tells one.
 ghost use Rattle.std.specs.Prelude.{◌≡◌};
 ghost use Rattle.std.specs.List.{list_any};
-ghost use Rattle.size_values.specs.Amounts.{part};
-ghost use Rattle.project_limits.specs.Admission.{key_of, limit_on};
-ghost use Rattle.project_limits.specs.Limits.{limits_of};
+ghost use Rattle.row_machine.specs.size_values.specs.Amounts.{part};
+ghost use Rattle.row_machine.specs.project_limits.specs.Admission.{key_of, limit_on};
+ghost use Rattle.row_machine.specs.project_limits.specs.Limits.{limits_of};
 ghost use Rattle.row_machine.specs.machine.LimitRules.{limit_rule, limit_text};
 ghost use Rattle.limit_rules.specs.Exceeding.{limits_any, limits_sum, is_any_limited, is_limited_row, sets_limit};
 
-use project_limits::{LimitKey, Limits, limits_of};
-use records::{Project, Row, Rule};
 use row_machine::RowChange;
-use size_values::{Amounts, Part};
+use row_machine::project_limits_crate::{LimitKey, Limits, limits_of};
+use row_machine::records_crate::{Project, Row, Rule};
+use row_machine::size_values_crate::{Amounts, Part};
 
 /// The parts of amounts, in the order in which their limits are judged.
 pub(crate) const PARTS: [Part; 7] = [

@@ -5,13 +5,14 @@ use crate::holding_gates::HoldingGate;
 use crate::links::{
     INSTANCES, POOL, count_in_replies, gate_at, is_answered, new_machine, replies_to,
 };
-use gate_trails::Gate;
+use gates::gate_trails_crate::Gate;
+use gates::http_front_crate::StillClock;
+use gates::record_keeper_crate::MapKeeper;
+use gates::row_machine_crate::Event;
+use gates::turnstile_crate::{Pass, Turnstile};
 use gates::{DaemonMachine, LockedGate};
-use host_model::{Host, HostCall, HostFailed, ModelHost};
-use http_front::StillClock;
-use record_keeper::MapKeeper;
-use row_machine::Event;
-use size_values::{Or, Seq};
+use host_lock::host_model_crate::{Host, HostCall, HostFailed, ModelHost};
+use host_lock::size_values_crate::{Or, Seq};
 use std::alloc::Global;
 use std::marker::Brand;
 use std::sync::atomic::{AtomicBool, AtomicU64, Ordering};
@@ -20,7 +21,6 @@ use std::sync::{Arc, Wait};
 use std::thread;
 use std::thread::{Threads, join};
 use std::time::{Clock, Duration};
-use turnstile::{Pass, Turnstile};
 use workers::work;
 
 /// How two links meet.

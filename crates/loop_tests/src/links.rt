@@ -1,16 +1,16 @@
 //! Links in memory over the gates of one server.
-use core_turns::Daemon;
-use gate_trails::Gate;
+use gates::core_turns_crate::Daemon;
+use gates::gate_trails_crate::Gate;
+use gates::http_front_crate::{ByteSink, ByteSource, StillClock};
+use gates::record_keeper_crate::MapKeeper;
+use gates::turnstile_crate::{Pass, Turnstile};
 use gates::{DaemonMachine, LockedGate};
-use http_front::{ByteSink, ByteSource, StillClock};
-use record_keeper::MapKeeper;
+use host_lock::size_values_crate::Seq;
 use serve_loop::{LinkEnd, serve_link};
-use size_values::Seq;
 use std::alloc::Global;
 use std::sync::ledger::Ledger;
 use std::sync::{Arc, Wait};
 use std::time::Clock;
-use turnstile::{Pass, Turnstile};
 
 /// A pool, and the root disk of all instances in it.
 pub(crate) const POOL: &str =

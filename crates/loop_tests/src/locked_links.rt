@@ -2,15 +2,15 @@
 ghost use Rattle.std.specs.Prelude.{◌≡◌, ◌≤◌};
 
 use crate::links::{gate_at, is_answered, new_machine};
-use gate_trails::Gate;
+use gates::gate_trails_crate::Gate;
+use gates::record_keeper_crate::MapKeeper;
+use gates::turnstile_crate::{Pass, Turnstile};
 use gates::{DaemonMachine, LockedGate};
-use record_keeper::MapKeeper;
 use std::alloc::Global;
 use std::marker::Brand;
 use std::sync::ledger::{Blank, Ledger};
 use std::sync::{Arc, Wait};
 use std::time::Clock;
-use turnstile::{Pass, Turnstile};
 
 const CREATION: &str =
     "POST /1.0/projects HTTP/1.1\r\nHost: localhost\r\nContent-Length: 14\r\n\r\n{\"name\":\"lab\"}";

@@ -2,14 +2,15 @@
 ghost use Rattle.std.specs.Prelude.{◌≡◌};
 
 use crate::links::{INSTANCES, POOL, count_in_replies, new_machine, replies_to};
-use gate_trails::Gate;
+use gates::gate_trails_crate::Gate;
+use gates::http_front_crate::StillClock;
+use gates::record_keeper_crate::MapKeeper;
+use gates::row_machine_crate::Event;
+use gates::turnstile_crate::{Pass, Turnstile};
 use gates::{DaemonMachine, LockedGate};
 use host_lock::LockedHost;
-use host_model::ModelHost;
-use http_front::StillClock;
-use record_keeper::MapKeeper;
-use row_machine::Event;
-use size_values::Seq;
+use host_lock::host_model_crate::ModelHost;
+use host_lock::size_values_crate::Seq;
 use std::alloc::Global;
 use std::marker::Brand;
 use std::sync::atomic::{AtomicU64, Ordering};
@@ -18,7 +19,6 @@ use std::sync::{Arc, Wait};
 use std::thread;
 use std::thread::Threads;
 use std::time::Clock;
-use turnstile::{Pass, Turnstile};
 use workers::work;
 
 /// How many instances each link creates.

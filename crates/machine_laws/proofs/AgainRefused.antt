@@ -2,17 +2,17 @@
 use Rattle.std.proofs.Common.{◌≡◌, ◌≢◌, ◌⊎◌, inl, inr, ℕ, ◌==◌, Bool, true, false, cond, Option, Some, None, List, [], ◌∷◌, length, refl, sym, ap, subst, ◌∙◌, arith}
 use Rattle.std.specs.Option.{option_map, option_map_or, option_or, option_and_then, is_some}
 use Rattle.std.proofs.lemmas.Bool.{eqb-true}
-use Rattle.size_values.specs.declared.kinds.ObjectKind.{ObjectKind}
-use Rattle.size_values.specs.declared.kinds.ObjectKind.TheVariants as kind
-use Rattle.estate_rules.specs.Names.{good_name_of}
-use Rattle.records.specs.declared.commands.Target.{Target}
-use Rattle.records.specs.declared.commands.Body.{Body}
-use Rattle.records.specs.declared.commands.Command.{Command}
-use Rattle.records.specs.declared.commands.What.TheVariants as what
-use Rattle.records.specs.declared.refusals.Refusal.{Refusal}
-use Rattle.records.specs.declared.refusals.Rule.TheVariants as rule
-use Rattle.records.specs.declared.replies.Reply.TheVariants as reply
-use Rattle.operations.specs.declared.operation.Operation.{Operation}
+use Rattle.record_keeper.specs.size_values.specs.declared.kinds.ObjectKind.{ObjectKind}
+use Rattle.record_keeper.specs.size_values.specs.declared.kinds.ObjectKind.TheVariants as kind
+use Rattle.row_machine.specs.estate_rules.specs.Names.{good_name_of}
+use Rattle.row_machine.specs.records.specs.declared.commands.Target.{Target}
+use Rattle.row_machine.specs.records.specs.declared.commands.Body.{Body}
+use Rattle.row_machine.specs.records.specs.declared.commands.Command.{Command}
+use Rattle.row_machine.specs.records.specs.declared.commands.What.TheVariants as what
+use Rattle.row_machine.specs.records.specs.declared.refusals.Refusal.{Refusal}
+use Rattle.row_machine.specs.records.specs.declared.refusals.Rule.TheVariants as rule
+use Rattle.row_machine.specs.records.specs.declared.replies.Reply.TheVariants as reply
+use Rattle.row_machine.specs.operations.specs.declared.operation.Operation.{Operation}
 use Rattle.row_machine.specs.declared.events.Answer.TheVariants as answer
 use Rattle.row_machine.specs.machine.Task.{Task}
 use Rattle.row_machine.specs.machine.State.{State}

@@ -1,16 +1,16 @@
 -- Each operation that begins stands where it should: its project, its target, its source and its claim.
 use Rattle.std.proofs.Common.{◌≡◌, ℕ, true, Option, Some, None, List, [], ◌∷◌, refl, sym, ap, subst, ◌∙◌}
 use Rattle.std.specs.Option.{option_map_or, unwrap_or, is_some}
-use Rattle.plain_lists.specs.Members.{Mem}
-use Rattle.plain_lists.proofs.Elements.{Each-left}
-use Rattle.plain_lists.proofs.Searches.{find-some}
-use Rattle.size_values.specs.declared.kinds.ObjectKind.TheVariants as kind
-use Rattle.records.specs.Forms.{are_profiles}
-use Rattle.records.specs.declared.rows.Instance.{Instance}
-use Rattle.records.specs.declared.rows.Snapshot.{Snapshot}
-use Rattle.records.specs.declared.rows.Row.{Row}
-use Rattle.records.specs.declared.rows.Row.TheVariants as row
-use Rattle.records.specs.declared.commands.Target.{Target}
+use Rattle.row_machine.specs.plain_lists.specs.Members.{Mem}
+use Rattle.row_machine.specs.plain_lists.proofs.Elements.{Each-left}
+use Rattle.row_machine.specs.plain_lists.proofs.Searches.{find-some}
+use Rattle.record_keeper.specs.size_values.specs.declared.kinds.ObjectKind.TheVariants as kind
+use Rattle.row_machine.specs.records.specs.Forms.{are_profiles}
+use Rattle.row_machine.specs.records.specs.declared.rows.Instance.{Instance}
+use Rattle.row_machine.specs.records.specs.declared.rows.Snapshot.{Snapshot}
+use Rattle.row_machine.specs.records.specs.declared.rows.Row.{Row}
+use Rattle.row_machine.specs.records.specs.declared.rows.Row.TheVariants as row
+use Rattle.row_machine.specs.records.specs.declared.commands.Target.{Target}
 use Rattle.row_machine.specs.machine.Task.{Task}
 use Rattle.row_machine.specs.machine.State.{State}
 use Rattle.row_machine.specs.machine.Rows.{default_name, is_instance, is_snapshot, project_named, pool_named, volume_named, snapshot_named}

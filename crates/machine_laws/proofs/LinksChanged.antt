@@ -1,9 +1,9 @@
 -- Changes of rows at once keep the links.
 use Rattle.std.proofs.Common.{List, [], refl, ap, ◌∙◌}
 use Rattle.std.specs.Option.{is_some}
-use Rattle.plain_lists.proofs.Searches.{find-some}
-use Rattle.records.specs.declared.rows.Row.TheVariants as row
-use Rattle.records.specs.declared.commands.Command.{Command}
+use Rattle.row_machine.specs.plain_lists.proofs.Searches.{find-some}
+use Rattle.row_machine.specs.records.specs.declared.rows.Row.TheVariants as row
+use Rattle.row_machine.specs.records.specs.declared.commands.Command.{Command}
 use Rattle.row_machine.specs.declared.changes.RowChange.{RowChange}
 use Rattle.row_machine.specs.machine.State.{State}
 use Rattle.row_machine.specs.machine.Rows.{is_volume, pool_named}

@@ -1,12 +1,12 @@
 -- What the links of a state are read from: its rows, and what its live operations are about.
 use Rattle.std.proofs.Common.{◌≡◌, Option, List, [], refl, sym, ◌∙◌, ap, subst}
 use Rattle.std.specs.List.{filter_map}
-use Rattle.plain_lists.specs.Members.{Mem, Each}
-use Rattle.plain_lists.proofs.Elements.{Each-map, Each-append, Each-left, Each-right}
-use Rattle.plain_lists.proofs.Readings.{Mem-read, Mem-from_read}
-use Rattle.operations.specs.declared.operation.Operation.{Operation}
-use Rattle.operations.specs.Kept.{no_operations}
-use Rattle.records.specs.declared.rows.Instance.{Instance}
+use Rattle.row_machine.specs.plain_lists.specs.Members.{Mem, Each}
+use Rattle.row_machine.specs.plain_lists.proofs.Elements.{Each-map, Each-append, Each-left, Each-right}
+use Rattle.row_machine.specs.plain_lists.proofs.Readings.{Mem-read, Mem-from_read}
+use Rattle.row_machine.specs.operations.specs.declared.operation.Operation.{Operation}
+use Rattle.row_machine.specs.operations.specs.Kept.{no_operations}
+use Rattle.row_machine.specs.records.specs.declared.rows.Instance.{Instance}
 use Rattle.row_machine.specs.machine.Task.{Task}
 use Rattle.row_machine.specs.machine.State.{State, empty_state}
 use Rattle.row_machine.specs.machine.Claims.{of_live, claimed_instance, claimed_snapshot, judged_instances}

@@ -2,17 +2,17 @@
 use Rattle.std.proofs.Common.{◌≡◌, ℕ, true, Option, Some, None, List, [], ◌∷◌, ◌++◌, refl, sym, ap, subst, ◌∙◌, inl, inr}
 use Rattle.std.specs.List.{filter_map}
 use Rattle.std.specs.Option.{is_some, option_to_list}
-use Rattle.plain_lists.specs.Members.{Mem, Each}
-use Rattle.plain_lists.proofs.Elements.{Each-map, Each-append, Each-left, Each-right, Each-push, Mem-append}
-use Rattle.plain_lists.proofs.Readings.{Mem-read, Mem-from_read}
-use Rattle.instance_states.specs.Plans.{undo_of}
-use Rattle.operations.specs.declared.operation.Operation.{Operation}
-use Rattle.operations.specs.declared.operation.OpFault.TheVariants as fault
-use Rattle.operations.specs.declared.status.Status.TheVariants as status
-use Rattle.records.specs.Forms.{are_profiles}
-use Rattle.records.specs.declared.rows.Instance.{Instance}
-use Rattle.records.specs.declared.rows.Snapshot.{Snapshot}
-use Rattle.records.specs.declared.rows.Row.TheVariants as row
+use Rattle.row_machine.specs.plain_lists.specs.Members.{Mem, Each}
+use Rattle.row_machine.specs.plain_lists.proofs.Elements.{Each-map, Each-append, Each-left, Each-right, Each-push, Mem-append}
+use Rattle.row_machine.specs.plain_lists.proofs.Readings.{Mem-read, Mem-from_read}
+use Rattle.row_machine.specs.instance_states.specs.Plans.{undo_of}
+use Rattle.row_machine.specs.operations.specs.declared.operation.Operation.{Operation}
+use Rattle.row_machine.specs.operations.specs.declared.operation.OpFault.TheVariants as fault
+use Rattle.row_machine.specs.operations.specs.declared.status.Status.TheVariants as status
+use Rattle.row_machine.specs.records.specs.Forms.{are_profiles}
+use Rattle.row_machine.specs.records.specs.declared.rows.Instance.{Instance}
+use Rattle.row_machine.specs.records.specs.declared.rows.Snapshot.{Snapshot}
+use Rattle.row_machine.specs.records.specs.declared.rows.Row.TheVariants as row
 use Rattle.row_machine.specs.machine.Task.{Task}
 use Rattle.row_machine.specs.machine.State.{State}
 use Rattle.row_machine.specs.machine.Claims.{of_live, claimed_instance, claimed_snapshot, judged_instances}

@@ -1,15 +1,15 @@
 -- Links where instances and snapshots alone change.
 use Rattle.std.proofs.Common.{◌≡◌, ℕ, true, false, None, List, [], ◌∷◌, refl, sym, ap, subst, ◌∙◌, true≢false}
 use Rattle.std.specs.Option.{is_some}
-use Rattle.plain_lists.specs.Members.{Mem, Each}
-use Rattle.plain_lists.proofs.Elements.{Each-map, Each-append, Each-left, Each-right}
-use Rattle.plain_lists.proofs.Searches.{find-some, find-none}
-use Rattle.size_values.specs.declared.kinds.ObjectKind.TheVariants as kind
-use Rattle.operations.specs.declared.operation.Operation.{Operation}
-use Rattle.records.specs.Forms.{are_profiles}
-use Rattle.records.specs.declared.rows.Instance.{Instance}
-use Rattle.records.specs.declared.rows.Snapshot.{Snapshot}
-use Rattle.records.specs.declared.rows.Row.TheVariants as row
+use Rattle.row_machine.specs.plain_lists.specs.Members.{Mem, Each}
+use Rattle.row_machine.specs.plain_lists.proofs.Elements.{Each-map, Each-append, Each-left, Each-right}
+use Rattle.row_machine.specs.plain_lists.proofs.Searches.{find-some, find-none}
+use Rattle.record_keeper.specs.size_values.specs.declared.kinds.ObjectKind.TheVariants as kind
+use Rattle.row_machine.specs.operations.specs.declared.operation.Operation.{Operation}
+use Rattle.row_machine.specs.records.specs.Forms.{are_profiles}
+use Rattle.row_machine.specs.records.specs.declared.rows.Instance.{Instance}
+use Rattle.row_machine.specs.records.specs.declared.rows.Snapshot.{Snapshot}
+use Rattle.row_machine.specs.records.specs.declared.rows.Row.TheVariants as row
 use Rattle.row_machine.specs.machine.Task.{Task}
 use Rattle.row_machine.specs.machine.State.{State}
 use Rattle.row_machine.specs.machine.Rows.{is_instance, instance_named, with_instance}

@@ -3,18 +3,18 @@ use Rattle.std.proofs.Common.{◌≡◌, ◌≢◌, ℕ, true, false, Some, None
 use Rattle.std.specs.Option.{is_some}
 use Rattle.std.specs.Str.{bytes_eq}
 use Rattle.std.proofs.lemmas.Bool.{and_from}
-use Rattle.plain_lists.specs.Members.{Each}
-use Rattle.plain_lists.specs.Edits.{dropped}
-use Rattle.plain_lists.proofs.Elements.{Each-map}
-use Rattle.plain_lists.proofs.Searches.{find-some}
-use Rattle.plain_lists.proofs.EditLemmas.{Each-dropped}
-use Rattle.config_lists.proofs.Keys.{bytes_eq-itself}
-use Rattle.config_lists.specs.Devices.{NamedDevices}
-use Rattle.estate_rules.specs.Uses.{names_network}
-use Rattle.size_values.specs.declared.kinds.ObjectKind.TheVariants as kind
-use Rattle.records.specs.declared.rows.Network.{Network}
-use Rattle.records.specs.declared.rows.Row.TheVariants as row
-use Rattle.row_codec.specs.Spelling.{key_of}
+use Rattle.row_machine.specs.plain_lists.specs.Members.{Each}
+use Rattle.row_machine.specs.plain_lists.specs.Edits.{dropped}
+use Rattle.row_machine.specs.plain_lists.proofs.Elements.{Each-map}
+use Rattle.row_machine.specs.plain_lists.proofs.Searches.{find-some}
+use Rattle.row_machine.specs.plain_lists.proofs.EditLemmas.{Each-dropped}
+use Rattle.row_machine.specs.config_lists.proofs.Keys.{bytes_eq-itself}
+use Rattle.row_machine.specs.config_lists.specs.Devices.{NamedDevices}
+use Rattle.row_machine.specs.estate_rules.specs.Uses.{names_network}
+use Rattle.record_keeper.specs.size_values.specs.declared.kinds.ObjectKind.TheVariants as kind
+use Rattle.row_machine.specs.records.specs.declared.rows.Network.{Network}
+use Rattle.row_machine.specs.records.specs.declared.rows.Row.TheVariants as row
+use Rattle.row_machine.specs.row_codec.specs.Spelling.{key_of}
 use Rattle.row_machine.specs.machine.State.{State}
 use Rattle.row_machine.specs.machine.Rows.{is_network, network_names, network_named, with_network}
 use Rattle.row_machine.specs.machine.Homes.{home_of}

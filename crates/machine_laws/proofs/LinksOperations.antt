@@ -1,17 +1,17 @@
 -- Steps of live operations leave the links.
 use Rattle.std.proofs.Common.{◌≡◌, ℕ, Bool, true, false, cond, Some, List, [], ◌∷◌, refl, sym, ◌∙◌, ap, subst, inl, inr}
 use Rattle.std.specs.List.{find}
-use Rattle.plain_lists.specs.Members.{Mem}
-use Rattle.plain_lists.specs.Puts.{Puts}
-use Rattle.plain_lists.specs.Edits.{changed_first, dropped}
-use Rattle.plain_lists.proofs.PutsLemmas.{Mem-Puts, Mem-puts, Mem-unputs}
-use Rattle.plain_lists.proofs.Searches.{find-some}
-use Rattle.plain_lists.proofs.EditLemmas.{changed-Puts, find-changed, Mem-dropped}
-use Rattle.operations.specs.declared.operation.Operation.{Operation}
-use Rattle.operations.specs.declared.operation.OpFault.{OpFault}
-use Rattle.operations.specs.declared.status.Status.{Status}
-use Rattle.operations.specs.Kept.{has_number, live_at}
-use Rattle.records.specs.declared.notices.Untold.{Untold}
+use Rattle.row_machine.specs.plain_lists.specs.Members.{Mem}
+use Rattle.row_machine.specs.plain_lists.specs.Puts.{Puts}
+use Rattle.row_machine.specs.plain_lists.specs.Edits.{changed_first, dropped}
+use Rattle.row_machine.specs.plain_lists.proofs.PutsLemmas.{Mem-Puts, Mem-puts, Mem-unputs}
+use Rattle.row_machine.specs.plain_lists.proofs.Searches.{find-some}
+use Rattle.row_machine.specs.plain_lists.proofs.EditLemmas.{changed-Puts, find-changed, Mem-dropped}
+use Rattle.row_machine.specs.operations.specs.declared.operation.Operation.{Operation}
+use Rattle.row_machine.specs.operations.specs.declared.operation.OpFault.{OpFault}
+use Rattle.row_machine.specs.operations.specs.declared.status.Status.{Status}
+use Rattle.row_machine.specs.operations.specs.Kept.{has_number, live_at}
+use Rattle.row_machine.specs.records.specs.declared.notices.Untold.{Untold}
 use Rattle.row_machine.specs.machine.Task.{Task}
 use Rattle.row_machine.specs.machine.State.{State}
 use Rattle.row_machine.specs.shown.Notices.{telling, push_notice}

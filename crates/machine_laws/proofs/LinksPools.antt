@@ -2,18 +2,18 @@
 use Rattle.std.proofs.Common.{◌≡◌, ◌≢◌, ℕ, true, false, Some, None, List, [], ◌∷◌, sym, ap, ◌∙◌, true≢false}
 use Rattle.std.specs.Option.{option_map_or, is_some}
 use Rattle.std.specs.Str.{bytes_eq}
-use Rattle.plain_lists.specs.Members.{Mem, Each}
-use Rattle.plain_lists.specs.Edits.{dropped}
-use Rattle.plain_lists.proofs.Elements.{Each-map}
-use Rattle.plain_lists.proofs.Searches.{find-some}
-use Rattle.config_lists.proofs.Keys.{bytes_eq-itself}
-use Rattle.config_lists.specs.Devices.{NamedDevices}
-use Rattle.estate_rules.specs.Uses.{names_pool}
-use Rattle.operations.specs.declared.operation.Operation.{Operation}
-use Rattle.records.specs.declared.rows.Pool.{Pool}
-use Rattle.records.specs.declared.rows.Volume.{Volume}
-use Rattle.records.specs.declared.rows.Row.TheVariants as row
-use Rattle.row_codec.specs.Spelling.{key_of}
+use Rattle.row_machine.specs.plain_lists.specs.Members.{Mem, Each}
+use Rattle.row_machine.specs.plain_lists.specs.Edits.{dropped}
+use Rattle.row_machine.specs.plain_lists.proofs.Elements.{Each-map}
+use Rattle.row_machine.specs.plain_lists.proofs.Searches.{find-some}
+use Rattle.row_machine.specs.config_lists.proofs.Keys.{bytes_eq-itself}
+use Rattle.row_machine.specs.config_lists.specs.Devices.{NamedDevices}
+use Rattle.row_machine.specs.estate_rules.specs.Uses.{names_pool}
+use Rattle.row_machine.specs.operations.specs.declared.operation.Operation.{Operation}
+use Rattle.row_machine.specs.records.specs.declared.rows.Pool.{Pool}
+use Rattle.row_machine.specs.records.specs.declared.rows.Volume.{Volume}
+use Rattle.row_machine.specs.records.specs.declared.rows.Row.TheVariants as row
+use Rattle.row_machine.specs.row_codec.specs.Spelling.{key_of}
 use Rattle.row_machine.specs.machine.Task.{Task}
 use Rattle.row_machine.specs.machine.State.{State}
 use Rattle.row_machine.specs.machine.Rows.{is_pool, pool_names, pool_named, with_pool}

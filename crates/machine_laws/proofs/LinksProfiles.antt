@@ -2,22 +2,22 @@
 use Rattle.std.proofs.Common.{◌≡◌, ℕ, Bool, true, false, ◌⊎◌, Some, None, List, [], ◌∷◌, refl, sym, subst, inl, inr}
 use Rattle.std.specs.List.{list_any}
 use Rattle.std.specs.Option.{option_or, option_to_list}
-use Rattle.plain_lists.specs.Members.{Mem, Each}
-use Rattle.plain_lists.specs.Edits.{dropped}
-use Rattle.plain_lists.specs.Firsts.{first_of}
-use Rattle.plain_lists.proofs.Elements.{Each-map, Each-append, Mem-left}
-use Rattle.plain_lists.proofs.FirstLemmas.{none_both, told_if, first_of-none}
-use Rattle.plain_lists.proofs.Readings.{Mem-from_read}
-use Rattle.plain_lists.proofs.Searches.{any-none, find-some, find-none}
-use Rattle.plain_lists.proofs.EditLemmas.{Each-dropped}
-use Rattle.size_values.specs.declared.kinds.ObjectKind.TheVariants as kind
-use Rattle.option_tables.specs.Checks.{instance_fault}
-use Rattle.option_tables.specs.declared.tables.Scope.TheVariants as scope
-use Rattle.operations.specs.declared.operation.Operation.{Operation}
-use Rattle.records.specs.declared.rows.Profile.{Profile}
-use Rattle.records.specs.declared.rows.Instance.{Instance}
-use Rattle.records.specs.declared.rows.Row.TheVariants as row
-use Rattle.row_codec.specs.Spelling.{key_of}
+use Rattle.row_machine.specs.plain_lists.specs.Members.{Mem, Each}
+use Rattle.row_machine.specs.plain_lists.specs.Edits.{dropped}
+use Rattle.row_machine.specs.plain_lists.specs.Firsts.{first_of}
+use Rattle.row_machine.specs.plain_lists.proofs.Elements.{Each-map, Each-append, Mem-left}
+use Rattle.row_machine.specs.plain_lists.proofs.FirstLemmas.{none_both, told_if, first_of-none}
+use Rattle.row_machine.specs.plain_lists.proofs.Readings.{Mem-from_read}
+use Rattle.row_machine.specs.plain_lists.proofs.Searches.{any-none, find-some, find-none}
+use Rattle.row_machine.specs.plain_lists.proofs.EditLemmas.{Each-dropped}
+use Rattle.record_keeper.specs.size_values.specs.declared.kinds.ObjectKind.TheVariants as kind
+use Rattle.row_machine.specs.option_tables.specs.Checks.{instance_fault}
+use Rattle.row_machine.specs.option_tables.specs.declared.tables.Scope.TheVariants as scope
+use Rattle.row_machine.specs.operations.specs.declared.operation.Operation.{Operation}
+use Rattle.row_machine.specs.records.specs.declared.rows.Profile.{Profile}
+use Rattle.row_machine.specs.records.specs.declared.rows.Instance.{Instance}
+use Rattle.row_machine.specs.records.specs.declared.rows.Row.TheVariants as row
+use Rattle.row_machine.specs.row_codec.specs.Spelling.{key_of}
 use Rattle.row_machine.specs.machine.Task.{Task}
 use Rattle.row_machine.specs.machine.State.{State}
 use Rattle.row_machine.specs.machine.Rows.{is_profile, profile_named, with_profile}

@@ -1,22 +1,22 @@
 -- Where an operation succeeds that removes its instance, or gives it another name, the links are kept.
 use Rattle.std.proofs.Common.{◌≡◌, ◌≢◌, ℕ, true, cond, Some, None, List, [], ◌∷◌, map, sym, ap, subst, ◌∙◌, inl, inr}
 use Rattle.std.specs.Option.{is_some}
-use Rattle.plain_lists.specs.Members.{Mem, Each, Distinct}
-use Rattle.plain_lists.specs.Edits.{dropped}
-use Rattle.plain_lists.proofs.Elements.{Mem-from_map}
-use Rattle.plain_lists.proofs.Keys.{Distinct-apart}
-use Rattle.plain_lists.proofs.Readings.{Mem-read}
-use Rattle.plain_lists.proofs.Searches.{find-some}
-use Rattle.plain_lists.proofs.EditLemmas.{Each-dropped}
-use Rattle.size_values.specs.declared.kinds.Deed.TheVariants as deed
-use Rattle.size_values.specs.declared.kinds.ObjectKind.TheVariants as kind
-use Rattle.operations.specs.declared.operation.Operation.{Operation}
-use Rattle.operations.specs.Kept.{live_at}
-use Rattle.records.specs.declared.rows.Instance.{Instance}
-use Rattle.records.specs.declared.rows.Snapshot.{Snapshot}
-use Rattle.records.specs.declared.rows.Row.TheVariants as row
-use Rattle.row_codec.specs.Rows.{HasGoodKey}
-use Rattle.row_codec.specs.Spelling.{key_of}
+use Rattle.row_machine.specs.plain_lists.specs.Members.{Mem, Each, Distinct}
+use Rattle.row_machine.specs.plain_lists.specs.Edits.{dropped}
+use Rattle.row_machine.specs.plain_lists.proofs.Elements.{Mem-from_map}
+use Rattle.row_machine.specs.plain_lists.proofs.Keys.{Distinct-apart}
+use Rattle.row_machine.specs.plain_lists.proofs.Readings.{Mem-read}
+use Rattle.row_machine.specs.plain_lists.proofs.Searches.{find-some}
+use Rattle.row_machine.specs.plain_lists.proofs.EditLemmas.{Each-dropped}
+use Rattle.record_keeper.specs.size_values.specs.declared.kinds.Deed.TheVariants as deed
+use Rattle.record_keeper.specs.size_values.specs.declared.kinds.ObjectKind.TheVariants as kind
+use Rattle.row_machine.specs.operations.specs.declared.operation.Operation.{Operation}
+use Rattle.row_machine.specs.operations.specs.Kept.{live_at}
+use Rattle.row_machine.specs.records.specs.declared.rows.Instance.{Instance}
+use Rattle.row_machine.specs.records.specs.declared.rows.Snapshot.{Snapshot}
+use Rattle.row_machine.specs.records.specs.declared.rows.Row.TheVariants as row
+use Rattle.row_machine.specs.row_codec.specs.Rows.{HasGoodKey}
+use Rattle.row_machine.specs.row_codec.specs.Spelling.{key_of}
 use Rattle.row_machine.specs.machine.Task.{Task}
 use Rattle.row_machine.specs.machine.State.{State}
 use Rattle.row_machine.specs.machine.Rows.{is_instance, project_named, instance_names, snapshot_names, instance_named, snapshot_named, with_instance}

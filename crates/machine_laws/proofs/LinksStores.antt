@@ -1,15 +1,15 @@
 -- Links where networks, pools and volumes alone change.
 use Rattle.std.proofs.Common.{◌≡◌, ℕ, true, Some, None, List, refl}
 use Rattle.std.specs.Option.{is_some}
-use Rattle.plain_lists.specs.Members.{Each}
-use Rattle.size_values.specs.declared.kinds.ObjectKind.{ObjectKind}
-use Rattle.size_values.specs.declared.kinds.ObjectKind.TheVariants as kind
-use Rattle.records.specs.declared.rows.Network.{Network}
-use Rattle.records.specs.declared.rows.Pool.{Pool}
-use Rattle.records.specs.declared.rows.Volume.{Volume}
-use Rattle.records.specs.declared.rows.Instance.{Instance}
-use Rattle.records.specs.declared.rows.Row.TheVariants as row
-use Rattle.records.specs.declared.commands.Target.{Target}
+use Rattle.row_machine.specs.plain_lists.specs.Members.{Each}
+use Rattle.record_keeper.specs.size_values.specs.declared.kinds.ObjectKind.{ObjectKind}
+use Rattle.record_keeper.specs.size_values.specs.declared.kinds.ObjectKind.TheVariants as kind
+use Rattle.row_machine.specs.records.specs.declared.rows.Network.{Network}
+use Rattle.row_machine.specs.records.specs.declared.rows.Pool.{Pool}
+use Rattle.row_machine.specs.records.specs.declared.rows.Volume.{Volume}
+use Rattle.row_machine.specs.records.specs.declared.rows.Instance.{Instance}
+use Rattle.row_machine.specs.records.specs.declared.rows.Row.TheVariants as row
+use Rattle.row_machine.specs.records.specs.declared.commands.Target.{Target}
 use Rattle.row_machine.specs.machine.Task.{Task}
 use Rattle.row_machine.specs.machine.State.{State}
 use Rattle.row_machine.specs.machine.Rows.{pool_named, volume_named}

@@ -1,22 +1,22 @@
 -- Where an operation succeeds that puts its claim, or removes a snapshot, the links are kept.
 use Rattle.std.proofs.Common.{◌≡◌, ◌≢◌, ℕ, true, Some, List, [], ◌∷◌, refl, sym, ap, subst, ◌∙◌, true≢false}
 use Rattle.std.specs.Option.{is_some}
-use Rattle.plain_lists.specs.Members.{Mem, Each}
-use Rattle.plain_lists.specs.Edits.{dropped}
-use Rattle.plain_lists.proofs.Elements.{Each-map, Each-left, Each-right}
-use Rattle.plain_lists.proofs.Readings.{Mem-read}
-use Rattle.plain_lists.proofs.Searches.{find-some}
-use Rattle.plain_lists.proofs.EditLemmas.{Each-dropped}
-use Rattle.config_lists.proofs.Keys.{bytes_eq-itself}
-use Rattle.size_values.specs.declared.kinds.ObjectKind.TheVariants as kind
-use Rattle.operations.specs.declared.operation.Operation.{Operation}
-use Rattle.operations.specs.Kept.{has_number, live_at}
-use Rattle.records.specs.Forms.{are_profiles}
-use Rattle.records.specs.declared.rows.Volume.{Volume}
-use Rattle.records.specs.declared.rows.Instance.{Instance}
-use Rattle.records.specs.declared.rows.Snapshot.{Snapshot}
-use Rattle.records.specs.declared.rows.Row.TheVariants as row
-use Rattle.row_codec.specs.Spelling.{key_of}
+use Rattle.row_machine.specs.plain_lists.specs.Members.{Mem, Each}
+use Rattle.row_machine.specs.plain_lists.specs.Edits.{dropped}
+use Rattle.row_machine.specs.plain_lists.proofs.Elements.{Each-map, Each-left, Each-right}
+use Rattle.row_machine.specs.plain_lists.proofs.Readings.{Mem-read}
+use Rattle.row_machine.specs.plain_lists.proofs.Searches.{find-some}
+use Rattle.row_machine.specs.plain_lists.proofs.EditLemmas.{Each-dropped}
+use Rattle.row_machine.specs.config_lists.proofs.Keys.{bytes_eq-itself}
+use Rattle.record_keeper.specs.size_values.specs.declared.kinds.ObjectKind.TheVariants as kind
+use Rattle.row_machine.specs.operations.specs.declared.operation.Operation.{Operation}
+use Rattle.row_machine.specs.operations.specs.Kept.{has_number, live_at}
+use Rattle.row_machine.specs.records.specs.Forms.{are_profiles}
+use Rattle.row_machine.specs.records.specs.declared.rows.Volume.{Volume}
+use Rattle.row_machine.specs.records.specs.declared.rows.Instance.{Instance}
+use Rattle.row_machine.specs.records.specs.declared.rows.Snapshot.{Snapshot}
+use Rattle.row_machine.specs.records.specs.declared.rows.Row.TheVariants as row
+use Rattle.row_machine.specs.row_codec.specs.Spelling.{key_of}
 use Rattle.row_machine.specs.machine.Task.{Task}
 use Rattle.row_machine.specs.machine.State.{State}
 use Rattle.row_machine.specs.machine.Rows.{is_snapshot, instance_named, snapshot_named, with_instance, with_snapshot, with_volume}

@@ -3,24 +3,24 @@ use Rattle.std.proofs.Common.{◌≡◌, ℕ, Bool, true, false, cond, ◌&&◌,
 use Rattle.std.specs.List.{filter, list_any}
 use Rattle.std.specs.Option.{option_map_or, option_to_list, option_or, is_some}
 use Rattle.std.specs.Str.{bytes_eq}
-use Rattle.plain_lists.specs.Members.{Mem, Each}
-use Rattle.plain_lists.specs.Firsts.{first_of}
-use Rattle.plain_lists.proofs.Elements.{Each-append, Mem-left}
-use Rattle.plain_lists.proofs.FirstLemmas.{none_both, told_if, first_of-none}
-use Rattle.plain_lists.proofs.Readings.{Mem-from_read}
-use Rattle.plain_lists.proofs.Searches.{any-none, find-some}
-use Rattle.config_lists.proofs.Keys.{bytes_eq-itself}
-use Rattle.size_values.specs.declared.kinds.ObjectKind.TheVariants as kind
-use Rattle.operations.specs.declared.operation.Operation.{Operation}
-use Rattle.records.specs.declared.rows.Project.{Project}
-use Rattle.records.specs.declared.rows.Profile.{Profile}
-use Rattle.records.specs.declared.rows.Network.{Network}
-use Rattle.records.specs.declared.rows.Pool.{Pool}
-use Rattle.records.specs.declared.rows.Volume.{Volume}
-use Rattle.records.specs.declared.rows.Instance.{Instance}
-use Rattle.records.specs.declared.rows.Row.{Row}
-use Rattle.records.specs.declared.rows.Row.TheVariants as row
-use Rattle.records.specs.declared.commands.Target.{Target}
+use Rattle.row_machine.specs.plain_lists.specs.Members.{Mem, Each}
+use Rattle.row_machine.specs.plain_lists.specs.Firsts.{first_of}
+use Rattle.row_machine.specs.plain_lists.proofs.Elements.{Each-append, Mem-left}
+use Rattle.row_machine.specs.plain_lists.proofs.FirstLemmas.{none_both, told_if, first_of-none}
+use Rattle.row_machine.specs.plain_lists.proofs.Readings.{Mem-from_read}
+use Rattle.row_machine.specs.plain_lists.proofs.Searches.{any-none, find-some}
+use Rattle.row_machine.specs.config_lists.proofs.Keys.{bytes_eq-itself}
+use Rattle.record_keeper.specs.size_values.specs.declared.kinds.ObjectKind.TheVariants as kind
+use Rattle.row_machine.specs.operations.specs.declared.operation.Operation.{Operation}
+use Rattle.row_machine.specs.records.specs.declared.rows.Project.{Project}
+use Rattle.row_machine.specs.records.specs.declared.rows.Profile.{Profile}
+use Rattle.row_machine.specs.records.specs.declared.rows.Network.{Network}
+use Rattle.row_machine.specs.records.specs.declared.rows.Pool.{Pool}
+use Rattle.row_machine.specs.records.specs.declared.rows.Volume.{Volume}
+use Rattle.row_machine.specs.records.specs.declared.rows.Instance.{Instance}
+use Rattle.row_machine.specs.records.specs.declared.rows.Row.{Row}
+use Rattle.row_machine.specs.records.specs.declared.rows.Row.TheVariants as row
+use Rattle.row_machine.specs.records.specs.declared.commands.Target.{Target}
 use Rattle.row_machine.specs.machine.Task.{Task}
 use Rattle.row_machine.specs.machine.State.{State}
 use Rattle.row_machine.specs.machine.Rows.{is_project, project_named}

@@ -4,15 +4,15 @@ use Rattle.std.specs.Prelude.{codes, option_and_then}
 use Rattle.std.specs.Option.{option_map, option_map_or, is_some, is_none}
 use Rattle.std.specs.Str.{bytes_eq}
 use Rattle.std.proofs.lemmas.Bool.{eqb-true}
-use Rattle.plain_lists.proofs.FirstLemmas.{none_both, told_if, told_unless, not_mapped}
-use Rattle.plain_lists.proofs.Searches.{find-none}
-use Rattle.config_lists.proofs.Keys.{bytes_eq-itself}
-use Rattle.size_values.specs.declared.kinds.ObjectKind.{ObjectKind}
-use Rattle.size_values.specs.declared.kinds.ObjectKind.TheVariants as kind
-use Rattle.records.specs.Forms.{is_empty}
-use Rattle.records.specs.declared.rows.Project.{Project}
-use Rattle.records.specs.declared.commands.Target.{Target}
-use Rattle.records.specs.declared.commands.Command.{Command}
+use Rattle.row_machine.specs.plain_lists.proofs.FirstLemmas.{none_both, told_if, told_unless, not_mapped}
+use Rattle.row_machine.specs.plain_lists.proofs.Searches.{find-none}
+use Rattle.row_machine.specs.config_lists.proofs.Keys.{bytes_eq-itself}
+use Rattle.record_keeper.specs.size_values.specs.declared.kinds.ObjectKind.{ObjectKind}
+use Rattle.record_keeper.specs.size_values.specs.declared.kinds.ObjectKind.TheVariants as kind
+use Rattle.row_machine.specs.records.specs.Forms.{is_empty}
+use Rattle.row_machine.specs.records.specs.declared.rows.Project.{Project}
+use Rattle.row_machine.specs.records.specs.declared.commands.Target.{Target}
+use Rattle.row_machine.specs.records.specs.declared.commands.Command.{Command}
 use Rattle.row_machine.specs.machine.State.{State}
 use Rattle.row_machine.specs.machine.Rows.{default_name, project_named}
 use Rattle.row_machine.specs.machine.Homes.{home_of, home_by, has_feature}

@@ -2,6 +2,15 @@
 //! from it for whole runs, for operations and their shares, for the kept rows and for openings.
 #![tactic(auto)]
 
+// The libraries that crates above name through this one.
+pub use record_keeper as record_keeper_crate;
+pub use record_keeper::size_values_crate;
+pub use row_machine as row_machine_crate;
+pub use row_machine::{
+    config_lists_crate, host_model_crate, instance_states_crate, operations_crate,
+    plain_lists_crate, records_crate, reservations_crate,
+};
+
 mod cancels;
 mod kept_records;
 mod kinds;

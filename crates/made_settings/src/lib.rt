@@ -1,8 +1,11 @@
 //! Settings and devices made from constant tables, for the crates of tests.
 #![tactic(auto)]
 
+// The libraries that crates above name through this one.
+pub use config_lists as config_lists_crate;
+pub use config_lists::size_values_crate;
+use config_lists::size_values_crate::NoMemory;
 use config_lists::{Config, Devices};
-use size_values::NoMemory;
 use std::alloc::Global;
 
 /// Keys with their values.

@@ -1,7 +1,7 @@
 -- What contracts see of a place: the target of its kind and names.
 use Rattle.std.specs.Prelude.{ℕ, ◌&&◌, Bool, List}
 use Rattle.std.specs.Str.{bytes_eq}
-use Rattle.records.specs.declared.commands.Target.{Target}
+use Rattle.row_machine.specs.records.specs.declared.commands.Target.{Target}
 use Rattle.name_rules.specs.declared.places.Place.{Place}
 
 -- the target

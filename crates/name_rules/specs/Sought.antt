@@ -1,11 +1,11 @@
 -- What is sought of single commands.
 use Rattle.std.specs.Prelude.{ℕ, ◌==◌, List, [], ◌∷◌, length, Option, None, is_some, if◌then◌else◌, option_and_then}
-use Rattle.plain_lists.specs.Firsts.{first}
-use Rattle.size_values.specs.declared.kinds.ObjectKind.TheVariants as kind
-use Rattle.records.specs.declared.refusals.Refusal.{Refusal}
-use Rattle.records.specs.declared.commands.Target.{Target}
-use Rattle.records.specs.declared.commands.Body.{Body}
-use Rattle.records.specs.declared.commands.What.TheVariants as what
+use Rattle.row_machine.specs.plain_lists.specs.Firsts.{first}
+use Rattle.row_machine.specs.size_values.specs.declared.kinds.ObjectKind.TheVariants as kind
+use Rattle.row_machine.specs.records.specs.declared.refusals.Refusal.{Refusal}
+use Rattle.row_machine.specs.records.specs.declared.commands.Target.{Target}
+use Rattle.row_machine.specs.records.specs.declared.commands.Body.{Body}
+use Rattle.row_machine.specs.records.specs.declared.commands.What.TheVariants as what
 use Rattle.row_machine.specs.machine.State.{State}
 use Rattle.row_machine.specs.machine.Rows.{instance_named}
 use Rattle.row_machine.specs.machine.Asked.{named_anew}

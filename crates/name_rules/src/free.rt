@@ -1,20 +1,20 @@
 //! N3 to N5: a new name is malformed, a row's, or a live claim's.
 ghost use Rattle.std.specs.Prelude.{◌≡◌, find};
 ghost use Rattle.std.specs.Option.{option_copied};
-ghost use Rattle.size_values.specs.Causes.{Says};
+ghost use Rattle.row_machine.specs.size_values.specs.Causes.{Says};
 ghost use Rattle.row_machine.specs.shown.Links.{target_of};
 ghost use Rattle.row_machine.specs.machine.NameRules.{name_malformed, name_taken, same_target, claims_object};
 ghost use Rattle.row_machine.specs.machine.NameRules.{name_held, name_broken};
 ghost use Rattle.name_rules.specs.Pointed.{target_at, has_names};
 
 use crate::places::{Place, is_there};
-use estate_rules::good_name;
-use operations::Operation;
-use records::{Refusal, Row, Rule};
 use row_machine::Work;
+use row_machine::estate_rules_crate::good_name;
+use row_machine::operations_crate::Operation;
+use row_machine::records_crate::{Refusal, Row, Rule};
+use row_machine::size_values_crate::{ObjectKind, Or};
 use row_readings::{View, home_of, project_of_row};
 use rule_refusals::{on_held, on_object};
-use size_values::{ObjectKind, Or};
 use std::alloc::Global;
 
 /// N3: the name is malformed.

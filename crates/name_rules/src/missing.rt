@@ -1,7 +1,7 @@
 //! N1 and N2: the project or an object is missing.
 ghost use Rattle.std.specs.Prelude.{◌≡◌, false};
 ghost use Rattle.std.specs.Option.{option_copied, option_map_or};
-ghost use Rattle.size_values.specs.Causes.{Says};
+ghost use Rattle.row_machine.specs.size_values.specs.Causes.{Says};
 ghost use Rattle.row_machine.specs.machine.Asked.{object_of};
 ghost use Rattle.name_rules.specs.Pointed.{target_at};
 ghost use Rattle.row_machine.specs.machine.NameRules.{missing_unless, object_missing, operation_missing};
@@ -11,10 +11,10 @@ ghost use Rattle.row_machine.specs.machine.Kinds.{is_in_project};
 
 use crate::places::{Place, is_there, place_of};
 use crate::sources::source_missing;
-use records::{Command, Refusal, Rule, Target, What};
+use row_machine::records_crate::{Command, Refusal, Rule, Target, What};
+use row_machine::size_values_crate::{ObjectKind, Or};
 use row_readings::{View, kept_at, pool_named, project_named};
 use rule_refusals::{on_object, on_project};
-use size_values::{ObjectKind, Or};
 use std::alloc::Global;
 
 /// Whether objects of a kind belong to projects. Pools do not, and projects are asked for by their own names.

@@ -1,7 +1,7 @@
 //! Rules on names: N1 to N5.
 ghost use Rattle.std.specs.Prelude.{option_and_then};
-ghost use Rattle.size_values.specs.Causes.{Says};
-ghost use Rattle.records.specs.declared.commands.Body.{Body};
+ghost use Rattle.row_machine.specs.size_values.specs.Causes.{Says};
+ghost use Rattle.row_machine.specs.records.specs.declared.commands.Body.{Body};
 ghost use Rattle.row_machine.specs.machine.Asked.{named_anew, with_name};
 ghost use Rattle.name_rules.specs.Pointed.{target_at};
 ghost use Rattle.name_rules.specs.Sought.{new_name_broken};
@@ -11,9 +11,9 @@ ghost use Rattle.row_machine.specs.machine.Rules.{names_broken};
 use crate::free::name_broken;
 use crate::missing::{project_missing, what_is_missing};
 use crate::places::{Place, named_place, place_of};
-use records::{Command, Refusal, What};
+use row_machine::records_crate::{Command, Refusal, What};
+use row_machine::size_values_crate::{ObjectKind, Or};
 use row_readings::{View, next_snapshot};
-use size_values::{ObjectKind, Or};
 use std::alloc::Global;
 
 /// What is wrong with the name of a new snapshot. One without a name gets the next one of its instance.

@@ -1,15 +1,15 @@
 //! N2 of what a new object is copied from.
-ghost use Rattle.size_values.specs.Causes.{Says};
-ghost use Rattle.records.specs.declared.commands.Origin.TheVariants as origin_of;
+ghost use Rattle.row_machine.specs.size_values.specs.Causes.{Says};
+ghost use Rattle.row_machine.specs.records.specs.declared.commands.Origin.TheVariants as origin_of;
 ghost use Rattle.name_rules.specs.Pointed.{target_at};
 ghost use Rattle.name_rules.specs.Sought.{instance_source_missing};
 ghost use Rattle.row_machine.specs.machine.NameRules.{source_missing};
 
 use crate::missing::{missing_unless, object_missing, snapshot_missing};
 use crate::places::{Place, place_in_pool};
-use records::{Origin, Refusal};
+use row_machine::records_crate::{Origin, Refusal};
+use row_machine::size_values_crate::{ObjectKind, Or};
 use row_readings::View;
-use size_values::{ObjectKind, Or};
 use std::alloc::Global;
 
 /// The instance or the snapshot that something is copied from is missing.

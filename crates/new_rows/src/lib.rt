@@ -2,6 +2,10 @@
 //! large. The calls that make rows of projects, profiles and instances share it.
 #![tactic(auto)]
 
+// The libraries that crates above name through this one.
+pub use row_machine as row_machine_crate;
+pub use row_machine::{config_lists_crate, host_model_crate, records_crate, size_values_crate};
+
 mod caps;
 mod parts;
 

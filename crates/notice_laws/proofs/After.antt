@@ -1,13 +1,13 @@
 -- A step tells after what was told before, and nothing else depends on notices.
 use Rattle.std.proofs.Common.{◌≡◌, List, Some, None, ap, sym, ◌∙◌}
-use Rattle.records.specs.declared.notices.Untold.{Untold}
-use Rattle.row_machine.specs.declared.events.Answer.{Answer}
-use Rattle.row_machine.specs.declared.events.Event.{Event}
-use Rattle.row_machine.specs.machine.Accept.{After, and_then}
-use Rattle.row_machine.specs.machine.State.{State}
-use Rattle.row_machine.specs.machine.Step.{Outcome, step}
-use Rattle.row_machine.specs.facts.Whole.{IsWhole}
-use Rattle.row_machine.specs.shown.Notices.{telling}
+use Rattle.event_hub.specs.records.specs.declared.notices.Untold.{Untold}
+use Rattle.event_hub.specs.row_machine.specs.declared.events.Answer.{Answer}
+use Rattle.event_hub.specs.row_machine.specs.declared.events.Event.{Event}
+use Rattle.event_hub.specs.row_machine.specs.machine.Accept.{After, and_then}
+use Rattle.event_hub.specs.row_machine.specs.machine.State.{State}
+use Rattle.event_hub.specs.row_machine.specs.machine.Step.{Outcome, step}
+use Rattle.event_hub.specs.row_machine.specs.facts.Whole.{IsWhole}
+use Rattle.event_hub.specs.row_machine.specs.shown.Notices.{telling}
 use Rattle.machine_laws.specs.Possible.{IsPossible}
 use Rattle.event_hub.specs.Recent.{Recent, all_pushed, nothing_told, recent_of, with_recent}
 use Rattle.notice_laws.specs.Asides.{IsNoFetch, IsUntold, TellsAfter}

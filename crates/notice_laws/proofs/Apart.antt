@@ -3,46 +3,46 @@ use Rattle.std.proofs.Common.{◌≡◌, ℕ, suc, ◌+◌, ◌≤◌, Bool, tru
 use Rattle.std.specs.Prelude.{Result, Ok, Err}
 use Rattle.std.specs.Option.{is_some, option_map, option_to_list}
 use Rattle.std.proofs.lemmas.List.{length-append}
-use Rattle.size_values.specs.declared.kinds.Action.TheVariants as action
-use Rattle.size_values.specs.declared.kinds.Deed.{Deed}
-use Rattle.size_values.specs.declared.kinds.Deed.TheVariants as deed
-use Rattle.size_values.specs.declared.kinds.Power.{Power}
-use Rattle.size_values.specs.declared.kinds.Power.TheVariants.{Error}
-use Rattle.host_model.specs.declared.call.HostCall.{HostCall}
-use Rattle.host_model.specs.declared.report.Report.{Report}
-use Rattle.host_model.specs.declared.report.Report.TheVariants as report
-use Rattle.operations.specs.declared.faults.CancelFault.{CancelFault}
-use Rattle.operations.specs.declared.operation.OpFault.{OpFault}
-use Rattle.operations.specs.declared.operation.OpFault.TheVariants as op_fault
-use Rattle.operations.specs.declared.operation.Operation.{Operation}
-use Rattle.operations.specs.declared.status.Status.{Status}
-use Rattle.operations.specs.declared.status.Status.TheVariants as status
-use Rattle.operations.specs.Kept.{Kept, cancel_answer, kept_at, live_at}
-use Rattle.records.specs.declared.commands.Command.{Command}
-use Rattle.records.specs.declared.commands.What.{What}
-use Rattle.records.specs.declared.commands.What.TheVariants as what
-use Rattle.records.specs.declared.notices.Told.TheVariants as told_of
-use Rattle.records.specs.declared.notices.Untold.{Untold}
-use Rattle.records.specs.declared.refusals.Refusal.{Refusal}
-use Rattle.records.specs.declared.replies.Reply.TheVariants as reply
-use Rattle.row_machine.specs.declared.changes.RowChange.{RowChange}
-use Rattle.row_machine.specs.declared.events.Answer.{Answer}
-use Rattle.row_machine.specs.declared.events.Answer.TheVariants as answer
-use Rattle.row_machine.specs.declared.events.Event.{Event}
-use Rattle.row_machine.specs.declared.events.Event.TheVariants as event
-use Rattle.row_machine.specs.machine.Accept.{After, accepted, after_cancel, and_then, begun, cancel_or_read, carried_out, started, told, wait_or_read}
-use Rattle.row_machine.specs.machine.Changes.{applied}
-use Rattle.row_machine.specs.machine.Claims.{amounts_of_instance, share_of}
-use Rattle.row_machine.specs.machine.Deeds.{breaks_instance}
-use Rattle.row_machine.specs.machine.Plans.{Plan, nothing, changes, starts, plan_of}
-use Rattle.row_machine.specs.machine.Rules.{broken}
-use Rattle.row_machine.specs.machine.State.{State}
-use Rattle.row_machine.specs.machine.Step.{Outcome, well, keeper_failed, no_memory, step, asked, unavailable, taken, handed_out, first_pending, done, reported, success, failure, while_running, while_cancelling, call_done, call_failed, committed, stray, always}
-use Rattle.row_machine.specs.machine.Task.{Task}
-use Rattle.row_machine.specs.machine.Usage.{loads, usage_of, networks_of}
-use Rattle.row_machine.specs.machine.Work.{after_failure, cancelled, converted, ended, entered, failed, handing_out, moved, one_more_done, power_after, returned, succeeded, success_changes, undone, with_power, with_power_after, with_task}
-use Rattle.row_machine.specs.shown.Notices.{change_notices, changed_life, deed_lives, deleted_life, life_notice, made_life, moved_life, object_told, operation_notice, push_notice, success_notices, telling, view_of}
-use Rattle.row_machine.specs.shown.Views.{read, usage_view, used_by}
+use Rattle.event_hub.specs.size_values.specs.declared.kinds.Action.TheVariants as action
+use Rattle.event_hub.specs.size_values.specs.declared.kinds.Deed.{Deed}
+use Rattle.event_hub.specs.size_values.specs.declared.kinds.Deed.TheVariants as deed
+use Rattle.event_hub.specs.size_values.specs.declared.kinds.Power.{Power}
+use Rattle.event_hub.specs.size_values.specs.declared.kinds.Power.TheVariants.{Error}
+use Rattle.event_hub.specs.host_model.specs.declared.call.HostCall.{HostCall}
+use Rattle.event_hub.specs.host_model.specs.declared.report.Report.{Report}
+use Rattle.event_hub.specs.host_model.specs.declared.report.Report.TheVariants as report
+use Rattle.event_hub.specs.operations.specs.declared.faults.CancelFault.{CancelFault}
+use Rattle.event_hub.specs.operations.specs.declared.operation.OpFault.{OpFault}
+use Rattle.event_hub.specs.operations.specs.declared.operation.OpFault.TheVariants as op_fault
+use Rattle.event_hub.specs.operations.specs.declared.operation.Operation.{Operation}
+use Rattle.event_hub.specs.operations.specs.declared.status.Status.{Status}
+use Rattle.event_hub.specs.operations.specs.declared.status.Status.TheVariants as status
+use Rattle.event_hub.specs.operations.specs.Kept.{Kept, cancel_answer, kept_at, live_at}
+use Rattle.event_hub.specs.records.specs.declared.commands.Command.{Command}
+use Rattle.event_hub.specs.records.specs.declared.commands.What.{What}
+use Rattle.event_hub.specs.records.specs.declared.commands.What.TheVariants as what
+use Rattle.event_hub.specs.records.specs.declared.notices.Told.TheVariants as told_of
+use Rattle.event_hub.specs.records.specs.declared.notices.Untold.{Untold}
+use Rattle.event_hub.specs.records.specs.declared.refusals.Refusal.{Refusal}
+use Rattle.event_hub.specs.records.specs.declared.replies.Reply.TheVariants as reply
+use Rattle.event_hub.specs.row_machine.specs.declared.changes.RowChange.{RowChange}
+use Rattle.event_hub.specs.row_machine.specs.declared.events.Answer.{Answer}
+use Rattle.event_hub.specs.row_machine.specs.declared.events.Answer.TheVariants as answer
+use Rattle.event_hub.specs.row_machine.specs.declared.events.Event.{Event}
+use Rattle.event_hub.specs.row_machine.specs.declared.events.Event.TheVariants as event
+use Rattle.event_hub.specs.row_machine.specs.machine.Accept.{After, accepted, after_cancel, and_then, begun, cancel_or_read, carried_out, started, told, wait_or_read}
+use Rattle.event_hub.specs.row_machine.specs.machine.Changes.{applied}
+use Rattle.event_hub.specs.row_machine.specs.machine.Claims.{amounts_of_instance, share_of}
+use Rattle.event_hub.specs.row_machine.specs.machine.Deeds.{breaks_instance}
+use Rattle.event_hub.specs.row_machine.specs.machine.Plans.{Plan, nothing, changes, starts, plan_of}
+use Rattle.event_hub.specs.row_machine.specs.machine.Rules.{broken}
+use Rattle.event_hub.specs.row_machine.specs.machine.State.{State}
+use Rattle.event_hub.specs.row_machine.specs.machine.Step.{Outcome, well, keeper_failed, no_memory, step, asked, unavailable, taken, handed_out, first_pending, done, reported, success, failure, while_running, while_cancelling, call_done, call_failed, committed, stray, always}
+use Rattle.event_hub.specs.row_machine.specs.machine.Task.{Task}
+use Rattle.event_hub.specs.row_machine.specs.machine.Usage.{loads, usage_of, networks_of}
+use Rattle.event_hub.specs.row_machine.specs.machine.Work.{after_failure, cancelled, converted, ended, entered, failed, handing_out, moved, one_more_done, power_after, returned, succeeded, success_changes, undone, with_power, with_power_after, with_task}
+use Rattle.event_hub.specs.row_machine.specs.shown.Notices.{change_notices, changed_life, deed_lives, deleted_life, life_notice, made_life, moved_life, object_told, operation_notice, push_notice, success_notices, telling, view_of}
+use Rattle.event_hub.specs.row_machine.specs.shown.Views.{read, usage_view, used_by}
 use Rattle.machine_laws.proofs.BooksSteps.{telling-keeps}
 use Rattle.machine_laws.proofs.Commands.{command_of}
 use Rattle.event_hub.specs.Recent.{Recent, with_recent}

@@ -1,30 +1,30 @@
 -- Nothing that the machine reads of a state, and no rule, depends on its notices.
 use Rattle.std.proofs.Common.{◌≡◌, ℕ, List, [], ◌∷◌, Option, None, refl, ap, ◌∙◌}
 use Rattle.std.specs.Option.{option_to_list}
-use Rattle.plain_lists.specs.Firsts.{first}
-use Rattle.size_values.specs.declared.kinds.ObjectKind.TheVariants as kind
-use Rattle.records.specs.declared.commands.Command.{Command}
-use Rattle.records.specs.declared.commands.What.{What}
-use Rattle.records.specs.declared.refusals.Refusal.{Refusal}
-use Rattle.records.specs.declared.rows.Row.{Row}
-use Rattle.records.specs.declared.rows.Row.TheVariants as row
-use Rattle.row_machine.specs.declared.changes.RowChange.{RowChange}
-use Rattle.row_machine.specs.declared.changes.RowChange.TheVariants as change
-use Rattle.row_machine.specs.machine.Changes.{applied, changed, rows_put}
-use Rattle.row_machine.specs.machine.Claims.{judged_instances, judged_volumes, amounts_of_instance, share_of}
-use Rattle.row_machine.specs.machine.Holders.{busy_with, holder_of, first_user_of}
-use Rattle.row_machine.specs.machine.LimitRules.{instance_uncounted, counts_broken, part_exceeds, networks_exceed, limits_broken}
-use Rattle.row_machine.specs.machine.NameRules.{project_missing, what_is_missing, name_broken}
-use Rattle.row_machine.specs.machine.Plans.{Plan, nothing, changes, starts, plan_of}
-use Rattle.row_machine.specs.machine.PolicyRules.{forbids_instance, policy_broken, snapshot_blocked}
-use Rattle.row_machine.specs.machine.Rules.{names_broken, standing_broken, after_broken, plan_broken, broken}
-use Rattle.row_machine.specs.machine.SettingRules.{root_missing, profile_missing, devices_miss, instance_settings, profile_settings, row_settings, settings_broken}
-use Rattle.row_machine.specs.machine.StandingRules.{instance_busy, wrong_state, object_protected, object_used, project_occupied, profile_held}
-use Rattle.row_machine.specs.machine.State.{State}
-use Rattle.row_machine.specs.machine.TableRules.{cancel_broken, entry_broken, tables_broken}
-use Rattle.row_machine.specs.machine.Usage.{loads, usage_of, networks_of}
-use Rattle.row_machine.specs.machine.Work.{claiming}
-use Rattle.row_machine.specs.shown.Views.{used_by, usage_view, read}
+use Rattle.event_hub.specs.plain_lists.specs.Firsts.{first}
+use Rattle.event_hub.specs.size_values.specs.declared.kinds.ObjectKind.TheVariants as kind
+use Rattle.event_hub.specs.records.specs.declared.commands.Command.{Command}
+use Rattle.event_hub.specs.records.specs.declared.commands.What.{What}
+use Rattle.event_hub.specs.records.specs.declared.refusals.Refusal.{Refusal}
+use Rattle.event_hub.specs.records.specs.declared.rows.Row.{Row}
+use Rattle.event_hub.specs.records.specs.declared.rows.Row.TheVariants as row
+use Rattle.event_hub.specs.row_machine.specs.declared.changes.RowChange.{RowChange}
+use Rattle.event_hub.specs.row_machine.specs.declared.changes.RowChange.TheVariants as change
+use Rattle.event_hub.specs.row_machine.specs.machine.Changes.{applied, changed, rows_put}
+use Rattle.event_hub.specs.row_machine.specs.machine.Claims.{judged_instances, judged_volumes, amounts_of_instance, share_of}
+use Rattle.event_hub.specs.row_machine.specs.machine.Holders.{busy_with, holder_of, first_user_of}
+use Rattle.event_hub.specs.row_machine.specs.machine.LimitRules.{instance_uncounted, counts_broken, part_exceeds, networks_exceed, limits_broken}
+use Rattle.event_hub.specs.row_machine.specs.machine.NameRules.{project_missing, what_is_missing, name_broken}
+use Rattle.event_hub.specs.row_machine.specs.machine.Plans.{Plan, nothing, changes, starts, plan_of}
+use Rattle.event_hub.specs.row_machine.specs.machine.PolicyRules.{forbids_instance, policy_broken, snapshot_blocked}
+use Rattle.event_hub.specs.row_machine.specs.machine.Rules.{names_broken, standing_broken, after_broken, plan_broken, broken}
+use Rattle.event_hub.specs.row_machine.specs.machine.SettingRules.{root_missing, profile_missing, devices_miss, instance_settings, profile_settings, row_settings, settings_broken}
+use Rattle.event_hub.specs.row_machine.specs.machine.StandingRules.{instance_busy, wrong_state, object_protected, object_used, project_occupied, profile_held}
+use Rattle.event_hub.specs.row_machine.specs.machine.State.{State}
+use Rattle.event_hub.specs.row_machine.specs.machine.TableRules.{cancel_broken, entry_broken, tables_broken}
+use Rattle.event_hub.specs.row_machine.specs.machine.Usage.{loads, usage_of, networks_of}
+use Rattle.event_hub.specs.row_machine.specs.machine.Work.{claiming}
+use Rattle.event_hub.specs.row_machine.specs.shown.Views.{used_by, usage_view, read}
 use Rattle.event_hub.specs.Recent.{Recent, with_recent}
 
 -- ---- changes of rows

@@ -2,40 +2,40 @@
 use Rattle.std.proofs.Common.{◌≡◌, ℕ, ◌≤◌, Bool, true, false, cond, ◌&&◌, nat_le, nat_lt, Option, Some, None, List, length, refl, sym, subst, arith}
 use Rattle.std.proofs.lemmas.Bool.{leb-true}
 use Rattle.std.specs.Option.{option_map_or}
-use Rattle.plain_lists.specs.Members.{Each}
-use Rattle.plain_lists.specs.Rings.{ring_push}
-use Rattle.plain_lists.proofs.Elements.{Each-push}
-use Rattle.plain_lists.proofs.EditLemmas.{Each-changed, Each-dropped}
-use Rattle.plain_lists.proofs.RingLemmas.{Each-ring}
-use Rattle.plain_lists.proofs.Searches.{find-some}
-use Rattle.size_values.specs.declared.kinds.ObjectKind.{ObjectKind}
-use Rattle.size_values.specs.declared.kinds.ObjectKind.TheVariants as kind
-use Rattle.size_values.specs.declared.kinds.Power.{Power}
-use Rattle.size_values.specs.declared.kinds.Power.TheVariants.{Error}
-use Rattle.estate_rules.specs.Names.{is_instance_name, is_object_name, is_project_name}
-use Rattle.operations.specs.declared.operation.OpFault.{OpFault}
-use Rattle.operations.specs.declared.operation.OpFault.TheVariants as op_fault
-use Rattle.operations.specs.declared.operation.Operation.{Operation}
-use Rattle.operations.specs.declared.status.Status.{Status}
-use Rattle.operations.specs.declared.status.Status.TheVariants as status
-use Rattle.operations.specs.declared.status.Status.TheVariants.{Running, Cancelling}
-use Rattle.operations.specs.Statuses.{is_pending}
-use Rattle.operations.specs.Kept.{Kept, has_number, live_at}
-use Rattle.operations.specs.Limits.{most_ended}
-use Rattle.operations.specs.Kept as kept
-use Rattle.records.specs.declared.commands.Target.{Target}
-use Rattle.records.specs.declared.notices.Untold.{Untold}
-use Rattle.records.specs.declared.rows.Instance.{Instance}
-use Rattle.row_codec.specs.Rows.{IsGood}
-use Rattle.row_machine.specs.machine.Changes.{applied}
-use Rattle.row_machine.specs.machine.Deeds.{breaks_instance}
-use Rattle.row_machine.specs.machine.Plans.{instance_target}
-use Rattle.row_machine.specs.machine.Rows.{is_snapshot}
-use Rattle.row_machine.specs.machine.State.{State}
-use Rattle.row_machine.specs.machine.Task.{Task}
-use Rattle.row_machine.specs.machine.Work.{after_failure, cancelled, entered, failed, handing_out, moved, one_more_done, power_after, succeeded, success_changes, undone, with_power, with_power_after, with_task}
-use Rattle.row_machine.specs.facts.Whole.{IsWhole, AreNamed}
-use Rattle.row_machine.specs.shown.Notices.{telling}
+use Rattle.event_hub.specs.plain_lists.specs.Members.{Each}
+use Rattle.event_hub.specs.plain_lists.specs.Rings.{ring_push}
+use Rattle.event_hub.specs.plain_lists.proofs.Elements.{Each-push}
+use Rattle.event_hub.specs.plain_lists.proofs.EditLemmas.{Each-changed, Each-dropped}
+use Rattle.event_hub.specs.plain_lists.proofs.RingLemmas.{Each-ring}
+use Rattle.event_hub.specs.plain_lists.proofs.Searches.{find-some}
+use Rattle.event_hub.specs.size_values.specs.declared.kinds.ObjectKind.{ObjectKind}
+use Rattle.event_hub.specs.size_values.specs.declared.kinds.ObjectKind.TheVariants as kind
+use Rattle.event_hub.specs.size_values.specs.declared.kinds.Power.{Power}
+use Rattle.event_hub.specs.size_values.specs.declared.kinds.Power.TheVariants.{Error}
+use Rattle.event_hub.specs.estate_rules.specs.Names.{is_instance_name, is_object_name, is_project_name}
+use Rattle.event_hub.specs.operations.specs.declared.operation.OpFault.{OpFault}
+use Rattle.event_hub.specs.operations.specs.declared.operation.OpFault.TheVariants as op_fault
+use Rattle.event_hub.specs.operations.specs.declared.operation.Operation.{Operation}
+use Rattle.event_hub.specs.operations.specs.declared.status.Status.{Status}
+use Rattle.event_hub.specs.operations.specs.declared.status.Status.TheVariants as status
+use Rattle.event_hub.specs.operations.specs.declared.status.Status.TheVariants.{Running, Cancelling}
+use Rattle.event_hub.specs.operations.specs.Statuses.{is_pending}
+use Rattle.event_hub.specs.operations.specs.Kept.{Kept, has_number, live_at}
+use Rattle.event_hub.specs.operations.specs.Limits.{most_ended}
+use Rattle.event_hub.specs.operations.specs.Kept as kept
+use Rattle.event_hub.specs.records.specs.declared.commands.Target.{Target}
+use Rattle.event_hub.specs.records.specs.declared.notices.Untold.{Untold}
+use Rattle.event_hub.specs.records.specs.declared.rows.Instance.{Instance}
+use Rattle.event_hub.specs.row_codec.specs.Rows.{IsGood}
+use Rattle.event_hub.specs.row_machine.specs.machine.Changes.{applied}
+use Rattle.event_hub.specs.row_machine.specs.machine.Deeds.{breaks_instance}
+use Rattle.event_hub.specs.row_machine.specs.machine.Plans.{instance_target}
+use Rattle.event_hub.specs.row_machine.specs.machine.Rows.{is_snapshot}
+use Rattle.event_hub.specs.row_machine.specs.machine.State.{State}
+use Rattle.event_hub.specs.row_machine.specs.machine.Task.{Task}
+use Rattle.event_hub.specs.row_machine.specs.machine.Work.{after_failure, cancelled, entered, failed, handing_out, moved, one_more_done, power_after, succeeded, success_changes, undone, with_power, with_power_after, with_task}
+use Rattle.event_hub.specs.row_machine.specs.facts.Whole.{IsWhole, AreNamed}
+use Rattle.event_hub.specs.row_machine.specs.shown.Notices.{telling}
 use Rattle.machine_laws.proofs.BeginsCases.{begins}
 use Rattle.machine_laws.proofs.BooksSteps.{telling-keeps}
 use Rattle.machine_laws.proofs.Cases.{Begins, IsIdle}

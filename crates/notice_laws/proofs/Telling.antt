@@ -2,12 +2,12 @@
 use Rattle.std.proofs.Common.{◌≡◌, ℕ, ◌+◌, ◌-◌, ◌<◌, ◌≤◌, ◌^◌, ◌==◌, Bool, true, false, cond, List, [], ◌∷◌, ◌++◌, map, length, refl, ap, sym, ◌∙◌, arith}
 use Rattle.std.proofs.lemmas.Bool.{eqb-true}
 use Rattle.std.proofs.lemmas.List.{append-nil, append_assoc, length_push}
-use Rattle.plain_lists.specs.Rings.{ring_push}
-use Rattle.plain_lists.proofs.RingLemmas.{ring-room}
-use Rattle.records.specs.declared.notices.Notice.{Notice}
-use Rattle.records.specs.declared.notices.Untold.{Untold}
-use Rattle.row_machine.specs.machine.State.{State}
-use Rattle.row_machine.specs.shown.Notices.{kept_notices, push_notice, telling}
+use Rattle.event_hub.specs.plain_lists.specs.Rings.{ring_push}
+use Rattle.event_hub.specs.plain_lists.proofs.RingLemmas.{ring-room}
+use Rattle.event_hub.specs.records.specs.declared.notices.Notice.{Notice}
+use Rattle.event_hub.specs.records.specs.declared.notices.Untold.{Untold}
+use Rattle.event_hub.specs.row_machine.specs.machine.State.{State}
+use Rattle.event_hub.specs.row_machine.specs.shown.Notices.{kept_notices, push_notice, telling}
 use Rattle.event_hub.specs.Recent.{Recent, all_pushed, numbered, nothing_told, pushed, with_recent}
 
 -- ---- the machine's

@@ -1,13 +1,13 @@
 -- What the notices of a state are to its steps: a step tells after what was told before, and nothing else depends on them.
 use Rattle.std.specs.Prelude.{◌≡◌, List, Some}
-use Rattle.records.specs.declared.notices.Untold.{Untold}
-use Rattle.row_machine.specs.declared.events.Answer.{Answer}
-use Rattle.row_machine.specs.declared.events.Event.{Event}
-use Rattle.row_machine.specs.declared.events.Event.TheVariants as event
-use Rattle.row_machine.specs.machine.Accept.{and_then}
-use Rattle.row_machine.specs.machine.State.{State}
-use Rattle.row_machine.specs.machine.Step.{Outcome, step}
-use Rattle.row_machine.specs.shown.Notices.{telling}
+use Rattle.event_hub.specs.records.specs.declared.notices.Untold.{Untold}
+use Rattle.event_hub.specs.row_machine.specs.declared.events.Answer.{Answer}
+use Rattle.event_hub.specs.row_machine.specs.declared.events.Event.{Event}
+use Rattle.event_hub.specs.row_machine.specs.declared.events.Event.TheVariants as event
+use Rattle.event_hub.specs.row_machine.specs.machine.Accept.{and_then}
+use Rattle.event_hub.specs.row_machine.specs.machine.State.{State}
+use Rattle.event_hub.specs.row_machine.specs.machine.Step.{Outcome, step}
+use Rattle.event_hub.specs.row_machine.specs.shown.Notices.{telling}
 use Rattle.event_hub.specs.Recent.{Recent, all_pushed, nothing_told, recent_of, with_recent}
 
 -- any event but that of a listener, who is answered with notices

@@ -1,12 +1,12 @@
 -- The texts of background operations are no longer than a name.
 use Rattle.std.specs.Prelude.{◌≡◌, ◌≤◌, Some, length}
-use Rattle.plain_lists.specs.Members.{Each}
-use Rattle.row_machine.specs.declared.events.Event.{Event}
-use Rattle.row_machine.specs.machine.Accept.{After}
-use Rattle.row_machine.specs.machine.State.{State}
-use Rattle.row_machine.specs.machine.Step.{Outcome, step}
-use Rattle.row_machine.specs.machine.Task.{Task}
-use Rattle.row_machine.specs.facts.Whole.{IsWhole}
+use Rattle.event_hub.specs.plain_lists.specs.Members.{Each}
+use Rattle.event_hub.specs.row_machine.specs.declared.events.Event.{Event}
+use Rattle.event_hub.specs.row_machine.specs.machine.Accept.{After}
+use Rattle.event_hub.specs.row_machine.specs.machine.State.{State}
+use Rattle.event_hub.specs.row_machine.specs.machine.Step.{Outcome, step}
+use Rattle.event_hub.specs.row_machine.specs.machine.Task.{Task}
+use Rattle.event_hub.specs.row_machine.specs.facts.Whole.{IsWhole}
 use Rattle.machine_laws.specs.Possible.{IsPossible}
 use Rattle.event_hub.specs.Short.{most_bytes}
 

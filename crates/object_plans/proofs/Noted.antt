@@ -2,12 +2,12 @@
 use Rattle.std.proofs.Common.{◌≡◌, refl, subst, List, [], ◌∷◌, Option, Some, None, Result}
 use Rattle.std.specs.Result.{IfOk}
 use Rattle.std.specs.Option.{option_map, option_to_list}
-use Rattle.size_values.specs.declared.memory.NoMemory.{NoMemory}
-use Rattle.records.specs.declared.notices.Life.{Life}
-use Rattle.records.specs.declared.notices.Untold.{Untold}
-use Rattle.records.specs.declared.rows.Row.{Row}
-use Rattle.row_machine.specs.declared.changes.RowChange.{RowChange}
-use Rattle.row_machine.specs.machine.Plans.{Plan, if_there}
+use Rattle.object_links.specs.size_values.specs.declared.memory.NoMemory.{NoMemory}
+use Rattle.object_links.specs.records.specs.declared.notices.Life.{Life}
+use Rattle.object_links.specs.records.specs.declared.notices.Untold.{Untold}
+use Rattle.object_links.specs.records.specs.declared.rows.Row.{Row}
+use Rattle.object_links.specs.row_machine.specs.declared.changes.RowChange.{RowChange}
+use Rattle.object_links.specs.row_machine.specs.machine.Plans.{Plan, if_there}
 use Rattle.object_plans.specs.declared.planned.Planned.{Planned}
 use Rattle.object_plans.specs.Planning.{changes_in, IsPlanned}
 

@@ -1,21 +1,21 @@
 -- Plans that change nothing at once: those of objects whose changes tell nothing at once.
 use Rattle.std.proofs.Common.{◌≡◌, refl, sym, ℕ, Bool, true, false, List, Option, Some, None, length, ◌==◌, if◌then◌else◌}
 use Rattle.std.specs.Option.{option_map}
-use Rattle.size_values.specs.declared.kinds.ObjectKind.{ObjectKind}
-use Rattle.size_values.specs.declared.kinds.ObjectKind.TheVariants as kind
-use Rattle.records.specs.declared.rows.Row.{Row}
-use Rattle.records.specs.declared.rows.Row.TheVariants as row
-use Rattle.records.specs.declared.commands.Target.{Target}
-use Rattle.records.specs.declared.commands.Origin.{Origin}
-use Rattle.records.specs.declared.commands.Origin.TheVariants as origin
-use Rattle.records.specs.declared.commands.Body.{Body}
-use Rattle.records.specs.declared.commands.Command.{Command}
-use Rattle.records.specs.declared.commands.What.{What}
-use Rattle.records.specs.declared.commands.What.TheVariants as what
-use Rattle.row_machine.specs.machine.State.{State}
-use Rattle.row_machine.specs.machine.Rows.{instance_named, snapshot_named, pool_named}
-use Rattle.row_machine.specs.machine.Plans.{Plan, if_there, plan_of, copy_from, instance_creation, plan_create, row_of, plan_put, plan_patch, plan_move, plan_delete}
-use Rattle.row_machine.specs.shown.Notices.{made_life, changed_life, moved_life, deleted_life}
+use Rattle.object_links.specs.size_values.specs.declared.kinds.ObjectKind.{ObjectKind}
+use Rattle.object_links.specs.size_values.specs.declared.kinds.ObjectKind.TheVariants as kind
+use Rattle.object_links.specs.records.specs.declared.rows.Row.{Row}
+use Rattle.object_links.specs.records.specs.declared.rows.Row.TheVariants as row
+use Rattle.object_links.specs.records.specs.declared.commands.Target.{Target}
+use Rattle.object_links.specs.records.specs.declared.commands.Origin.{Origin}
+use Rattle.object_links.specs.records.specs.declared.commands.Origin.TheVariants as origin
+use Rattle.object_links.specs.records.specs.declared.commands.Body.{Body}
+use Rattle.object_links.specs.records.specs.declared.commands.Command.{Command}
+use Rattle.object_links.specs.records.specs.declared.commands.What.{What}
+use Rattle.object_links.specs.records.specs.declared.commands.What.TheVariants as what
+use Rattle.object_links.specs.row_machine.specs.machine.State.{State}
+use Rattle.object_links.specs.row_machine.specs.machine.Rows.{instance_named, snapshot_named, pool_named}
+use Rattle.object_links.specs.row_machine.specs.machine.Plans.{Plan, if_there, plan_of, copy_from, instance_creation, plan_create, row_of, plan_put, plan_patch, plan_move, plan_delete}
+use Rattle.object_links.specs.row_machine.specs.shown.Notices.{made_life, changed_life, moved_life, deleted_life}
 use Rattle.object_plans.specs.Planning.{changes_in}
 
 -- ---- parts of plans

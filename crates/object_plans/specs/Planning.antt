@@ -1,11 +1,11 @@
 -- What a command changes at once, with what it tells of that.
 use Rattle.std.specs.Prelude.{◌≡◌, ℕ, List, [], ◌∷◌, Option, Some, None}
-use Rattle.records.specs.declared.commands.Command.{Command}
-use Rattle.records.specs.declared.notices.Untold.{Untold}
-use Rattle.row_machine.specs.declared.changes.RowChange.{RowChange}
-use Rattle.row_machine.specs.machine.State.{State}
-use Rattle.row_machine.specs.machine.Plans.{Plan, nothing, changes, starts, plan_of}
-use Rattle.row_machine.specs.shown.Notices.{change_notices}
+use Rattle.object_links.specs.records.specs.declared.commands.Command.{Command}
+use Rattle.object_links.specs.records.specs.declared.notices.Untold.{Untold}
+use Rattle.object_links.specs.row_machine.specs.declared.changes.RowChange.{RowChange}
+use Rattle.object_links.specs.row_machine.specs.machine.State.{State}
+use Rattle.object_links.specs.row_machine.specs.machine.Plans.{Plan, nothing, changes, starts, plan_of}
+use Rattle.object_links.specs.row_machine.specs.shown.Notices.{change_notices}
 use Rattle.object_plans.specs.declared.planned.Planned.{Planned}
 
 -- the changes that a plan makes at once

@@ -1,6 +1,6 @@
 -- What contracts see of a row that was found.
-use Rattle.records.specs.declared.rows.Row.{Row}
-use Rattle.records.specs.declared.rows.Row.TheVariants as row
+use Rattle.object_links.specs.records.specs.declared.rows.Row.{Row}
+use Rattle.object_links.specs.records.specs.declared.rows.Row.TheVariants as row
 use Rattle.object_plans.specs.declared.found.Found.{Found}
 use Rattle.object_plans.specs.declared.found.Found.TheVariants as found
 

@@ -1,17 +1,17 @@
 //! Lists of changes of rows.
 ghost use Rattle.std.specs.Prelude.{◌≡◌, [], ◌∷◌, ◌++◌, IfOk};
-ghost use Rattle.row_codec.specs.Spelling.{key_of};
-ghost use Rattle.records.specs.declared.rows.Row.TheVariants as row_of;
-ghost use Rattle.row_machine.specs.declared.changes.RowChange.TheVariants as change;
-ghost use Rattle.row_machine.specs.machine.NewRows.{default_profile};
-ghost use Rattle.row_machine.specs.machine.Changes.{removal};
+ghost use Rattle.object_links.specs.row_codec.specs.Spelling.{key_of};
+ghost use Rattle.object_links.specs.records.specs.declared.rows.Row.TheVariants as row_of;
+ghost use Rattle.object_links.specs.row_machine.specs.declared.changes.RowChange.TheVariants as change;
+ghost use Rattle.object_links.specs.row_machine.specs.machine.NewRows.{default_profile};
+ghost use Rattle.object_links.specs.row_machine.specs.machine.Changes.{removal};
 ghost use Rattle.object_plans.specs.Rows.{row_at};
 
 use crate::found::Found;
+use object_links::records_crate::Row;
+use object_links::row_machine_crate::RowChange;
+use object_links::size_values_crate::{NoMemory, ObjectKind, Seq, Text};
 use object_links::{three_names, two_names};
-use records::Row;
-use row_machine::RowChange;
-use size_values::{NoMemory, ObjectKind, Seq, Text};
 use std::alloc::Global;
 
 /// The key of a row.

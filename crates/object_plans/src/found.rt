@@ -1,12 +1,14 @@
 //! Rows of all kinds as they are found, lent.
 ghost use Rattle.std.specs.Prelude.{◌≡◌};
 ghost use Rattle.std.specs.Option.{option_map};
-ghost use Rattle.row_machine.specs.machine.Plans.{row_of};
+ghost use Rattle.object_links.specs.row_machine.specs.machine.Plans.{row_of};
 ghost use Rattle.object_plans.specs.Rows.{row_at};
 
-use records::{Instance, Network, Pool, Profile, Project, Snapshot, Target, Volume};
+use object_links::records_crate::{
+    Instance, Network, Pool, Profile, Project, Snapshot, Target, Volume,
+};
+use object_links::size_values_crate::ObjectKind;
 use row_readings::{View, home_of, network_named, pool_named, project_named};
-use size_values::ObjectKind;
 
 /// A row of any kind.
 #[derive(Clone, Copy)]

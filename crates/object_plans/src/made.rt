@@ -1,10 +1,10 @@
 //! The changes of each command on a row that was found, or on one that is to be made.
 ghost use Rattle.std.specs.Prelude.{◌≡◌, ℕ, List, [], ◌∷◌, ◌++◌, Some, IfOk};
-ghost use Rattle.records.specs.declared.commands.Target.{Target as TargetValue};
-ghost use Rattle.row_machine.specs.declared.changes.RowChange.TheVariants as change;
-ghost use Rattle.row_machine.specs.machine.State.{State};
-ghost use Rattle.row_machine.specs.machine.Plans.{plan_create, volume_creation, plan_put, plan_patch, plan_move};
-ghost use Rattle.row_machine.specs.machine.Plans.{plan_delete};
+ghost use Rattle.object_links.specs.records.specs.declared.commands.Target.{Target as TargetValue};
+ghost use Rattle.object_links.specs.row_machine.specs.declared.changes.RowChange.TheVariants as change;
+ghost use Rattle.object_links.specs.row_machine.specs.machine.State.{State};
+ghost use Rattle.object_links.specs.row_machine.specs.machine.Plans.{plan_create, volume_creation, plan_put, plan_patch, plan_move};
+ghost use Rattle.object_links.specs.row_machine.specs.machine.Plans.{plan_delete};
 ghost use Rattle.object_plans.specs.Rows.{row_at};
 ghost use Rattle.object_plans.specs.Planning.{changes_in};
 
@@ -18,10 +18,10 @@ use changed_rows::{
     patched_pool, patched_profile, patched_volume, put_network, put_pool, put_profile, put_volume,
     renamed_network, renamed_profile, renamed_volume,
 };
-use records::{Body, Origin, Row, Target};
-use row_machine::RowChange;
+use object_links::records_crate::{Body, Origin, Row, Target};
+use object_links::row_machine_crate::RowChange;
+use object_links::size_values_crate::{NoMemory, ObjectKind, Seq, Text};
 use row_readings::{View, home_of};
-use size_values::{NoMemory, ObjectKind, Seq, Text};
 use std::alloc::Global;
 
 /// A row alone is put.

@@ -1,16 +1,16 @@
 //! What changes of rows at once tell.
 ghost use Rattle.std.specs.Prelude.{◌≡◌, [], ◌∷◌, IfOk};
-ghost use Rattle.row_machine.specs.machine.Homes.{home_of};
-ghost use Rattle.row_machine.specs.machine.Plans.{Plan};
-ghost use Rattle.row_machine.specs.shown.Notices.{life_notice, made_life, changed_life, moved_life, deleted_life};
+ghost use Rattle.object_links.specs.row_machine.specs.machine.Homes.{home_of};
+ghost use Rattle.object_links.specs.row_machine.specs.machine.Plans.{Plan};
+ghost use Rattle.object_links.specs.row_machine.specs.shown.Notices.{life_notice, made_life, changed_life, moved_life, deleted_life};
 ghost use Rattle.object_plans.specs.Planning.{changes_in, IsPlanned};
 
 use crate::planned::Planned;
 use object_links::life_notice;
-use records::{Life, Target};
-use row_machine::RowChange;
+use object_links::records_crate::{Life, Target};
+use object_links::row_machine_crate::RowChange;
+use object_links::size_values_crate::{NoMemory, ObjectKind, Seq};
 use row_readings::{View, home_of};
-use size_values::{NoMemory, ObjectKind, Seq};
 use std::alloc::Global;
 
 /// What a creation at once tells.

@@ -1,15 +1,15 @@
 //! What each command that changes rows at once is to do.
 ghost use Rattle.std.specs.Prelude.{◌≡◌, IfOk};
-ghost use Rattle.records.specs.declared.commands.What.TheVariants as what;
+ghost use Rattle.object_links.specs.records.specs.declared.commands.What.TheVariants as what;
 ghost use Rattle.object_plans.specs.Planning.{IsPlanOf};
 
 use crate::found::row_of;
 use crate::made::{creation_changes, deletion_changes, move_changes, patch_changes, put_changes};
 use crate::notices::{changed_life, deleted_life, made_life, moved_life, with_notice};
 use crate::planned::Planned;
-use records::{Body, Command, Target, What};
+use object_links::records_crate::{Body, Command, Target, What};
+use object_links::size_values_crate::{NoMemory, Text};
 use row_readings::View;
-use size_values::{NoMemory, Text};
 use std::alloc::Global;
 
 /// What a creation is to do.

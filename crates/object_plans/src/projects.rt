@@ -1,21 +1,21 @@
 //! The changes that projects bring with them: a project that has profiles of its own has a profile `default`
 //! (<https://linuxcontainers.org/incus/docs/main/reference/projects/>).
 ghost use Rattle.std.specs.Prelude.{◌≡◌, [], ◌∷◌, ◌++◌, IfOk};
-ghost use Rattle.records.specs.declared.rows.Row.TheVariants as row_of;
-ghost use Rattle.row_machine.specs.declared.changes.RowChange.TheVariants as change;
-ghost use Rattle.row_machine.specs.machine.NewRows.{default_profile, made_project, put_project, patched_project};
-ghost use Rattle.row_machine.specs.machine.Plans.{moved_row, project_creation, project_change, project_rename};
-ghost use Rattle.row_machine.specs.machine.Plans.{project_deletion};
+ghost use Rattle.object_links.specs.records.specs.declared.rows.Row.TheVariants as row_of;
+ghost use Rattle.object_links.specs.row_machine.specs.declared.changes.RowChange.TheVariants as change;
+ghost use Rattle.object_links.specs.row_machine.specs.machine.NewRows.{default_profile, made_project, put_project, patched_project};
+ghost use Rattle.object_links.specs.row_machine.specs.machine.Plans.{moved_row, project_creation, project_change, project_rename};
+ghost use Rattle.object_links.specs.row_machine.specs.machine.Plans.{project_deletion};
 
 use crate::changes::{and_default_removal, and_put, and_removal, one_put, one_removal};
 use crate::found::Found;
 use changed_rows::{
     default_profile, made_project, patched_project, put_project, rehomed_profile, renamed_project,
 };
-use records::{Body, Profile, Project, Row};
-use row_machine::RowChange;
+use object_links::records_crate::{Body, Profile, Project, Row};
+use object_links::row_machine_crate::RowChange;
+use object_links::size_values_crate::{NoMemory, Seq, Text};
 use row_readings::{View, is_on};
-use size_values::{NoMemory, Seq, Text};
 use std::alloc::Global;
 
 /// The changes, and then the profile `default` of a project of this name is put.

@@ -1,11 +1,11 @@
 //! Rows of one kind that have something in common, as rows of any kind.
 ghost use Rattle.std.specs.Prelude.{◌≡◌, ◌++◌, ◌&&◌, OnOk, map, filter, if◌then◌else◌, false};
 ghost use Rattle.std.specs.Str.{bytes_eq};
-ghost use Rattle.records.specs.declared.rows.Row.TheVariants as row;
+ghost use Rattle.row_machine.specs.records.specs.declared.rows.Row.TheVariants as row;
 
 use crate::row_ref::{AnyRow, RowRef};
-use records::{Instance, Network, Pool, Profile, Project, Snapshot, Volume};
-use size_values::NoMemory;
+use row_machine::records_crate::{Instance, Network, Pool, Profile, Project, Snapshot, Volume};
+use row_machine::size_values_crate::NoMemory;
 
 /// Adds all projects.
 pub fn add_projects<'x>(rows: &'x [Project], all: &mut Vec<RowRef<'x>>) -> Result<(), NoMemory>

@@ -1,6 +1,10 @@
 //! The users of objects: which rows use a row, and the links of rows.
 #![tactic(auto)]
 
+// The libraries that crates above name through this one.
+pub use object_links as object_links_crate;
+pub use row_readings as row_readings_crate;
+
 mod gathered;
 mod row_links;
 mod row_ref;

@@ -1,8 +1,8 @@
 //! What reads answer.
 ghost use Rattle.std.specs.Prelude.{◌≡◌, ◌∷◌, [], codes, IfOk};
 ghost use Rattle.std.specs.Option.{option_map, option_and_then};
-ghost use Rattle.records.specs.declared.replies.View.TheVariants as view_of_kind;
-ghost use Rattle.records.specs.declared.replies.Reply.TheVariants as reply;
+ghost use Rattle.row_machine.specs.records.specs.declared.replies.View.TheVariants as view_of_kind;
+ghost use Rattle.row_machine.specs.records.specs.declared.replies.Reply.TheVariants as reply;
 ghost use Rattle.row_machine.specs.machine.Plans.{row_of};
 ghost use Rattle.row_machine.specs.shown.Views.{list_reply, listed, one, read, row_view, rows_reply, state_view};
 ghost use Rattle.row_machine.specs.machine.StandingRules.{power_of};
@@ -12,9 +12,9 @@ use crate::row_views::{row_view, row_views};
 use crate::usage::usage_view;
 use object_users::{AnyRow, RowRef, links_of_rows};
 use operation_views::{operation_reply, operations_reply};
-use records::{Instance, Reply, Target, View as Shown, What};
-use row_readings::{View, power_of};
-use size_values::{NoMemory, ObjectKind, Seq, Text};
+use project_usage::row_readings_crate::{View, power_of};
+use row_machine::records_crate::{Instance, Reply, Target, View as Shown, What};
+use row_machine::size_values_crate::{NoMemory, ObjectKind, Seq, Text};
 use std::alloc::Global;
 
 // ---- lists

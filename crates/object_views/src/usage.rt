@@ -1,16 +1,16 @@
 //! The usage of a project: each limit with what is used of it.
 ghost use Rattle.std.specs.Prelude.{◌≡◌, ◌++◌, ◌∷◌, [], length, filter, IfOk, OnOk, map};
 ghost use Rattle.std.specs.Str.{bytes_eq};
-ghost use Rattle.size_values.specs.Amounts.{part};
-ghost use Rattle.project_limits.specs.Admission.{limit_on, parts};
-ghost use Rattle.records.specs.declared.replies.LimitKeyName.TheVariants as line;
+ghost use Rattle.row_machine.specs.size_values.specs.Amounts.{part};
+ghost use Rattle.row_machine.specs.project_limits.specs.Admission.{limit_on, parts};
+ghost use Rattle.row_machine.specs.records.specs.declared.replies.LimitKeyName.TheVariants as line;
 ghost use Rattle.row_machine.specs.shown.Views.{line_key, usage_view};
 
-use project_limits::{Limits, limits_of};
+use project_usage::row_readings_crate::View;
 use project_usage::usage_of;
-use records::{LimitKeyName, Network, Project, UsageLine, View as Shown};
-use row_readings::View;
-use size_values::{Amounts, NoMemory, Seq};
+use row_machine::project_limits_crate::{Limits, limits_of};
+use row_machine::records_crate::{LimitKeyName, Network, Project, UsageLine, View as Shown};
+use row_machine::size_values_crate::{Amounts, NoMemory, Seq};
 use std::alloc::Global;
 
 /// The number of networks of a project.

@@ -1,15 +1,15 @@
 -- The limits of projects: each is told at its project.
 use Rattle.std.proofs.Common.{◌≡◌, ℕ, Bool, true, false, cond, nat_lt, ◌+◌, List, [], ◌∷◌, Option, Some, None, option_map, refl, ap, ◌∙◌}
 use Rattle.std.specs.Option.{option_or}
-use Rattle.plain_lists.specs.Firsts.{first_of}
-use Rattle.size_values.specs.Amounts.{amount_above}
-use Rattle.size_values.specs.declared.amounts.Part.{Part}
-use Rattle.project_limits.specs.Admission.{parts, key_of, limit_on}
-use Rattle.project_limits.specs.Limits.{limits_of}
-use Rattle.project_limits.specs.declared.admission.LimitKey.{LimitKey}
-use Rattle.project_limits.specs.declared.admission.LimitKey.TheVariants.{Networks}
-use Rattle.records.specs.declared.rows.Project.{Project}
-use Rattle.records.specs.declared.rows.Row.{Row}
+use Rattle.row_machine.specs.plain_lists.specs.Firsts.{first_of}
+use Rattle.row_machine.specs.size_values.specs.Amounts.{amount_above}
+use Rattle.row_machine.specs.size_values.specs.declared.amounts.Part.{Part}
+use Rattle.row_machine.specs.project_limits.specs.Admission.{parts, key_of, limit_on}
+use Rattle.row_machine.specs.project_limits.specs.Limits.{limits_of}
+use Rattle.row_machine.specs.project_limits.specs.declared.admission.LimitKey.{LimitKey}
+use Rattle.row_machine.specs.project_limits.specs.declared.admission.LimitKey.TheVariants.{Networks}
+use Rattle.row_machine.specs.records.specs.declared.rows.Project.{Project}
+use Rattle.row_machine.specs.records.specs.declared.rows.Row.{Row}
 use Rattle.row_machine.specs.machine.LimitRules.{limit_exceeded, over_refusal, part_exceeds, networks_exceed, limits_broken}
 use Rattle.row_machine.specs.machine.State.{State}
 use Rattle.row_machine.specs.machine.Usage.{used, networks_of}

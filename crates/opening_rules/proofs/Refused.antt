@@ -1,20 +1,20 @@
 -- The rule of a refusal, apart from what the refusal tells.
 use Rattle.std.proofs.Common.{◌≡◌, ℕ, ◌==◌, Bool, true, false, cond, List, [], ◌∷◌, ◌++◌, Option, Some, None, option_map, option_and_then, refl, ap, sym, ◌∙◌}
 use Rattle.std.specs.Option.{option_or}
-use Rattle.plain_lists.specs.Firsts.{first, first_of}
-use Rattle.config_lists.specs.Devices.{NamedDevices}
-use Rattle.config_lists.specs.Settings.{Settings}
-use Rattle.option_tables.specs.Checks.{devices_fault}
-use Rattle.option_tables.specs.declared.faults.SettingFault.{SettingFault}
-use Rattle.option_tables.specs.declared.faults.SettingFault.TheVariants as fault
-use Rattle.project_limits.specs.declared.sums.SumKey.{SumKey}
-use Rattle.restrictions.specs.Forbids.{first_forbidden, lowest, broken_settings, missing_setting, broken_devices}
-use Rattle.restrictions.specs.Policies.{Restrictions, policy_of}
-use Rattle.restrictions.specs.declared.forbidden.Forbidden.{Forbidden}
-use Rattle.restrictions.specs.declared.rows.Subject.{Subject}
-use Rattle.records.specs.declared.refusals.Refusal.{Refusal}
-use Rattle.records.specs.declared.refusals.Rule.{Rule}
-use Rattle.records.specs.declared.rows.Project.{Project}
+use Rattle.row_machine.specs.plain_lists.specs.Firsts.{first, first_of}
+use Rattle.row_machine.specs.config_lists.specs.Devices.{NamedDevices}
+use Rattle.row_machine.specs.config_lists.specs.Settings.{Settings}
+use Rattle.row_machine.specs.option_tables.specs.Checks.{devices_fault}
+use Rattle.row_machine.specs.option_tables.specs.declared.faults.SettingFault.{SettingFault}
+use Rattle.row_machine.specs.option_tables.specs.declared.faults.SettingFault.TheVariants as fault
+use Rattle.row_machine.specs.project_limits.specs.declared.sums.SumKey.{SumKey}
+use Rattle.row_machine.specs.restrictions.specs.Forbids.{first_forbidden, lowest, broken_settings, missing_setting, broken_devices}
+use Rattle.row_machine.specs.restrictions.specs.Policies.{Restrictions, policy_of}
+use Rattle.row_machine.specs.restrictions.specs.declared.forbidden.Forbidden.{Forbidden}
+use Rattle.row_machine.specs.restrictions.specs.declared.rows.Subject.{Subject}
+use Rattle.row_machine.specs.records.specs.declared.refusals.Refusal.{Refusal}
+use Rattle.row_machine.specs.records.specs.declared.refusals.Rule.{Rule}
+use Rattle.row_machine.specs.records.specs.declared.rows.Project.{Project}
 use Rattle.row_machine.specs.machine.LimitRules.{object_uncounted}
 use Rattle.row_machine.specs.machine.PolicyRules.{forbids, policy_rule, forbidden_key}
 use Rattle.row_machine.specs.machine.Refusals.{on_key_of}

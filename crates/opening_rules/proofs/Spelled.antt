@@ -2,10 +2,10 @@
 use Rattle.std.proofs.Common.{◌≡◌, ℕ, ◌+◌, ◌<◌, ◌≤◌, List, [], ◌∷◌, ◌++◌, length, drop, get_or, slice_get, Result, Ok, Err, Some, option_map, refl, ap, sym, ◌∙◌}
 use Rattle.std.proofs.lemmas.List.{append_assoc, append-nil, at_drop_more, at_drop_all}
 use Rattle.std.proofs.lemmas.Option.{slice_get_read}
-use Rattle.size_values.specs.declared.entry.Entry.{Entry}
-use Rattle.records.specs.declared.rows.Row.{Row}
-use Rattle.row_codec.specs.Reading.{row_of}
-use Rattle.row_codec.specs.declared.damage.Damaged.{Damaged}
+use Rattle.row_machine.specs.size_values.specs.declared.entry.Entry.{Entry}
+use Rattle.row_machine.specs.records.specs.declared.rows.Row.{Row}
+use Rattle.row_machine.specs.row_codec.specs.Reading.{row_of}
+use Rattle.row_machine.specs.row_codec.specs.declared.damage.Damaged.{Damaged}
 use Rattle.row_machine.specs.opening.Opening.{rows_in}
 
 -- rows before those of other entries

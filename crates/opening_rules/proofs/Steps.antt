@@ -1,10 +1,10 @@
 -- The steps of a loop that asks one rule after another, where the rules are plain values.
 use Rattle.std.proofs.Common.{◌≡◌, ℕ, ◌+◌, ◌<◌, List, length, take, get_or, Option, None, sym}
 use Rattle.std.proofs.lemmas.Option.{slice_get-get_or, get_or_from_slice_get}
-use Rattle.plain_lists.specs.Firsts.{first_of}
-use Rattle.size_values.specs.Causes.{Refuses}
-use Rattle.size_values.specs.declared.memory.Or.{Or}
-use Rattle.rule_refusals.proofs.Saying.{refuses-here, free-next}
+use Rattle.row_machine.specs.plain_lists.specs.Firsts.{first_of}
+use Rattle.row_machine.specs.size_values.specs.Causes.{Refuses}
+use Rattle.row_machine.specs.size_values.specs.declared.memory.Or.{Or}
+use Rattle.limit_rules.specs.rule_refusals.proofs.Saying.{refuses-here, free-next}
 
 module _ {X R : Type 0} (rule : X → Option R) (xs : List X) (i : ℕ) (d : X) (within : i < length xs) (before : first_of rule (take i xs) ≡ None) where
   same : get_or xs i d ≡ get_or xs i (get_or xs i d)

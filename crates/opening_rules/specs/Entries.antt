@@ -1,11 +1,11 @@
 -- The rows that entries spell.
 use Rattle.std.specs.Prelude.{ℕ, ◌≡◌, List, [], ◌∷◌, ◌++◌, Some, option_map, slice_get, Result, Ok, Err}
-use Rattle.size_values.specs.declared.entry.Entry.{Entry}
-use Rattle.size_values.specs.declared.memory.Or.{Or}
-use Rattle.size_values.specs.declared.memory.Or.TheVariants as or
-use Rattle.records.specs.declared.rows.Row.{Row}
-use Rattle.row_codec.specs.Reading.{row_of}
-use Rattle.row_codec.specs.declared.damage.Damaged.{Damaged}
+use Rattle.row_machine.specs.size_values.specs.declared.entry.Entry.{Entry}
+use Rattle.row_machine.specs.size_values.specs.declared.memory.Or.{Or}
+use Rattle.row_machine.specs.size_values.specs.declared.memory.Or.TheVariants as or
+use Rattle.row_machine.specs.records.specs.declared.rows.Row.{Row}
+use Rattle.row_machine.specs.row_codec.specs.Reading.{row_of}
+use Rattle.row_machine.specs.row_codec.specs.declared.damage.Damaged.{Damaged}
 use Rattle.row_machine.specs.opening.Opening.{rows_in}
 
 -- the row of an entry was added; or it spells none; or memory ran out

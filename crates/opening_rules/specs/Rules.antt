@@ -2,21 +2,21 @@
 use Rattle.std.specs.Prelude.{ℕ, ◌==◌, ◌&&◌, ◌||◌, Bool, not, is_none, codes, List, [], ◌∷◌, if◌then◌else◌}
 use Rattle.std.specs.Prelude.{Option, Some, None, option_map, option_and_then}
 use Rattle.std.specs.Str.{bytes_eq}
-use Rattle.plain_lists.specs.Firsts.{first}
-use Rattle.config_lists.specs.Devices.{NamedDevices, root_of}
-use Rattle.config_lists.specs.Settings.{Settings, setting}
-use Rattle.option_tables.specs.declared.faults.SettingFault.{SettingFault}
-use Rattle.option_tables.specs.declared.faults.SettingFault.TheVariants as fault
-use Rattle.project_limits.specs.declared.sums.SumKey.{SumKey}
-use Rattle.restrictions.specs.Forbids.{first_forbidden}
-use Rattle.restrictions.specs.Policies.{policy_of}
-use Rattle.restrictions.specs.declared.rows.Subject.{Subject}
-use Rattle.records.specs.declared.refusals.Refusal.{Refusal}
-use Rattle.records.specs.declared.refusals.Rule.{Rule}
-use Rattle.records.specs.declared.refusals.Rule.TheVariants as rule
-use Rattle.records.specs.declared.rows.Instance.{Instance}
-use Rattle.records.specs.declared.rows.Project.{Project}
-use Rattle.records.specs.declared.rows.Row.{Row}
+use Rattle.row_machine.specs.plain_lists.specs.Firsts.{first}
+use Rattle.row_machine.specs.config_lists.specs.Devices.{NamedDevices, root_of}
+use Rattle.row_machine.specs.config_lists.specs.Settings.{Settings, setting}
+use Rattle.row_machine.specs.option_tables.specs.declared.faults.SettingFault.{SettingFault}
+use Rattle.row_machine.specs.option_tables.specs.declared.faults.SettingFault.TheVariants as fault
+use Rattle.row_machine.specs.project_limits.specs.declared.sums.SumKey.{SumKey}
+use Rattle.row_machine.specs.restrictions.specs.Forbids.{first_forbidden}
+use Rattle.row_machine.specs.restrictions.specs.Policies.{policy_of}
+use Rattle.row_machine.specs.restrictions.specs.declared.rows.Subject.{Subject}
+use Rattle.row_machine.specs.records.specs.declared.refusals.Refusal.{Refusal}
+use Rattle.row_machine.specs.records.specs.declared.refusals.Rule.{Rule}
+use Rattle.row_machine.specs.records.specs.declared.refusals.Rule.TheVariants as rule
+use Rattle.row_machine.specs.records.specs.declared.rows.Instance.{Instance}
+use Rattle.row_machine.specs.records.specs.declared.rows.Project.{Project}
+use Rattle.row_machine.specs.records.specs.declared.rows.Row.{Row}
 use Rattle.row_machine.specs.machine.Expansions.{expanded_of}
 use Rattle.row_machine.specs.machine.Homes.{is_on}
 use Rattle.row_machine.specs.machine.PolicyRules.{policy_rule}

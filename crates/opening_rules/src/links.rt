@@ -1,7 +1,7 @@
 //! What rows name: the root disk of an instance, its profiles, and the networks, pools and volumes of devices.
 ghost use Rattle.std.specs.Prelude.{◌≡◌, ◌∷◌, [], IfOk, find, is_none, option_map};
 ghost use Rattle.std.specs.Option.{option_copied};
-ghost use Rattle.plain_lists.specs.Firsts.{first};
+ghost use Rattle.row_machine.specs.plain_lists.specs.Firsts.{first};
 ghost use Rattle.row_machine.specs.machine.Rows.{profile_named};
 ghost use Rattle.row_machine.specs.machine.SettingRules.{is_one, profile_missing, network_missing, pool_missing};
 ghost use Rattle.row_machine.specs.machine.SettingRules.{volume_missing, disk_misses, device_misses, devices_miss};
@@ -9,10 +9,12 @@ ghost use Rattle.row_machine.specs.opening.Opening.{rule_of, root_disk_missing, 
 ghost use Rattle.row_machine.specs.machine.SettingRules.{root_missing};
 ghost use Rattle.opening_rules.specs.Rules.{without_root, source_missing, names_missing, instance_unlinked};
 
-use config_lists::{Device, Devices, Root};
-use records::{Instance, Profile, Row, Rule};
-use row_readings::{View, network_home, network_named, pool_named, profile_home, volume_home};
-use size_values::{NoMemory, Text};
+use limit_rules::row_readings_crate::{
+    View, network_home, network_named, pool_named, profile_home, volume_home,
+};
+use row_machine::config_lists_crate::{Device, Devices, Root};
+use row_machine::records_crate::{Instance, Profile, Row, Rule};
+use row_machine::size_values_crate::{NoMemory, Text};
 use std::alloc::Global;
 
 // ---- the root disk

@@ -2,7 +2,7 @@
 ghost use Rattle.std.specs.Prelude.{◌≡◌, ◌||◌, is_none, not};
 ghost use Rattle.std.specs.List.{list_any};
 ghost use Rattle.std.specs.Str.{bytes_eq};
-ghost use Rattle.records.specs.Forms.{are_distinct, are_profiles};
+ghost use Rattle.row_machine.specs.records.specs.Forms.{are_distinct, are_profiles};
 ghost use Rattle.row_machine.specs.machine.Homes.{home_of};
 ghost use Rattle.row_machine.specs.machine.Rows.{project_named};
 ghost use Rattle.row_machine.specs.machine.State.{State};
@@ -11,9 +11,9 @@ ghost use Rattle.row_machine.specs.opening.Opening.{defaults_missing};
 ghost use Rattle.row_machine.specs.opening.Opening.{has_all_features};
 ghost use Rattle.opening_rules.specs.Rules.{lacks_defaults};
 
-use records::{Project, Row, Rule};
-use row_readings::{View, home_of, is_on, pool_named, project_named};
-use size_values::{ObjectKind, Text};
+use limit_rules::row_readings_crate::{View, home_of, is_on, pool_named, project_named};
+use row_machine::records_crate::{Project, Row, Rule};
+use row_machine::size_values_crate::{ObjectKind, Text};
 
 /// The most profiles that an instance may name.
 const MOST_PROFILES: usize = 64;

@@ -1,7 +1,7 @@
 //! The rules on rows, each asked of one row after another.
 ghost use Rattle.std.specs.Prelude.{◌≡◌, IfOk, option_map};
-ghost use Rattle.plain_lists.specs.Firsts.{first_of};
-ghost use Rattle.size_values.specs.Causes.{Says};
+ghost use Rattle.row_machine.specs.plain_lists.specs.Firsts.{first_of};
+ghost use Rattle.row_machine.specs.size_values.specs.Causes.{Says};
 ghost use Rattle.row_machine.specs.opening.Opening.{broken_at, row_breaks, row_rules};
 ghost use Rattle.opening_rules.specs.Rules.{row_rule};
 
@@ -11,9 +11,9 @@ use crate::links::{named_row_missing, root_disk_missing};
 use crate::places::{defaults_missing, home_missing, parent_row_missing, profiles_malformed};
 use crate::policies::forbidden;
 use crate::settings::{devices_invalid, settings_invalid};
-use records::{Row, Rule};
-use row_readings::View;
-use size_values::{NoMemory, Or};
+use limit_rules::row_readings_crate::View;
+use row_machine::records_crate::{Row, Rule};
+use row_machine::size_values_crate::{NoMemory, Or};
 use std::alloc::Global;
 
 /// A rule on one row.

@@ -1,10 +1,10 @@
 //! The first rule that kept rows break.
 ghost use Rattle.std.specs.Prelude.{◌≡◌, ◌==◌, [], filter, option_map, slice_get};
 ghost use Rattle.std.specs.Option.{option_copied};
-ghost use Rattle.plain_lists.specs.Firsts.{first_of};
-ghost use Rattle.size_values.specs.Causes.{Says};
-ghost use Rattle.records.specs.declared.refusals.Rule.TheVariants as rule_of;
-ghost use Rattle.row_codec.specs.Spelling.{kind_of};
+ghost use Rattle.row_machine.specs.plain_lists.specs.Firsts.{first_of};
+ghost use Rattle.row_machine.specs.size_values.specs.Causes.{Says};
+ghost use Rattle.row_machine.specs.records.specs.declared.refusals.Rule.TheVariants as rule_of;
+ghost use Rattle.row_machine.specs.row_codec.specs.Spelling.{kind_of};
 ghost use Rattle.row_machine.specs.machine.Kinds.{kind_number, cap_of};
 ghost use Rattle.row_machine.specs.machine.LimitRules.{limits_broken};
 ghost use Rattle.row_machine.specs.machine.TableRules.{row_kinds, too_large};
@@ -14,14 +14,14 @@ ghost use Rattle.opening_rules.specs.Rules.{breach_of};
 
 use crate::breach::{Breach, broken_at, broken_in};
 use crate::rules::rows_break_rules;
+use limit_rules::row_readings_crate::{View, project_named};
 use limit_rules::{limits_broken, usage_before_changes};
-use new_rows::{LARGEST_ROW, cap_of};
-use records::{Refusal, Row, Rule};
-use row_codec::kind_of;
-use row_readings::{View, project_named};
-use row_sizes::row_size;
-use size_values::{ObjectKind, Or};
+use row_machine::records_crate::{Refusal, Row, Rule};
+use row_machine::row_codec_crate::kind_of;
+use row_machine::size_values_crate::{ObjectKind, Or};
 use std::alloc::Global;
+use table_rules::new_rows_crate::{LARGEST_ROW, cap_of};
+use table_rules::row_sizes_crate::row_size;
 
 /// The kinds of rows.
 const ROW_KINDS: [ObjectKind; 7] = [

@@ -3,13 +3,13 @@
 use Rattle.std.proofs.Common.{◌≡◌, ℕ, zero, suc, ◌+◌, ◌<◌, Bool, true, false, cond, ◌||◌, Option, Some, None, List, [], ◌∷◌, ◌++◌, length, take, drop, get_or, nat_lt, unwrap_or, refl, sym, ap, ◌∙◌, drop-cons, arith}
 use Rattle.std.specs.List.{filter_map, list_any, position, insert}
 use Rattle.std.proofs.lemmas.List.Quantifiers.{position-Some}
-use Rattle.plain_lists.proofs.Places.{any-position}
+use Rattle.object_links.specs.plain_lists.proofs.Places.{any-position}
 use Rattle.std.specs.Option.{option_to_list}
 use Rattle.row_readings.proofs.Totals.{read-next}
-use Rattle.plain_lists.specs.Edits.{inserted}
-use Rattle.operations.specs.declared.operation.Operation.{Operation}
-use Rattle.operations.specs.Kept.{by_number}
-use Rattle.row_machine.specs.machine.Task.{Task}
+use Rattle.object_links.specs.plain_lists.specs.Edits.{inserted}
+use Rattle.object_links.specs.operations.specs.declared.operation.Operation.{Operation}
+use Rattle.object_links.specs.operations.specs.Kept.{by_number}
+use Rattle.object_links.specs.row_machine.specs.machine.Task.{Task}
 
 -- put after all, where it goes before none
 inserted-behind : {X : Type 0} (before : X → Bool) (x : X) (xs : List X) → list_any before xs ≡ false → insert xs (length xs) x ≡ inserted before x xs

@@ -1,5 +1,5 @@
-use operations::Operation;
-use row_machine::Work;
+use object_links::operations_crate::Operation;
+use object_links::row_machine_crate::Work;
 use std::marker::Model;
 
 /// A background operation, lent. Contracts see the operation.
@@ -9,8 +9,8 @@ pub(crate) struct OperationRef<'a> {
 }
 
 impl<'a> Model for OperationRef<'a> {
-    ghost use Rattle.operations.specs.declared.operation.Operation.{Operation};
-    ghost use Rattle.row_machine.specs.machine.Task.{Task};
+    ghost use Rattle.object_links.specs.operations.specs.declared.operation.Operation.{Operation};
+    ghost use Rattle.object_links.specs.row_machine.specs.machine.Task.{Task};
 
     ghost Value = { Operation Task };
 

@@ -3,18 +3,18 @@ ghost use Rattle.std.specs.Prelude.{◌≡◌, ◌++◌, IfOk, OnOk, map, filter
 ghost use Rattle.std.specs.List.{filter_map, position};
 ghost use Rattle.std.specs.Option.{option_to_list};
 ghost use Rattle.operation_views.specs.Statuses.{has_status};
-ghost use Rattle.operations.specs.Kept.{by_number};
-ghost use Rattle.plain_lists.specs.Edits.{inserted};
-ghost use Rattle.row_machine.specs.shown.Notices.{view_of};
-ghost use Rattle.row_machine.specs.shown.Views.{by_status, if_any, one, operation_view, operations_reply, status_number};
+ghost use Rattle.object_links.specs.operations.specs.Kept.{by_number};
+ghost use Rattle.object_links.specs.plain_lists.specs.Edits.{inserted};
+ghost use Rattle.object_links.specs.row_machine.specs.shown.Notices.{view_of};
+ghost use Rattle.object_links.specs.row_machine.specs.shown.Views.{by_status, if_any, one, operation_view, operations_reply, status_number};
 
 use crate::operation_ref::OperationRef;
+use object_links::operations_crate::{Operation, Status};
+use object_links::records_crate::{OpView, Reply, View as Shown};
+use object_links::row_machine_crate::Work;
+use object_links::size_values_crate::{NoMemory, Seq};
 use object_links::view_of;
-use operations::{Operation, Status};
-use records::{OpView, Reply, View as Shown};
-use row_machine::Work;
 use row_readings::{View, kept_at};
-use size_values::{NoMemory, Seq};
 use std::alloc::Global;
 
 // ---- single operations

@@ -2,6 +2,9 @@
 //! all of them is taken once, so no later call takes memory.
 #![tactic(auto)]
 
+// The libraries that crates above name through this one.
+pub use plain_lists as plain_lists_crate;
+
 mod faults;
 mod limits;
 mod lists;

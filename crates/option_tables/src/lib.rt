@@ -3,6 +3,10 @@
 //! the tables refuse. Commands check every row that they would put.
 #![tactic(auto)]
 
+// The libraries that crates above name through this one.
+pub use config_lists as config_lists_crate;
+pub use config_lists::size_values_crate;
+
 mod checks;
 mod devices;
 mod faults;

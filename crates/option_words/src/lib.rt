@@ -2,6 +2,9 @@
 //! takes, and the numbers that values say.
 #![tactic(auto)]
 
+// The libraries that crates above name through this one.
+pub use size_values as size_values_crate;
+
 mod commands;
 mod numbers;
 mod reading;

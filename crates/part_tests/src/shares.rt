@@ -1,10 +1,10 @@
 ghost use Rattle.std.specs.Prelude.{◌<◌, ◌^◌};
-ghost use Rattle.size_values.specs.Amounts.{part};
-ghost use Rattle.size_values.specs.declared.amounts.Part.{Part};
+ghost use Rattle.workload.specs.size_values.specs.Amounts.{part};
+ghost use Rattle.workload.specs.size_values.specs.declared.amounts.Part.{Part};
 
 use reservations::Ledger;
-use size_values::{Amounts, NoMemory, Text};
 use std::alloc::Global;
+use workload::size_values_crate::{Amounts, NoMemory, Text};
 
 fn share(cpu: u32, disk: u64) -> Amounts
     ensures { (k : Part) → part k result < 2 ^ 80 }

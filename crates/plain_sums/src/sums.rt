@@ -2,11 +2,13 @@
 //! networks, and the rows that its live operations would put. Written plainly: each setting is
 //! looked up layer by layer, each time again.
 
-use config_lists::Device;
-use records::{Instance, Profile, Project, Row, Volume};
-use row_machine::Work;
 use row_readings::View;
-use size_values::{Cpu, Kind, Memory, read_count, read_cpu, read_memory, read_size, read_truth};
+use row_readings::config_lists_crate::Device;
+use row_readings::records_crate::{Instance, Profile, Project, Row, Volume};
+use row_readings::row_machine_crate::Work;
+use row_readings::size_values_crate::{
+    Cpu, Kind, Memory, read_count, read_cpu, read_memory, read_size, read_truth,
+};
 
 /// What a project uses, each part as its limit counts it.
 #[derive(Clone, Copy, PartialEq, Eq)]

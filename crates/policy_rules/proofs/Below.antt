@@ -1,18 +1,18 @@
 -- Rules that hold below a number: of one subject, and over several objects.
 use Rattle.std.proofs.Common.{◌≡◌, ℕ, ◌+◌, ◌<◌, ◌==◌, Bool, true, false, cond, List, take, get_or, length, min, Option, Some, None, option_and_then, refl, sym, ap, ◌∙◌, arith}
 use Rattle.std.proofs.lemmas.Bool.Decides.{nat_tests}
-use Rattle.plain_lists.specs.Firsts.{first_of}
-use Rattle.config_lists.specs.Settings.{Settings}
-use Rattle.config_lists.specs.Devices.{NamedDevices}
+use Rattle.restrictions.specs.plain_lists.specs.Firsts.{first_of}
+use Rattle.restrictions.specs.config_lists.specs.Settings.{Settings}
+use Rattle.restrictions.specs.config_lists.specs.Devices.{NamedDevices}
 use Rattle.restrictions.specs.declared.forbidden.Forbidden.{Forbidden}
 use Rattle.restrictions.specs.declared.rows.Subject.{Subject}
 use Rattle.restrictions.specs.Policies.{policy_of}
 use Rattle.restrictions.specs.Forbids.{first_forbidden}
-use Rattle.records.specs.declared.refusals.Refusal.{Refusal}
-use Rattle.operations.specs.declared.operation.Operation.{Operation}
-use Rattle.records.specs.declared.rows.Project.{Project}
-use Rattle.records.specs.declared.rows.Profile.{Profile}
-use Rattle.records.specs.declared.rows.Instance.{Instance}
+use Rattle.row_machine.specs.records.specs.declared.refusals.Refusal.{Refusal}
+use Rattle.row_machine.specs.operations.specs.declared.operation.Operation.{Operation}
+use Rattle.row_machine.specs.records.specs.declared.rows.Project.{Project}
+use Rattle.row_machine.specs.records.specs.declared.rows.Profile.{Profile}
+use Rattle.row_machine.specs.records.specs.declared.rows.Instance.{Instance}
 use Rattle.row_machine.specs.machine.Task.{Task}
 use Rattle.row_machine.specs.machine.Refusals.{on_key_of}
 use Rattle.row_machine.specs.machine.State.{State}

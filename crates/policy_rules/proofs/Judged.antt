@@ -2,8 +2,8 @@
 use Rattle.std.proofs.Common.{◌≡◌, ℕ, None, filter, sym, ap, ◌∙◌}
 use Rattle.std.specs.Option.{option_or}
 use Rattle.std.specs.Str.{bytes_eq}
-use Rattle.plain_lists.specs.Firsts.{first_of}
-use Rattle.records.specs.declared.rows.Project.{Project}
+use Rattle.restrictions.specs.plain_lists.specs.Firsts.{first_of}
+use Rattle.row_machine.specs.records.specs.declared.rows.Project.{Project}
 use Rattle.row_machine.specs.machine.State.{State}
 use Rattle.row_machine.specs.machine.Claims.{claimed_instance, judged_instances}
 use Rattle.row_machine.specs.machine.PolicyRules.{forbids_profile, forbids_instance, project_forbids}

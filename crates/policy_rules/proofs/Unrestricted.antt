@@ -1,16 +1,16 @@
 -- A project that is not restricted forbids nothing.
 use Rattle.std.proofs.Common.{◌≡◌, ℕ, ◌==◌, Bool, true, false, cond, Option, Some, None, List, ◌∷◌, ◌++◌, refl, ap, option_and_then}
 use Rattle.std.specs.Str.{bytes_eq}
-use Rattle.plain_lists.proofs.FirstLemmas.{none-first_of}
-use Rattle.config_lists.specs.Settings.{Settings}
-use Rattle.config_lists.specs.Devices.{NamedDevices}
+use Rattle.restrictions.specs.plain_lists.proofs.FirstLemmas.{none-first_of}
+use Rattle.restrictions.specs.config_lists.specs.Settings.{Settings}
+use Rattle.restrictions.specs.config_lists.specs.Devices.{NamedDevices}
 use Rattle.restrictions.specs.declared.forbidden.Forbidden.{Forbidden}
 use Rattle.restrictions.specs.declared.rows.Subject.{Subject}
 use Rattle.restrictions.specs.Policies.{Restrictions, policy_of}
 use Rattle.restrictions.specs.Forbids.{first_forbidden, lowest, broken_settings, missing_setting, broken_devices}
-use Rattle.records.specs.declared.rows.Project.{Project}
-use Rattle.records.specs.declared.rows.Profile.{Profile}
-use Rattle.records.specs.declared.rows.Instance.{Instance}
+use Rattle.row_machine.specs.records.specs.declared.rows.Project.{Project}
+use Rattle.row_machine.specs.records.specs.declared.rows.Profile.{Profile}
+use Rattle.row_machine.specs.records.specs.declared.rows.Instance.{Instance}
 use Rattle.row_machine.specs.machine.State.{State}
 use Rattle.row_machine.specs.machine.Task.{Task}
 use Rattle.row_machine.specs.machine.Claims.{claimed_instance}

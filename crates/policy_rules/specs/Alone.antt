@@ -1,7 +1,7 @@
 -- The rules on policy for a new operation alone: where all facts hold before it, nothing but what it claims can break them.
 use Rattle.std.specs.Prelude.{[], ◌∷◌, Option}
-use Rattle.plain_lists.specs.Firsts.{first_of}
-use Rattle.records.specs.declared.refusals.Refusal.{Refusal}
+use Rattle.restrictions.specs.plain_lists.specs.Firsts.{first_of}
+use Rattle.row_machine.specs.records.specs.declared.refusals.Refusal.{Refusal}
 use Rattle.row_machine.specs.machine.State.{State}
 use Rattle.row_machine.specs.machine.Task.{Task}
 use Rattle.policy_rules.specs.Within.{own_claim}

@@ -1,6 +1,6 @@
 -- That all rules hold up to a number.
 use Rattle.std.specs.Prelude.{ℕ, ◌<◌, ◌≡◌, Option, None}
-use Rattle.records.specs.declared.refusals.Refusal.{Refusal}
+use Rattle.row_machine.specs.records.specs.declared.refusals.Refusal.{Refusal}
 
 -- no rule of a lower number is broken
 abbrev pub HoldBelow : ℕ → (ℕ → Option Refusal) → Type 0

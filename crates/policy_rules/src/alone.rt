@@ -1,8 +1,8 @@
 //! The rules on policy for a new operation, by what it claims alone: where all facts hold before it, nothing else can break
 //! them.
 ghost use Rattle.std.specs.Prelude.{IfOk};
-ghost use Rattle.plain_lists.specs.Firsts.{first_of};
-ghost use Rattle.size_values.specs.Causes.{Says};
+ghost use Rattle.restrictions.specs.plain_lists.specs.Firsts.{first_of};
+ghost use Rattle.restrictions.specs.size_values.specs.Causes.{Says};
 ghost use Rattle.policy_rules.specs.Alone.{claim_forbidden};
 ghost use Rattle.policy_rules.specs.Lowest.{HoldBelow};
 ghost use Rattle.policy_rules.specs.Within.{own_claim};
@@ -10,11 +10,11 @@ ghost use Rattle.policy_rules.specs.Within.{own_claim};
 use crate::lowest::lowest_of_claim;
 use crate::policy::{NUMBERS, claim_forbids};
 use crate::restricted::Restricted;
-use records::{Project, Refusal};
 use restrictions::is_restricted;
+use restrictions::size_values_crate::{NoMemory, Or};
 use row_machine::Work;
+use row_machine::records_crate::{Project, Refusal};
 use row_readings::View;
-use size_values::{NoMemory, Or};
 use std::alloc::Global;
 
 /// The number of the first rule that a claim breaks in a project, or one above them all. A project that is not restricted

@@ -1,17 +1,17 @@
 //! The least number of a rule on policy that is broken, in one walk over the projects.
 ghost use Rattle.std.specs.Prelude.{IfOk};
-ghost use Rattle.plain_lists.specs.Firsts.{first_of};
+ghost use Rattle.restrictions.specs.plain_lists.specs.Firsts.{first_of};
 ghost use Rattle.row_machine.specs.machine.PolicyRules.{project_forbids};
 ghost use Rattle.policy_rules.specs.Lowest.{HoldBelow};
 ghost use Rattle.policy_rules.specs.Within.{own_profile, own_instance, own_claim};
 
 use crate::restricted::{Restricted, subject_of};
-use operations::Operation;
-use records::{Instance, Profile, Project};
+use restrictions::size_values_crate::NoMemory;
 use restrictions::{Subject, is_restricted};
 use row_machine::Work;
+use row_machine::operations_crate::Operation;
+use row_machine::records_crate::{Instance, Profile, Project};
 use row_readings::{View, claimed_instance};
-use size_values::NoMemory;
 use std::alloc::Global;
 
 #[tactic(auto, unfolding(row_machine::specs::machine::PolicyRules::forbids_profile))]

@@ -1,18 +1,18 @@
 //! Rules on policy: F1 to F7.
-ghost use Rattle.plain_lists.specs.Firsts.{first_of};
-ghost use Rattle.size_values.specs.Causes.{Says};
+ghost use Rattle.restrictions.specs.plain_lists.specs.Firsts.{first_of};
+ghost use Rattle.restrictions.specs.size_values.specs.Causes.{Says};
 ghost use Rattle.row_machine.specs.machine.PolicyRules.{project_forbids, policy_broken};
 ghost use Rattle.policy_rules.specs.Lowest.{HoldBelow};
 ghost use Rattle.policy_rules.specs.Within.{own_profile, own_instance, own_claim, own_objects};
 
 use crate::lowest::lowest_broken;
 use crate::restricted::{Restricted, subject_of};
-use operations::Operation;
-use records::{Instance, Profile, Project, Refusal};
+use restrictions::size_values_crate::Or;
 use restrictions::{Subject, is_restricted};
 use row_machine::Work;
+use row_machine::operations_crate::Operation;
+use row_machine::records_crate::{Instance, Profile, Project, Refusal};
 use row_readings::{View, claimed_instance};
-use size_values::Or;
 use std::alloc::Global;
 
 /// The numbers of the rules on policy.

@@ -1,17 +1,17 @@
 //! A project with its policy, and what that forbids.
 ghost use Rattle.std.specs.Prelude.{ℕ, List, ◌≡◌};
 ghost use Rattle.std.specs.Str.{bytes_eq};
-ghost use Rattle.size_values.specs.Causes.{Says};
+ghost use Rattle.restrictions.specs.size_values.specs.Causes.{Says};
 ghost use Rattle.restrictions.specs.Forbids.{first_forbidden as forbidden_first};
 ghost use Rattle.restrictions.specs.Policies.{policy_of};
 ghost use Rattle.row_machine.specs.machine.PolicyRules.{policy_rule, subject_of, forbidden_key, forbids};
 ghost use Rattle.policy_rules.specs.Lowest.{HoldBelow};
 
-use config_lists::{Config, Devices};
-use records::{Project, Refusal, Rule};
+use restrictions::config_lists_crate::{Config, Devices};
+use restrictions::size_values_crate::{Kind, Or, Text};
 use restrictions::{Forbidden, Policy, Subject, first_forbidden, policy_of};
+use row_machine::records_crate::{Project, Refusal, Rule};
 use rule_refusals::{key_at, name_at, on_key_of};
-use size_values::{Kind, Or, Text};
 use std::alloc::Global;
 use std::marker::Model;
 
@@ -25,7 +25,7 @@ pub(crate) struct Restricted<'a> {
 impl<'a> Model for Restricted<'a> {
     ghost use Rattle.std.specs.Prelude.{◌≡◌};
     ghost use Rattle.restrictions.specs.Policies.{seen, policy_of};
-    ghost use Rattle.records.specs.declared.rows.Project.{Project as ProjectValue};
+    ghost use Rattle.row_machine.specs.records.specs.declared.rows.Project.{Project as ProjectValue};
 
     ghost Value = { ProjectValue };
 

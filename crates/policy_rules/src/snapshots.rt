@@ -1,18 +1,18 @@
 //! F8: snapshots where the policy of the project blocks them.
 ghost use Rattle.std.specs.Prelude.{if◌then◌else◌, option_and_then, Some, None};
-ghost use Rattle.size_values.specs.Causes.{Says};
-ghost use Rattle.records.specs.declared.refusals.Rule.TheVariants as rule;
+ghost use Rattle.restrictions.specs.size_values.specs.Causes.{Says};
+ghost use Rattle.row_machine.specs.records.specs.declared.refusals.Rule.TheVariants as rule;
 ghost use Rattle.restrictions.specs.Forbids.{snapshots_forbidden};
 ghost use Rattle.restrictions.specs.Policies.{policy_of};
 ghost use Rattle.row_machine.specs.machine.Refusals.{on_project};
 ghost use Rattle.row_machine.specs.machine.Rows.{project_named};
 ghost use Rattle.row_machine.specs.machine.PolicyRules.{snapshot_blocked};
 
-use records::{Command, Refusal, Rule, What};
+use restrictions::size_values_crate::{ObjectKind, Or};
 use restrictions::{policy_of, snapshots_forbidden};
+use row_machine::records_crate::{Command, Refusal, Rule, What};
 use row_readings::{View, project_named};
 use rule_refusals::on_project;
-use size_values::{ObjectKind, Or};
 use std::alloc::Global;
 
 /// The policy of a project forbids snapshots.

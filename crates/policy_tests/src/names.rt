@@ -1,7 +1,7 @@
-use config_lists::Devices;
+use estate_rules::config_lists_crate::Devices;
+use estate_rules::size_values_crate::{NoMemory, ObjectKind};
 use estate_rules::{good_name, names_network, names_pool, names_volume};
 use made_settings::{Settings, devices_of};
-use size_values::{NoMemory, ObjectKind};
 use std::alloc::Global;
 
 const OF_63: &str = "a23456789012345678901234567890123456789012345678901234567890123";

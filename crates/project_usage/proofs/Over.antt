@@ -5,29 +5,29 @@ use Rattle.std.specs.Option.{option_and_then, option_or}
 use Rattle.std.specs.Str.{bytes_eq}
 use Rattle.std.proofs.lemmas.List.{nil_from_length}
 use Rattle.std.proofs.lemmas.Slice.Eq.{bytes_eq-Decides}
-use Rattle.config_lists.specs.Devices.{NamedDevices}
-use Rattle.config_lists.specs.Entries.{replaced, KeysRise}
-use Rattle.config_lists.specs.Settings.{Settings, setting}
-use Rattle.config_lists.proofs.Lookups.{value_of-replaced}
-use Rattle.expansion.specs.Layers.{laid}
-use Rattle.expansion.specs.declared.expanded.Expanded.{Expanded}
-use Rattle.project_limits.specs.Instance.{cpu_in, memory_in, processes_in, instance_amounts}
-use Rattle.project_limits.specs.Limits.{count_in}
-use Rattle.records.specs.declared.rows.Instance.{Instance}
-use Rattle.records.specs.declared.rows.Profile.{Profile}
-use Rattle.records.specs.declared.rows.Project.{Project}
-use Rattle.row_machine.specs.machine.Claims.{amounts_of_instance}
-use Rattle.row_machine.specs.machine.Expansions.{layer_of, own_layer, expanded_of}
-use Rattle.row_machine.specs.machine.Homes.{home_of}
-use Rattle.row_machine.specs.machine.Rows.{profile_named}
-use Rattle.row_machine.specs.machine.State.{State}
+use Rattle.row_readings.specs.config_lists.specs.Devices.{NamedDevices}
+use Rattle.row_readings.specs.config_lists.specs.Entries.{replaced, KeysRise}
+use Rattle.row_readings.specs.config_lists.specs.Settings.{Settings, setting}
+use Rattle.row_readings.specs.config_lists.proofs.Lookups.{value_of-replaced}
+use Rattle.row_readings.specs.expansion.specs.Layers.{laid}
+use Rattle.row_readings.specs.expansion.specs.declared.expanded.Expanded.{Expanded}
+use Rattle.row_readings.specs.project_limits.specs.Instance.{cpu_in, memory_in, processes_in, instance_amounts}
+use Rattle.row_readings.specs.project_limits.specs.Limits.{count_in}
+use Rattle.row_readings.specs.records.specs.declared.rows.Instance.{Instance}
+use Rattle.row_readings.specs.records.specs.declared.rows.Profile.{Profile}
+use Rattle.row_readings.specs.records.specs.declared.rows.Project.{Project}
+use Rattle.row_readings.specs.row_machine.specs.machine.Claims.{amounts_of_instance}
+use Rattle.row_readings.specs.row_machine.specs.machine.Expansions.{layer_of, own_layer, expanded_of}
+use Rattle.row_readings.specs.row_machine.specs.machine.Homes.{home_of}
+use Rattle.row_readings.specs.row_machine.specs.machine.Rows.{profile_named}
+use Rattle.row_readings.specs.row_machine.specs.machine.State.{State}
 use Rattle.row_readings.proofs.Layered.{expanded-push, profiles_of-same}
-use Rattle.size_values.specs.Amounts.{part}
-use Rattle.size_values.specs.declared.amounts.Amounts.{Amounts}
-use Rattle.size_values.specs.declared.amounts.Part.{Part}
-use Rattle.size_values.specs.declared.kinds.Kind.{Kind}
-use Rattle.size_values.specs.declared.kinds.Kind.TheVariants.{Container, Machine}
-use Rattle.size_values.specs.declared.kinds.ObjectKind.TheVariants as kind
+use Rattle.row_readings.specs.size_values.specs.Amounts.{part}
+use Rattle.row_readings.specs.size_values.specs.declared.amounts.Amounts.{Amounts}
+use Rattle.row_readings.specs.size_values.specs.declared.amounts.Part.{Part}
+use Rattle.row_readings.specs.size_values.specs.declared.kinds.Kind.{Kind}
+use Rattle.row_readings.specs.size_values.specs.declared.kinds.Kind.TheVariants.{Container, Machine}
+use Rattle.row_readings.specs.size_values.specs.declared.kinds.ObjectKind.TheVariants as kind
 use Rattle.project_usage.specs.Counted.{instance_part}
 use Rattle.project_usage.specs.Layered.{profiles_of, amounts_over}
 

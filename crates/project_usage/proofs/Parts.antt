@@ -5,22 +5,22 @@ use Rattle.std.specs.Option.{option_map, option_map_or}
 use Rattle.std.specs.Str.{bytes_eq}
 use Rattle.std.proofs.lemmas.List.Elements.{All-nil, All-cons}
 use Rattle.std.proofs.lemmas.List.Sums.{sum_by-append, sum_by-cons, sum_by-le}
-use Rattle.plain_lists.proofs.Readings.{sum_by-read}
-use Rattle.operations.specs.declared.operation.Operation.{Operation}
-use Rattle.records.specs.declared.rows.Instance.{Instance}
-use Rattle.records.specs.declared.rows.Row.{Row}
-use Rattle.records.specs.declared.rows.Volume.{Volume}
-use Rattle.row_machine.specs.machine.Claims.{of_live, amounts_of_instance, project_of_row, share_of}
-use Rattle.row_machine.specs.machine.Expansions.{expanded_of}
-use Rattle.row_machine.specs.machine.State.{State}
-use Rattle.row_machine.specs.machine.Task.{Task}
-use Rattle.row_machine.specs.machine.Usage.{Load, loads, instance_load, volume_load, claim_load, amount_for, used, usage_of}
+use Rattle.row_readings.specs.plain_lists.proofs.Readings.{sum_by-read}
+use Rattle.row_readings.specs.operations.specs.declared.operation.Operation.{Operation}
+use Rattle.row_readings.specs.records.specs.declared.rows.Instance.{Instance}
+use Rattle.row_readings.specs.records.specs.declared.rows.Row.{Row}
+use Rattle.row_readings.specs.records.specs.declared.rows.Volume.{Volume}
+use Rattle.row_readings.specs.row_machine.specs.machine.Claims.{of_live, amounts_of_instance, project_of_row, share_of}
+use Rattle.row_readings.specs.row_machine.specs.machine.Expansions.{expanded_of}
+use Rattle.row_readings.specs.row_machine.specs.machine.State.{State}
+use Rattle.row_readings.specs.row_machine.specs.machine.Task.{Task}
+use Rattle.row_readings.specs.row_machine.specs.machine.Usage.{Load, loads, instance_load, volume_load, claim_load, amount_for, used, usage_of}
 use Rattle.row_readings.proofs.Small.{AreLow, low-instance, low-volume, low-share_of}
-use Rattle.size_values.specs.Amounts.{part, nothing}
-use Rattle.size_values.specs.declared.amounts.Amounts.{Amounts}
-use Rattle.size_values.specs.declared.amounts.Part.{Part}
-use Rattle.size_values.specs.declared.amounts.Part.TheVariants as part_of
-use Rattle.size_values.proofs.AmountParts.{same-parts}
+use Rattle.row_readings.specs.size_values.specs.Amounts.{part, nothing}
+use Rattle.row_readings.specs.size_values.specs.declared.amounts.Amounts.{Amounts}
+use Rattle.row_readings.specs.size_values.specs.declared.amounts.Part.{Part}
+use Rattle.row_readings.specs.size_values.specs.declared.amounts.Part.TheVariants as part_of
+use Rattle.row_readings.specs.size_values.proofs.AmountParts.{same-parts}
 use Rattle.project_usage.specs.Counted.{instance_part, volume_part, claim_part}
 
 -- ---- each is small

@@ -1,12 +1,12 @@
 -- What a row or a claim adds to one part of what a project uses.
 use Rattle.std.specs.Prelude.{ℕ, List}
 use Rattle.std.specs.Option.{option_map_or}
-use Rattle.size_values.specs.declared.amounts.Part.{Part}
-use Rattle.records.specs.declared.rows.Instance.{Instance}
-use Rattle.records.specs.declared.rows.Volume.{Volume}
-use Rattle.row_machine.specs.machine.Task.{Task}
-use Rattle.row_machine.specs.machine.State.{State}
-use Rattle.row_machine.specs.machine.Usage.{amount_for, instance_load, volume_load, claim_load}
+use Rattle.row_readings.specs.size_values.specs.declared.amounts.Part.{Part}
+use Rattle.row_readings.specs.records.specs.declared.rows.Instance.{Instance}
+use Rattle.row_readings.specs.records.specs.declared.rows.Volume.{Volume}
+use Rattle.row_readings.specs.row_machine.specs.machine.Task.{Task}
+use Rattle.row_readings.specs.row_machine.specs.machine.State.{State}
+use Rattle.row_readings.specs.row_machine.specs.machine.Usage.{amount_for, instance_load, volume_load, claim_load}
 
 abbrev pub instance_part : State → List ℕ → Part → Instance → ℕ
 instance_part s project k row = amount_for project k (instance_load s row)

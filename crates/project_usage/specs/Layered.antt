@@ -1,13 +1,13 @@
 -- What the profiles of an instance lay, and what the instance counts for over it.
 use Rattle.std.specs.Prelude.{ℕ, List, map}
-use Rattle.expansion.specs.Layers.{laid, expanded}
-use Rattle.expansion.specs.declared.expanded.Expanded.{Expanded}
-use Rattle.project_limits.specs.Instance.{instance_amounts}
-use Rattle.records.specs.declared.rows.Instance.{Instance}
-use Rattle.records.specs.declared.rows.Profile.{Profile}
-use Rattle.row_machine.specs.machine.Expansions.{layer_of, own_layer}
-use Rattle.row_machine.specs.machine.Rows.{profile_named}
-use Rattle.size_values.specs.declared.amounts.Amounts.{Amounts}
+use Rattle.row_readings.specs.expansion.specs.Layers.{laid, expanded}
+use Rattle.row_readings.specs.expansion.specs.declared.expanded.Expanded.{Expanded}
+use Rattle.row_readings.specs.project_limits.specs.Instance.{instance_amounts}
+use Rattle.row_readings.specs.records.specs.declared.rows.Instance.{Instance}
+use Rattle.row_readings.specs.records.specs.declared.rows.Profile.{Profile}
+use Rattle.row_readings.specs.row_machine.specs.machine.Expansions.{layer_of, own_layer}
+use Rattle.row_readings.specs.row_machine.specs.machine.Rows.{profile_named}
+use Rattle.row_readings.specs.size_values.specs.declared.amounts.Amounts.{Amounts}
 
 -- the profiles of these names in one project, laid in their order
 abbrev pub profiles_of : List Profile → List ℕ → List (List ℕ) → Expanded

@@ -2,21 +2,21 @@
 ghost use Rattle.std.specs.Prelude.{◌≡◌, ◌+◌, ◌≤◌, ◌^◌, IfOk, is_some, if◌then◌else◌};
 ghost use Rattle.std.specs.List.{sum_by};
 ghost use Rattle.std.specs.Str.{bytes_eq};
-ghost use Rattle.size_values.specs.Amounts.{part};
-ghost use Rattle.size_values.specs.declared.amounts.Part.{Part};
-ghost use Rattle.config_lists.specs.Entries.{replaced};
-ghost use Rattle.config_lists.specs.Settings.{setting};
-ghost use Rattle.expansion.specs.Layers.{nothing};
-ghost use Rattle.project_limits.specs.Instance.{instance_amounts};
+ghost use Rattle.row_readings.specs.size_values.specs.Amounts.{part};
+ghost use Rattle.row_readings.specs.size_values.specs.declared.amounts.Part.{Part};
+ghost use Rattle.row_readings.specs.config_lists.specs.Entries.{replaced};
+ghost use Rattle.row_readings.specs.config_lists.specs.Settings.{setting};
+ghost use Rattle.row_readings.specs.expansion.specs.Layers.{nothing};
+ghost use Rattle.row_readings.specs.project_limits.specs.Instance.{instance_amounts};
 ghost use Rattle.project_usage.specs.Counted.{instance_part};
 ghost use Rattle.project_usage.specs.Layered.{amounts_over};
 
 use crate::layers::lay_again;
-use config_lists::{Config, Devices};
-use expansion::Expanded;
-use records::Instance;
+use row_readings::config_lists_crate::{Config, Devices};
+use row_readings::expansion_crate::Expanded;
+use row_readings::records_crate::Instance;
+use row_readings::size_values_crate::{Amounts, NoMemory, Text};
 use row_readings::{View, profile_home};
-use size_values::{Amounts, NoMemory, Text};
 use std::alloc::Global;
 
 /// The amounts with those of the instances of the project.
@@ -93,11 +93,11 @@ fn amounts_over(row: &Instance, below: &Expanded) -> Result<Amounts, NoMemory>
 fn amounts_with(row: &Instance, config: &Config, devices: &Devices) -> Amounts
     ensures { result ≡ instance_amounts row.now.kind (replaced config.now row.now.config) devices.now }
 {
-    let below = project_limits::amounts_of(row.kind, config, devices);
+    let below = row_readings::project_limits_crate::amounts_of(row.kind, config, devices);
     if row.config.len() == 0 {
         return below;
     }
-    let own = project_limits::amounts_of(row.kind, &row.config, devices);
+    let own = row_readings::project_limits_crate::amounts_of(row.kind, &row.config, devices);
     Amounts {
         cpu: own_or(&row.config, "limits.cpu", own.cpu, below.cpu),
         memory: own_or(&row.config, "limits.memory", own.memory, below.memory),

@@ -1,16 +1,16 @@
 ghost use Rattle.std.specs.Prelude.{◌≡◌, ◌+◌, ◌<◌, ◌≤◌, ◌^◌, IfOk};
 ghost use Rattle.std.specs.List.{sum_by};
-ghost use Rattle.size_values.specs.Amounts.{part};
-ghost use Rattle.size_values.specs.declared.amounts.Part.{Part};
-ghost use Rattle.row_machine.specs.machine.Usage.{usage_of};
+ghost use Rattle.row_readings.specs.size_values.specs.Amounts.{part};
+ghost use Rattle.row_readings.specs.size_values.specs.declared.amounts.Part.{Part};
+ghost use Rattle.row_readings.specs.row_machine.specs.machine.Usage.{usage_of};
 ghost use Rattle.project_usage.specs.Counted.{volume_part, claim_part};
 
 use crate::instances::add_instances;
-use operations::Operation;
-use records::Volume;
-use row_machine::Work;
+use row_readings::operations_crate::Operation;
+use row_readings::records_crate::Volume;
+use row_readings::row_machine_crate::Work;
+use row_readings::size_values_crate::{Amounts, NoMemory};
 use row_readings::{View, project_of_row, share_of};
-use size_values::{Amounts, NoMemory};
 use std::alloc::Global;
 
 /// What a project uses of its limits, with what live operations claim: the sum over its own rows and claims. No list of
@@ -42,7 +42,7 @@ fn volume_counts(row: &Volume, project: &str) -> Amounts
     ensures { (k : Part) → part k result ≡ volume_part project.now k row.now }
 {
     if row.project.view() == project {
-        project_limits::volume_amounts(&row.config)
+        row_readings::project_limits_crate::volume_amounts(&row.config)
     } else {
         Amounts::zero()
     }

@@ -2,6 +2,9 @@
 //! fail, for runs without a file and for tests.
 #![tactic(auto)]
 
+// The libraries that crates above name through this one.
+pub use size_values as size_values_crate;
+
 mod keeper;
 mod laws;
 mod map_keeper;

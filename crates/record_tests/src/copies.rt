@@ -1,6 +1,8 @@
 //! Copies of notices and refusals.
-use records::{Kept, Life, Notice, OpFault, OpView, Refusal, Rule, Status, Target, Told};
-use size_values::{NoMemory, ObjectKind, Text};
+use row_sizes::records_crate::{
+    Kept, Life, Notice, OpFault, OpView, Refusal, Rule, Status, Target, Told,
+};
+use row_sizes::size_values_crate::{NoMemory, ObjectKind, Text};
 use std::alloc::Global;
 
 fn operation_of(alloc: Global) -> Result<Told, NoMemory> {

@@ -1,8 +1,8 @@
 //! The sizes of bodies that are written out byte by byte.
-use records::Row;
-use row_codec::decode;
+use row_sizes::records_crate::Row;
+use row_sizes::row_codec_crate::decode;
+use row_sizes::size_values_crate::{Entry, NoMemory, Seq, Text};
 use row_sizes::{instance_size, profile_size, project_size};
-use size_values::{Entry, NoMemory, Seq, Text};
 use std::alloc::Global;
 
 /// The body of a project with one setting and no description.

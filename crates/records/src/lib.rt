@@ -3,6 +3,12 @@
 //! the store speaks of them.
 #![tactic(auto)]
 
+// The libraries that crates above name through this one.
+pub use config_lists as config_lists_crate;
+pub use config_lists::size_values_crate;
+pub use operations as operations_crate;
+pub use operations::plain_lists_crate;
+
 mod commands;
 mod notices;
 mod refusals;

@@ -1,19 +1,19 @@
 -- The rows of all kinds, kind by kind.
 use Rattle.std.proofs.Common.{List, map, sym, subst}
-use Rattle.plain_lists.specs.Members.{Each}
-use Rattle.plain_lists.proofs.Elements.{Each-append, Mem-from_map}
-use Rattle.records.specs.declared.rows.Instance.{Instance}
-use Rattle.records.specs.declared.rows.Network.{Network}
-use Rattle.records.specs.declared.rows.Pool.{Pool}
-use Rattle.records.specs.declared.rows.Profile.{Profile}
-use Rattle.records.specs.declared.rows.Project.{Project}
-use Rattle.records.specs.declared.rows.Row.{Row}
-use Rattle.records.specs.declared.rows.Row.TheVariants as row
-use Rattle.records.specs.declared.rows.Snapshot.{Snapshot}
-use Rattle.records.specs.declared.rows.Volume.{Volume}
-use Rattle.row_codec.specs.Rows.{HasTypedParts}
-use Rattle.row_machine.specs.machine.State.{State}
-use Rattle.row_machine.specs.opening.Records.{rows_of}
+use Rattle.kept_laws.specs.plain_lists.specs.Members.{Each}
+use Rattle.kept_laws.specs.plain_lists.proofs.Elements.{Each-append, Mem-from_map}
+use Rattle.kept_laws.specs.records.specs.declared.rows.Instance.{Instance}
+use Rattle.kept_laws.specs.records.specs.declared.rows.Network.{Network}
+use Rattle.kept_laws.specs.records.specs.declared.rows.Pool.{Pool}
+use Rattle.kept_laws.specs.records.specs.declared.rows.Profile.{Profile}
+use Rattle.kept_laws.specs.records.specs.declared.rows.Project.{Project}
+use Rattle.kept_laws.specs.records.specs.declared.rows.Row.{Row}
+use Rattle.kept_laws.specs.records.specs.declared.rows.Row.TheVariants as row
+use Rattle.kept_laws.specs.records.specs.declared.rows.Snapshot.{Snapshot}
+use Rattle.kept_laws.specs.records.specs.declared.rows.Volume.{Volume}
+use Rattle.kept_laws.specs.row_codec.specs.Rows.{HasTypedParts}
+use Rattle.kept_laws.specs.row_machine.specs.machine.State.{State}
+use Rattle.kept_laws.specs.row_machine.specs.opening.Records.{rows_of}
 
 -- rows of one kind
 each-row : {X : Type 0} (as_row : X → Row) (xs : List X) → Each (λ x. HasTypedParts (as_row x)) xs → Each HasTypedParts (map as_row xs)

@@ -1,19 +1,19 @@
 -- What is told of a keeper, as the records of rows.
 use Rattle.std.proofs.Common.{◌≡◌, List, Option, Some, None, refl, sym, ap, subst, ◌∙◌}
 use Rattle.std.specs.Prelude.{IfSome, option_map}
-use Rattle.core_rows.specs.Opening.{AreTold, OpensTo}
+use Rattle.core_turns.specs.core_rows.specs.Opening.{AreTold, OpensTo}
 use Rattle.core_turns.specs.Turns.{without_notices}
 use Rattle.kept_laws.specs.Reopening.{KeptRowsOpen, reopened}
-use Rattle.plain_lists.specs.Members.{Each}
-use Rattle.record_keeper.specs.Store.{Store}
+use Rattle.kept_laws.specs.plain_lists.specs.Members.{Each}
+use Rattle.kept_laws.specs.record_keeper.specs.Store.{Store}
 use Rattle.reopened_rows.specs.Reopened.{OpensAgain}
-use Rattle.row_codec.specs.Rows.{HasTypedParts}
-use Rattle.row_machine.specs.facts.Whole.{IsWhole}
-use Rattle.row_machine.specs.machine.State.{State}
-use Rattle.row_machine.specs.opening.Opening.{opened, opening_of}
-use Rattle.row_machine.specs.opening.Records.{records_of, rows_of}
-use Rattle.size_values.specs.declared.entry.Entry.{Entry}
-use Rattle.work_reports.specs.Stores.{KeepsRecords}
+use Rattle.kept_laws.specs.row_codec.specs.Rows.{HasTypedParts}
+use Rattle.kept_laws.specs.row_machine.specs.facts.Whole.{IsWhole}
+use Rattle.kept_laws.specs.row_machine.specs.machine.State.{State}
+use Rattle.kept_laws.specs.row_machine.specs.opening.Opening.{opened, opening_of}
+use Rattle.kept_laws.specs.row_machine.specs.opening.Records.{records_of, rows_of}
+use Rattle.kept_laws.specs.size_values.specs.declared.entry.Entry.{Entry}
+use Rattle.core_turns.specs.work_reports.specs.Stores.{KeepsRecords}
 
 -- the law of a state whose rows are those of a view without notices
 pub records-open : KeptRowsOpen → (s viewed : State) → viewed ≡ without_notices s → IsWhole s → Each HasTypedParts (rows_of viewed)

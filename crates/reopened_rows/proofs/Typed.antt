@@ -2,8 +2,8 @@
 use Rattle.std.proofs.Common.{◌≡◌, ◌<◌, ◌≤◌, ℕ, ◌+◌, List, [], ◌∷◌, ◌++◌, length, get_or, take, sym, subst}
 use Rattle.std.specs.List.{AllByRecursion}
 use Rattle.std.proofs.lemmas.List.{take_all, take_more}
-use Rattle.plain_lists.specs.Members.{Each}
-use Rattle.plain_lists.proofs.Elements.{Each-push}
+use Rattle.kept_laws.specs.plain_lists.specs.Members.{Each}
+use Rattle.kept_laws.specs.plain_lists.proofs.Elements.{Each-push}
 
 -- ---- by recursion
 

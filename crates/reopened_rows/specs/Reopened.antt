@@ -1,9 +1,9 @@
 -- What a keeper has opens again.
 use Rattle.std.specs.Prelude.{◌≡◌, IfSome}
 use Rattle.kept_laws.specs.Reopening.{reopened}
-use Rattle.record_keeper.specs.Store.{Store}
-use Rattle.row_machine.specs.machine.State.{State}
-use Rattle.row_machine.specs.opening.Opening.{opened, opening_of}
+use Rattle.kept_laws.specs.record_keeper.specs.Store.{Store}
+use Rattle.kept_laws.specs.row_machine.specs.machine.State.{State}
+use Rattle.kept_laws.specs.row_machine.specs.opening.Opening.{opened, opening_of}
 
 -- the entries of a store, where it tells them, open to the rows of this state, as a server has them that was ended and
 -- opened again

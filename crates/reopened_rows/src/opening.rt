@@ -1,18 +1,18 @@
 //! What is kept opens again: functions that change nothing, whose contracts say it.
 ghost use Rattle.std.specs.Prelude.{◌≡◌};
 ghost use Rattle.kept_laws.specs.Reopening.{reopened};
-ghost use Rattle.plain_lists.specs.Members.{Each};
-ghost use Rattle.row_codec.specs.Rows.{HasTypedParts};
-ghost use Rattle.row_machine.specs.facts.Whole.{IsWhole};
-ghost use Rattle.row_machine.specs.opening.Opening.{opened, opening_of};
-ghost use Rattle.row_machine.specs.opening.Records.{records_of, rows_of};
+ghost use Rattle.kept_laws.specs.plain_lists.specs.Members.{Each};
+ghost use Rattle.kept_laws.specs.row_codec.specs.Rows.{HasTypedParts};
+ghost use Rattle.kept_laws.specs.row_machine.specs.facts.Whole.{IsWhole};
+ghost use Rattle.kept_laws.specs.row_machine.specs.opening.Opening.{opened, opening_of};
+ghost use Rattle.kept_laws.specs.row_machine.specs.opening.Records.{records_of, rows_of};
 
 use crate::rows::{
     instances_are_typed, networks_are_typed, pools_are_typed, profiles_are_typed,
     projects_are_typed, snapshots_are_typed, volumes_are_typed,
 };
+use core_turns::row_readings_crate::View;
 use kept_laws::kept_rows_open;
-use row_readings::View;
 
 /// The rows of every kind have it by their types that they can be kept.
 pub(crate) fn rows_are_typed(view: &View<'_>)

@@ -1,9 +1,9 @@
 //! What the parts of a row have by their types: functions that do nothing but look.
 ghost use Rattle.std.specs.Str.{IsUtf8};
-ghost use Rattle.row_parts.specs.Parts.{AreUtf8, AreTypedSettings, AreTypedDevices};
+ghost use Rattle.kept_laws.specs.row_parts.specs.Parts.{AreUtf8, AreTypedSettings, AreTypedDevices};
 
-use config_lists::{Config, Devices};
-use size_values::{Seq, Text};
+use kept_laws::config_lists_crate::{Config, Devices};
+use kept_laws::size_values_crate::{Seq, Text};
 
 /// The bytes of a string are UTF-8.
 fn string_is_utf8(string: &str)

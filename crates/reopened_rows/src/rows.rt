@@ -1,17 +1,17 @@
 //! What the rows of each kind have by their types: functions that do nothing but look.
-ghost use Rattle.plain_lists.specs.Members.{Each};
-ghost use Rattle.records.specs.declared.rows.Instance.{Instance as InstanceValue};
-ghost use Rattle.records.specs.declared.rows.Network.{Network as NetworkValue};
-ghost use Rattle.records.specs.declared.rows.Pool.{Pool as PoolValue};
-ghost use Rattle.records.specs.declared.rows.Profile.{Profile as ProfileValue};
-ghost use Rattle.records.specs.declared.rows.Project.{Project as ProjectValue};
-ghost use Rattle.records.specs.declared.rows.Row.TheVariants as row_of;
-ghost use Rattle.records.specs.declared.rows.Snapshot.{Snapshot as SnapshotValue};
-ghost use Rattle.records.specs.declared.rows.Volume.{Volume as VolumeValue};
-ghost use Rattle.row_codec.specs.Rows.{HasTypedParts};
+ghost use Rattle.kept_laws.specs.plain_lists.specs.Members.{Each};
+ghost use Rattle.kept_laws.specs.records.specs.declared.rows.Instance.{Instance as InstanceValue};
+ghost use Rattle.kept_laws.specs.records.specs.declared.rows.Network.{Network as NetworkValue};
+ghost use Rattle.kept_laws.specs.records.specs.declared.rows.Pool.{Pool as PoolValue};
+ghost use Rattle.kept_laws.specs.records.specs.declared.rows.Profile.{Profile as ProfileValue};
+ghost use Rattle.kept_laws.specs.records.specs.declared.rows.Project.{Project as ProjectValue};
+ghost use Rattle.kept_laws.specs.records.specs.declared.rows.Row.TheVariants as row_of;
+ghost use Rattle.kept_laws.specs.records.specs.declared.rows.Snapshot.{Snapshot as SnapshotValue};
+ghost use Rattle.kept_laws.specs.records.specs.declared.rows.Volume.{Volume as VolumeValue};
+ghost use Rattle.kept_laws.specs.row_codec.specs.Rows.{HasTypedParts};
 
 use crate::parts::{devices_are_typed, settings_are_typed, text_is_utf8, texts_are_utf8};
-use records::{Instance, Network, Pool, Profile, Project, Snapshot, Volume};
+use kept_laws::records_crate::{Instance, Network, Pool, Profile, Project, Snapshot, Volume};
 
 fn project_is_typed(project: &Project)
     ensures { HasTypedParts (row_of.Project project.now) }

@@ -1,13 +1,13 @@
 //! What the keeper of a server has opens again, at every moment: a function that changes nothing, whose contract says it.
 ghost use Rattle.std.specs.Prelude.{◌≡◌};
-ghost use Rattle.core_rows.specs.Opening.{AreTold, OpensTo};
+ghost use Rattle.core_turns.specs.core_rows.specs.Opening.{AreTold, OpensTo};
 ghost use Rattle.kept_laws.specs.Reopening.{reopened};
-ghost use Rattle.record_keeper.specs.Store.{Store};
+ghost use Rattle.kept_laws.specs.record_keeper.specs.Store.{Store};
 ghost use Rattle.reopened_rows.specs.Reopened.{OpensAgain};
-ghost use Rattle.row_machine.specs.machine.State.{State};
-ghost use Rattle.row_machine.specs.opening.Opening.{opened, opening_of};
-ghost use Rattle.row_machine.specs.opening.Records.{records_of};
-ghost use Rattle.work_reports.specs.Stores.{KeepsRecords};
+ghost use Rattle.kept_laws.specs.row_machine.specs.machine.State.{State};
+ghost use Rattle.kept_laws.specs.row_machine.specs.opening.Opening.{opened, opening_of};
+ghost use Rattle.kept_laws.specs.row_machine.specs.opening.Records.{records_of};
+ghost use Rattle.core_turns.specs.work_reports.specs.Stores.{KeepsRecords};
 
 use crate::opening::rows_are_typed;
 use core_turns::Daemon;

@@ -2,6 +2,10 @@
 //! ids of operations.
 #![tactic(auto)]
 
+// The libraries that crates above name through this one.
+pub use config_lists as config_lists_crate;
+pub use config_lists::size_values_crate;
+
 mod ids;
 mod laws;
 mod moments;

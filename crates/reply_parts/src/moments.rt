@@ -3,9 +3,9 @@ ghost use Rattle.std.specs.Prelude.{◌≡◌, ◌<◌, ◌≤◌, ◌/◌, ◌%
 ghost use Rattle.jiff.specs.Words.{epoch_day};
 ghost use Rattle.reply_parts.specs.Moments.{last_moment, stamp_text, moment_text};
 
+use config_lists::size_values_crate::{NoMemory, Text};
 use jiff::ToSpan;
 use jiff::civil::{Date, DateTime, Time};
-use size_values::{NoMemory, Text};
 use std::alloc::Global;
 
 /// The last moment that has a text, in seconds since 1970: the last second of the year 9999.

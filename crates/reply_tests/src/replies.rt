@@ -1,11 +1,11 @@
 //! Replies, notices and ids as texts.
 
-use records::{
+use rest_routes::records_crate::{
     Kept, Life, LimitKeyName, Notice, OpFault, OpView, Refusal, Reply, Rule, Status, Target, Told,
     UsageLine, View,
 };
+use rest_routes::size_values_crate::{NoMemory, ObjectKind, Seq, Text};
 use rest_routes::{id_text, number_of, print, print_notice};
-use size_values::{NoMemory, ObjectKind, Seq, Text};
 use std::alloc::Global;
 
 const MADE: &str = "{\"metadata\":{},\"status\":\"Success\",\"status_code\":200,\"type\":\"sync\"}";

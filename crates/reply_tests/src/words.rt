@@ -1,12 +1,12 @@
 //! Each rule, each object, each action and each status as it is written in replies and events.
 
-use config_lists::{Config, Devices};
-use records::{
+use rest_routes::config_lists_crate::{Config, Devices};
+use rest_routes::records_crate::{
     Driver, Instance, Kept, Life, LimitKeyName, Network, Notice, OpFault, OpView, Pool, Profile,
     Project, Refusal, Reply, Rule, Snapshot, Status, Target, Told, UsageLine, View, Volume,
 };
+use rest_routes::size_values_crate::{Kind, ObjectKind, Power, Seq, Text};
 use rest_routes::{print, print_notice};
-use size_values::{Kind, ObjectKind, Power, Seq, Text};
 use std::alloc::Global;
 
 /// Each rule, with everything at hand that a rule may tell: its code and its body.

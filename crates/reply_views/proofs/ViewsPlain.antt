@@ -1,15 +1,15 @@
 -- No object and no operation has a number with a fraction.
 use Rattle.std.proofs.Common.{◌≡◌, ℕ, List, [], ◌∷◌, false, Option, Some, None, refl}
-use Rattle.size_values.specs.declared.kinds.Power.{Power}
-use Rattle.operations.specs.declared.operation.OpFault.{OpFault}
-use Rattle.operations.specs.declared.operation.OpFault.TheVariants as fault
-use Rattle.config_lists.specs.Settings.{Settings}
-use Rattle.config_lists.specs.Devices.{NamedDevices}
-use Rattle.records.specs.declared.rows.Instance.{Instance}
-use Rattle.records.specs.declared.replies.OpView.{OpView}
-use Rattle.records.specs.declared.replies.UsageLine.{UsageLine}
-use Rattle.records.specs.declared.replies.View.{View}
-use Rattle.records.specs.declared.replies.View.TheVariants as shown
+use Rattle.reply_parts.specs.size_values.specs.declared.kinds.Power.{Power}
+use Rattle.object_links.specs.operations.specs.declared.operation.OpFault.{OpFault}
+use Rattle.object_links.specs.operations.specs.declared.operation.OpFault.TheVariants as fault
+use Rattle.reply_parts.specs.config_lists.specs.Settings.{Settings}
+use Rattle.reply_parts.specs.config_lists.specs.Devices.{NamedDevices}
+use Rattle.object_links.specs.records.specs.declared.rows.Instance.{Instance}
+use Rattle.object_links.specs.records.specs.declared.replies.OpView.{OpView}
+use Rattle.object_links.specs.records.specs.declared.replies.UsageLine.{UsageLine}
+use Rattle.object_links.specs.records.specs.declared.replies.View.{View}
+use Rattle.object_links.specs.records.specs.declared.replies.View.TheVariants as shown
 use Rattle.serde_json.specs.Data.{Members, no_members, put}
 use Rattle.serde_json.specs.Written.{has_float, members_have_float}
 use Rattle.reply_views.specs.Words.{limit_name}

@@ -1,15 +1,15 @@
 -- Operations as JSON.
 use Rattle.std.specs.Prelude.{ℕ, List, [], ◌∷◌, Bool, ◌&&◌, true, false, codes}
-use Rattle.size_values.specs.declared.kinds.ObjectKind.{ObjectKind}
-use Rattle.size_values.specs.declared.kinds.ObjectKind.TheVariants.{Volume, Snapshot}
-use Rattle.operations.specs.declared.status.Status.{Status}
-use Rattle.operations.specs.declared.status.Status.TheVariants.{Pending, Running}
-use Rattle.operations.specs.declared.operation.OpFault.{OpFault}
-use Rattle.operations.specs.declared.operation.OpFault.TheVariants as fault
-use Rattle.records.specs.declared.replies.OpView.{OpView}
+use Rattle.reply_parts.specs.size_values.specs.declared.kinds.ObjectKind.{ObjectKind}
+use Rattle.reply_parts.specs.size_values.specs.declared.kinds.ObjectKind.TheVariants.{Volume, Snapshot}
+use Rattle.object_links.specs.operations.specs.declared.status.Status.{Status}
+use Rattle.object_links.specs.operations.specs.declared.status.Status.TheVariants.{Pending, Running}
+use Rattle.object_links.specs.operations.specs.declared.operation.OpFault.{OpFault}
+use Rattle.object_links.specs.operations.specs.declared.operation.OpFault.TheVariants as fault
+use Rattle.object_links.specs.records.specs.declared.replies.OpView.{OpView}
 use Rattle.serde_json.specs.Data.{Data, null, boolean, string}
-use Rattle.row_machine.specs.shown.Links.{link_of}
-use Rattle.row_machine.specs.machine.TableRules.{status_text}
+use Rattle.object_links.specs.row_machine.specs.shown.Links.{link_of}
+use Rattle.object_links.specs.row_machine.specs.machine.TableRules.{status_text}
 use Rattle.reply_views.specs.Words.{status_code, error_text}
 use Rattle.reply_parts.specs.Ids.{id_text}
 use Rattle.reply_parts.specs.Moments.{moment_text}

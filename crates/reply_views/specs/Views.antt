@@ -1,21 +1,21 @@
 -- Objects of all kinds as JSON.
 use Rattle.std.specs.Prelude.{ℕ, ◌-◌, ◌^◌, ◌==◌, min, if◌then◌else◌, List, [], ◌∷◌, Option, Some, None, true, false}
 use Rattle.std.specs.Prelude.{negsuc, codes}
-use Rattle.size_values.specs.declared.kinds.Power.{Power}
-use Rattle.config_lists.specs.Settings.{Settings}
-use Rattle.config_lists.specs.Devices.{NamedDevices}
-use Rattle.records.specs.declared.rows.Project.{Project}
-use Rattle.records.specs.declared.rows.Profile.{Profile}
-use Rattle.records.specs.declared.rows.Network.{Network}
-use Rattle.records.specs.declared.rows.Pool.{Pool}
-use Rattle.records.specs.declared.rows.Volume.{Volume}
-use Rattle.records.specs.declared.rows.Instance.{Instance}
-use Rattle.records.specs.declared.rows.Snapshot.{Snapshot}
-use Rattle.records.specs.declared.replies.UsageLine.{UsageLine}
-use Rattle.records.specs.declared.replies.View.{View}
-use Rattle.records.specs.declared.replies.View.TheVariants as shown
+use Rattle.reply_parts.specs.size_values.specs.declared.kinds.Power.{Power}
+use Rattle.reply_parts.specs.config_lists.specs.Settings.{Settings}
+use Rattle.reply_parts.specs.config_lists.specs.Devices.{NamedDevices}
+use Rattle.object_links.specs.records.specs.declared.rows.Project.{Project}
+use Rattle.object_links.specs.records.specs.declared.rows.Profile.{Profile}
+use Rattle.object_links.specs.records.specs.declared.rows.Network.{Network}
+use Rattle.object_links.specs.records.specs.declared.rows.Pool.{Pool}
+use Rattle.object_links.specs.records.specs.declared.rows.Volume.{Volume}
+use Rattle.object_links.specs.records.specs.declared.rows.Instance.{Instance}
+use Rattle.object_links.specs.records.specs.declared.rows.Snapshot.{Snapshot}
+use Rattle.object_links.specs.records.specs.declared.replies.UsageLine.{UsageLine}
+use Rattle.object_links.specs.records.specs.declared.replies.View.{View}
+use Rattle.object_links.specs.records.specs.declared.replies.View.TheVariants as shown
 use Rattle.serde_json.specs.Data.{Data, boolean, string, number, negative, object, Members, no_members, put}
-use Rattle.row_machine.specs.machine.StandingRules.{power_text}
+use Rattle.object_links.specs.row_machine.specs.machine.StandingRules.{power_text}
 use Rattle.reply_views.specs.Words.{power_code, instance_kind, driver_text, limit_name}
 use Rattle.reply_parts.specs.Moments.{moment_text}
 use Rattle.reply_parts.specs.Objects.{object_of, list_of, whole}

@@ -1,17 +1,17 @@
 -- How statuses, kinds, drivers and limits are written in replies.
 use Rattle.std.specs.Prelude.{ℕ, List, [], codes}
-use Rattle.size_values.specs.declared.kinds.Kind.{Kind}
-use Rattle.size_values.specs.declared.kinds.Kind.TheVariants.{Container, Machine}
-use Rattle.size_values.specs.declared.kinds.Power.{Power}
-use Rattle.operations.specs.declared.status.Status.{Status}
-use Rattle.operations.specs.declared.status.Status.TheVariants.{Failure, Cancelled}
-use Rattle.operations.specs.declared.operation.OpFault.{OpFault}
-use Rattle.operations.specs.declared.operation.OpFault.TheVariants as fault
-use Rattle.row_machine.specs.shown.Statuses.{power_line, status_line}
-use Rattle.records.specs.declared.replies.LimitKeyName.{LimitKeyName}
-use Rattle.records.specs.declared.replies.LimitKeyName.TheVariants as limit
-use Rattle.records.specs.declared.rows.Driver.{Driver}
-use Rattle.records.specs.declared.rows.Driver.TheVariants.{Dir, Btrfs, Lvm, Zfs}
+use Rattle.reply_parts.specs.size_values.specs.declared.kinds.Kind.{Kind}
+use Rattle.reply_parts.specs.size_values.specs.declared.kinds.Kind.TheVariants.{Container, Machine}
+use Rattle.reply_parts.specs.size_values.specs.declared.kinds.Power.{Power}
+use Rattle.object_links.specs.operations.specs.declared.status.Status.{Status}
+use Rattle.object_links.specs.operations.specs.declared.status.Status.TheVariants.{Failure, Cancelled}
+use Rattle.object_links.specs.operations.specs.declared.operation.OpFault.{OpFault}
+use Rattle.object_links.specs.operations.specs.declared.operation.OpFault.TheVariants as fault
+use Rattle.object_links.specs.row_machine.specs.shown.Statuses.{power_line, status_line}
+use Rattle.object_links.specs.records.specs.declared.replies.LimitKeyName.{LimitKeyName}
+use Rattle.object_links.specs.records.specs.declared.replies.LimitKeyName.TheVariants as limit
+use Rattle.object_links.specs.records.specs.declared.rows.Driver.{Driver}
+use Rattle.object_links.specs.records.specs.declared.rows.Driver.TheVariants.{Dir, Btrfs, Lvm, Zfs}
 
 -- the number of an operation's status
 abbrev pub status_code : Status → ℕ

@@ -4,14 +4,14 @@ ghost use Rattle.serde_json.specs.View.{view};
 ghost use Rattle.reply_views.specs.Operations.{fault_data, resource_key, resources_data, may_stop, operation_data};
 ghost use Rattle.reply_parts.specs.Objects.{list_of};
 ghost use Rattle.serde_json.specs.Data.{string};
-ghost use Rattle.operations.specs.declared.operation.OpFault.TheVariants as fault;
+ghost use Rattle.object_links.specs.operations.specs.declared.operation.OpFault.TheVariants as fault;
 
 use crate::words::{error_text, status_code, status_text};
 use object_links::link_of;
-use records::{OpFault, OpView, Status};
+use object_links::records_crate::{OpFault, OpView, Status};
 use reply_parts::Object;
+use reply_parts::size_values_crate::{NoMemory, ObjectKind};
 use serde_json::Value;
-use size_values::{NoMemory, ObjectKind};
 use std::alloc::Global;
 
 /// The failed call of the host, and the counts of its faults before and after it.

@@ -9,11 +9,13 @@ ghost use Rattle.reply_views.specs.Views.{limit_data, line_data, lines_data, usa
 
 use crate::operation::operation_value;
 use crate::words::{driver_text, instance_kind, limit_name, power_code, power_text};
-use config_lists::{Config, Devices};
-use records::{Instance, Network, Pool, Profile, Project, Snapshot, UsageLine, View, Volume};
+use object_links::records_crate::{
+    Instance, Network, Pool, Profile, Project, Snapshot, UsageLine, View, Volume,
+};
+use reply_parts::config_lists_crate::{Config, Devices};
+use reply_parts::size_values_crate::{NoMemory, Power, Seq, Text};
 use reply_parts::{Object, moment_text};
 use serde_json::Value;
-use size_values::{NoMemory, Power, Seq, Text};
 use std::alloc::Global;
 
 /// The most that 63 bits hold.

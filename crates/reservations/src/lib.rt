@@ -2,6 +2,10 @@
 //! granted to operations, converted into objects, and returned.
 #![tactic(auto)]
 
+// The libraries that crates above name through this one.
+pub use plain_lists as plain_lists_crate;
+pub use size_values as size_values_crate;
+
 mod books;
 mod ledger;
 

@@ -1,13 +1,13 @@
 //! What is written for a reply.
 ghost use Rattle.std.specs.Prelude.{◌≡◌, true, IfOk};
-ghost use Rattle.row_machine.specs.machine.Refusals.{plain_refusal};
+ghost use Rattle.rest_replies.specs.row_machine.specs.machine.Refusals.{plain_refusal};
 ghost use Rattle.rest_answers.specs.Texts.{HasText, malformed_text, printed, rule_of};
 
-use http_front::{HeadFault, reply_bytes};
-use records::{Refusal, Reply, Rule};
+use core_turns::rule_refusals_crate::nothing_told;
+use rest_replies::http_front_crate::{HeadFault, reply_bytes};
+use rest_replies::records_crate::{Refusal, Reply, Rule};
+use rest_replies::size_values_crate::{NoMemory, Seq};
 use rest_replies::{no_memory_is_known, print};
-use rule_refusals::nothing_told;
-use size_values::{NoMemory, Seq};
 use std::alloc::Global;
 
 /// What is to be written for a request.

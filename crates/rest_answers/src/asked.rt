@@ -1,10 +1,10 @@
 //! What a command is answered.
 ghost use Rattle.std.specs.Prelude.{◌≡◌};
-ghost use Rattle.core_rows.specs.Asked.{answered};
+ghost use Rattle.core_turns.specs.core_rows.specs.Asked.{answered};
 ghost use Rattle.rest_answers.specs.Asked.{answer_of, IsAtOnce, IsForClient};
 
-use records::Reply;
-use row_machine::Answer;
+use rest_replies::records_crate::Reply;
+use rest_replies::row_machine_crate::Answer;
 
 /// What a command is answered at first.
 #[derive(Drop)]

@@ -15,10 +15,10 @@ use crate::members::{non_null_member, text_at};
 use crate::origins::volume_origin;
 use crate::profiles::profiles_at;
 use crate::settings::{changes_of, devices_of};
-use config_lists::{Changes, Devices};
+use records::config_lists_crate::{Changes, Devices};
+use records::size_values_crate::{Kind, NoMemory, Seq, Text};
 use records::{Body, Driver, Origin};
 use serde_json::Value;
-use size_values::{Kind, NoMemory, Seq, Text};
 use std::alloc::Global;
 
 #[tactic(auto, unfolding(crate::specs::Bodies::config_at))]

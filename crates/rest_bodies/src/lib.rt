@@ -2,6 +2,10 @@
 //! and what they say of an object.
 #![tactic(auto)]
 
+// The libraries that crates above name through this one.
+pub use records as records_crate;
+pub use records::{config_lists_crate, size_values_crate};
+
 mod actions;
 mod bodies;
 mod copies;

@@ -5,7 +5,7 @@ use Rattle.matchit.proofs.OnLiterals.{matchit_on_literals}
 use Rattle.matchit.specs.Router.{RouteOf}
 use Rattle.matchit.specs.Rows.{RowsOf}
 use Rattle.matchit.specs.Seek.{has_slash, slash}
-use Rattle.size_values.specs.declared.kinds.ObjectKind.TheVariants as kind
+use Rattle.records.specs.size_values.specs.declared.kinds.ObjectKind.TheVariants as kind
 use Rattle.rest_paths.specs.Filled.{filled, names_in, NamesFill}
 use Rattle.rest_paths.specs.Paths.{is_slash, before_slash, after_slash, after_three_slashes, name_of, pool_of, instance_of}
 use Rattle.rest_paths.specs.Places.{routes, rows}

@@ -8,10 +8,10 @@ use Rattle.std.specs.Char.{is_ascii_digit}
 use Rattle.std.specs.Str.{bytes_eq}
 use Rattle.std.specs.Str.Parse.{digits_value}
 use Rattle.form_urlencoded.specs.Form.{raw_pairs}
-use Rattle.size_values.specs.Count.{count_of}
-use Rattle.size_values.specs.Reading.{reading, fault_if, stray, is_too_large, is_outside}
-use Rattle.size_values.specs.declared.fault.ValueFault.{ValueFault}
-use Rattle.size_values.specs.declared.fault.ValueFault.TheVariants.{Empty, BadByte, TooLarge, OutOfRange}
+use Rattle.records.specs.size_values.specs.Count.{count_of}
+use Rattle.records.specs.size_values.specs.Reading.{reading, fault_if, stray, is_too_large, is_outside}
+use Rattle.records.specs.size_values.specs.declared.fault.ValueFault.{ValueFault}
+use Rattle.records.specs.size_values.specs.declared.fault.ValueFault.TheVariants.{Empty, BadByte, TooLarge, OutOfRange}
 use Rattle.records.specs.Forms.{is_timeout, longest_wait}
 use Rattle.records.specs.declared.refusals.Refusal.{Refusal}
 use Rattle.rest_paths.specs.Answers.{followed}

@@ -1,7 +1,7 @@
 -- Answers that take memory: what they are, and one made from another.
 use Rattle.std.specs.Prelude.{◌≡◌, Result, Ok, Err}
-use Rattle.size_values.specs.declared.memory.Or.{Or}
-use Rattle.size_values.specs.declared.memory.Or.TheVariants as or
+use Rattle.records.specs.size_values.specs.declared.memory.Or.{Or}
+use Rattle.records.specs.size_values.specs.declared.memory.Or.TheVariants as or
 
 -- a refusal is the one that is due, unless memory ran out
 abbrev pub IsDue : {T E : Type 0} → Or E → Result T E → Type 0

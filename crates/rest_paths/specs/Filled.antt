@@ -4,7 +4,7 @@ use Rattle.matchit.specs.Level.{IsText}
 use Rattle.matchit.specs.Router.{RouteOf}
 use Rattle.matchit.specs.Rows.{param_token}
 use Rattle.matchit.specs.Seek.{first}
-use Rattle.size_values.specs.declared.kinds.ObjectKind.TheVariants as kind
+use Rattle.records.specs.size_values.specs.declared.kinds.ObjectKind.TheVariants as kind
 use Rattle.rest_paths.specs.Paths.{name_of, pool_of, instance_of}
 use Rattle.rest_paths.specs.Places.{rows}
 use Rattle.rest_paths.specs.declared.places.Line.{Line}

@@ -1,8 +1,8 @@
 -- The parts of a request's target: its path, its query, and the names in its path.
 use Rattle.std.specs.Prelude.{ℕ, Bool, ◌==◌, List, []}
 use Rattle.std.specs.List.{before_first, after_first}
-use Rattle.size_values.specs.declared.kinds.ObjectKind.{ObjectKind}
-use Rattle.size_values.specs.declared.kinds.ObjectKind.TheVariants as kind
+use Rattle.records.specs.size_values.specs.declared.kinds.ObjectKind.{ObjectKind}
+use Rattle.records.specs.size_values.specs.declared.kinds.ObjectKind.TheVariants as kind
 
 -- the byte that stands between the parts of a path
 abbrev pub is_slash : ℕ → Bool

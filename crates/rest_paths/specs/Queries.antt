@@ -7,7 +7,7 @@ use Rattle.std.specs.Result.{result_ok}
 use Rattle.std.specs.Str.{bytes_eq}
 use Rattle.std.specs.Str.Lossy.{utf8_lossy}
 use Rattle.form_urlencoded.specs.Form.{raw_pairs, decode}
-use Rattle.size_values.specs.Count.{count_of}
+use Rattle.records.specs.size_values.specs.Count.{count_of}
 use Rattle.records.specs.Forms.{longest_wait}
 use Rattle.records.specs.declared.refusals.Rule.TheVariants as rule
 use Rattle.records.specs.declared.refusals.Refusal.{Refusal}

@@ -2,6 +2,9 @@
 //! and what the query says; with the refusals of requests by their form.
 #![tactic(auto)]
 
+// The libraries that crates above name through this one.
+pub use records as records_crate;
+
 mod laws;
 mod paths;
 mod places;

@@ -1,20 +1,20 @@
 -- Replies: the code, the Location and the body of each.
 use Rattle.std.specs.Prelude.{◌≡◌, ℕ, List, [], ◌∷◌, Bool, map, codes}
-use Rattle.operations.specs.declared.status.Status.{Status}
+use Rattle.reply_views.specs.operations.specs.declared.status.Status.{Status}
 use Rattle.http_front.specs.declared.reply.Printed.{Printed}
 use Rattle.http_front.specs.Replies.{no_memory_body}
-use Rattle.records.specs.declared.refusals.Rule.TheVariants as rule
-use Rattle.records.specs.declared.refusals.Refusal.{Refusal}
-use Rattle.records.specs.declared.replies.OpView.{OpView}
-use Rattle.records.specs.declared.replies.Reply.{Reply}
-use Rattle.records.specs.declared.replies.Reply.TheVariants as reply
+use Rattle.reply_views.specs.records.specs.declared.refusals.Rule.TheVariants as rule
+use Rattle.reply_views.specs.records.specs.declared.refusals.Refusal.{Refusal}
+use Rattle.reply_views.specs.records.specs.declared.replies.OpView.{OpView}
+use Rattle.reply_views.specs.records.specs.declared.replies.Reply.{Reply}
+use Rattle.reply_views.specs.records.specs.declared.replies.Reply.TheVariants as reply
 use Rattle.serde_json.specs.Data.{Data, string, object, Members, no_members, put}
 use Rattle.serde_json.specs.Written.{compact_text}
-use Rattle.row_machine.specs.machine.Refusals.{nothing_told}
+use Rattle.reply_views.specs.row_machine.specs.machine.Refusals.{nothing_told}
 use Rattle.reply_views.specs.Words.{status_key}
-use Rattle.reply_parts.specs.Ids.{operation_link}
-use Rattle.reply_parts.specs.Objects.{object_of, list_of, whole}
-use Rattle.reply_parts.specs.Settings.{texts_data}
+use Rattle.reply_views.specs.reply_parts.specs.Ids.{operation_link}
+use Rattle.reply_views.specs.reply_parts.specs.Objects.{object_of, list_of, whole}
+use Rattle.reply_views.specs.reply_parts.specs.Settings.{texts_data}
 use Rattle.reply_views.specs.Operations.{operation_data}
 use Rattle.reply_views.specs.Views.{view_data}
 use Rattle.rest_replies.specs.Refusals.{rule_code, refusal_data}

@@ -4,7 +4,7 @@ ghost use Rattle.http_front.specs.Replies.{is_reply_code};
 ghost use Rattle.serde_json.specs.Data.{object, no_members};
 ghost use Rattle.serde_json.specs.View.{view};
 ghost use Rattle.serde_json.specs.Written.{has_float, compact_text};
-ghost use Rattle.reply_parts.specs.Objects.{list_of};
+ghost use Rattle.reply_views.specs.reply_parts.specs.Objects.{list_of};
 ghost use Rattle.reply_views.specs.Views.{view_data};
 ghost use Rattle.rest_replies.specs.Replies.{success_data, started_data, links_data, by_status, operations_data};
 ghost use Rattle.rest_replies.specs.Replies.{whole_by_status, no_memory_refusal, reply_data, reply_code};
@@ -12,11 +12,11 @@ ghost use Rattle.rest_replies.specs.Replies.{reply_location, printed_of};
 
 use crate::refusals::{refusal_value, rule_code};
 use http_front::Printed;
-use records::{Kept, OpView, Refusal, Reply, Rule, Status, View};
-use reply_parts::{Object, operation_link, texts_value};
+use http_front::size_values_crate::{NoMemory, Seq, Text};
+use reply_views::records_crate::{Kept, OpView, Refusal, Reply, Rule, Status, View};
+use reply_views::reply_parts_crate::{Object, operation_link, texts_value};
 use reply_views::{operation_value, status_key, view_value};
 use serde_json::{Map, Value};
-use size_values::{NoMemory, Seq, Text};
 use std::alloc::Global;
 
 /// The reply to a command that was carried out at once, with what it tells.

@@ -6,10 +6,10 @@ ghost use Rattle.serde_json.specs.View.{view};
 ghost use Rattle.rest_replies.specs.Refusals.{rule_name, rule_text, rule_code, kept_parts, part_key, part_data};
 ghost use Rattle.rest_replies.specs.Refusals.{kept_data, refusal_data};
 
-use records::{Kept, Refusal, Rule};
-use reply_parts::Object;
+use http_front::size_values_crate::NoMemory;
+use reply_views::records_crate::{Kept, Refusal, Rule};
+use reply_views::reply_parts_crate::Object;
 use serde_json::Value;
-use size_values::NoMemory;
 use std::alloc::Global;
 
 /// A part of what a refusal keeps.

@@ -1,13 +1,13 @@
 -- The command of each request is formed.
 use Rattle.std.proofs.Common.{◌≡◌, ℕ, true, List, Option, Result, Ok, Err, IfOk, IsTrue}
 use Rattle.serde_json.specs.Data.{Data}
-use Rattle.size_values.specs.declared.memory.Or.{Or}
-use Rattle.http_heads.specs.declared.request.Request.{Request}
-use Rattle.records.specs.Forms.{is_timeout, is_formed}
-use Rattle.records.specs.declared.commands.Command.{Command}
-use Rattle.records.specs.declared.commands.What.{What}
-use Rattle.records.specs.declared.refusals.Refusal.{Refusal}
-use Rattle.records.specs.declared.refusals.Rule.TheVariants as rule
+use Rattle.rest_bodies.specs.size_values.specs.declared.memory.Or.{Or}
+use Rattle.rest_replies.specs.http_heads.specs.declared.request.Request.{Request}
+use Rattle.rest_bodies.specs.records.specs.Forms.{is_timeout, is_formed}
+use Rattle.rest_bodies.specs.records.specs.declared.commands.Command.{Command}
+use Rattle.rest_bodies.specs.records.specs.declared.commands.What.{What}
+use Rattle.rest_bodies.specs.records.specs.declared.refusals.Refusal.{Refusal}
+use Rattle.rest_bodies.specs.records.specs.declared.refusals.Rule.TheVariants as rule
 use Rattle.rest_paths.proofs.Timeouts.{timeout_formed}
 use Rattle.rest_paths.specs.Answers.{Gives, mapped, followed}
 use Rattle.rest_paths.specs.Paths.{path_of, query_of}

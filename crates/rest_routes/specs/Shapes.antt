@@ -1,8 +1,8 @@
 -- The shapes of bodies: which one a method sends to a place.
 use Rattle.std.specs.Prelude.{Option, Some, None, if◌then◌else◌}
 use Rattle.serde_json.specs.Data.{Data}
-use Rattle.size_values.specs.declared.kinds.ObjectKind.{ObjectKind}
-use Rattle.size_values.specs.declared.kinds.ObjectKind.TheVariants as kind
+use Rattle.rest_bodies.specs.size_values.specs.declared.kinds.ObjectKind.{ObjectKind}
+use Rattle.rest_bodies.specs.size_values.specs.declared.kinds.ObjectKind.TheVariants as kind
 use Rattle.rest_bodies.specs.Origins.{asks_for_copy}
 use Rattle.rest_bodies.specs.declared.fields.Shape.{Shape}
 use Rattle.rest_bodies.specs.declared.fields.Shape.TheVariants as shape

@@ -1,10 +1,10 @@
 -- The objects that the path of a request names.
 use Rattle.std.specs.Prelude.{ℕ, List, [], Result, ok_or}
-use Rattle.size_values.specs.declared.kinds.ObjectKind.{ObjectKind}
-use Rattle.size_values.specs.declared.kinds.ObjectKind.TheVariants as kind
-use Rattle.records.specs.declared.commands.Target.{Target}
-use Rattle.records.specs.declared.refusals.Refusal.{Refusal}
-use Rattle.reply_parts.specs.Ids.{number_of}
+use Rattle.rest_bodies.specs.size_values.specs.declared.kinds.ObjectKind.{ObjectKind}
+use Rattle.rest_bodies.specs.size_values.specs.declared.kinds.ObjectKind.TheVariants as kind
+use Rattle.rest_bodies.specs.records.specs.declared.commands.Target.{Target}
+use Rattle.rest_bodies.specs.records.specs.declared.refusals.Refusal.{Refusal}
+use Rattle.rest_replies.specs.reply_parts.specs.Ids.{number_of}
 use Rattle.rest_paths.specs.Paths.{name_of, pool_of, instance_of}
 use Rattle.rest_paths.specs.Refusals.{no_operation}
 

@@ -3,6 +3,12 @@
 //! What judges the fields of bodies, `rest_bodies`, and what prints replies, `rest_replies`, are passed on.
 #![tactic(auto)]
 
+// The libraries that crates above name through this one.
+pub use rest_bodies as rest_bodies_crate;
+pub use rest_bodies::{config_lists_crate, records_crate, size_values_crate};
+pub use rest_replies as rest_replies_crate;
+pub use rest_replies::{host_model_crate, http_front_crate, http_heads_crate, row_machine_crate};
+
 mod commands;
 mod laws;
 mod router;

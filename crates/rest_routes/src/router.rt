@@ -1,14 +1,14 @@
 ghost use Rattle.std.specs.Prelude.{◌≡◌, IfOk, IsTrue};
-ghost use Rattle.records.specs.Forms.{is_formed};
+ghost use Rattle.rest_bodies.specs.records.specs.Forms.{is_formed};
 ghost use Rattle.rest_paths.specs.Answers.{Gives};
 ghost use Rattle.rest_paths.specs.Places.{rows};
 ghost use Rattle.rest_routes.specs.Commands.{command_of};
 
 use crate::commands::command_of;
-use http_heads::Request;
-use records::{Command, Refusal};
+use rest_bodies::records_crate::{Command, Refusal};
+use rest_bodies::size_values_crate::{NoMemory, Or};
 use rest_paths::PathTable;
-use size_values::{NoMemory, Or};
+use rest_replies::http_heads_crate::Request;
 use std::alloc::Global;
 use std::marker::Model;
 

@@ -5,16 +5,16 @@ use Rattle.std.proofs.lemmas.List.Elements.{All-cons, All-nil, All-append}
 use Rattle.std.proofs.lemmas.List.Sums.{sum_by-cons}
 use Rattle.std.specs.List.{All}
 use Rattle.std.specs.Option.{option_to_list}
-use Rattle.size_values.specs.Causes.{RoseBy}
-use Rattle.size_values.specs.Moments.{moment_limit}
-use Rattle.http_front.specs.Clocks.{Readings, Reads, after_next}
-use Rattle.records.specs.declared.commands.Command.{Command}
-use Rattle.records.specs.declared.refusals.Refusal.{Refusal}
-use Rattle.records.specs.declared.replies.Reply.{Reply}
-use Rattle.row_machine.specs.declared.events.Answer.{Answer}
-use Rattle.row_machine.specs.machine.State.{State}
-use Rattle.row_machine.specs.machine.Step.{Outcome}
-use Rattle.work_reports.specs.Stores.{KeepsRecords}
+use Rattle.run_words.specs.size_values.specs.Causes.{RoseBy}
+use Rattle.run_words.specs.size_values.specs.Moments.{moment_limit}
+use Rattle.serial_steps.specs.http_front.specs.Clocks.{Readings, Reads, after_next}
+use Rattle.rest_routes.specs.records.specs.declared.commands.Command.{Command}
+use Rattle.rest_routes.specs.records.specs.declared.refusals.Refusal.{Refusal}
+use Rattle.rest_routes.specs.records.specs.declared.replies.Reply.{Reply}
+use Rattle.rest_routes.specs.row_machine.specs.declared.events.Answer.{Answer}
+use Rattle.rest_routes.specs.row_machine.specs.machine.State.{State}
+use Rattle.rest_routes.specs.row_machine.specs.machine.Step.{Outcome}
+use Rattle.serial_steps.specs.work_reports.specs.Stores.{KeepsRecords}
 use Rattle.serial_steps.specs.Steps.{Site, Step, StepsTo, StepsWhile}
 use Rattle.serial_steps.specs.Counts.{ComesTo, failed_commits, moments_in, keeper_failures_in, host_failures_in}
 use Rattle.serial_steps.proofs.Counting.{all-come_to, caused-later, caused-rose}

@@ -1,25 +1,25 @@
 -- One request comes to its reply, from what its parts ensure.
 use Rattle.std.proofs.Common.{◌≡◌, ◌≤◌, ◌<◌, ℕ, List, [], ◌∷◌, length, Some, None, Result, Ok, Err, refl, sym}
 use Rattle.std.proofs.Common.{subst}
-use Rattle.size_values.specs.Moments.{moment_limit}
-use Rattle.size_values.specs.declared.memory.Or.{Or}
-use Rattle.size_values.specs.declared.memory.Or.TheVariants as or
-use Rattle.http_front.specs.Clocks.{Reads}
-use Rattle.records.specs.declared.commands.Command.{Command}
-use Rattle.records.specs.declared.refusals.Refusal.{Refusal}
-use Rattle.records.specs.declared.replies.Reply.{Reply}
-use Rattle.records.specs.declared.replies.Reply.TheVariants as reply
-use Rattle.row_machine.specs.declared.events.Answer.{Answer}
-use Rattle.row_machine.specs.declared.events.Answer.TheVariants as answer
-use Rattle.row_machine.specs.declared.events.Event.TheVariants as event
-use Rattle.row_machine.specs.machine.State.{State}
-use Rattle.row_machine.specs.machine.Accept.{and_then}
-use Rattle.row_machine.specs.machine.Step.{well, no_memory}
-use Rattle.core_rows.specs.Asked.{answered}
-use Rattle.judged_changes.specs.Judged.{reply_for}
-use Rattle.core_turns.specs.Turns.{IsTurn}
+use Rattle.run_words.specs.size_values.specs.Moments.{moment_limit}
+use Rattle.run_words.specs.size_values.specs.declared.memory.Or.{Or}
+use Rattle.run_words.specs.size_values.specs.declared.memory.Or.TheVariants as or
+use Rattle.serial_steps.specs.http_front.specs.Clocks.{Reads}
+use Rattle.rest_routes.specs.records.specs.declared.commands.Command.{Command}
+use Rattle.rest_routes.specs.records.specs.declared.refusals.Refusal.{Refusal}
+use Rattle.rest_routes.specs.records.specs.declared.replies.Reply.{Reply}
+use Rattle.rest_routes.specs.records.specs.declared.replies.Reply.TheVariants as reply
+use Rattle.rest_routes.specs.row_machine.specs.declared.events.Answer.{Answer}
+use Rattle.rest_routes.specs.row_machine.specs.declared.events.Answer.TheVariants as answer
+use Rattle.rest_routes.specs.row_machine.specs.declared.events.Event.TheVariants as event
+use Rattle.rest_routes.specs.row_machine.specs.machine.State.{State}
+use Rattle.rest_routes.specs.row_machine.specs.machine.Accept.{and_then}
+use Rattle.rest_routes.specs.row_machine.specs.machine.Step.{well, no_memory}
+use Rattle.serial_steps.specs.core_rows.specs.Asked.{answered}
+use Rattle.serial_steps.specs.judged_changes.specs.Judged.{reply_for}
+use Rattle.serial_steps.specs.core_turns.specs.Turns.{IsTurn}
 use Rattle.serial_steps.specs.Steps.{Site, Step, WaitsFor, most_steps}
-use Rattle.rest_paths.specs.Answers.{IsDue}
+use Rattle.rest_routes.specs.rest_paths.specs.Answers.{IsDue}
 use Rattle.rest_answers.specs.Asked.{showing}
 use Rattle.rest_service.specs.Answers.{Reaches, Shows}
 use Rattle.rest_service.specs.Exchanges.{Carries, carried_out}

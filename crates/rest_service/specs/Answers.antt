@@ -1,20 +1,20 @@
 -- How a service opens and answers.
 use Rattle.std.specs.Prelude.{◌≡◌, ◌≢◌, ◌<◌, ℕ, List, [], ◌∷◌, Option, None, IfSome, Result, Ok, Err}
-use Rattle.size_values.specs.Moments.{moment_limit}
-use Rattle.record_keeper.specs.Store.{Store}
-use Rattle.http_heads.specs.declared.request.Request.{Request}
-use Rattle.http_front.specs.Clocks.{Readings, Reads}
-use Rattle.records.specs.declared.commands.Command.{Command}
-use Rattle.records.specs.declared.commands.What.TheVariants as what
-use Rattle.records.specs.declared.refusals.Refusal.{Refusal}
-use Rattle.records.specs.declared.replies.Reply.{Reply}
-use Rattle.records.specs.declared.replies.Reply.TheVariants as reply
-use Rattle.row_machine.specs.declared.events.Event.TheVariants as event
-use Rattle.row_machine.specs.machine.Step.{Outcome}
-use Rattle.core_rows.specs.Asked.{answered}
-use Rattle.core_rows.specs.Opening.{OpensTo, Refuses}
-use Rattle.core_rows.specs.declared.opening.OpenFault.{OpenFault}
-use Rattle.core_turns.specs.Turns.{IsTurn}
+use Rattle.run_words.specs.size_values.specs.Moments.{moment_limit}
+use Rattle.serial_steps.specs.record_keeper.specs.Store.{Store}
+use Rattle.rest_routes.specs.http_heads.specs.declared.request.Request.{Request}
+use Rattle.serial_steps.specs.http_front.specs.Clocks.{Readings, Reads}
+use Rattle.rest_routes.specs.records.specs.declared.commands.Command.{Command}
+use Rattle.rest_routes.specs.records.specs.declared.commands.What.TheVariants as what
+use Rattle.rest_routes.specs.records.specs.declared.refusals.Refusal.{Refusal}
+use Rattle.rest_routes.specs.records.specs.declared.replies.Reply.{Reply}
+use Rattle.rest_routes.specs.records.specs.declared.replies.Reply.TheVariants as reply
+use Rattle.rest_routes.specs.row_machine.specs.declared.events.Event.TheVariants as event
+use Rattle.rest_routes.specs.row_machine.specs.machine.Step.{Outcome}
+use Rattle.serial_steps.specs.core_rows.specs.Asked.{answered}
+use Rattle.serial_steps.specs.core_rows.specs.Opening.{OpensTo, Refuses}
+use Rattle.serial_steps.specs.core_rows.specs.declared.opening.OpenFault.{OpenFault}
+use Rattle.serial_steps.specs.core_turns.specs.Turns.{IsTurn}
 use Rattle.rest_routes.specs.Commands.{command_of}
 use Rattle.serial_steps.specs.Steps.{Serial, Site}
 use Rattle.rest_answers.specs.Texts.{HasText}

@@ -5,22 +5,22 @@ use Rattle.std.specs.Prelude.{IfSome}
 use Rattle.std.specs.Prelude.{Result, Ok, Err}
 use Rattle.std.specs.List.{flat_map, sum_by}
 use Rattle.std.specs.Option.{option_to_list}
-use Rattle.size_values.specs.Moments.{moment_limit}
-use Rattle.http_heads.specs.declared.request.Request.{Request}
-use Rattle.http_front.specs.Clocks.{Readings, Reads}
-use Rattle.records.specs.declared.commands.Command.{Command}
-use Rattle.records.specs.declared.refusals.Refusal.{Refusal}
-use Rattle.records.specs.declared.replies.Reply.{Reply}
-use Rattle.records.specs.declared.replies.Reply.TheVariants as reply
-use Rattle.row_machine.specs.declared.changes.RowChange.{RowChange}
-use Rattle.row_machine.specs.declared.events.Answer.{Answer}
-use Rattle.row_machine.specs.declared.events.Answer.TheVariants as answer
-use Rattle.row_machine.specs.declared.events.Event.TheVariants as event
-use Rattle.row_machine.specs.machine.State.{State}
-use Rattle.row_machine.specs.machine.Accept.{After, and_then}
-use Rattle.row_machine.specs.machine.Step.{Outcome, well, keeper_failed, no_memory, step}
-use Rattle.work_reports.specs.Stores.{IsCaused, KeepsRecords, Stores}
-use Rattle.core_rows.specs.Asked.{answered, changes_of}
+use Rattle.run_words.specs.size_values.specs.Moments.{moment_limit}
+use Rattle.rest_routes.specs.http_heads.specs.declared.request.Request.{Request}
+use Rattle.serial_steps.specs.http_front.specs.Clocks.{Readings, Reads}
+use Rattle.rest_routes.specs.records.specs.declared.commands.Command.{Command}
+use Rattle.rest_routes.specs.records.specs.declared.refusals.Refusal.{Refusal}
+use Rattle.rest_routes.specs.records.specs.declared.replies.Reply.{Reply}
+use Rattle.rest_routes.specs.records.specs.declared.replies.Reply.TheVariants as reply
+use Rattle.rest_routes.specs.row_machine.specs.declared.changes.RowChange.{RowChange}
+use Rattle.rest_routes.specs.row_machine.specs.declared.events.Answer.{Answer}
+use Rattle.rest_routes.specs.row_machine.specs.declared.events.Answer.TheVariants as answer
+use Rattle.rest_routes.specs.row_machine.specs.declared.events.Event.TheVariants as event
+use Rattle.rest_routes.specs.row_machine.specs.machine.State.{State}
+use Rattle.rest_routes.specs.row_machine.specs.machine.Accept.{After, and_then}
+use Rattle.rest_routes.specs.row_machine.specs.machine.Step.{Outcome, well, keeper_failed, no_memory, step}
+use Rattle.serial_steps.specs.work_reports.specs.Stores.{IsCaused, KeepsRecords, Stores}
+use Rattle.serial_steps.specs.core_rows.specs.Asked.{answered, changes_of}
 use Rattle.serial_steps.specs.Steps.{Site, Step, StepsTo, Finishes, WaitsFor, most_steps}
 use Rattle.serial_steps.specs.Counts.{moments_in, failed_commits, keeper_failures_in, host_failures_in}
 use Rattle.rest_answers.specs.Asked.{showing}

@@ -1,19 +1,19 @@
 //! How a command comes to its reply.
 ghost use Rattle.std.specs.Prelude.{◌≡◌, true, Ok};
-ghost use Rattle.records.specs.Forms.{is_formed};
+ghost use Rattle.rest_routes.specs.records.specs.Forms.{is_formed};
 ghost use Rattle.rest_routes.specs.Commands.{command_of};
 ghost use Rattle.serial_steps.specs.Steps.{hosted, site};
 ghost use Rattle.rest_service.specs.Answers.{Reaches, Shows};
 
-use core_rows::refused_reply;
-use host_model::Host;
-use http_front::{Clock, Request};
-use record_keeper::Keeper;
-use records::{Command, Reply, What};
 use rest_answers::{Asked, asked_of, reply_of};
 use rest_routes::Router;
+use rest_routes::host_model_crate::Host;
+use rest_routes::records_crate::{Command, Reply, What};
+use run_words::size_values_crate::Text;
 use serial_steps::SerialDaemon;
-use size_values::Text;
+use serial_steps::core_rows_crate::refused_reply;
+use serial_steps::http_front_crate::{Clock, Request};
+use serial_steps::record_keeper_crate::Keeper;
 use std::alloc::Global;
 
 /// Asks for an operation in a project.

@@ -1,21 +1,21 @@
 ghost use Rattle.std.specs.Prelude.{◌≡◌, List};
-ghost use Rattle.row_machine.specs.facts.Whole.{IsWhole};
-ghost use Rattle.core_turns.specs.Turns.{without_notices};
+ghost use Rattle.rest_routes.specs.row_machine.specs.facts.Whole.{IsWhole};
+ghost use Rattle.serial_steps.specs.core_turns.specs.Turns.{without_notices};
 ghost use Rattle.serial_steps.specs.Steps.{hosted, site, Step};
 ghost use Rattle.rest_service.specs.Answers.{Answers, OpensService};
 ghost use Rattle.rest_service.specs.Exchanges.{IsPaced};
 
 use crate::asking::reply_to;
-use core_rows::OpenFault;
-use core_turns::Daemon;
-use host_model::Host;
-use http_front::{Clock, Request};
-use record_keeper::Keeper;
 use rest_answers::{Answered, answer_for};
 use rest_routes::Router;
-use row_readings::View;
+use rest_routes::host_model_crate::Host;
 use run_words::Pace;
 use serial_steps::SerialDaemon;
+use serial_steps::core_rows_crate::OpenFault;
+use serial_steps::core_turns_crate::Daemon;
+use serial_steps::http_front_crate::{Clock, Request};
+use serial_steps::record_keeper_crate::Keeper;
+use serial_steps::row_readings_crate::View;
 use std::alloc::Global;
 use std::marker::Model;
 

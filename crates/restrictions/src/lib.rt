@@ -2,6 +2,10 @@
 //! for each restriction and word what it is against; `first_forbidden` finds the first thing that it forbids.
 #![tactic(auto)]
 
+// The libraries that crates above name through this one.
+pub use option_tables as option_tables_crate;
+pub use option_tables::{config_lists_crate, size_values_crate};
+
 mod forbidden;
 mod policy;
 mod rows;

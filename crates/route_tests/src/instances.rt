@@ -1,10 +1,10 @@
 //! The body of a new instance: the first field that is at fault, and what the fields say.
 
 use crate::faults::has_fault;
-use records::{Body, Origin};
+use rest_bodies::records_crate::{Body, Origin};
+use rest_bodies::size_values_crate::{Kind, NoMemory, Seq, Text};
 use rest_bodies::{Shape, body_of, object_in};
 use serde_json::Value;
-use size_values::{Kind, NoMemory, Seq, Text};
 use std::alloc::Global;
 
 /// Bodies with the key of the first field that is at fault, empty where none is.

@@ -3,18 +3,18 @@ use Rattle.std.proofs.Common.{◌≡◌, ℕ, Bool, true, false, cond, eqb, List
 use Rattle.std.specs.Prelude.{IfOk}
 use Rattle.std.proofs.lemmas.Bool.{eqb-true}
 use Rattle.std.proofs.lemmas.List.{append-nil}
-use Rattle.size_values.specs.declared.kinds.ObjectKind.TheVariants as kind
-use Rattle.size_values.specs.declared.entry.Entry.{Entry}
-use Rattle.size_values.specs.declared.memory.Or.{Or}
-use Rattle.records.specs.declared.rows.Project.{Project}
-use Rattle.records.specs.declared.rows.Profile.{Profile}
-use Rattle.records.specs.declared.rows.Network.{Network}
-use Rattle.records.specs.declared.rows.Pool.{Pool}
-use Rattle.records.specs.declared.rows.Volume.{Volume}
-use Rattle.records.specs.declared.rows.Instance.{Instance}
-use Rattle.records.specs.declared.rows.Snapshot.{Snapshot}
-use Rattle.records.specs.declared.rows.Row.{Row}
-use Rattle.records.specs.declared.rows.Row.TheVariants as row
+use Rattle.estate_rules.specs.size_values.specs.declared.kinds.ObjectKind.TheVariants as kind
+use Rattle.estate_rules.specs.size_values.specs.declared.entry.Entry.{Entry}
+use Rattle.estate_rules.specs.size_values.specs.declared.memory.Or.{Or}
+use Rattle.row_parts.specs.records.specs.declared.rows.Project.{Project}
+use Rattle.row_parts.specs.records.specs.declared.rows.Profile.{Profile}
+use Rattle.row_parts.specs.records.specs.declared.rows.Network.{Network}
+use Rattle.row_parts.specs.records.specs.declared.rows.Pool.{Pool}
+use Rattle.row_parts.specs.records.specs.declared.rows.Volume.{Volume}
+use Rattle.row_parts.specs.records.specs.declared.rows.Instance.{Instance}
+use Rattle.row_parts.specs.records.specs.declared.rows.Snapshot.{Snapshot}
+use Rattle.row_parts.specs.records.specs.declared.rows.Row.{Row}
+use Rattle.row_parts.specs.records.specs.declared.rows.Row.TheVariants as row
 use Rattle.estate_rules.specs.Names.{good_name_of}
 use Rattle.row_codec.specs.declared.damage.Damaged.{Damaged}
 use Rattle.row_codec.specs.declared.damage.Damaged.TheVariants as damaged

@@ -5,7 +5,7 @@ ghost use Rattle.row_codec.specs.Reading.{IsRead, is_slash, two_names_in, three_
 
 use crate::damage::Damaged;
 use estate_rules::good_name;
-use size_values::ObjectKind;
+use estate_rules::size_values_crate::ObjectKind;
 
 /// What stands before the first slash, and what stands after it.
 fn parts_of(key: &str) -> (&str, &str)

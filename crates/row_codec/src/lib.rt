@@ -2,6 +2,11 @@
 //! first damage where an entry is no spelling.
 #![tactic(auto)]
 
+// The libraries that crates above name through this one.
+pub use estate_rules as estate_rules_crate;
+pub use estate_rules::{config_lists_crate, size_values_crate};
+pub use row_parts::{operations_crate, plain_lists_crate, records_crate};
+
 mod body_rows;
 mod damage;
 mod keys;

@@ -1,6 +1,6 @@
 //! Rows, read from their entries.
 ghost use Rattle.std.specs.Prelude.{◌≡◌, length, IfOk, IfErr};
-ghost use Rattle.records.specs.declared.rows.Row.{Row};
+ghost use Rattle.row_parts.specs.records.specs.declared.rows.Row.{Row};
 ghost use Rattle.row_codec.specs.Rows.{Spells};
 ghost use Rattle.row_codec.specs.Reading.{Gives, read_project, read_profile, read_network, read_pool, read_volume};
 ghost use Rattle.row_codec.specs.Reading.{read_instance};
@@ -12,9 +12,9 @@ use crate::body_rows::{
 use crate::damage::Damaged;
 use crate::keys::{three_names_in, two_names_in};
 use estate_rules::good_name;
-use records::{Instance, Network, Pool, Profile, Project, Row, Snapshot, Volume};
+use estate_rules::size_values_crate::{Entry, ObjectKind, Or};
 use row_parts::Unreadable;
-use size_values::{Entry, ObjectKind, Or};
+use row_parts::records_crate::{Instance, Network, Pool, Profile, Project, Row, Snapshot, Volume};
 use std::alloc::Global;
 
 /// The damage of a body in which a part cannot be read.

@@ -1,17 +1,17 @@
 //! Rows, written as entries.
 ghost use Rattle.std.specs.Prelude.{◌≡◌, ◌++◌, IfOk, OnOk};
-ghost use Rattle.records.specs.declared.rows.Row.{Row};
-ghost use Rattle.records.specs.declared.rows.Row.TheVariants as row;
+ghost use Rattle.row_parts.specs.records.specs.declared.rows.Row.{Row};
+ghost use Rattle.row_parts.specs.records.specs.declared.rows.Row.TheVariants as row;
 ghost use Rattle.row_codec.specs.Rows.{HasGoodKey, HasMoments, HasShortParts, HasTypedParts, Spells};
 ghost use Rattle.row_codec.specs.Spelling.{project_bytes, profile_bytes, network_bytes, pool_bytes, volume_bytes};
 ghost use Rattle.row_codec.specs.Spelling.{instance_bytes, snapshot_bytes, body_of, kind_of, key_of, two_names};
 ghost use Rattle.row_codec.specs.Spelling.{three_names};
 
-use records::{Instance, Network, Pool, Profile, Project, Row, Snapshot, Volume};
+use estate_rules::size_values_crate::{Entry, NoMemory, Seq, Text};
+use row_parts::records_crate::{Instance, Network, Pool, Profile, Project, Row, Snapshot, Volume};
 use row_parts::{
     driver_byte, kind_byte, put_devices, put_number, put_settings, put_text, put_texts, truth_byte,
 };
-use size_values::{Entry, NoMemory, Seq, Text};
 use std::alloc::Global;
 
 fn put_project(out: &mut Vec<u8>, project: &Project) -> Result<(), NoMemory>

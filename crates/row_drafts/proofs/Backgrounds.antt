@@ -1,10 +1,10 @@
 -- Lists with other operations, as a state.
 use Rattle.std.proofs.Common.{◌≡◌, Result, Ok, Err, OnOk}
-use Rattle.operations.specs.Kept.{Kept}
+use Rattle.machine_laws.specs.operations.specs.Kept.{Kept}
 use Rattle.row_drafts.specs.declared.lists.Lists.TheInside.{Inside}
 use Rattle.row_drafts.specs.Background.{Background}
 use Rattle.row_drafts.specs.Inside.{state_in}
-use Rattle.row_machine.specs.machine.Task.{Task}
+use Rattle.machine_laws.specs.row_machine.specs.machine.Task.{Task}
 
 -- with other operations, and the same shares
 pub other-operations : (l : Inside) (b : Background) (k : Kept Task)

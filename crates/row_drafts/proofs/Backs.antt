@@ -1,9 +1,9 @@
 -- An edit of a list at one place, and the edit that takes it back.
 use Rattle.std.proofs.Common.{◌≡◌, ℕ, zero, suc, ◌+◌, ◌-◌, ◌<◌, ◌≤◌, Bool, List, [], ◌∷◌, ◌++◌, ◌∙◌, length, length-append, take, get_or, set, refl, ap, arith}
 use Rattle.std.specs.List.{insert, remove}
-use Rattle.operations.specs.Kept.{Kept, entered}
+use Rattle.machine_laws.specs.operations.specs.Kept.{Kept, entered}
 use Rattle.row_drafts.specs.Background.{before_claim}
-use Rattle.row_machine.specs.machine.Task.{Task}
+use Rattle.machine_laws.specs.row_machine.specs.machine.Task.{Task}
 use Rattle.std.proofs.Math.Seq.{take-append_seam}
 
 pub set-back : {X : Type 0} (xs : List X) (i : ℕ) (y d : X) → set (set xs i y) i (get_or xs i d) ≡ xs

@@ -1,11 +1,11 @@
 -- A claim whose share is then held is an entry.
 use Rattle.std.proofs.Common.{◌≡◌, ℕ, ◌+◌, ◌-◌, [], ◌∷◌, ◌++◌, ap, arith}
-use Rattle.reservations.specs.Holdings.{granted_more}
+use Rattle.machine_laws.specs.reservations.specs.Holdings.{granted_more}
 use Rattle.row_drafts.specs.Background.{holding}
-use Rattle.row_machine.specs.machine.Claims.{share_of}
-use Rattle.row_machine.specs.machine.State.{State}
-use Rattle.row_machine.specs.machine.Task.{Task}
-use Rattle.row_machine.specs.machine.Work.{claiming, entered, project_of_task}
+use Rattle.machine_laws.specs.row_machine.specs.machine.Claims.{share_of}
+use Rattle.machine_laws.specs.row_machine.specs.machine.State.{State}
+use Rattle.machine_laws.specs.row_machine.specs.machine.Task.{Task}
+use Rattle.machine_laws.specs.row_machine.specs.machine.Work.{claiming, entered, project_of_task}
 
 pub claim-held : (s : State) (task : Task) (moment : ℕ) → holding (project_of_task task) (share_of s task) (claiming s task moment) ≡ entered s task moment
 unfolding entered

@@ -1,6 +1,6 @@
 -- What takes a change back fits, seen from the fields.
 use Rattle.std.proofs.Common.{◌≡◌, sym, subst}
-use Rattle.row_machine.specs.machine.State.{State}
+use Rattle.machine_laws.specs.row_machine.specs.machine.State.{State}
 use Rattle.row_drafts.specs.declared.lists.Undone.{Undone}
 use Rattle.row_drafts.specs.Steps.{FitsChange}
 

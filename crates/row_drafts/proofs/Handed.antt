@@ -1,10 +1,10 @@
 -- What one operation hands out is one call, and leaves one task.
 use Rattle.std.proofs.Common.{◌≡◌, ◌∙◌, Some, ap, sym}
-use Rattle.host_model.specs.declared.call.HostCall.{HostCall}
-use Rattle.operations.specs.declared.operation.Operation.{Operation}
+use Rattle.machine_laws.specs.host_model.specs.declared.call.HostCall.{HostCall}
+use Rattle.machine_laws.specs.operations.specs.declared.operation.Operation.{Operation}
 use Rattle.row_drafts.specs.declared.calls.Handing.{Handing}
 use Rattle.row_drafts.specs.Background.{handed}
-use Rattle.row_machine.specs.machine.Task.{Task}
+use Rattle.machine_laws.specs.row_machine.specs.machine.Task.{Task}
 
 -- equal pairs of a call and a task
 abbrev Same : HostCall × Task → HostCall × Task → Type 0

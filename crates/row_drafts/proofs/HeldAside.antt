@@ -1,8 +1,8 @@
 -- What takes changes back leaves the shares aside.
 use Rattle.std.proofs.Common.{◌≡◌, List, [], ◌∷◌, refl, ap, sym, subst, ◌∙◌}
-use Rattle.reservations.specs.declared.books.Books.{Books}
-use Rattle.reservations.specs.declared.books.Hold.{Hold}
-use Rattle.row_machine.specs.machine.State.{State}
+use Rattle.machine_laws.specs.reservations.specs.declared.books.Books.{Books}
+use Rattle.machine_laws.specs.reservations.specs.declared.books.Hold.{Hold}
+use Rattle.machine_laws.specs.row_machine.specs.machine.State.{State}
 use Rattle.row_drafts.specs.declared.lists.Undone.{Undone}
 use Rattle.row_drafts.specs.declared.lists.Undone.TheVariants as undone
 use Rattle.row_readings.specs.Rising.{AreRising}

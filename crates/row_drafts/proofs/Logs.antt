@@ -1,6 +1,6 @@
 -- A log that grows by the last change, and what takes it back.
 use Rattle.std.proofs.Common.{◌≡◌, List, [], ◌∷◌, ◌++◌, refl, ap, sym, subst, ◌∙◌}
-use Rattle.row_machine.specs.machine.State.{State}
+use Rattle.machine_laws.specs.row_machine.specs.machine.State.{State}
 use Rattle.row_drafts.specs.declared.lists.Undone.{Undone}
 use Rattle.row_readings.specs.Rising.{AreRising}
 use Rattle.row_drafts.specs.Steps.{before_change, before_changes, FitsChange, FitChanges, RoseBefore}

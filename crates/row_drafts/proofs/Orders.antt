@@ -4,14 +4,14 @@ use Rattle.std.specs.List.{list_any, insert}
 use Rattle.std.specs.Str.{bytes_eq}
 use Rattle.std.proofs.lemmas.List.{take-append-drop}
 use Rattle.std.proofs.Math.Seq.{take-append_seam}
-use Rattle.config_lists.proofs.Keys.{same, bytes_eq-itself}
-use Rattle.row_codec.proofs.Fields.{both_true}
-use Rattle.row_codec.specs.Spelling.{two_names}
-use Rattle.row_machine.specs.machine.Rows.{same_names, texts_before, put_by}
+use Rattle.machine_laws.specs.config_lists.proofs.Keys.{same, bytes_eq-itself}
+use Rattle.machine_laws.specs.row_codec.proofs.Fields.{both_true}
+use Rattle.machine_laws.specs.row_codec.specs.Spelling.{two_names}
+use Rattle.machine_laws.specs.row_machine.specs.machine.Rows.{same_names, texts_before, put_by}
 use Rattle.row_readings.specs.Rising.{FindsPlace}
 use Rattle.row_drafts.specs.Keys.{IsRest}
-use Rattle.plain_lists.proofs.Places.{any-position, find-at, inserted-at, replaced-at, replaced-new}
-use Rattle.plain_lists.proofs.Searches.{find-any}
+use Rattle.machine_laws.specs.plain_lists.proofs.Places.{any-position, find-at, inserted-at, replaced-at, replaced-new}
+use Rattle.machine_laws.specs.plain_lists.proofs.Searches.{find-any}
 
 -- after a common beginning the rests are compared
 pub rest_eq : (p xs ys : List ℕ) → bytes_eq (p ++ xs) (p ++ ys) ≡ bytes_eq xs ys

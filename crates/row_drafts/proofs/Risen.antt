@@ -2,20 +2,20 @@
 use Rattle.std.proofs.Common.{◌≡◌, ◌≢◌, ℕ, ◌+◌, ◌<◌, Bool, true, false, cond, List, [], ◌∷◌, length, get_or, drop, fold, refl, sym, ◌∙◌, ap, subst}
 use Rattle.std.specs.List.{list_any}
 use Rattle.std.proofs.lemmas.List.{at_drop_more}
-use Rattle.plain_lists.specs.Edits.{changed_first}
-use Rattle.records.specs.declared.rows.Instance.{Instance}
-use Rattle.records.specs.declared.rows.Profile.{Profile}
-use Rattle.records.specs.declared.rows.Row.{Row}
-use Rattle.records.specs.declared.rows.Row.TheVariants as row
-use Rattle.row_machine.specs.declared.changes.RowChange.{RowChange}
-use Rattle.row_machine.specs.declared.changes.RowChange.TheVariants as change
-use Rattle.row_machine.specs.facts.Whole.{Rise}
-use Rattle.row_machine.specs.machine.Changes.{with_row, without_row, changed, standing_with}
-use Rattle.row_machine.specs.machine.Rows.{is_project, is_profile, is_network, is_pool, is_volume, is_instance, is_snapshot, is_standing, with_standing, project_names, profile_names, network_names, pool_names, volume_names, instance_names, snapshot_names, standing_names}
-use Rattle.row_machine.specs.machine.State.{State, Standing, empty_state}
-use Rattle.size_values.specs.declared.kinds.ObjectKind.{ObjectKind}
-use Rattle.size_values.specs.declared.kinds.ObjectKind.TheVariants as kind
-use Rattle.size_values.specs.declared.kinds.Power.{Power}
+use Rattle.machine_laws.specs.plain_lists.specs.Edits.{changed_first}
+use Rattle.machine_laws.specs.records.specs.declared.rows.Instance.{Instance}
+use Rattle.machine_laws.specs.records.specs.declared.rows.Profile.{Profile}
+use Rattle.machine_laws.specs.records.specs.declared.rows.Row.{Row}
+use Rattle.machine_laws.specs.records.specs.declared.rows.Row.TheVariants as row
+use Rattle.machine_laws.specs.row_machine.specs.declared.changes.RowChange.{RowChange}
+use Rattle.machine_laws.specs.row_machine.specs.declared.changes.RowChange.TheVariants as change
+use Rattle.machine_laws.specs.row_machine.specs.facts.Whole.{Rise}
+use Rattle.machine_laws.specs.row_machine.specs.machine.Changes.{with_row, without_row, changed, standing_with}
+use Rattle.machine_laws.specs.row_machine.specs.machine.Rows.{is_project, is_profile, is_network, is_pool, is_volume, is_instance, is_snapshot, is_standing, with_standing, project_names, profile_names, network_names, pool_names, volume_names, instance_names, snapshot_names, standing_names}
+use Rattle.machine_laws.specs.row_machine.specs.machine.State.{State, Standing, empty_state}
+use Rattle.machine_laws.specs.size_values.specs.declared.kinds.ObjectKind.{ObjectKind}
+use Rattle.machine_laws.specs.size_values.specs.declared.kinds.ObjectKind.TheVariants as kind
+use Rattle.machine_laws.specs.size_values.specs.declared.kinds.Power.{Power}
 use Rattle.machine_laws.proofs.NamesRise.{Rise-replaced, Rise-changed, Rise-dropped}
 use Rattle.machine_laws.proofs.NamesTests.{project_is, profile_is, network_is, pool_is, volume_is, instance_is, snapshot_is, project_differs, profile_differs, network_differs, pool_differs, volume_differs, instance_differs, snapshot_differs}
 use Rattle.row_drafts.specs.Drafted.{stopped}

@@ -1,23 +1,23 @@
 -- What contracts see of the operations of a draft.
 use Rattle.std.specs.Prelude.{ℕ, ◌+◌, ◌-◌, ◌<◌, ◌^◌, List, [], ◌∷◌, ◌++◌, find, Option, Some, None, IfSome, is_some}
 use Rattle.std.specs.Prelude.{length, take, option_and_then, option_map}
-use Rattle.host_model.specs.declared.call.HostCall.{HostCall}
-use Rattle.instance_states.specs.Plans.{undo_of}
-use Rattle.operations.specs.declared.operation.Operation.{Operation}
-use Rattle.operations.specs.declared.operation.OpFault.TheVariants as fault
-use Rattle.operations.specs.declared.status.Status.TheVariants as status
-use Rattle.operations.specs.Kept.{Kept, live_at}
-use Rattle.reservations.specs.declared.books.Books.{Books}
-use Rattle.reservations.specs.declared.books.Hold.{Hold}
+use Rattle.machine_laws.specs.host_model.specs.declared.call.HostCall.{HostCall}
+use Rattle.machine_laws.specs.instance_states.specs.Plans.{undo_of}
+use Rattle.machine_laws.specs.operations.specs.declared.operation.Operation.{Operation}
+use Rattle.machine_laws.specs.operations.specs.declared.operation.OpFault.TheVariants as fault
+use Rattle.machine_laws.specs.operations.specs.declared.status.Status.TheVariants as status
+use Rattle.machine_laws.specs.operations.specs.Kept.{Kept, live_at}
+use Rattle.machine_laws.specs.reservations.specs.declared.books.Books.{Books}
+use Rattle.machine_laws.specs.reservations.specs.declared.books.Hold.{Hold}
 use Rattle.row_drafts.specs.declared.calls.Handing.{Handing}
 use Rattle.row_drafts.specs.declared.calls.Handing.TheVariants as handing
-use Rattle.row_machine.specs.machine.Task.{Task}
-use Rattle.reservations.specs.Holdings.{has_op, granted_more}
-use Rattle.row_machine.specs.machine.State.{State}
-use Rattle.size_values.specs.Amounts.{nothing}
-use Rattle.size_values.specs.declared.amounts.Amounts.{Amounts}
+use Rattle.machine_laws.specs.row_machine.specs.machine.Task.{Task}
+use Rattle.machine_laws.specs.reservations.specs.Holdings.{has_op, granted_more}
+use Rattle.machine_laws.specs.row_machine.specs.machine.State.{State}
+use Rattle.machine_laws.specs.size_values.specs.Amounts.{nothing}
+use Rattle.machine_laws.specs.size_values.specs.declared.amounts.Amounts.{Amounts}
 use Rattle.std.specs.Option.{option_map_or}
-use Rattle.row_machine.specs.machine.Work.{handing_out, one_more_done, undone}
+use Rattle.machine_laws.specs.row_machine.specs.machine.Work.{handing_out, one_more_done, undone}
 
 -- how many operations can be entered, and how many shares held, without taking memory; and the greatest operation that
 -- ever held a share, 0 where none did

@@ -1,11 +1,11 @@
 -- What contracts see of a draft.
 use Rattle.std.specs.Prelude.{◌≡◌, ◌+◌, ◌*◌, ◌≤◌, ℕ, List, [], ◌∷◌, ◌++◌, length}
-use Rattle.size_values.specs.declared.kinds.Power.TheVariants.{Stopped}
-use Rattle.records.specs.declared.rows.Instance.{Instance}
-use Rattle.records.specs.declared.rows.Row.TheVariants as row
-use Rattle.row_machine.specs.declared.changes.RowChange.{RowChange}
-use Rattle.row_machine.specs.declared.changes.RowChange.TheVariants as change
-use Rattle.row_machine.specs.machine.State.{State, Standing}
+use Rattle.machine_laws.specs.size_values.specs.declared.kinds.Power.TheVariants.{Stopped}
+use Rattle.machine_laws.specs.records.specs.declared.rows.Instance.{Instance}
+use Rattle.machine_laws.specs.records.specs.declared.rows.Row.TheVariants as row
+use Rattle.machine_laws.specs.row_machine.specs.declared.changes.RowChange.{RowChange}
+use Rattle.machine_laws.specs.row_machine.specs.declared.changes.RowChange.TheVariants as change
+use Rattle.machine_laws.specs.row_machine.specs.machine.State.{State, Standing}
 use Rattle.row_drafts.specs.Background.{Backing}
 use Rattle.row_drafts.specs.declared.lists.Undone.{Undone}
 use Rattle.row_drafts.specs.Steps.{before_changes}

@@ -1,6 +1,6 @@
 -- What contracts see of the fields, and what is true of them.
 use Rattle.std.specs.Prelude.{◌≤◌, ◌-◌, length, min, vec_len, vec_capacity}
-use Rattle.row_machine.specs.machine.State.{State, empty_state}
+use Rattle.machine_laws.specs.row_machine.specs.machine.State.{State, empty_state}
 use Rattle.row_readings.specs.Rising.{AreRising}
 use Rattle.row_drafts.specs.declared.lists.Lists.TheInside.{Inside as ListsInside}
 use Rattle.row_drafts.specs.declared.draft.Draft.TheInside.{Inside as DraftInside}

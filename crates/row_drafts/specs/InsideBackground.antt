@@ -1,6 +1,6 @@
 -- What contracts see of the fields of the operations of a draft, and what is true of them.
 use Rattle.std.specs.Prelude.{◌≤◌, ◌-◌, length, vec_len, vec_capacity}
-use Rattle.operations.specs.Limits.{most_ended}
+use Rattle.machine_laws.specs.operations.specs.Limits.{most_ended}
 use Rattle.row_drafts.specs.declared.background.Background.TheInside.{Inside}
 use Rattle.row_drafts.specs.Background.{Background}
 

@@ -1,7 +1,7 @@
 -- What changes did to the lists, and how it is taken back.
 use Rattle.std.specs.Prelude.{◌<◌, ◌≤◌, List, [], ◌∷◌, length, set}
 use Rattle.std.specs.List.{insert, remove}
-use Rattle.row_machine.specs.machine.State.{State}
+use Rattle.machine_laws.specs.row_machine.specs.machine.State.{State}
 use Rattle.row_readings.specs.Rising.{AreRising}
 use Rattle.row_drafts.specs.Background.{before_claim}
 use Rattle.row_drafts.specs.declared.edits.Step.{Step}

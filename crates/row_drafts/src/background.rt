@@ -1,28 +1,28 @@
 //! Background operations and their shares: entered, moved and ended without taking memory.
 ghost use Rattle.std.specs.Prelude.{◌≡◌, ◌+◌, ◌-◌, ◌^◌, ◌≤◌, ◌<◌, ◌++◌, [], ◌∷◌, Some, IsSome, IfSome, OnOk, IfOk};
 ghost use Rattle.std.specs.Prelude.{is_some, find, length, take, vec_capacity};
-ghost use Rattle.host_model.specs.declared.call.HostCall.{HostCall as HostCallValue};
-ghost use Rattle.instance_states.specs.Plans.{undo_of};
-ghost use Rattle.operations.specs.Kept.{no_operations, entered, has_number, live_at, with_work, moved, ends};
-ghost use Rattle.operations.specs.declared.operation.Operation.{Operation as OperationValue};
-ghost use Rattle.plain_lists.specs.Edits.{changed_first, dropped};
-ghost use Rattle.reservations.specs.Holdings.{no_books, has_op, granted_more, converted_more, returned_more};
+ghost use Rattle.machine_laws.specs.host_model.specs.declared.call.HostCall.{HostCall as HostCallValue};
+ghost use Rattle.machine_laws.specs.instance_states.specs.Plans.{undo_of};
+ghost use Rattle.machine_laws.specs.operations.specs.Kept.{no_operations, entered, has_number, live_at, with_work, moved, ends};
+ghost use Rattle.machine_laws.specs.operations.specs.declared.operation.Operation.{Operation as OperationValue};
+ghost use Rattle.machine_laws.specs.plain_lists.specs.Edits.{changed_first, dropped};
+ghost use Rattle.machine_laws.specs.reservations.specs.Holdings.{no_books, has_op, granted_more, converted_more, returned_more};
 ghost use Rattle.row_drafts.specs.Background.{before_claim, pending_of, share_in, handed, handed_at, HasCount};
 ghost use Rattle.row_drafts.specs.Background.{HasCountAt};
-ghost use Rattle.row_machine.specs.machine.Task.{Task};
-ghost use Rattle.size_values.specs.Amounts.{part};
-ghost use Rattle.size_values.specs.declared.amounts.Part.{Part};
+ghost use Rattle.machine_laws.specs.row_machine.specs.machine.Task.{Task};
+ghost use Rattle.machine_laws.specs.size_values.specs.Amounts.{part};
+ghost use Rattle.machine_laws.specs.size_values.specs.declared.amounts.Part.{Part};
 
 use crate::calls::{Handing, hand_out};
-use host_model::HostCall;
-use instance_states::may_cancel;
-use operations::{
+use machine_laws::host_model_crate::HostCall;
+use machine_laws::instance_states_crate::may_cancel;
+use machine_laws::operations_crate::{
     ENDED_LIMIT, OpFault, Operation, Status, drop_oldest, known_place, set_status, take_out,
 };
-use plain_lists::push_reserved;
-use reservations::{Books, Hold, Ledger};
-use row_machine::Work;
-use size_values::{Amounts, NoMemory, Text};
+use machine_laws::plain_lists_crate::push_reserved;
+use machine_laws::reservations_crate::{Books, Hold, Ledger};
+use machine_laws::row_machine_crate::Work;
+use machine_laws::size_values_crate::{Amounts, NoMemory, Text};
 use std::alloc::Global;
 use std::marker::Model;
 

@@ -2,9 +2,9 @@
 ghost use Rattle.std.specs.Prelude.{◌≡◌, ◌<◌, ◌≤◌, ◌+◌, ◌-◌, length, set, if◌then◌else◌, vec_len, vec_capacity};
 ghost use Rattle.std.specs.List.{position, insert, list_any};
 ghost use Rattle.std.specs.List.Sorted.{IsSearchInRange};
-ghost use Rattle.plain_lists.specs.Edits.{dropped};
-ghost use Rattle.row_machine.specs.facts.Whole.{Rise};
-ghost use Rattle.row_machine.specs.machine.Rows.{same_names, put_by};
+ghost use Rattle.machine_laws.specs.plain_lists.specs.Edits.{dropped};
+ghost use Rattle.machine_laws.specs.row_machine.specs.facts.Whole.{Rise};
+ghost use Rattle.machine_laws.specs.row_machine.specs.machine.Rows.{same_names, put_by};
 ghost use Rattle.row_readings.specs.Rising.{FindsPlace};
 ghost use Rattle.row_drafts.specs.Steps.{before_step, FitsStep};
 

@@ -1,19 +1,19 @@
 //! Rows put in one after the other, from nothing.
 ghost use Rattle.std.specs.Prelude.{◌≡◌, [], IfOk, OnOk, fold};
-ghost use Rattle.records.specs.declared.rows.Row.TheVariants as row_of;
-ghost use Rattle.row_machine.specs.facts.Whole.{Rise};
-ghost use Rattle.row_machine.specs.machine.Changes.{with_row, standing_with};
-ghost use Rattle.row_machine.specs.machine.Rows.{put_by, standing_names};
-ghost use Rattle.row_machine.specs.opening.Opening.{with_rows};
+ghost use Rattle.machine_laws.specs.records.specs.declared.rows.Row.TheVariants as row_of;
+ghost use Rattle.machine_laws.specs.row_machine.specs.facts.Whole.{Rise};
+ghost use Rattle.machine_laws.specs.row_machine.specs.machine.Changes.{with_row, standing_with};
+ghost use Rattle.machine_laws.specs.row_machine.specs.machine.Rows.{put_by, standing_names};
+ghost use Rattle.machine_laws.specs.row_machine.specs.opening.Opening.{with_rows};
 ghost use Rattle.row_readings.specs.Rising.{AreRising};
 
 use crate::draft::{Draft, stopped};
 use crate::edits::{put, put_new};
 use crate::lists::Lists;
 use crate::placed::Placed;
-use records::{Instance, Row};
+use machine_laws::records_crate::{Instance, Row};
+use machine_laws::size_values_crate::NoMemory;
 use row_readings::InstancePower;
-use size_values::NoMemory;
 use std::alloc::Global;
 
 // ---- one list

@@ -2,7 +2,7 @@
 ghost use Rattle.std.specs.Prelude.{◌≡◌, []};
 ghost use Rattle.std.specs.Option.{option_copied};
 ghost use Rattle.std.specs.Str.{bytes_eq};
-ghost use Rattle.row_codec.specs.Spelling.{two_names, three_names};
+ghost use Rattle.machine_laws.specs.row_codec.specs.Spelling.{two_names, three_names};
 ghost use Rattle.row_drafts.specs.Keys.{IsRest};
 
 /// What stands after a slash.

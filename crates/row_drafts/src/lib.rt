@@ -2,6 +2,12 @@
 //! and taken back to what they were before the changes.
 #![tactic(auto)]
 
+// The libraries that crates above name through this one.
+pub use machine_laws::{
+    config_lists_crate, record_keeper_crate, records_crate, row_machine_crate, size_values_crate,
+};
+pub use row_readings as row_readings_crate;
+
 mod background;
 mod calls;
 mod draft;

@@ -1,36 +1,38 @@
 ghost use Rattle.std.specs.Prelude.{◌≡◌, ◌+◌, ◌-◌, ◌^◌, ◌<◌, ◌≤◌, ◌∷◌, [], true, Some, IsSome, length, take, drop};
 ghost use Rattle.std.specs.Prelude.{find, if◌then◌else◌, OnOk, IfOk};
 ghost use Rattle.std.specs.List.{list_any};
-ghost use Rattle.host_model.specs.declared.call.HostCall.{HostCall as HostCallValue};
-ghost use Rattle.operations.specs.Kept.{live_at};
-ghost use Rattle.operations.specs.declared.operation.Operation.{Operation as OperationValue};
-ghost use Rattle.plain_lists.specs.Edits.{changed_first};
-ghost use Rattle.records.specs.declared.rows.Row.TheVariants as row_of;
-ghost use Rattle.row_machine.specs.declared.changes.RowChange.TheVariants as change_of;
-ghost use Rattle.row_machine.specs.facts.Whole.{Rise};
-ghost use Rattle.row_machine.specs.machine.Rows.{is_standing, standing_names, with_standing};
-ghost use Rattle.row_machine.specs.machine.Changes.{with_row, without_row, changed};
-ghost use Rattle.row_machine.specs.machine.State.{Standing, empty_state};
-ghost use Rattle.row_machine.specs.machine.Task.{Task};
-ghost use Rattle.row_machine.specs.machine.Work.{claiming, moved, with_task, with_power, ended, is_held_by, converted};
-ghost use Rattle.row_machine.specs.machine.Work.{returned};
+ghost use Rattle.machine_laws.specs.host_model.specs.declared.call.HostCall.{HostCall as HostCallValue};
+ghost use Rattle.machine_laws.specs.operations.specs.Kept.{live_at};
+ghost use Rattle.machine_laws.specs.operations.specs.declared.operation.Operation.{Operation as OperationValue};
+ghost use Rattle.machine_laws.specs.plain_lists.specs.Edits.{changed_first};
+ghost use Rattle.machine_laws.specs.records.specs.declared.rows.Row.TheVariants as row_of;
+ghost use Rattle.machine_laws.specs.row_machine.specs.declared.changes.RowChange.TheVariants as change_of;
+ghost use Rattle.machine_laws.specs.row_machine.specs.facts.Whole.{Rise};
+ghost use Rattle.machine_laws.specs.row_machine.specs.machine.Rows.{is_standing, standing_names, with_standing};
+ghost use Rattle.machine_laws.specs.row_machine.specs.machine.Changes.{with_row, without_row, changed};
+ghost use Rattle.machine_laws.specs.row_machine.specs.machine.State.{Standing, empty_state};
+ghost use Rattle.machine_laws.specs.row_machine.specs.machine.Task.{Task};
+ghost use Rattle.machine_laws.specs.row_machine.specs.machine.Work.{claiming, moved, with_task, with_power, ended, is_held_by, converted};
+ghost use Rattle.machine_laws.specs.row_machine.specs.machine.Work.{returned};
 ghost use Rattle.row_drafts.specs.Background.{holding, handed_at, HasCountAt};
 ghost use Rattle.row_drafts.specs.declared.lists.Undone.TheVariants as undone_of;
 ghost use Rattle.row_readings.specs.Rising.{AreRising};
-ghost use Rattle.size_values.specs.Amounts.{part};
-ghost use Rattle.size_values.specs.declared.amounts.Part.{Part};
+ghost use Rattle.machine_laws.specs.size_values.specs.Amounts.{part};
+ghost use Rattle.machine_laws.specs.size_values.specs.declared.amounts.Part.{Part};
 ghost use Rattle.row_drafts.specs.Drafted.{spares_for, stopped};
 ghost use Rattle.row_drafts.specs.Steps.{before_change, before_step, FitsChange, FitsStep};
 
 use crate::background::Background;
 use crate::calls::Handing;
 use crate::edits::{Step, put, put_new, remove, take_back};
-use host_model::HostCall;
-use operations::{OpFault, Status};
-use records::{Instance, Network, Pool, Profile, Project, Row, Snapshot, Volume};
-use row_machine::{RowChange, Work};
+use machine_laws::host_model_crate::HostCall;
+use machine_laws::operations_crate::{OpFault, Status};
+use machine_laws::records_crate::{
+    Instance, Network, Pool, Profile, Project, Row, Snapshot, Volume,
+};
+use machine_laws::row_machine_crate::{RowChange, Work};
+use machine_laws::size_values_crate::{Amounts, NoMemory, ObjectKind, Power, Text};
 use row_readings::{InstancePower, Names, View, place_named};
-use size_values::{Amounts, NoMemory, ObjectKind, Power, Text};
 use std::alloc::Global;
 use std::marker::Model;
 

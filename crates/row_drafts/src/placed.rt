@@ -1,12 +1,12 @@
 //! What the key of each kind of row is.
 ghost use Rattle.std.specs.Prelude.{◌≡◌, ℕ, List, Bool};
 ghost use Rattle.std.specs.Str.{bytes_eq};
-ghost use Rattle.records.specs.declared.rows.Row.TheVariants as row;
-ghost use Rattle.row_codec.specs.Spelling.{two_names};
-ghost use Rattle.row_machine.specs.machine.Changes.{has_key};
+ghost use Rattle.machine_laws.specs.records.specs.declared.rows.Row.TheVariants as row;
+ghost use Rattle.machine_laws.specs.row_codec.specs.Spelling.{two_names};
+ghost use Rattle.machine_laws.specs.row_machine.specs.machine.Changes.{has_key};
 
 use crate::keys::{is_three_names, is_two_names};
-use records::{Instance, Network, Pool, Profile, Project, Snapshot, Volume};
+use machine_laws::records_crate::{Instance, Network, Pool, Profile, Project, Snapshot, Volume};
 use row_readings::{InstancePower, Named};
 
 /// A row that stands in the order of its names, and has a key.

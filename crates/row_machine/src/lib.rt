@@ -3,6 +3,19 @@
 //! question. Everything above is proved against it.
 #![tactic(auto)]
 
+// The libraries that crates above name through this one.
+pub use expansion as expansion_crate;
+pub use expansion::config_lists_crate;
+pub use instance_states as instance_states_crate;
+pub use instance_states::host_model_crate;
+pub use project_limits as project_limits_crate;
+pub use reservations as reservations_crate;
+pub use reservations::{plain_lists_crate, size_values_crate};
+pub use restrictions as restrictions_crate;
+pub use restrictions::option_tables_crate;
+pub use row_codec as row_codec_crate;
+pub use row_codec::{estate_rules_crate, operations_crate, records_crate};
+
 mod changes;
 mod events;
 mod laws;

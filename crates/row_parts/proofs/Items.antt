@@ -1,8 +1,8 @@
 -- Items that are read one after the other, as a loop does.
 use Rattle.std.proofs.Common.{◌≡◌, ℕ, suc, ◌-◌, ◌+◌, ◌≤◌, ◌<◌, List, [], ◌∷◌, ◌++◌, Option, Some, Ok, Err, refl, sym, ap, ◌∙◌, append_assoc, arith}
 use Rattle.std.proofs.lemmas.List.{append-nil}
-use Rattle.size_values.specs.declared.memory.Or.{Or}
-use Rattle.size_values.specs.declared.memory.Or.TheVariants as or
+use Rattle.records.specs.size_values.specs.declared.memory.Or.{Or}
+use Rattle.records.specs.size_values.specs.declared.memory.Or.TheVariants as or
 use Rattle.row_parts.specs.declared.unreadable.Unreadable.{Unreadable}
 use Rattle.row_parts.specs.Reading.{◌>>=◌, Read, Fails, last_of, added, items_at}
 

@@ -6,9 +6,9 @@ use Rattle.std.specs.declared.cmp.Ordering.TheVariants.{Less, Equal, Greater}
 use Rattle.std.specs.Map.{keys_of}
 use Rattle.std.specs.Ordering.{nat_cmp, is_lt}
 use Rattle.std.proofs.lemmas.Option.{same_Some}
-use Rattle.config_lists.specs.Entries.{put, KeysRise}
-use Rattle.config_lists.proofs.Keys.{order, IsBelow, KeysRise-nil, KeysRise-cons, KeysRise-head, KeysRise-tail, below_trans}
-use Rattle.config_lists.proofs.Walks.{put-last}
+use Rattle.records.specs.config_lists.specs.Entries.{put, KeysRise}
+use Rattle.records.specs.config_lists.proofs.Keys.{order, IsBelow, KeysRise-nil, KeysRise-cons, KeysRise-head, KeysRise-tail, below_trans}
+use Rattle.records.specs.config_lists.proofs.Walks.{put-last}
 use Rattle.row_parts.specs.Reading.{last_of, is_next, IsLast}
 
 less_from_test : (o : Ordering) → is_lt o ≡ true → o ≡ Less

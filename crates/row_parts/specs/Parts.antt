@@ -2,9 +2,9 @@
 use Rattle.std.specs.Prelude.{ℕ, ◌<◌, ◌^◌, List, length}
 use Rattle.std.specs.List.{AllByRecursion}
 use Rattle.std.specs.Str.{IsUtf8}
-use Rattle.size_values.specs.Moments.{moment_limit}
-use Rattle.config_lists.specs.Settings.{Settings, IsConfig}
-use Rattle.config_lists.specs.Devices.{NamedDevices, IsDevices}
+use Rattle.records.specs.size_values.specs.Moments.{moment_limit}
+use Rattle.records.specs.config_lists.specs.Settings.{Settings, IsConfig}
+use Rattle.records.specs.config_lists.specs.Devices.{NamedDevices, IsDevices}
 
 -- ---- moments
 

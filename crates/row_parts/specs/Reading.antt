@@ -5,14 +5,14 @@ use Rattle.std.specs.Cmp.Lexicographic.{slice_cmp}
 use Rattle.std.specs.Int.{w32, w64, from_be_bytes}
 use Rattle.std.specs.Ordering.{nat_cmp, is_lt}
 use Rattle.std.specs.Str.{is_utf8}
-use Rattle.size_values.specs.Moments.{moment_limit}
-use Rattle.size_values.specs.declared.kinds.Kind.{Kind}
-use Rattle.size_values.specs.declared.kinds.Kind.TheVariants as container
-use Rattle.size_values.specs.declared.memory.Or.{Or}
-use Rattle.size_values.specs.declared.memory.Or.TheVariants as or
-use Rattle.config_lists.specs.Entries.{KeysRise}
-use Rattle.config_lists.specs.Settings.{Settings}
-use Rattle.config_lists.specs.Devices.{NamedDevices}
+use Rattle.records.specs.size_values.specs.Moments.{moment_limit}
+use Rattle.records.specs.size_values.specs.declared.kinds.Kind.{Kind}
+use Rattle.records.specs.size_values.specs.declared.kinds.Kind.TheVariants as container
+use Rattle.records.specs.size_values.specs.declared.memory.Or.{Or}
+use Rattle.records.specs.size_values.specs.declared.memory.Or.TheVariants as or
+use Rattle.records.specs.config_lists.specs.Entries.{KeysRise}
+use Rattle.records.specs.config_lists.specs.Settings.{Settings}
+use Rattle.records.specs.config_lists.specs.Devices.{NamedDevices}
 use Rattle.records.specs.declared.rows.Driver.{Driver}
 use Rattle.records.specs.declared.rows.Driver.TheVariants as driver
 use Rattle.row_parts.specs.declared.unreadable.Unreadable.{Unreadable}

@@ -2,10 +2,10 @@
 use Rattle.std.specs.Prelude.{ℕ, Bool, true, false, List, ◌++◌, length}
 use Rattle.std.specs.List.{flat_map}
 use Rattle.std.specs.Int.{w32, w64, to_be_bytes}
-use Rattle.size_values.specs.declared.kinds.Kind.{Kind}
-use Rattle.size_values.specs.declared.kinds.Kind.TheVariants as kind
-use Rattle.config_lists.specs.Settings.{Settings}
-use Rattle.config_lists.specs.Devices.{NamedDevices}
+use Rattle.records.specs.size_values.specs.declared.kinds.Kind.{Kind}
+use Rattle.records.specs.size_values.specs.declared.kinds.Kind.TheVariants as kind
+use Rattle.records.specs.config_lists.specs.Settings.{Settings}
+use Rattle.records.specs.config_lists.specs.Devices.{NamedDevices}
 use Rattle.records.specs.declared.rows.Driver.{Driver}
 use Rattle.records.specs.declared.rows.Driver.TheVariants as driver
 

@@ -2,6 +2,10 @@
 //! spelling, is written at the end of bytes, and is read from their front.
 #![tactic(auto)]
 
+// The libraries that crates above name through this one.
+pub use records as records_crate;
+pub use records::{operations_crate, plain_lists_crate};
+
 mod lists;
 mod parts;
 mod unreadable;

@@ -1,14 +1,14 @@
 //! Lists of texts, settings and devices, read from the front of bytes.
 ghost use Rattle.std.specs.Prelude.{◌≡◌, ◌≢◌, [], IfOk};
-ghost use Rattle.config_lists.specs.Entries.{KeysRise};
+ghost use Rattle.records.specs.config_lists.specs.Entries.{KeysRise};
 ghost use Rattle.row_parts.specs.Reading.{Gives, IsRead, IsLast, last_of, added, is_next, next_at, next_filled_at};
 ghost use Rattle.row_parts.specs.Reading.{filled_at, text_at, items_at, texts_at, setting_at, settings_at, device_at};
 ghost use Rattle.row_parts.specs.Reading.{devices_at, shape_at};
 
 use crate::parts::{Shape, count_at, stops_at, str_at, text_at};
 use crate::unreadable::Unreadable;
-use config_lists::{Config, Devices};
-use size_values::{Or, Seq, Text};
+use records::config_lists_crate::{Config, Devices};
+use records::size_values_crate::{Or, Seq, Text};
 use std::alloc::Global;
 
 fn add_text<'b>(

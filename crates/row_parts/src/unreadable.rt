@@ -1,7 +1,7 @@
 ghost use Rattle.std.specs.Prelude.{◌≡◌};
-ghost use Rattle.size_values.specs.declared.memory.Or.TheVariants as or;
+ghost use Rattle.records.specs.size_values.specs.declared.memory.Or.TheVariants as or;
 
-use size_values::Or;
+use records::size_values_crate::Or;
 
 /// A part that cannot be read, by how many bytes are left where it begins.
 #[derive(Clone, Copy, PartialEq, Eq)]

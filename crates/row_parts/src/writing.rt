@@ -6,9 +6,9 @@ ghost use Rattle.row_parts.specs.Parts.{AreTypedSettings, AreTypedDevices};
 ghost use Rattle.row_parts.specs.Spelling.{text_bytes, number_bytes, texts_bytes, settings_bytes, devices_bytes};
 ghost use Rattle.row_parts.specs.Spelling.{truth_byte, kind_byte, driver_byte};
 
-use config_lists::{Config, Devices};
 use records::Driver;
-use size_values::{Kind, NoMemory, Seq, Text};
+use records::config_lists_crate::{Config, Devices};
+use records::size_values_crate::{Kind, NoMemory, Seq, Text};
 use std::alloc::Global;
 
 /// A text: its length as four bytes, and its bytes.

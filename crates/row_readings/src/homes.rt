@@ -1,13 +1,13 @@
 //! Settings that read as true, and the home of a project for the objects of a kind.
 ghost use Rattle.std.specs.Prelude.{◌≡◌};
-ghost use Rattle.size_values.specs.declared.kinds.ObjectKind.TheVariants as kind;
+ghost use Rattle.restrictions.specs.size_values.specs.declared.kinds.ObjectKind.TheVariants as kind;
 ghost use Rattle.restrictions.specs.Words.{is_true};
 ghost use Rattle.row_machine.specs.machine.Homes.{is_on, has_feature, home_by, home_of};
 
 use crate::lookups::project_named;
-use config_lists::Config;
-use records::Project;
-use size_values::{ObjectKind, read_truth};
+use restrictions::config_lists_crate::Config;
+use restrictions::size_values_crate::{ObjectKind, read_truth};
+use row_machine::records_crate::Project;
 
 /// Whether a text reads as true.
 #[tactic(auto, unfolding(restrictions::specs::Words::is_true))]

@@ -2,6 +2,14 @@
 //! names, what an instance has, and what a project uses, searched and summed anew each time. No row is copied.
 #![tactic(auto)]
 
+// The libraries that crates above name through this one.
+pub use restrictions::{config_lists_crate, size_values_crate};
+pub use row_machine as row_machine_crate;
+pub use row_machine::{
+    expansion_crate, host_model_crate, instance_states_crate, operations_crate,
+    project_limits_crate, records_crate, reservations_crate,
+};
+
 mod amounts;
 mod claims;
 mod homes;

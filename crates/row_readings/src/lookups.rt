@@ -2,7 +2,7 @@
 //! found by binary search; projects, networks and pools, of which there are few, from the front.
 ghost use Rattle.std.specs.Prelude.{◌≡◌, find};
 ghost use Rattle.std.specs.Option.{option_copied};
-ghost use Rattle.operations.specs.Kept.{has_number, kept_at};
+ghost use Rattle.row_machine.specs.operations.specs.Kept.{has_number, kept_at};
 ghost use Rattle.row_machine.specs.machine.Rows.{project_named, profile_named, network_named, pool_named, volume_named};
 ghost use Rattle.row_machine.specs.machine.Rows.{instance_named, snapshot_named};
 ghost use Rattle.row_machine.specs.machine.StandingRules.{power_of};
@@ -10,10 +10,10 @@ ghost use Rattle.row_machine.specs.machine.StandingRules.{power_of};
 use crate::named::Names;
 use crate::places::row_named;
 use crate::view::View;
-use operations::Operation;
-use records::{Instance, Network, Pool, Profile, Project, Snapshot, Volume};
+use restrictions::size_values_crate::Power;
 use row_machine::Work;
-use size_values::Power;
+use row_machine::operations_crate::Operation;
+use row_machine::records_crate::{Instance, Network, Pool, Profile, Project, Snapshot, Volume};
 
 /// The project of a name.
 pub fn project_named<'x>(rows: &'x [Project], name: &str) -> Option<&'x Project>

@@ -1,6 +1,6 @@
 ghost use Rattle.std.specs.Prelude.{◌≡◌, IfOk, OnOk, map};
 ghost use Rattle.std.specs.Option.{option_copied};
-ghost use Rattle.expansion.specs.Layers.{laid, expanded};
+ghost use Rattle.row_machine.specs.expansion.specs.Layers.{laid, expanded};
 ghost use Rattle.row_machine.specs.machine.Rows.{profile_named};
 ghost use Rattle.row_machine.specs.machine.Expansions.{layer_of, expanded_of};
 ghost use Rattle.row_machine.specs.machine.Usage.{usage_of};
@@ -8,9 +8,9 @@ ghost use Rattle.row_machine.specs.machine.Usage.{usage_of};
 use crate::amounts::{loads, usage_in};
 use crate::homes::profile_home;
 use crate::view::View;
-use expansion::Expanded;
-use records::{Instance, Profile};
-use size_values::{Amounts, NoMemory, Text};
+use restrictions::size_values_crate::{Amounts, NoMemory, Text};
+use row_machine::expansion_crate::Expanded;
+use row_machine::records_crate::{Instance, Profile};
 use std::alloc::Global;
 
 impl View<'_> {

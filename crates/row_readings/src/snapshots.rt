@@ -1,15 +1,15 @@
 //! The name that a new snapshot gets.
 ghost use Rattle.std.specs.Prelude.{◌≡◌, IfOk, codes, filter, fold, unwrap_or, if◌then◌else◌, false};
 ghost use Rattle.std.specs.Str.{bytes_eq};
-ghost use Rattle.config_lists.specs.Settings.{setting};
-ghost use Rattle.instance_states.specs.Numbers.{next_name, seen, unseen};
+ghost use Rattle.restrictions.specs.config_lists.specs.Settings.{setting};
+ghost use Rattle.row_machine.specs.instance_states.specs.Numbers.{next_name, seen, unseen};
 ghost use Rattle.row_machine.specs.machine.Asked.{next_snapshot};
 
 use crate::view::View;
-use config_lists::Config;
-use instance_states::SnapshotNumbers;
-use records::{Instance, Snapshot};
-use size_values::{NoMemory, Text};
+use restrictions::config_lists_crate::Config;
+use restrictions::size_values_crate::{NoMemory, Text};
+use row_machine::instance_states_crate::SnapshotNumbers;
+use row_machine::records_crate::{Instance, Snapshot};
 use std::alloc::Global;
 
 /// The pattern of an instance's snapshot names, by its expanded settings.

@@ -2,13 +2,13 @@
 use Rattle.std.proofs.Common.{◌≡◌, ℕ, ◌+◌, List, ◌∷◌, ◌++◌, length, refl, arith, length-append}
 use Rattle.std.specs.Int.{w32, to_be_bytes}
 use Rattle.std.specs.List.{flat_map}
-use Rattle.records.specs.declared.rows.Project.{Project}
-use Rattle.records.specs.declared.rows.Profile.{Profile}
-use Rattle.records.specs.declared.rows.Network.{Network}
-use Rattle.records.specs.declared.rows.Pool.{Pool}
-use Rattle.records.specs.declared.rows.Volume.{Volume}
-use Rattle.records.specs.declared.rows.Instance.{Instance}
-use Rattle.records.specs.declared.rows.Snapshot.{Snapshot}
+use Rattle.row_codec.specs.records.specs.declared.rows.Project.{Project}
+use Rattle.row_codec.specs.records.specs.declared.rows.Profile.{Profile}
+use Rattle.row_codec.specs.records.specs.declared.rows.Network.{Network}
+use Rattle.row_codec.specs.records.specs.declared.rows.Pool.{Pool}
+use Rattle.row_codec.specs.records.specs.declared.rows.Volume.{Volume}
+use Rattle.row_codec.specs.records.specs.declared.rows.Instance.{Instance}
+use Rattle.row_codec.specs.records.specs.declared.rows.Snapshot.{Snapshot}
 use Rattle.row_codec.specs.Spelling.{text_bytes, number_bytes, list_bytes, texts_bytes, settings_bytes, devices_bytes, driver_byte, kind_byte, truth_byte, project_bytes, profile_bytes, network_bytes, pool_bytes, volume_bytes, instance_bytes, snapshot_bytes}
 
 pub list-length : {X : Type 0} (f : X → List ℕ) (xs : List X) → length (list_bytes f xs) ≡ 4 + length (flat_map f xs)

@@ -2,10 +2,10 @@
 use Rattle.std.proofs.Common.{◌≡◌, ℕ, ◌+◌, ◌≤◌, List, [], ◌∷◌, length, ap, ◌∙◌, arith, length-append}
 use Rattle.std.specs.List.{flat_map, AllByRecursion}
 use Rattle.std.proofs.lemmas.List.Concat.{flat_map-cons}
-use Rattle.config_lists.specs.Settings.{Settings}
-use Rattle.config_lists.specs.Devices.{NamedDevices}
-use Rattle.records.specs.declared.rows.Row.{Row}
-use Rattle.records.specs.declared.rows.Row.TheVariants as row
+use Rattle.row_codec.specs.config_lists.specs.Settings.{Settings}
+use Rattle.row_codec.specs.config_lists.specs.Devices.{NamedDevices}
+use Rattle.row_codec.specs.records.specs.declared.rows.Row.{Row}
+use Rattle.row_codec.specs.records.specs.declared.rows.Row.TheVariants as row
 use Rattle.row_codec.specs.Spelling.{text_bytes, setting_bytes, device_bytes, list_bytes, texts_bytes, settings_bytes, devices_bytes, body_of}
 use Rattle.row_codec.specs.Rows.{IsShort, AreShortTexts, AreShortSettings, AreShortDevices, HasShortParts}
 use Rattle.row_sizes.proofs.Lengths.{list-length, text-length, project-length, profile-length, network-length, pool-length, volume-length, instance-length, snapshot-length}

@@ -1,6 +1,6 @@
 //! What a size tells. Each law is the contract of a function that does nothing.
 ghost use Rattle.std.specs.Prelude.{ℕ, ◌≤◌, ◌<◌, length};
-ghost use Rattle.records.specs.declared.rows.Row.{Row};
+ghost use Rattle.row_codec.specs.records.specs.declared.rows.Row.{Row};
 ghost use Rattle.row_codec.specs.Spelling.{body_of};
 ghost use Rattle.row_codec.specs.Rows.{HasShortParts};
 ghost use Rattle.row_sizes.specs.Sizes.{capped, largest_body};

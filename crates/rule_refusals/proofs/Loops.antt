@@ -2,8 +2,8 @@
 use Rattle.std.proofs.Common.{◌≡◌, ℕ, zero, suc, ◌+◌, ◌<◌, ◌≤◌, Bool, true, false, cond, if◌then◌else◌, List, [], ◌∷◌, length, filter, take, drop, get_or, slice_get, Option, Some, None, refl, sym, ap, ◌∙◌, arith}
 use Rattle.std.specs.Option.{option_or}
 use Rattle.std.proofs.lemmas.List.{drop_all}
-use Rattle.plain_lists.specs.Firsts.{first_of}
-use Rattle.plain_lists.proofs.FirstLemmas.{first_of-at, first_of-next}
+use Rattle.row_machine.specs.plain_lists.specs.Firsts.{first_of}
+use Rattle.row_machine.specs.plain_lists.proofs.FirstLemmas.{first_of-at, first_of-next}
 
 module _ {X R : Type 0} (rule : X → Option R) (xs : List X) (i : ℕ) (x : X) (within : i < length xs) (is : x ≡ get_or xs i x) (before : first_of rule (take i xs) ≡ None) where
   -- those before break nothing, and this one does: its answer is the first

@@ -1,8 +1,8 @@
 -- A rule over the rows that changes put, asked of one change after another.
 use Rattle.std.proofs.Common.{◌≡◌, List, [], ◌∷◌, Option, refl, ap, ◌∙◌}
 use Rattle.std.specs.Option.{option_or}
-use Rattle.plain_lists.specs.Firsts.{first_of}
-use Rattle.records.specs.declared.rows.Row.{Row}
+use Rattle.row_machine.specs.plain_lists.specs.Firsts.{first_of}
+use Rattle.row_machine.specs.records.specs.declared.rows.Row.{Row}
 use Rattle.row_machine.specs.declared.changes.RowChange.{RowChange}
 use Rattle.row_machine.specs.declared.changes.RowChange.TheVariants as change
 use Rattle.row_machine.specs.machine.Changes.{rows_put}

@@ -2,11 +2,11 @@
 use Rattle.std.proofs.Common.{◌≡◌, ℕ, ◌+◌, ◌<◌, ◌≤◌, Bool, if◌then◌else◌, List, ◌++◌, length, filter, take, drop, get_or, slice_get, Option, Some, None, Result, option_and_then, refl, sym, ap, subst, ◌∙◌}
 use Rattle.std.specs.List.{filter_map}
 use Rattle.std.specs.Option.{option_or}
-use Rattle.plain_lists.specs.Firsts.{first_of}
-use Rattle.plain_lists.proofs.FirstLemmas.{first_of-at, first_of-next, first_of-append, first_of-read}
-use Rattle.size_values.specs.Causes.{Says, Refuses}
-use Rattle.size_values.specs.declared.memory.Or.{Or}
-use Rattle.size_values.specs.declared.memory.Or.TheVariants as or
+use Rattle.row_machine.specs.plain_lists.specs.Firsts.{first_of}
+use Rattle.row_machine.specs.plain_lists.proofs.FirstLemmas.{first_of-at, first_of-next, first_of-append, first_of-read}
+use Rattle.row_machine.specs.size_values.specs.Causes.{Says, Refuses}
+use Rattle.row_machine.specs.size_values.specs.declared.memory.Or.{Or}
+use Rattle.row_machine.specs.size_values.specs.declared.memory.Or.TheVariants as or
 use Rattle.rule_refusals.proofs.Loops.{place-here, place-next, place-end, first_of-filter}
 
 module _ {X R : Type 0} (rule : X → Option R) (xs : List X) (i : ℕ) (x : X) where

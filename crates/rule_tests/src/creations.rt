@@ -1,6 +1,6 @@
 ghost use Rattle.std.specs.Prelude.{◌+◌, ◌≤◌, ◌^◌, IfOk};
-ghost use Rattle.size_values.specs.Amounts.{part};
-ghost use Rattle.size_values.specs.declared.amounts.Part.{Part};
+ghost use Rattle.project_usage.specs.size_values.specs.Amounts.{part};
+ghost use Rattle.project_usage.specs.size_values.specs.declared.amounts.Part.{Part};
 
 use instance_tasks::instance_creation;
 use lent_rows::{Rows, both, config, device};
@@ -8,14 +8,16 @@ use limit_rules::{
     claim_uncounts, counts_broken, limits_broken, needs_usage, share_broken, usage_before,
 };
 use name_rules::names_broken;
-use operations::{OpFault, Operation, Status};
+use name_rules::row_machine_crate::Work;
 use policy_rules::{claim_forbidden, policy_broken};
+use project_usage::operations_crate::{OpFault, Operation, Status};
+use project_usage::records_crate::{
+    Body, Command, Driver, Origin, Pool, Project, Refusal, Row, Rule, Target, What,
+};
+use project_usage::row_readings_crate::View;
+use project_usage::size_values_crate::{Amounts, NoMemory, ObjectKind, Or, Seq, Text};
 use project_usage::usage_of;
-use records::{Body, Command, Driver, Origin, Pool, Project, Refusal, Row, Rule, Target, What};
-use row_machine::Work;
-use row_readings::View;
 use setting_rules::claim_settings_broken;
-use size_values::{Amounts, NoMemory, ObjectKind, Or, Seq, Text};
 use standing_rules::standing_broken;
 use std::alloc::Global;
 use table_rules::{claim_tables_broken, entry_broken};

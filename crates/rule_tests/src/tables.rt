@@ -1,10 +1,12 @@
-use config_lists::{Config, Devices};
 use lent_rows::Rows;
-use operations::{OpFault, Operation, Status};
-use records::{Instance, Kept, Profile, Refusal, Row, Rule, Snapshot, Target, Volume};
-use row_machine::Work;
-use row_readings::View;
-use size_values::{Deed, Kind, NoMemory, ObjectKind, Or, Seq, Text};
+use name_rules::row_machine_crate::Work;
+use project_usage::config_lists_crate::{Config, Devices};
+use project_usage::operations_crate::{OpFault, Operation, Status};
+use project_usage::records_crate::{
+    Instance, Kept, Profile, Refusal, Row, Rule, Snapshot, Target, Volume,
+};
+use project_usage::row_readings_crate::View;
+use project_usage::size_values_crate::{Deed, Kind, NoMemory, ObjectKind, Or, Seq, Text};
 use std::alloc::Global;
 use table_rules::{claim_tables_broken, tables_broken};
 

@@ -8,7 +8,7 @@ use Rattle.clap.specs.declared.builder.command.Command.{Command}
 use Rattle.clap.specs.declared.parser.matches.ArgMatches.{ArgMatches}
 use Rattle.clap.specs.declared.parser.matches.ArgMatches.TheViews.{out-ArgMatches}
 use Rattle.clap.proofs.OnLiterals.{clap_on_literals}
-use Rattle.size_values.specs.declared.memory.NoMemory.{NoMemory}
+use Rattle.option_words.specs.size_values.specs.declared.memory.NoMemory.{NoMemory}
 use Rattle.option_words.specs.Commands.{AreGiven, HasShape, are_taken}
 use Rattle.run_words.specs.Words.{bare_program, check_command, drill_command, parsed_command, make_command}
 use Rattle.run_words.specs.Words.{run_command, run_program}

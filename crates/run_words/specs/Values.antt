@@ -3,7 +3,7 @@ use Rattle.std.specs.Prelude.{ℕ, ◌-◌, ◌^◌, ◌==◌, Bool, not, ◌&&�
 use Rattle.std.specs.Prelude.{option_map, is_some, nat_le, codes}
 use Rattle.std.specs.List.{filter_map, list_all, slice_split}
 use Rattle.std.specs.Str.{byte, bytes_eq}
-use Rattle.size_values.specs.Moments.{moment_limit}
+use Rattle.option_words.specs.size_values.specs.Moments.{moment_limit}
 use Rattle.option_words.specs.Numbers.{number_said}
 use Rattle.run_words.specs.declared.words.Pace.{Pace}
 use Rattle.run_words.specs.declared.words.Pace.TheVariants.{All, Steps}

@@ -6,7 +6,7 @@ use Rattle.std.specs.Option.{option_and_then, option_map_or, unwrap_or}
 use Rattle.std.specs.Str.{bytes_eq}
 use Rattle.clap.specs.Simple.{new_shape}
 use Rattle.clap.specs.Words.{App, Row, Rule, Shape, first_of, subcommand_of}
-use Rattle.size_values.specs.Moments.{moment_limit}
+use Rattle.option_words.specs.size_values.specs.Moments.{moment_limit}
 use Rattle.option_words.specs.Commands.{are_taken, command_of, option_of, place_of}
 use Rattle.run_words.specs.Values.{are_call_numbers, boot_said, call_numbers_said, count_said, is_path, moment_said}
 use Rattle.run_words.specs.Values.{pace_said, seed_said}

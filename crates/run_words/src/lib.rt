@@ -2,6 +2,9 @@
 //! the rows, and which calls of the host and of the keeper are to fail.
 #![tactic(auto)]
 
+// The libraries that crates above name through this one.
+pub use option_words::size_values_crate;
+
 mod guide;
 mod laws;
 mod program;

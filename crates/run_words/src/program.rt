@@ -7,8 +7,8 @@ ghost use Rattle.run_words.specs.Words.{bare_program, check_command, drill_comma
 ghost use Rattle.run_words.specs.Words.{run_command, run_program};
 
 use clap::{ArgMatches, Command};
+use option_words::size_values_crate::NoMemory;
 use option_words::{parse_words, with_command, with_option, with_place};
-use size_values::NoMemory;
 use std::alloc::Global;
 
 fn run_command<'a>(alloc: Global) -> Result<Command<'a>, NoMemory>

@@ -8,8 +8,8 @@ use crate::program::parsed_command;
 use crate::values::call_numbers_said;
 use crate::words::command_words_of;
 use clap::ArgMatches;
+use option_words::size_values_crate::{NoMemory, Seq, Text};
 use option_words::value_of;
-use size_values::{NoMemory, Seq, Text};
 use std::alloc::Global;
 
 /// The file that keeps the rows, or the empty text where they are kept in memory; and which calls of the host and of

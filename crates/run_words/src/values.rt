@@ -3,14 +3,14 @@ ghost use Rattle.std.specs.Prelude.{◌≡◌, ◌≤◌, ◌<◌, [], length, I
 ghost use Rattle.std.specs.Prelude.{is_some};
 ghost use Rattle.std.specs.List.{filter_map, list_all};
 ghost use Rattle.std.specs.Option.{unwrap_or};
-ghost use Rattle.size_values.specs.Moments.{moment_limit};
+ghost use Rattle.option_words.specs.size_values.specs.Moments.{moment_limit};
 ghost use Rattle.run_words.specs.Values.{are_call_numbers, boot_said, call_number_said};
 ghost use Rattle.run_words.specs.Values.{call_numbers_said, count_said, is_path};
 ghost use Rattle.run_words.specs.Values.{moment_said, pace_said, parts_of, seed_said};
 
 use crate::words::Pace;
 use option_words::number_said;
-use size_values::{MOMENT_LIMIT, NoMemory, Seq};
+use option_words::size_values_crate::{MOMENT_LIMIT, NoMemory, Seq};
 use std::alloc::Global;
 
 /// The greatest number of steps that a pace may say.

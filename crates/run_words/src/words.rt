@@ -2,7 +2,7 @@
 ghost use Rattle.std.specs.Prelude.{◌≡◌, ◌<◌, ◌≤◌, true, map, option_map, is_some, codes, IfOk, IfSome, string_bytes};
 ghost use Rattle.std.specs.Option.{option_and_then, option_map_or};
 ghost use Rattle.clap.specs.Words.{first_of, found_of, rows_of, subcommand_rows_of};
-ghost use Rattle.size_values.specs.Moments.{moment_limit};
+ghost use Rattle.option_words.specs.size_values.specs.Moments.{moment_limit};
 ghost use Rattle.run_words.specs.Values.{are_call_numbers, boot_said, is_path, moment_said, pace_said};
 ghost use Rattle.run_words.specs.Words.{AreInRange, are_values, check_command_words, words_of_command, drill_command_words, is_given, make_command_words};
 ghost use Rattle.run_words.specs.Words.{run_words_in, run_options, run_command_words, store_options, stream_numbers, words_of};
@@ -12,8 +12,8 @@ use crate::values::{
     are_call_numbers, boot_said, count_said, is_path, moment_said, pace_said, seed_said,
 };
 use clap::ArgMatches;
+use option_words::size_values_crate::NoMemory;
 use option_words::value_of;
-use size_values::NoMemory;
 use std::alloc::Global;
 
 /// How many steps of its work the worker takes after each reply, before the next request is read.

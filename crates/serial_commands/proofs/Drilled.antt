@@ -2,25 +2,25 @@
 use Rattle.std.proofs.Common.{◌≡◌, ◌<◌, ◌++◌, ◌⊎◌, ℕ, List, [], Option, Some, None, refl, ap, sym, subst, ◌∙◌, inl, inr, arith}
 use Rattle.std.proofs.lemmas.List.{append-nil}
 use Rattle.std.specs.Io.KnownBytes.{Appends, prepend_known}
-use Rattle.size_values.specs.Causes.{RoseBy}
-use Rattle.http_heads.specs.Messages.{Splits, ended}
-use Rattle.http_heads.specs.declared.request.Request.{Request}
-use Rattle.http_front.specs.Clocks.{Readings}
-use Rattle.record_keeper.specs.Store.{Store}
-use Rattle.serial_steps.specs.Steps.{Hosted, Serial, Site, serial, site}
-use Rattle.row_machine.specs.machine.State.{State}
-use Rattle.core_rows.specs.Opening.{OpensTo}
-use Rattle.core_rows.specs.declared.opening.OpenFault.{OpenFault}
-use Rattle.core_rows.specs.declared.opening.OpenFault.TheVariants as fault
-use Rattle.run_words.specs.declared.words.Pace.TheVariants as pace
-use Rattle.rest_service.specs.Exchanges.{Exchange, LeadTo, moments_of, printed_replies, keeper_failures_of}
-use Rattle.rest_service.specs.Exchanges.{host_failures_of}
-use Rattle.rest_service.proofs.Along.{IsAlong}
+use Rattle.workload.specs.size_values.specs.Causes.{RoseBy}
+use Rattle.serial_sessions.specs.http_heads.specs.Messages.{Splits, ended}
+use Rattle.serial_sessions.specs.http_heads.specs.declared.request.Request.{Request}
+use Rattle.serial_sessions.specs.http_front.specs.Clocks.{Readings}
+use Rattle.serial_sessions.specs.record_keeper.specs.Store.{Store}
+use Rattle.serial_sessions.specs.serial_steps.specs.Steps.{Hosted, Serial, Site, serial, site}
+use Rattle.store_report.specs.row_machine.specs.machine.State.{State}
+use Rattle.serial_sessions.specs.core_rows.specs.Opening.{OpensTo}
+use Rattle.serial_sessions.specs.core_rows.specs.declared.opening.OpenFault.{OpenFault}
+use Rattle.serial_sessions.specs.core_rows.specs.declared.opening.OpenFault.TheVariants as fault
+use Rattle.serial_sessions.specs.run_words.specs.declared.words.Pace.TheVariants as pace
+use Rattle.serial_sessions.specs.rest_service.specs.Exchanges.{Exchange, LeadTo, moments_of, printed_replies, keeper_failures_of}
+use Rattle.serial_sessions.specs.rest_service.specs.Exchanges.{host_failures_of}
+use Rattle.serial_sessions.specs.rest_service.proofs.Along.{IsAlong}
 use Rattle.serial_sessions.specs.declared.session.SessionEnd.{SessionEnd}
 use Rattle.serial_sessions.specs.declared.session.SessionEnd.TheVariants as end
 use Rattle.serial_sessions.specs.Sessions.{Session}
 use Rattle.serial_sessions.specs.Worlds.{Outlet, World}
-use Rattle.rest_answers.proofs.Linking.{appends_twice}
+use Rattle.serial_sessions.specs.rest_answers.proofs.Linking.{appends_twice}
 use Rattle.serial_sessions.proofs.Served.{Together, together}
 use Rattle.serial_sessions.proofs.Whole.{IsDue, session_due}
 use Rattle.serial_sessions.proofs.Quiet.{StopsQuietly, session_quietly}

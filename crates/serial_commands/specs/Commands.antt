@@ -2,22 +2,22 @@
 -- requests in memory and tells what they came to.
 use Rattle.std.specs.Prelude.{◌≡◌, ◌<◌, ◌++◌, ◌⊎◌, ℕ, List, [], Some, None, option_map}
 use Rattle.std.specs.List.{All}
-use Rattle.size_values.specs.Causes.{RoseBy}
-use Rattle.size_values.specs.Moments.{moment_limit}
-use Rattle.http_heads.specs.declared.request.Request.{Request}
-use Rattle.http_front.specs.Clocks.{Readings, Reads}
-use Rattle.record_keeper.specs.Store.{Store}
-use Rattle.row_machine.specs.machine.State.{State}
-use Rattle.row_machine.specs.opening.Records.{records_of}
-use Rattle.core_rows.specs.Opening.{OpensTo, Refuses}
-use Rattle.core_rows.specs.declared.opening.OpenFault.{OpenFault}
-use Rattle.core_rows.specs.declared.opening.OpenFault.TheVariants as fault
-use Rattle.serial_steps.specs.Steps.{Hosted, Serial, Site, serial, site}
-use Rattle.run_words.specs.declared.words.Pace.TheVariants as pace
-use Rattle.rest_service.specs.Exchanges.{Exchange, LeadTo, moments_of, printed_replies}
-use Rattle.rest_service.specs.Exchanges.{host_failures_of, keeper_failures_of}
+use Rattle.workload.specs.size_values.specs.Causes.{RoseBy}
+use Rattle.workload.specs.size_values.specs.Moments.{moment_limit}
+use Rattle.serial_sessions.specs.http_heads.specs.declared.request.Request.{Request}
+use Rattle.serial_sessions.specs.http_front.specs.Clocks.{Readings, Reads}
+use Rattle.serial_sessions.specs.record_keeper.specs.Store.{Store}
+use Rattle.store_report.specs.row_machine.specs.machine.State.{State}
+use Rattle.store_report.specs.row_machine.specs.opening.Records.{records_of}
+use Rattle.serial_sessions.specs.core_rows.specs.Opening.{OpensTo, Refuses}
+use Rattle.serial_sessions.specs.core_rows.specs.declared.opening.OpenFault.{OpenFault}
+use Rattle.serial_sessions.specs.core_rows.specs.declared.opening.OpenFault.TheVariants as fault
+use Rattle.serial_sessions.specs.serial_steps.specs.Steps.{Hosted, Serial, Site, serial, site}
+use Rattle.serial_sessions.specs.run_words.specs.declared.words.Pace.TheVariants as pace
+use Rattle.serial_sessions.specs.rest_service.specs.Exchanges.{Exchange, LeadTo, moments_of, printed_replies}
+use Rattle.serial_sessions.specs.rest_service.specs.Exchanges.{host_failures_of, keeper_failures_of}
 use Rattle.serial_sessions.specs.Inputs.{requests_of, answered}
-use Rattle.rest_answers.specs.Links.{BreaksOff, Takes}
+use Rattle.serial_sessions.specs.rest_answers.specs.Links.{BreaksOff, Takes}
 use Rattle.serial_sessions.specs.Sessions.{Session}
 use Rattle.serial_sessions.specs.Worlds.{Inlet, Outlet}
 use Rattle.serial_sessions.specs.declared.session.SessionEnd.{SessionEnd}

@@ -1,21 +1,21 @@
 ghost use Rattle.std.specs.Prelude.{◌≡◌, ◌≤◌, ◌++◌, ◌⊎◌, [], List, IfOk, string_bytes};
-ghost use Rattle.http_heads.specs.Messages.{ended, Splits};
-ghost use Rattle.http_heads.specs.declared.request.Request.{Request as RequestValue};
+ghost use Rattle.serial_sessions.specs.http_heads.specs.Messages.{ended, Splits};
+ghost use Rattle.serial_sessions.specs.http_heads.specs.declared.request.Request.{Request as RequestValue};
 ghost use Rattle.serial_commands.specs.Commands.{Answers, Drills, DrillsOver, DrillsText, Tells, TellsDrill, drilled_text};
 ghost use Rattle.serial_sessions.specs.Worlds.{outlet};
-ghost use Rattle.serial_steps.specs.Steps.{hosted, site};
+ghost use Rattle.serial_sessions.specs.serial_steps.specs.Steps.{hosted, site};
 ghost use Rattle.workload.specs.Stream.{stream_of};
 
 use crate::telling::{OUT_OF_MEMORY, open_status, tell};
-use host_model::Host;
-use http_front::{Buffer, ByteSink, ByteSource, Clock, Sink};
-use record_keeper::Keeper;
-use rest_service::Service;
-use run_words::Pace;
+use serial_sessions::http_front_crate::{Buffer, ByteSink, ByteSource, Clock, Sink};
+use serial_sessions::record_keeper_crate::Keeper;
+use serial_sessions::rest_service_crate::Service;
+use serial_sessions::run_words_crate::Pace;
 use serial_sessions::{SessionEnd, serve};
-use size_values::{NoMemory, Seq};
 use std::alloc::Global;
 use store_report::check_report;
+use store_report::host_model_crate::Host;
+use workload::size_values_crate::{NoMemory, Seq};
 use workload::{make_stream, summary_of};
 
 /// How many bytes a source of made requests gives at once.

@@ -2,6 +2,10 @@
 //! answers made requests in memory and tells what they came to.
 #![tactic(auto)]
 
+// The libraries that crates above name through this one.
+pub use serial_sessions as serial_sessions_crate;
+pub use serial_sessions::{http_front_crate, rest_service_crate, run_words_crate};
+
 mod checking;
 mod drilling;
 mod making;

@@ -1,12 +1,12 @@
 -- What a session did that stopped without a fault: after the replies it wrote what its end asks for, and nothing else.
 use Rattle.std.proofs.Common.{◌≡◌, ◌⊎◌, ℕ, List, [], refl, sym, subst, inl, inr}
 use Rattle.std.specs.Io.KnownBytes.{Appends}
-use Rattle.run_words.specs.declared.words.Pace.{Pace}
+use Rattle.rest_service.specs.run_words.specs.declared.words.Pace.{Pace}
 use Rattle.serial_sessions.specs.declared.session.SessionEnd.{SessionEnd}
 use Rattle.serial_sessions.specs.declared.session.SessionEnd.TheVariants as end
 use Rattle.serial_sessions.specs.Sessions.{Session, Stops, StopsBehindFinal, AllGoOn, OnlyFinalEnds}
 use Rattle.serial_sessions.specs.Worlds.{World}
-use Rattle.rest_answers.proofs.Linking.{appends_nothing}
+use Rattle.rest_service.specs.rest_answers.proofs.Linking.{appends_nothing}
 use Rattle.serial_sessions.proofs.Whole.{IsSettled, text_at}
 
 -- what a settled stop wrote after the replies; the server is as before

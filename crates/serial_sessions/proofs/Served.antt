@@ -4,14 +4,14 @@ use Rattle.std.proofs.Common.{Option, Some, None, IfSome, refl, ap, sym, ◌∙�
 use Rattle.std.proofs.lemmas.Bool.Decides.{nat_tests}
 use Rattle.std.proofs.lemmas.List.{length-append}
 use Rattle.std.specs.Io.KnownBytes.{Appends}
-use Rattle.http_heads.specs.Messages.{Begins}
-use Rattle.http_front.specs.Clocks.{Readings, Reads, standing_still}
-use Rattle.http_front.specs.Held.{most_held}
-use Rattle.http_front.specs.Reading.{ReadsNext}
-use Rattle.http_front.specs.declared.read.Got.TheVariants as got
-use Rattle.run_words.specs.declared.words.Pace.{Pace}
-use Rattle.rest_answers.proofs.Linking.{appends_nothing, appends_twice}
-use Rattle.rest_answers.specs.Texts.{printed}
+use Rattle.rest_service.specs.http_heads.specs.Messages.{Begins}
+use Rattle.rest_service.specs.http_front.specs.Clocks.{Readings, Reads, standing_still}
+use Rattle.rest_service.specs.http_front.specs.Held.{most_held}
+use Rattle.rest_service.specs.http_front.specs.Reading.{ReadsNext}
+use Rattle.rest_service.specs.http_front.specs.declared.read.Got.TheVariants as got
+use Rattle.rest_service.specs.run_words.specs.declared.words.Pace.{Pace}
+use Rattle.rest_service.specs.rest_answers.proofs.Linking.{appends_nothing, appends_twice}
+use Rattle.rest_service.specs.rest_answers.specs.Texts.{printed}
 use Rattle.rest_service.specs.Exchanges.{Exchange, LeadTo, moments_of, printed_replies, keeper_failures_of}
 use Rattle.rest_service.specs.Exchanges.{host_failures_of}
 use Rattle.rest_service.proofs.Along.{IsAlong, along_leads, along_more, along_none, along_reply, reads_twice}

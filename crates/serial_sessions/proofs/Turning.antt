@@ -1,15 +1,15 @@
 -- A turn, from what its parts ensure.
 use Rattle.std.proofs.Common.{◌≡◌, ◌≢◌, ◌⊎◌, ℕ, List, [], refl, sym, subst, inl, inr}
-use Rattle.http_heads.specs.declared.request.HeadFault.{HeadFault}
-use Rattle.http_heads.specs.declared.request.Request.{Request}
-use Rattle.http_front.specs.declared.read.Got.TheVariants as got
-use Rattle.rest_answers.proofs.Printing.{takes_memory, text_is}
-use Rattle.rest_answers.specs.Links.{BreaksOff, Takes}
-use Rattle.rest_answers.specs.Texts.{IsUnprinted, printed, text_for}
-use Rattle.rest_answers.specs.declared.answers.Answered.{Answered}
+use Rattle.rest_service.specs.http_heads.specs.declared.request.HeadFault.{HeadFault}
+use Rattle.rest_service.specs.http_heads.specs.declared.request.Request.{Request}
+use Rattle.rest_service.specs.http_front.specs.declared.read.Got.TheVariants as got
+use Rattle.rest_service.specs.rest_answers.proofs.Printing.{takes_memory, text_is}
+use Rattle.rest_service.specs.rest_answers.specs.Links.{BreaksOff, Takes}
+use Rattle.rest_service.specs.rest_answers.specs.Texts.{IsUnprinted, printed, text_for}
+use Rattle.rest_service.specs.rest_answers.specs.declared.answers.Answered.{Answered}
 use Rattle.rest_service.specs.Answers.{Answers}
-use Rattle.serial_steps.specs.Steps.{Site, Step}
-use Rattle.run_words.specs.declared.words.Pace.{Pace}
+use Rattle.rest_service.specs.serial_steps.specs.Steps.{Site, Step}
+use Rattle.rest_service.specs.run_words.specs.declared.words.Pace.{Pace}
 use Rattle.rest_service.specs.Exchanges.{Comes, Exchange, IsPaced}
 use Rattle.serial_sessions.specs.declared.session.SessionEnd.{SessionEnd}
 use Rattle.serial_sessions.specs.declared.session.SessionEnd.TheVariants as end

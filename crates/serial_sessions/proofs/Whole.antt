@@ -4,13 +4,13 @@ use Rattle.std.proofs.Common.{if◌then◌else◌, Some, IfSome, refl, ap, sym, 
 use Rattle.std.proofs.lemmas.Bool.Decides.{nat_tests}
 use Rattle.std.proofs.lemmas.List.{append-nil, take_all, length-map}
 use Rattle.std.proofs.Math.Seq.{take-append_seam}
-use Rattle.http_heads.specs.Messages.{Begins, Splits, Ending, ended, cut, malformed, EndsAs}
-use Rattle.http_heads.specs.declared.request.Request.{Request}
-use Rattle.http_front.specs.Reading.{ReadsNext}
-use Rattle.http_front.specs.declared.read.Got.TheVariants as got
-use Rattle.run_words.specs.declared.words.Pace.{Pace}
-use Rattle.rest_answers.proofs.Splitting.{GoesOn, none_more, splits_behind}
-use Rattle.rest_answers.specs.Texts.{malformed_text}
+use Rattle.rest_service.specs.http_heads.specs.Messages.{Begins, Splits, Ending, ended, cut, malformed, EndsAs}
+use Rattle.rest_service.specs.http_heads.specs.declared.request.Request.{Request}
+use Rattle.rest_service.specs.http_front.specs.Reading.{ReadsNext}
+use Rattle.rest_service.specs.http_front.specs.declared.read.Got.TheVariants as got
+use Rattle.rest_service.specs.run_words.specs.declared.words.Pace.{Pace}
+use Rattle.rest_service.specs.rest_answers.proofs.Splitting.{GoesOn, none_more, splits_behind}
+use Rattle.rest_service.specs.rest_answers.specs.Texts.{malformed_text}
 use Rattle.rest_service.specs.Exchanges.{Exchange}
 use Rattle.serial_sessions.specs.Most.{most_requests}
 use Rattle.serial_sessions.specs.declared.session.SessionEnd.{SessionEnd}
@@ -19,7 +19,7 @@ use Rattle.serial_sessions.specs.Inputs.{status_of}
 use Rattle.serial_sessions.specs.Sessions.{Session, Stops, CountsAt, StopsBehindFinal, AllGoOn, OnlyFinalEnds}
 use Rattle.serial_sessions.proofs.Served.{together}
 use Rattle.serial_sessions.specs.Inputs.{requests_of, answered, end_at, end_behind_all, end_due}
-use Rattle.rest_answers.specs.Lasts.{has_last, through_last}
+use Rattle.rest_service.specs.rest_answers.specs.Lasts.{has_last, through_last}
 use Rattle.serial_sessions.specs.Worlds.{World, input}
 
 -- requests that go on are all before the first last one

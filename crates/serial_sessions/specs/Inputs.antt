@@ -1,9 +1,9 @@
 -- What a session comes to, told of its whole input: the requests that are answered, and how it ends.
 use Rattle.std.specs.Prelude.{◌==◌, ℕ, List, [], length, map, take, if◌then◌else◌}
-use Rattle.http_heads.specs.Messages.{Ending, ended, cut, malformed}
-use Rattle.http_heads.specs.declared.request.Request.{Request}
-use Rattle.rest_answers.specs.Lasts.{has_last, through_last}
-use Rattle.rest_answers.specs.Texts.{malformed_text}
+use Rattle.rest_service.specs.http_heads.specs.Messages.{Ending, ended, cut, malformed}
+use Rattle.rest_service.specs.http_heads.specs.declared.request.Request.{Request}
+use Rattle.rest_service.specs.rest_answers.specs.Lasts.{has_last, through_last}
+use Rattle.rest_service.specs.rest_answers.specs.Texts.{malformed_text}
 use Rattle.rest_service.specs.Exchanges.{Exchange}
 use Rattle.serial_sessions.specs.declared.session.SessionEnd.{SessionEnd}
 use Rattle.serial_sessions.specs.declared.session.SessionEnd.TheVariants as end

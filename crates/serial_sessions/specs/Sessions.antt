@@ -2,15 +2,15 @@
 -- the pace says how many steps of the worker follow each reply.
 use Rattle.std.specs.Prelude.{◌≡◌, ◌≢◌, ◌<◌, ◌≤◌, ◌⊎◌, ℕ, List, [], ◌∷◌, Bool, true, false, length, take}
 use Rattle.std.specs.Prelude.{Result, Ok, Err, ◌+◌, ◌==◌, if◌then◌else◌}
-use Rattle.http_heads.specs.declared.request.HeadFault.{HeadFault}
-use Rattle.http_front.specs.declared.read.Got.{Got}
-use Rattle.http_front.specs.declared.read.Got.TheVariants as got
-use Rattle.records.specs.declared.replies.Reply.TheVariants as reply
-use Rattle.serial_steps.specs.Steps.{Site, Step}
-use Rattle.run_words.specs.declared.words.Pace.{Pace}
-use Rattle.rest_answers.specs.Links.{BreaksOff, Outlet, ReadsFrom, Takes}
-use Rattle.rest_answers.specs.Texts.{IsUnprinted, malformed_text, printed, text_for}
-use Rattle.rest_answers.specs.declared.answers.Answered.{Answered}
+use Rattle.rest_service.specs.http_heads.specs.declared.request.HeadFault.{HeadFault}
+use Rattle.rest_service.specs.http_front.specs.declared.read.Got.{Got}
+use Rattle.rest_service.specs.http_front.specs.declared.read.Got.TheVariants as got
+use Rattle.rest_service.specs.records.specs.declared.replies.Reply.TheVariants as reply
+use Rattle.rest_service.specs.serial_steps.specs.Steps.{Site, Step}
+use Rattle.rest_service.specs.run_words.specs.declared.words.Pace.{Pace}
+use Rattle.rest_service.specs.rest_answers.specs.Links.{BreaksOff, Outlet, ReadsFrom, Takes}
+use Rattle.rest_service.specs.rest_answers.specs.Texts.{IsUnprinted, malformed_text, printed, text_for}
+use Rattle.rest_service.specs.rest_answers.specs.declared.answers.Answered.{Answered}
 use Rattle.rest_service.specs.Exchanges.{Comes, Exchange, IsPaced, Leads}
 use Rattle.serial_sessions.specs.declared.session.SessionEnd.{SessionEnd}
 use Rattle.serial_sessions.specs.declared.session.SessionEnd.TheVariants as end

@@ -1,10 +1,10 @@
 -- What a session works on.
 use Rattle.std.specs.Prelude.{ℕ, List, Option}
 use Rattle.std.specs.Io.KnownBytes.{prepend_known}
-use Rattle.http_front.specs.Clocks.{Readings}
-use Rattle.record_keeper.specs.Store.{Store}
-use Rattle.serial_steps.specs.Steps.{Hosted, Serial, Site, site}
-pub use Rattle.rest_answers.specs.Links.{Inlet, inlet, Outlet, outlet}
+use Rattle.rest_service.specs.http_front.specs.Clocks.{Readings}
+use Rattle.rest_service.specs.record_keeper.specs.Store.{Store}
+use Rattle.rest_service.specs.serial_steps.specs.Steps.{Hosted, Serial, Site, site}
+pub use Rattle.rest_service.specs.rest_answers.specs.Links.{Inlet, inlet, Outlet, outlet}
 
 -- what a program sees of the outside at one moment: a source, a sink, a keeper, a host, and what a clock tells of its
 -- readings to come

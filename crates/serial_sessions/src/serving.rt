@@ -1,16 +1,16 @@
 ghost use Rattle.std.specs.Prelude.{◌≡◌, ◌<◌};
-ghost use Rattle.serial_steps.specs.Steps.{hosted};
+ghost use Rattle.rest_service.specs.serial_steps.specs.Steps.{hosted};
 ghost use Rattle.serial_sessions.specs.Most.{most_requests};
 ghost use Rattle.serial_sessions.specs.Sessions.{Session, end_behind};
 ghost use Rattle.serial_sessions.specs.Worlds.{inlet, outlet, outside, world};
 
 use crate::session::{MOST_REQUESTS, SessionEnd, Turn};
 use crate::turn::turn;
-use host_model::Host;
-use http_front::{Buffer, Clock, Sink, Source};
-use record_keeper::Keeper;
 use rest_service::Service;
-use run_words::Pace;
+use rest_service::host_model_crate::Host;
+use rest_service::http_front_crate::{Buffer, Clock, Sink, Source};
+use rest_service::record_keeper_crate::Keeper;
+use rest_service::run_words_crate::Pace;
 use std::alloc::Global;
 
 /// Where a session stops after the final request, with this many requests answered before it.

@@ -2,7 +2,7 @@ ghost use Rattle.std.specs.Prelude.{◌≡◌};
 ghost use Rattle.serial_sessions.specs.Inputs.{status_of};
 ghost use Rattle.serial_sessions.specs.Most.{most_requests};
 
-use http_front::HeadFault;
+use rest_service::http_front_crate::HeadFault;
 
 /// The most requests that one session answers.
 pub const MOST_REQUESTS: u32 = 1_000_000;

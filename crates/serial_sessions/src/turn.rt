@@ -1,18 +1,18 @@
 ghost use Rattle.std.specs.Prelude.{◌≡◌};
-ghost use Rattle.serial_steps.specs.Steps.{hosted, site};
+ghost use Rattle.rest_service.specs.serial_steps.specs.Steps.{hosted, site};
 ghost use Rattle.serial_sessions.specs.Sessions.{GoesOn, RefusesPlace, Turns, WritesAnswer, turn_after};
 ghost use Rattle.serial_sessions.specs.Worlds.{inlet, outlet, outside, world};
 
 use crate::session::{SessionEnd, Turn};
-use host_model::Host;
-use http_front::{
+use rest_service::Service;
+use rest_service::host_model_crate::Host;
+use rest_service::http_front_crate::{
     Buffer, Clock, Got, HeadFault, Sink, SinkFailed, Source, no_memory_reply, read_request,
 };
-use record_keeper::Keeper;
-use rest_answers::{Answered, print_malformed};
-use rest_service::Service;
-use run_words::Pace;
-use size_values::NoMemory;
+use rest_service::record_keeper_crate::Keeper;
+use rest_service::rest_answers_crate::{Answered, print_malformed};
+use rest_service::run_words_crate::Pace;
+use rest_service::size_values_crate::NoMemory;
 use std::alloc::Global;
 
 /// How a turn goes on after a reply, from whether it was written and whether its request is the

@@ -6,7 +6,7 @@ use Rattle.clap.specs.Words.{App, Row, app_of, found_of, is_simple_and_free, mat
 use Rattle.clap.specs.declared.builder.command.Command.{Command}
 use Rattle.clap.specs.declared.parser.matches.ArgMatches.{ArgMatches}
 use Rattle.clap.proofs.OnLiterals.{clap_on_literals}
-use Rattle.size_values.specs.declared.memory.NoMemory.{NoMemory}
+use Rattle.option_words.specs.size_values.specs.declared.memory.NoMemory.{NoMemory}
 use Rattle.option_words.specs.Commands.{AreGiven, HasShape, are_taken}
 use Rattle.serve_words.specs.Words.{bare_program, parsed_options, serve_options, serve_program}
 

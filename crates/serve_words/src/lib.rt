@@ -2,6 +2,9 @@
 //! how many workers it has, and which file keeps the rows.
 #![tactic(auto)]
 
+// The libraries that crates above name through this one.
+pub use option_words::size_values_crate;
+
 mod laws;
 mod program;
 mod setup;

@@ -5,8 +5,8 @@ ghost use Rattle.option_words.specs.Commands.{HasShape};
 ghost use Rattle.serve_words.specs.Words.{bare_program, parsed_options, serve_program};
 
 use clap::{ArgMatches, Command};
+use option_words::size_values_crate::NoMemory;
 use option_words::{parse_words, with_option, with_required_option};
-use size_values::NoMemory;
 use std::alloc::Global;
 
 /// The program without its options. It takes no memory.

@@ -7,8 +7,8 @@ ghost use Rattle.serve_words.specs.Words.{options_from, serve_setup_of, setup_wi
 use crate::program::parsed_options;
 use crate::words::options_of_matches;
 use clap::ArgMatches;
+use option_words::size_values_crate::{NoMemory, Text};
 use option_words::value_of;
-use size_values::{NoMemory, Text};
 use std::alloc::Global;
 
 /// The port that is listened on; the file that keeps the rows, or the empty text where they are kept in memory; and how

@@ -7,8 +7,8 @@ ghost use Rattle.serve_words.specs.Words.{option_numbers, options_from, serve_wo
 use crate::program::parsed_options;
 use crate::values::{connections_said, port_said, takes_path, workers_said};
 use clap::ArgMatches;
+use option_words::size_values_crate::NoMemory;
 use option_words::value_of;
-use size_values::NoMemory;
 use std::alloc::Global;
 
 /// How many workers there are, where the words say no number of them.

@@ -1,19 +1,19 @@
 ghost use Rattle.std.specs.Prelude.{◌≡◌, ◌+◌, ◌≤◌, IfOk, OnErr, false, vec_len};
 
 use crate::jobs::{JobEnd, ServerJob};
+use gates::record_keeper_crate::Keeper;
+use gates::row_machine_crate::Event;
+use gates::turnstile_crate::{Pass, Turnstile};
 use gates::{DaemonMachine, LockedGate};
 use host_lock::LockedHost;
-use host_model::Host;
-use http_front::{Clock, Sink, Source};
-use record_keeper::Keeper;
-use row_machine::Event;
+use host_lock::host_model_crate::Host;
+use host_lock::size_values_crate::NoMemory;
 use serving::Jobs;
-use size_values::NoMemory;
+use serving::http_front_crate::{Clock, Sink, Source};
 use std::alloc::Global;
 use std::sync::ledger::{Blank, Ledger};
 use std::sync::{Arc, Wait};
 use std::time;
-use turnstile::{Pass, Turnstile};
 
 /// What the jobs of one server share: the server under its lock, the host under another, the clock,
 /// and the boot word of the ids of operations. Each pass that is left is a seat for a job.

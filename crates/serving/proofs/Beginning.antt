@@ -3,9 +3,9 @@ use Rattle.std.proofs.Common.{◌≡◌, ℕ, ◌+◌, ◌≤◌, ◌<◌, List,
 use Rattle.std.specs.Option.{option_map}
 use Rattle.std.proofs.lemmas.Iterator.Adapters.{option_map_id}
 use Rattle.std.specs.Prelude.{Err}
-use Rattle.size_values.specs.declared.memory.Or.{Or}
-use Rattle.size_values.specs.declared.memory.Or.TheVariants as or
-use Rattle.size_values.specs.Causes.{OnWhy, Rose}
+use Rattle.spawners.specs.size_values.specs.declared.memory.Or.{Or}
+use Rattle.spawners.specs.size_values.specs.declared.memory.Or.TheVariants as or
+use Rattle.spawners.specs.size_values.specs.Causes.{OnWhy, Rose}
 use Rattle.doors.specs.declared.door.DoorsFailed.{DoorsFailed}
 use Rattle.spawners.specs.declared.spawner.StartFailed.{StartFailed}
 use Rattle.spawners.specs.Counts.{Counts, AreSmall, none_begun}

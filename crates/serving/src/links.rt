@@ -1,10 +1,10 @@
 ghost use Rattle.std.specs.Prelude.{◌≡◌, ◌+◌, ◌<◌, ◌≤◌, ◌^◌, true, OnOk, vec_len, vec_capacity};
-ghost use Rattle.size_values.specs.Causes.{HasCauseOrMemory};
+ghost use Rattle.spawners.specs.size_values.specs.Causes.{HasCauseOrMemory};
 ghost use Rattle.serving.specs.Serves.{AcceptsOne, BeginsLinks, GivesFirst, HasRoom, IsEnough};
 
 use crate::jobs::Jobs;
 use doors::{Doors, DoorsFailed};
-use size_values::Or;
+use spawners::size_values_crate::Or;
 use spawners::{Job, Spawner};
 
 /// Accepts so many links, or all that there are, and begins a job for each.

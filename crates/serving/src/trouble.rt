@@ -2,8 +2,8 @@ ghost use Rattle.std.specs.Prelude.{◌≡◌};
 ghost use Rattle.serving.specs.Troubles.{status_of};
 
 use doors::DoorsFailed;
-use size_values::Or;
 use spawners::StartFailed;
+use spawners::size_values_crate::Or;
 
 /// Why a server stopped before all of its links had come.
 #[derive(Clone, Copy, Debug, PartialEq, Eq)]

@@ -1,9 +1,9 @@
 ghost use Rattle.std.specs.Prelude.{◌≡◌, ◌+◌, ◌≤◌, IfOk, OnOk, vec_len};
-ghost use Rattle.size_values.specs.Causes.{HasCauseOrMemory};
+ghost use Rattle.spawners.specs.size_values.specs.Causes.{HasCauseOrMemory};
 ghost use Rattle.serving.specs.Serves.{HasRoom, StartsWorkers};
 
 use crate::jobs::Jobs;
-use size_values::Or;
+use spawners::size_values_crate::Or;
 use spawners::{Job, Spawner, StartFailed};
 
 /// Starts so many workers, one after the other, and holds their tasks.

@@ -1,15 +1,15 @@
 //! A gate whose rests are busy: other links have their turns at the server in them.
 ghost use Rattle.std.specs.Prelude.{None};
 
-use core_turns::Daemon;
-use gate_trails::Gate;
 use gates::AloneGate;
-use host_model::ModelHost;
-use http_front::{ByteSink, ByteSource, StillClock};
-use record_keeper::MapKeeper;
-use row_machine::{Answer, Event};
+use gates::core_turns_crate::Daemon;
+use gates::gate_trails_crate::Gate;
+use gates::host_model_crate::ModelHost;
+use gates::http_front_crate::{ByteSink, ByteSource, StillClock};
+use gates::record_keeper_crate::MapKeeper;
+use gates::row_machine_crate::{Answer, Event};
+use gates::size_values_crate::{NoMemory, Seq};
 use serve_loop::serve_link;
-use size_values::{NoMemory, Seq};
 use std::alloc::Global;
 use std::sync::Wait;
 

@@ -1,9 +1,9 @@
 //! What a session of events sends.
 use crate::busy_gate::{BusyGate, new_gate, request};
 use event_sessions::{SessionEnd, event_session};
-use http_front::ByteSink;
-use records::Filter;
-use size_values::{NoMemory, Seq, Text};
+use gates::http_front_crate::ByteSink;
+use gates::records_crate::Filter;
+use gates::size_values_crate::{NoMemory, Seq, Text};
 use std::alloc::Global;
 use std::sync::Wait;
 

@@ -1,8 +1,8 @@
 -- The instances that are or would be there and name a profile, asked one list after the other.
 use Rattle.std.proofs.Common.{◌≡◌, sym, ap, ◌∙◌}
 use Rattle.std.specs.Option.{option_or}
-use Rattle.plain_lists.specs.Firsts.{first_of}
-use Rattle.records.specs.declared.rows.Profile.{Profile}
+use Rattle.row_machine.specs.plain_lists.specs.Firsts.{first_of}
+use Rattle.row_machine.specs.records.specs.declared.rows.Profile.{Profile}
 use Rattle.row_machine.specs.machine.State.{State}
 use Rattle.row_machine.specs.machine.Claims.{claimed_instance, judged_instances}
 use Rattle.row_machine.specs.machine.Holders.{names_profile}

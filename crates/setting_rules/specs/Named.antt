@@ -1,11 +1,11 @@
 -- The settings of the instances that name a profile, and of what an instance has by its profiles.
 use Rattle.std.specs.Prelude.{[], ◌∷◌, Option, Some, None, if◌then◌else◌, option_and_then}
-use Rattle.plain_lists.specs.Firsts.{first, first_of}
-use Rattle.config_lists.specs.Devices.{NamedDevices, root_of}
-use Rattle.records.specs.declared.refusals.Rule.TheVariants as rule
-use Rattle.records.specs.declared.refusals.Refusal.{Refusal}
-use Rattle.records.specs.declared.rows.Profile.{Profile}
-use Rattle.records.specs.declared.rows.Instance.{Instance}
+use Rattle.row_machine.specs.plain_lists.specs.Firsts.{first, first_of}
+use Rattle.row_machine.specs.config_lists.specs.Devices.{NamedDevices, root_of}
+use Rattle.row_machine.specs.records.specs.declared.refusals.Rule.TheVariants as rule
+use Rattle.row_machine.specs.records.specs.declared.refusals.Refusal.{Refusal}
+use Rattle.row_machine.specs.records.specs.declared.rows.Profile.{Profile}
+use Rattle.row_machine.specs.records.specs.declared.rows.Instance.{Instance}
 use Rattle.row_machine.specs.machine.Task.{Task}
 use Rattle.row_machine.specs.machine.State.{State}
 use Rattle.row_machine.specs.machine.Claims.{claimed_instance}

@@ -3,10 +3,10 @@ ghost use Rattle.std.specs.Prelude.{◌≡◌, if◌then◌else◌, None, Some, 
 ghost use Rattle.std.specs.List.{list_any};
 ghost use Rattle.std.specs.Option.{option_copied};
 ghost use Rattle.std.specs.Str.{bytes_eq};
-ghost use Rattle.plain_lists.specs.Firsts.{first_of};
-ghost use Rattle.size_values.specs.Causes.{Says};
-ghost use Rattle.config_lists.specs.Devices.{root_of};
-ghost use Rattle.records.specs.declared.refusals.Rule.TheVariants as rule;
+ghost use Rattle.row_machine.specs.plain_lists.specs.Firsts.{first_of};
+ghost use Rattle.row_machine.specs.size_values.specs.Causes.{Says};
+ghost use Rattle.row_machine.specs.config_lists.specs.Devices.{root_of};
+ghost use Rattle.row_machine.specs.records.specs.declared.refusals.Rule.TheVariants as rule;
 ghost use Rattle.row_machine.specs.machine.Rows.{profile_named};
 ghost use Rattle.row_machine.specs.machine.Holders.{names_profile};
 ghost use Rattle.row_machine.specs.machine.Refusals.{on_name};
@@ -14,14 +14,14 @@ ghost use Rattle.row_machine.specs.machine.SettingRules.{scope_of, is_one, profi
 ghost use Rattle.setting_rules.specs.Named.{with_devices, where_named, where_claimed, all_named};
 
 use crate::devices::{devices_miss, tables_refuse};
-use config_lists::{Devices, Root};
-use operations::Operation;
-use option_tables::{Scope, check_instance};
-use records::{Instance, Profile, Refusal, Rule};
 use row_machine::Work;
+use row_machine::config_lists_crate::{Devices, Root};
+use row_machine::operations_crate::Operation;
+use row_machine::option_tables_crate::{Scope, check_instance};
+use row_machine::records_crate::{Instance, Profile, Refusal, Rule};
+use row_machine::size_values_crate::{Kind, ObjectKind, Or, Text};
 use row_readings::{View, claimed_instance, profile_home};
 use rule_refusals::{on_name, on_object};
-use size_values::{Kind, ObjectKind, Or, Text};
 use std::alloc::Global;
 
 fn scope_of(kind: Kind) -> Scope

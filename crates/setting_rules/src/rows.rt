@@ -1,21 +1,21 @@
 //! The settings of each kind of row.
 ghost use Rattle.std.specs.Prelude.{◌∷◌, []};
 ghost use Rattle.std.specs.Option.{option_copied, option_to_list};
-ghost use Rattle.plain_lists.specs.Firsts.{first_of};
-ghost use Rattle.size_values.specs.Causes.{Says};
+ghost use Rattle.row_machine.specs.plain_lists.specs.Firsts.{first_of};
+ghost use Rattle.row_machine.specs.size_values.specs.Causes.{Says};
 ghost use Rattle.row_machine.specs.machine.Changes.{rows_put};
 ghost use Rattle.row_machine.specs.machine.SettingRules.{own_default, profile_settings, row_settings, settings_broken};
-ghost use Rattle.records.specs.declared.rows.Row.TheVariants as row_of;
+ghost use Rattle.row_machine.specs.records.specs.declared.rows.Row.TheVariants as row_of;
 
 use crate::devices::{devices_miss, settings_refuse, tables_refuse};
 use crate::instances::{instance_settings, naming_settings};
-use option_tables::{
+use row_machine::RowChange;
+use row_machine::option_tables_crate::{
     Scope, check_instance, check_network, check_pool, check_project, check_volume,
 };
-use records::{Profile, Project, Refusal, Row};
-use row_machine::RowChange;
+use row_machine::records_crate::{Profile, Project, Refusal, Row};
+use row_machine::size_values_crate::Or;
 use row_readings::View;
-use size_values::Or;
 use std::alloc::Global;
 
 /// The devices of the profile `default` of a project, where it has one.

@@ -2,6 +2,9 @@
 //! and one that runs each job when it is taken in.
 #![tactic(auto)]
 
+// The libraries that crates above name through this one.
+pub use size_values as size_values_crate;
+
 mod job;
 mod refusing;
 mod spawner;

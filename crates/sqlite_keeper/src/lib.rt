@@ -2,8 +2,11 @@
 //! read with the sqlite3 shell.
 #![tactic(auto)]
 
+// The libraries that crates above name through this one.
+pub use sqlite_rows::{record_keeper_crate, size_values_crate};
+
 mod keeper;
 mod rows_file;
 
 pub use keeper::SqliteKeeper;
-pub use sqlite_tables::Trouble;
+pub use sqlite_rows::sqlite_tables_crate::Trouble;

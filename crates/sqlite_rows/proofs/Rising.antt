@@ -8,7 +8,7 @@ use Rattle.std.specs.declared.cmp.Ordering.{Ordering}
 use Rattle.std.specs.declared.cmp.Ordering.TheVariants.{Less, Equal, Greater}
 use Rattle.std.proofs.lemmas.Bool.{false≢true}
 use Rattle.std.proofs.lemmas.Map.Keys.{Less-from_sorted}
-use Rattle.size_values.specs.declared.entry.Entry.{Entry}
+use Rattle.record_keeper.specs.size_values.specs.declared.entry.Entry.{Entry}
 use Rattle.record_keeper.specs.Entries.{entry_order, IsOrderedEntries}
 use Rattle.record_keeper.proofs.Listed.{each-map}
 use Rattle.record_keeper.proofs.Ordered.{entry_total}

@@ -1,7 +1,7 @@
 -- Rows that say entries, one after the other.
 use Rattle.std.proofs.Common.{◌≡◌, ℕ, ◌+◌, ◌<◌, List, [], ◌∷◌, ◌++◌, take, get_or, length, sym, subst}
 use Rattle.std.proofs.lemmas.List.{take_more}
-use Rattle.size_values.specs.declared.entry.Entry.{Entry}
+use Rattle.record_keeper.specs.size_values.specs.declared.entry.Entry.{Entry}
 use Rattle.sqlite.specs.Order.{Row}
 use Rattle.sqlite_rows.specs.Entries.{Says, SayEach}
 

@@ -1,7 +1,7 @@
 -- What changes of entries do to a database: each is one statement over its table `records`, and all are one transaction.
 use Rattle.std.specs.Prelude.{◌≡◌, ℕ, pos, true, List, [], ◌∷◌, Ok}
-use Rattle.size_values.specs.declared.entry.EntryChange.{EntryChange}
-use Rattle.size_values.specs.declared.entry.EntryChange.TheVariants.{Put, Remove}
+use Rattle.record_keeper.specs.size_values.specs.declared.entry.EntryChange.{EntryChange}
+use Rattle.record_keeper.specs.size_values.specs.declared.entry.EntryChange.TheVariants.{Put, Remove}
 use Rattle.sqlite.specs.Order.{Row}
 use Rattle.sqlite.specs.declared.types.Value.TheVariants.{Int, Text, Blob}
 use Rattle.sqlite.specs.Store.{Ghosts}

@@ -3,11 +3,11 @@ ghost use Rattle.std.specs.Prelude.{◌≡◌, true, IsTrue, OnOk, OnErr};
 ghost use Rattle.sqlite.specs.Effect.{Database};
 ghost use Rattle.sqlite.specs.State.{HasCleanDisk, ExecutesInside, KeepsCommit, Survives};
 ghost use Rattle.sqlite.specs.Held.{state};
-ghost use Rattle.size_values.specs.declared.entry.EntryChange.{EntryChange as Change};
+ghost use Rattle.record_keeper.specs.size_values.specs.declared.entry.EntryChange.{EntryChange as Change};
 ghost use Rattle.sqlite_tables.specs.Guarded.{StaysGuarded};
 ghost use Rattle.sqlite_rows.specs.Changes.{statement_of, values_of, Makes, Leaves};
 
-use size_values::{Entry, EntryChange, Text};
+use record_keeper::size_values_crate::{Entry, EntryChange, Text};
 use sqlite::{Alter, Connection, Error, ErrorCode, Transaction, params};
 
 const PUT: &str = "INSERT INTO records (kind, key, body) VALUES (?1, ?2, ?3) \

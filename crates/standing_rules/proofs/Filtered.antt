@@ -1,8 +1,8 @@
 -- The steps of a loop over all rows that asks those of one project.
 use Rattle.std.proofs.Common.{◌≡◌, ℕ, ◌+◌, ◌<◌, Bool, if◌then◌else◌, List, length, filter, take, get_or, Option, None, sym, subst, ◌∙◌}
-use Rattle.plain_lists.specs.Firsts.{first_of}
-use Rattle.size_values.specs.Causes.{Refuses}
-use Rattle.size_values.specs.declared.memory.Or.{Or}
+use Rattle.row_machine.specs.plain_lists.specs.Firsts.{first_of}
+use Rattle.row_machine.specs.size_values.specs.Causes.{Refuses}
+use Rattle.row_machine.specs.size_values.specs.declared.memory.Or.{Or}
 use Rattle.rule_refusals.proofs.Loops.{first_of-filter}
 use Rattle.rule_refusals.proofs.Saying.{refuses-here, free-next}
 

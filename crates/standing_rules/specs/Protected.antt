@@ -1,12 +1,12 @@
 -- What protects single objects, and what is told of an object with a user.
 use Rattle.std.specs.Prelude.{ℕ, ◌&&◌, ◌||◌, Bool, List, codes}
 use Rattle.std.specs.Str.{bytes_eq}
-use Rattle.records.specs.declared.refusals.Rule.TheVariants as rule
-use Rattle.records.specs.declared.refusals.Refusal.{Refusal}
-use Rattle.records.specs.declared.rows.Instance.{Instance}
-use Rattle.records.specs.declared.commands.Target.{Target}
-use Rattle.records.specs.declared.commands.Command.{Command}
-use Rattle.records.specs.declared.commands.What.{What}
+use Rattle.row_machine.specs.records.specs.declared.refusals.Rule.TheVariants as rule
+use Rattle.row_machine.specs.records.specs.declared.refusals.Refusal.{Refusal}
+use Rattle.row_machine.specs.records.specs.declared.rows.Instance.{Instance}
+use Rattle.row_machine.specs.records.specs.declared.commands.Target.{Target}
+use Rattle.row_machine.specs.records.specs.declared.commands.Command.{Command}
+use Rattle.row_machine.specs.records.specs.declared.commands.What.{What}
 use Rattle.row_machine.specs.machine.State.{State}
 use Rattle.row_machine.specs.machine.Rows.{default_name}
 use Rattle.row_machine.specs.machine.Homes.{is_on}

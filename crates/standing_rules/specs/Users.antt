@@ -2,13 +2,13 @@
 use Rattle.std.specs.Prelude.{ℕ, ◌&&◌, false, List, Option, Some, None, filter, if◌then◌else◌}
 use Rattle.std.specs.Option.{option_map_or}
 use Rattle.std.specs.Str.{bytes_eq}
-use Rattle.plain_lists.specs.Firsts.{first_of}
-use Rattle.operations.specs.declared.operation.Operation.{Operation}
-use Rattle.records.specs.declared.rows.Profile.{Profile}
-use Rattle.records.specs.declared.rows.Volume.{Volume}
-use Rattle.records.specs.declared.rows.Instance.{Instance}
-use Rattle.records.specs.declared.rows.Row.TheVariants as row
-use Rattle.records.specs.declared.commands.Target.{Target}
+use Rattle.row_machine.specs.plain_lists.specs.Firsts.{first_of}
+use Rattle.row_machine.specs.operations.specs.declared.operation.Operation.{Operation}
+use Rattle.row_machine.specs.records.specs.declared.rows.Profile.{Profile}
+use Rattle.row_machine.specs.records.specs.declared.rows.Volume.{Volume}
+use Rattle.row_machine.specs.records.specs.declared.rows.Instance.{Instance}
+use Rattle.row_machine.specs.records.specs.declared.rows.Row.TheVariants as row
+use Rattle.row_machine.specs.records.specs.declared.commands.Target.{Target}
 use Rattle.row_machine.specs.machine.Task.{Task}
 use Rattle.row_machine.specs.machine.State.{State}
 use Rattle.row_machine.specs.machine.Claims.{project_of_row}

@@ -1,13 +1,13 @@
 //! What a command speaks of: the object that it changes, and the instance.
 ghost use Rattle.std.specs.Prelude.{◌≡◌};
 ghost use Rattle.std.specs.Option.{option_copied};
-ghost use Rattle.size_values.specs.declared.kinds.ObjectKind.TheVariants as kind_of;
+ghost use Rattle.row_machine.specs.size_values.specs.declared.kinds.ObjectKind.TheVariants as kind_of;
 ghost use Rattle.row_machine.specs.machine.Asked.{copied_from, instance_changed, instance_in, instance_made_from};
 ghost use Rattle.row_machine.specs.machine.Asked.{is_parting};
 ghost use Rattle.row_machine.specs.machine.StandingRules.{is_deletion, object_changed};
 
-use records::{Body, Origin, Target, What};
-use size_values::{ObjectKind, Text};
+use row_machine::records_crate::{Body, Origin, Target, What};
+use row_machine::size_values_crate::{ObjectKind, Text};
 
 /// Whether a command renames or deletes the object of its path.
 pub(crate) fn is_parting(what: &What) -> bool

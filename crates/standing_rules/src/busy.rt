@@ -1,17 +1,17 @@
 //! B1: the instance that a command would change or copy from is busy.
 ghost use Rattle.std.specs.Prelude.{◌≡◌, false, find};
 ghost use Rattle.std.specs.Option.{option_copied, option_map_or};
-ghost use Rattle.size_values.specs.Causes.{Says};
+ghost use Rattle.row_machine.specs.size_values.specs.Causes.{Says};
 ghost use Rattle.row_machine.specs.machine.Holders.{busy_with, is_about, keeps_busy};
 ghost use Rattle.row_machine.specs.machine.StandingRules.{named_instance_busy, instance_busy};
 
 use crate::asked::instance_changed;
-use operations::Operation;
-use records::{Command, Refusal, Rule, Target};
+use object_users::row_readings_crate::View;
 use row_machine::Work;
-use row_readings::View;
+use row_machine::operations_crate::Operation;
+use row_machine::records_crate::{Command, Refusal, Rule, Target};
+use row_machine::size_values_crate::{ObjectKind, Or};
 use rule_refusals::on_name;
-use size_values::{ObjectKind, Or};
 use std::alloc::Global;
 
 /// Whether a target or a source is this instance, or a snapshot of it.

@@ -1,16 +1,16 @@
 //! Whether a command changes the features of a project.
 ghost use Rattle.std.specs.Prelude.{◌≡◌, IfOk};
 ghost use Rattle.std.specs.List.{list_any};
-ghost use Rattle.records.specs.declared.commands.What.TheVariants as what_of;
+ghost use Rattle.row_machine.specs.records.specs.declared.commands.What.TheVariants as what_of;
 ghost use Rattle.row_machine.specs.machine.NewRows.{patched_project, put_project};
 ghost use Rattle.row_machine.specs.machine.StandingRules.{asks_for_features, changes_features, feature_changes};
 ghost use Rattle.row_machine.specs.machine.StandingRules.{feature_keys};
 
-use config_lists::Config;
 use new_rows::{new_config, patched_config};
-use records::{Body, Project, Target, What};
-use row_readings::{View, is_on, project_named};
-use size_values::{NoMemory, ObjectKind, read_truth};
+use object_users::row_readings_crate::{View, is_on, project_named};
+use row_machine::config_lists_crate::Config;
+use row_machine::records_crate::{Body, Project, Target, What};
+use row_machine::size_values_crate::{NoMemory, ObjectKind, read_truth};
 use std::alloc::Global;
 
 /// A feature changes where the new value reads as another truth. A value that cannot be read changes nothing.

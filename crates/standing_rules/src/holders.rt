@@ -2,18 +2,18 @@
 ghost use Rattle.std.specs.Prelude.{◌≡◌, find};
 ghost use Rattle.std.specs.List.{list_any};
 ghost use Rattle.std.specs.Option.{option_copied, option_to_list};
-ghost use Rattle.size_values.specs.Causes.{Says};
+ghost use Rattle.row_machine.specs.size_values.specs.Causes.{Says};
 ghost use Rattle.row_machine.specs.machine.Holders.{claim_rows, holder_of, names_profile};
 ghost use Rattle.row_machine.specs.machine.StandingRules.{held_profile, profile_held};
 
 use crate::asked::object_changed;
 use object_users::names_profile;
-use operations::Operation;
-use records::{Command, Instance, Refusal, Rule, Target};
+use object_users::row_readings_crate::{View, claimed_instance, profile_home, replaced_instance};
 use row_machine::Work;
-use row_readings::{View, claimed_instance, profile_home, replaced_instance};
+use row_machine::operations_crate::Operation;
+use row_machine::records_crate::{Command, Instance, Refusal, Rule, Target};
+use row_machine::size_values_crate::{ObjectKind, Or};
 use rule_refusals::on_name;
-use size_values::{ObjectKind, Or};
 use std::alloc::Global;
 
 fn may_name(view: &View<'_>, home: &str, profile: &str, row: Option<&Instance>) -> bool

@@ -2,6 +2,9 @@
 //! that are not empty, and held profiles.
 #![tactic(auto)]
 
+// The libraries that crates above name through this one.
+pub use object_users::object_links_crate;
+
 mod asked;
 mod busy;
 mod features;

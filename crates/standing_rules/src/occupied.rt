@@ -2,18 +2,20 @@
 ghost use Rattle.std.specs.Prelude.{◌≡◌, IfOk, not, ◌&&◌};
 ghost use Rattle.std.specs.List.{list_any};
 ghost use Rattle.std.specs.Str.{bytes_eq};
-ghost use Rattle.size_values.specs.Causes.{Says};
+ghost use Rattle.row_machine.specs.size_values.specs.Causes.{Says};
 ghost use Rattle.row_machine.specs.machine.Rows.{default_name};
 ghost use Rattle.row_machine.specs.machine.StandingRules.{is_occupied, must_be_empty, project_occupied};
 
 use crate::asked::{is_parting, object_changed};
 use crate::features::asks_for_features;
-use operations::Operation;
-use records::{Command, Instance, Network, Profile, Refusal, Rule, Target, Volume, What};
+use object_users::row_readings_crate::View;
 use row_machine::Work;
-use row_readings::View;
+use row_machine::operations_crate::Operation;
+use row_machine::records_crate::{
+    Command, Instance, Network, Profile, Refusal, Rule, Target, Volume, What,
+};
+use row_machine::size_values_crate::{NoMemory, ObjectKind, Or};
 use rule_refusals::on_name;
-use size_values::{NoMemory, ObjectKind, Or};
 use std::alloc::Global;
 
 fn has_instance(rows: &[Instance], project: &str) -> bool

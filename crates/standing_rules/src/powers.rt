@@ -1,18 +1,18 @@
 //! B2: the status of the instance does not allow what a command asks for.
 ghost use Rattle.std.specs.Prelude.{ℕ, List, ◌≡◌, option_and_then};
 ghost use Rattle.std.specs.Option.{option_map};
-ghost use Rattle.size_values.specs.Causes.{Says};
-ghost use Rattle.records.specs.declared.commands.Body.{Body as BodyValue};
-ghost use Rattle.records.specs.declared.commands.What.TheVariants as what_of;
+ghost use Rattle.row_machine.specs.size_values.specs.Causes.{Says};
+ghost use Rattle.row_machine.specs.records.specs.declared.commands.Body.{Body as BodyValue};
+ghost use Rattle.row_machine.specs.records.specs.declared.commands.What.TheVariants as what_of;
 ghost use Rattle.row_machine.specs.machine.StandingRules.{deed_asked, in_wrong_state, power_of, power_text};
 ghost use Rattle.row_machine.specs.machine.StandingRules.{wrong_state};
 ghost use Rattle.standing_rules.specs.Deeds.{deed_of};
 
-use instance_states::is_allowed;
-use records::{Command, Refusal, Rule, Target, What};
-use row_readings::{View, power_of};
+use object_users::row_readings_crate::{View, power_of};
+use row_machine::instance_states_crate::is_allowed;
+use row_machine::records_crate::{Command, Refusal, Rule, Target, What};
+use row_machine::size_values_crate::{Deed, ObjectKind, Or, Power, Text};
 use rule_refusals::on_name;
-use size_values::{Deed, ObjectKind, Or, Power, Text};
 use std::alloc::Global;
 
 /// A deed, and the instance that it is done to.

@@ -1,15 +1,15 @@
 //! B3: the object of the path is protected against the command.
 ghost use Rattle.std.specs.Prelude.{◌≡◌, IfOk};
-ghost use Rattle.size_values.specs.Causes.{Says};
+ghost use Rattle.row_machine.specs.size_values.specs.Causes.{Says};
 ghost use Rattle.row_machine.specs.machine.StandingRules.{is_protected, object_protected, protects_itself};
 ghost use Rattle.standing_rules.specs.Protected.{is_kept, instance_protected, project_protected};
 
 use crate::asked::{is_deletion, is_parting, object_changed};
 use crate::features::asks_for_features;
-use records::{Command, Instance, Refusal, Rule, Target, What};
-use row_readings::{View, is_on};
+use object_users::row_readings_crate::{View, is_on};
+use row_machine::records_crate::{Command, Instance, Refusal, Rule, Target, What};
+use row_machine::size_values_crate::{NoMemory, ObjectKind, Or};
 use rule_refusals::on_object;
-use size_values::{NoMemory, ObjectKind, Or};
 use std::alloc::Global;
 
 fn protects(alloc: Global, view: &View<'_>, row: &Instance) -> Result<bool, NoMemory>

@@ -1,5 +1,5 @@
 //! Rules on what stands in the way: B1 to B6.
-ghost use Rattle.size_values.specs.Causes.{Says};
+ghost use Rattle.row_machine.specs.size_values.specs.Causes.{Says};
 ghost use Rattle.row_machine.specs.machine.Rules.{standing_broken};
 
 use crate::busy::instance_busy;
@@ -8,9 +8,9 @@ use crate::occupied::project_occupied;
 use crate::powers::wrong_state;
 use crate::protected::object_protected;
 use crate::used::object_used;
-use records::{Command, Refusal};
-use row_readings::View;
-use size_values::Or;
+use object_users::row_readings_crate::View;
+use row_machine::records_crate::{Command, Refusal};
+use row_machine::size_values_crate::Or;
 use std::alloc::Global;
 
 /// The first rule on what stands in the way that a command breaks.

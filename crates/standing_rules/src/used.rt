@@ -1,15 +1,15 @@
 //! B4: the object that a command renames or deletes has a user.
 ghost use Rattle.std.specs.Prelude.{◌≡◌, IfOk};
-ghost use Rattle.size_values.specs.Causes.{Says};
+ghost use Rattle.row_machine.specs.size_values.specs.Causes.{Says};
 ghost use Rattle.row_machine.specs.machine.StandingRules.{object_used, used_by_first};
 ghost use Rattle.standing_rules.specs.Protected.{on_user};
 
 use crate::asked::{is_parting, object_changed};
 use crate::users::refuse_first_user;
-use records::{Command, Refusal, Rule, Target};
-use row_readings::{View, home_of};
+use object_users::row_readings_crate::{View, home_of};
+use row_machine::records_crate::{Command, Refusal, Rule, Target};
+use row_machine::size_values_crate::{NoMemory, Or, Text};
 use rule_refusals::on_object;
-use size_values::{NoMemory, Or, Text};
 use std::alloc::Global;
 
 /// The refusal of an object that has a user.

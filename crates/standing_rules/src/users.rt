@@ -3,8 +3,8 @@
 ghost use Rattle.std.specs.Prelude.{◌≡◌, IfOk, Some, None, [], false, if◌then◌else◌};
 ghost use Rattle.std.specs.Option.{option_map_or};
 ghost use Rattle.std.specs.Str.{bytes_eq};
-ghost use Rattle.plain_lists.specs.Firsts.{first_of};
-ghost use Rattle.size_values.specs.Causes.{Says};
+ghost use Rattle.row_machine.specs.plain_lists.specs.Firsts.{first_of};
+ghost use Rattle.row_machine.specs.size_values.specs.Causes.{Says};
 ghost use Rattle.row_machine.specs.machine.Claims.{project_of_row};
 ghost use Rattle.row_machine.specs.machine.Holders.{first_user_of, profile_user, user_in};
 ghost use Rattle.row_machine.specs.shown.Links.{link_of};
@@ -12,13 +12,13 @@ ghost use Rattle.standing_rules.specs.Users.{claim_link, first_instance_link, fi
 ghost use Rattle.standing_rules.specs.Users.{instance_link_in, naming_link, profile_link_in, volume_link_in};
 
 use crate::uses::claim_uses;
-use object_links::link_of;
+use object_users::object_links_crate::link_of;
+use object_users::row_readings_crate::{View, project_of_row};
 use object_users::{instance_uses, names_profile, profile_uses, volume_uses};
-use operations::Operation;
-use records::{Instance, Profile, Project, Target, Volume};
 use row_machine::Work;
-use row_readings::{View, project_of_row};
-use size_values::{NoMemory, ObjectKind, Or, Text};
+use row_machine::operations_crate::Operation;
+use row_machine::records_crate::{Instance, Profile, Project, Target, Volume};
+use row_machine::size_values_crate::{NoMemory, ObjectKind, Or, Text};
 use std::alloc::Global;
 
 /// The link of a row, by its kind and names.

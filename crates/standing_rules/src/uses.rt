@@ -2,15 +2,15 @@
 ghost use Rattle.std.specs.Prelude.{◌≡◌, IfOk, false};
 ghost use Rattle.std.specs.List.{list_any};
 ghost use Rattle.std.specs.Option.{option_copied, option_map_or, option_to_list};
-ghost use Rattle.size_values.specs.declared.kinds.ObjectKind.TheVariants as kind_of;
+ghost use Rattle.row_machine.specs.size_values.specs.declared.kinds.ObjectKind.TheVariants as kind_of;
 ghost use Rattle.row_machine.specs.machine.Claims.{claimed_volume};
 ghost use Rattle.row_machine.specs.machine.Holders.{claim_rows, claim_uses, instance_uses, source_uses, volume_uses};
 
+use object_users::row_readings_crate::{View, claimed_instance, claimed_volume, replaced_instance};
 use object_users::{instance_uses, volume_uses};
-use records::{Instance, Target};
 use row_machine::Work;
-use row_readings::{View, claimed_instance, claimed_volume, replaced_instance};
-use size_values::{NoMemory, ObjectKind};
+use row_machine::records_crate::{Instance, Target};
+use row_machine::size_values_crate::{NoMemory, ObjectKind};
 use std::alloc::Global;
 
 /// The volume that a copy is made from names its pool and itself.

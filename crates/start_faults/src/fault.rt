@@ -1,8 +1,8 @@
 ghost use Rattle.std.specs.Prelude.{◌≡◌};
 ghost use Rattle.start_faults.specs.Starts.{Explains, start_fault, start_status};
 
+use core_rows::record_keeper_crate::Keeper;
 use core_rows::{OpenFault, load_rows};
-use record_keeper::Keeper;
 use std::alloc::Global;
 
 /// Why a server is not begun.

@@ -2,6 +2,9 @@
 //! status of a program that ends for it.
 #![tactic(auto)]
 
+// The libraries that crates above name through this one.
+pub use core_rows::{host_model_crate, record_keeper_crate, size_values_crate};
+
 mod fault;
 
 pub use core_rows::OpenFault;

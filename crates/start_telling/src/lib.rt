@@ -2,6 +2,10 @@
 //! line. Where there is no memory for a line, nothing is told.
 #![tactic(auto)]
 
+// The libraries that crates above name through this one.
+pub use rest_replies::{host_model_crate, http_front_crate};
+pub use start_faults as start_faults_crate;
+
 mod telling;
 mod words;
 

@@ -1,12 +1,12 @@
 -- The lines of the books.
 use Rattle.std.proofs.Common.{◌≡◌, ◌∙◌, ◌++◌, ◌-◌, ◌+◌, ◌≤◌, ℕ, List, ap, arith, append_assoc, codes}
-use Rattle.size_values.specs.Amounts.{part}
-use Rattle.size_values.specs.declared.amounts.Amounts.{Amounts}
-use Rattle.size_values.specs.declared.amounts.Part.{Part}
-use Rattle.reservations.specs.Holdings.{all_part}
-use Rattle.reservations.specs.declared.books.Books.{Books}
-use Rattle.row_machine.specs.facts.Whole.{AreBalanced}
-use Rattle.row_machine.specs.machine.State.{State}
+use Rattle.row_readings.specs.size_values.specs.Amounts.{part}
+use Rattle.row_readings.specs.size_values.specs.declared.amounts.Amounts.{Amounts}
+use Rattle.row_readings.specs.size_values.specs.declared.amounts.Part.{Part}
+use Rattle.row_readings.specs.reservations.specs.Holdings.{all_part}
+use Rattle.row_readings.specs.reservations.specs.declared.books.Books.{Books}
+use Rattle.row_readings.specs.row_machine.specs.facts.Whole.{AreBalanced}
+use Rattle.row_readings.specs.row_machine.specs.machine.State.{State}
 use Rattle.store_report.specs.Report.{amounts_line, books_of}
 
 four : (a g c r h : List ℕ) → (((a ++ g) ++ c) ++ r) ++ h ≡ a ++ (g ++ c ++ r ++ h)

@@ -1,12 +1,12 @@
 -- What is told of a state: how many rows of each kind there are, and the books. Each line ends with LF, and its words
 -- are joined by one space.
 use Rattle.std.specs.Prelude.{ℕ, List, ◌++◌, length, codes, decimal}
-use Rattle.size_values.specs.Amounts.{part}
-use Rattle.size_values.specs.declared.amounts.Part.{Part}
-use Rattle.size_values.specs.declared.amounts.Part.TheVariants.{Instances, Containers, Machines, Cpu, Memory, Processes}
-use Rattle.size_values.specs.declared.amounts.Part.TheVariants.{Disk}
-use Rattle.reservations.specs.Holdings.{all_part}
-use Rattle.row_machine.specs.machine.State.{State}
+use Rattle.row_readings.specs.size_values.specs.Amounts.{part}
+use Rattle.row_readings.specs.size_values.specs.declared.amounts.Part.{Part}
+use Rattle.row_readings.specs.size_values.specs.declared.amounts.Part.TheVariants.{Instances, Containers, Machines, Cpu, Memory, Processes}
+use Rattle.row_readings.specs.size_values.specs.declared.amounts.Part.TheVariants.{Disk}
+use Rattle.row_readings.specs.reservations.specs.Holdings.{all_part}
+use Rattle.row_readings.specs.row_machine.specs.machine.State.{State}
 
 -- how many rows of a kind there are
 abbrev pub count_line : List ℕ → ℕ → List ℕ

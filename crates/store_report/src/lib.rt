@@ -2,6 +2,9 @@
 //! of background operations.
 #![tactic(auto)]
 
+// The libraries that crates above name through this one.
+pub use row_readings::host_model_crate;
+
 mod report;
 
 pub use report::check_report;

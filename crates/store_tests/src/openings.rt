@@ -1,18 +1,18 @@
 //! How rows are opened over a keeper, and read, changed and told after that.
 ghost use Rattle.std.specs.Prelude.{◌≡◌, [], true, IfOk};
 ghost use Rattle.core_objects.specs.Commands.{is_object_command};
-ghost use Rattle.records.specs.Forms.{is_formed};
+ghost use Rattle.core_objects.specs.records.specs.Forms.{is_formed};
 
+use core_objects::core_rows_crate::{Estate, OpenFault, load_rows};
 use core_objects::do_object;
-use core_rows::{Estate, OpenFault, load_rows};
-use record_keeper::MapKeeper;
-use records::{Body, Command, Origin, Reply, Row, Target, What};
-use row_drafts::Draft;
-use row_machine::RowChange;
-use row_readings::{profile_home, project_named};
-use size_values::{NoMemory, ObjectKind, Seq, Text};
+use core_objects::record_keeper_crate::MapKeeper;
+use core_objects::records_crate::{Body, Command, Origin, Reply, Row, Target, What};
+use core_objects::row_drafts_crate::Draft;
+use core_objects::row_machine_crate::RowChange;
+use core_objects::row_readings_crate::{profile_home, project_named};
+use core_objects::size_values_crate::{NoMemory, ObjectKind, Seq, Text};
+use core_objects::work_reports_crate::{default_profile, entry_changes};
 use std::alloc::Global;
-use work_reports::{default_profile, entry_changes};
 
 /// How many projects and profiles an opening gives, or why it was refused.
 type Opened = Result<(usize, usize), Fault>;

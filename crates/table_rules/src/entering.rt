@@ -1,19 +1,19 @@
 //! O1 to O5: operations that cannot be cancelled, or not be entered.
 ghost use Rattle.std.specs.Prelude.{◌≡◌, IfOk, option_and_then, option_map};
 ghost use Rattle.std.specs.Result.{result_err};
-ghost use Rattle.size_values.specs.Causes.{Says};
-ghost use Rattle.operations.specs.Kept.{kept_at, cancel_answer, enter_fault};
-ghost use Rattle.operations.specs.Statuses.{cancel_of};
-ghost use Rattle.records.specs.declared.refusals.Rule.TheVariants as rule;
+ghost use Rattle.row_sizes.specs.size_values.specs.Causes.{Says};
+ghost use Rattle.row_sizes.specs.operations.specs.Kept.{kept_at, cancel_answer, enter_fault};
+ghost use Rattle.row_sizes.specs.operations.specs.Statuses.{cancel_of};
+ghost use Rattle.row_sizes.specs.records.specs.declared.refusals.Rule.TheVariants as rule;
 ghost use Rattle.row_machine.specs.machine.Refusals.{nothing_told};
 ghost use Rattle.row_machine.specs.machine.TableRules.{status_text, cancel_refusal, enter_refusal};
 ghost use Rattle.row_machine.specs.machine.TableRules.{entry_broken, cancel_broken};
 
-use operations::{CancelFault, EnterFault, LIVE_LIMIT, NUMBER_LIMIT, Status};
-use records::{Kept, Refusal, Rule, What};
 use row_readings::{View, kept_at};
+use row_sizes::operations_crate::{CancelFault, EnterFault, LIVE_LIMIT, NUMBER_LIMIT, Status};
+use row_sizes::records_crate::{Kept, Refusal, Rule, What};
+use row_sizes::size_values_crate::{NoMemory, Or, Text};
 use rule_refusals::on_number;
-use size_values::{NoMemory, Or, Text};
 use std::alloc::Global;
 
 /// Why no operation can be entered.

@@ -1,6 +1,10 @@
 //! Rules on the number of operations, O1 to O5, and on the size of tables and rows, C1 and C2.
 #![tactic(auto)]
 
+// The libraries that crates above name through this one.
+pub use new_rows as new_rows_crate;
+pub use row_sizes as row_sizes_crate;
+
 mod entering;
 mod tables;
 

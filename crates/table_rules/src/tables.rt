@@ -2,21 +2,21 @@
 ghost use Rattle.std.specs.Prelude.{◌≡◌, ◌≤◌, ◌∷◌, [], length};
 ghost use Rattle.std.specs.List.{filter_map};
 ghost use Rattle.std.specs.Option.{option_copied, option_to_list};
-ghost use Rattle.plain_lists.specs.Firsts.{first, first_of};
-ghost use Rattle.size_values.specs.Causes.{Says};
+ghost use Rattle.row_sizes.specs.plain_lists.specs.Firsts.{first, first_of};
+ghost use Rattle.row_sizes.specs.size_values.specs.Causes.{Says};
 ghost use Rattle.row_machine.specs.machine.Changes.{rows_put};
 ghost use Rattle.row_machine.specs.machine.Claims.{claimed_instance, claimed_volume, claimed_snapshot};
 ghost use Rattle.row_machine.specs.shown.Links.{target_of};
 ghost use Rattle.row_machine.specs.machine.TableRules.{count_of, row_kinds, too_many, too_large, tables_broken};
 
 use new_rows::{LARGEST_ROW, cap_of};
-use operations::Operation;
-use records::{Refusal, Row, Rule};
 use row_machine::{RowChange, Work};
 use row_readings::{View, claimed_instance, claimed_snapshot, claimed_volume};
+use row_sizes::operations_crate::Operation;
+use row_sizes::records_crate::{Refusal, Row, Rule};
 use row_sizes::row_size;
+use row_sizes::size_values_crate::{ObjectKind, Or};
 use rule_refusals::on_kind;
-use size_values::{ObjectKind, Or};
 use std::alloc::Global;
 
 /// The kinds of rows.

@@ -1,7 +1,7 @@
-use config_lists::Devices;
+use made_settings::config_lists_crate::Devices;
+use made_settings::size_values_crate::{NoMemory, ValueFault};
 use made_settings::{Settings, config_of, devices_of, set};
 use option_tables::{DeviceFault, SettingFault, check_devices};
-use size_values::{NoMemory, ValueFault};
 use std::alloc::Global;
 
 /// Keys, each with a good value and a bad one or none.

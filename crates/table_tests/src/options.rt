@@ -1,10 +1,10 @@
-use config_lists::Config;
+use made_settings::config_lists_crate::Config;
+use made_settings::size_values_crate::{NoMemory, ValueFault};
 use made_settings::{Settings, config_of};
 use option_tables::{
     Scope, SettingFault, check_instance, check_network, check_pool, check_project, check_volume,
     takes_key,
 };
-use size_values::{NoMemory, ValueFault};
 use std::alloc::Global;
 
 // Each option with a good and a bad value, or no bad one where any text is good, and the instances that it is for.

@@ -1,15 +1,15 @@
 //! The changes of rows at the success of an operation.
 ghost use Rattle.std.specs.Prelude.{◌≡◌, [], IfOk, map};
 ghost use Rattle.std.specs.Option.{option_map_or, option_to_list};
-ghost use Rattle.row_machine.specs.declared.changes.RowChange.TheVariants as change;
-ghost use Rattle.row_machine.specs.machine.Claims.{claimed_instance};
-ghost use Rattle.row_machine.specs.machine.Work.{renames_instance, success_changes};
+ghost use Rattle.object_links.specs.row_machine.specs.declared.changes.RowChange.TheVariants as change;
+ghost use Rattle.object_links.specs.row_machine.specs.machine.Claims.{claimed_instance};
+ghost use Rattle.object_links.specs.row_machine.specs.machine.Work.{renames_instance, success_changes};
 
 use crate::removals::{removes_instance, removes_snapshot};
 use crate::renames::renames_instance;
-use row_machine::{RowChange, Work};
+use object_links::row_machine_crate::{RowChange, Work};
+use object_links::size_values_crate::{Action, Deed, NoMemory, Seq};
 use row_readings::{View, claimed_instance};
-use size_values::{Action, Deed, NoMemory, Seq};
 use std::alloc::Global;
 
 /// The claimed row is put, where there is one.

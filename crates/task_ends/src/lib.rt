@@ -2,6 +2,9 @@
 //! the notices that tell of it. The rows are lent.
 #![tactic(auto)]
 
+// The libraries that crates above name through this one.
+pub use row_readings as row_readings_crate;
+
 mod changes;
 mod notices;
 mod power;

@@ -1,16 +1,16 @@
 //! The notices of an operation: what its success tells, and how it is shown.
 ghost use Rattle.std.specs.Prelude.{◌≡◌, [], ◌∷◌, ◌++◌, IfOk, OnOk, map};
 ghost use Rattle.std.specs.Option.{option_copied, option_map_or, option_to_list};
-ghost use Rattle.records.specs.declared.notices.Told.TheVariants as told_of;
-ghost use Rattle.row_machine.specs.shown.Notices.{action_life, deed_lives, life_notice, object_told, success_notices};
-ghost use Rattle.row_machine.specs.shown.Notices.{view_of};
-ghost use Rattle.row_machine.specs.shown.Links.{target_of};
+ghost use Rattle.object_links.specs.records.specs.declared.notices.Told.TheVariants as told_of;
+ghost use Rattle.object_links.specs.row_machine.specs.shown.Notices.{action_life, deed_lives, life_notice, object_told, success_notices};
+ghost use Rattle.object_links.specs.row_machine.specs.shown.Notices.{view_of};
+ghost use Rattle.object_links.specs.row_machine.specs.shown.Links.{target_of};
 
+use object_links::operations_crate::Operation;
+use object_links::records_crate::{Life, Row, Target, Told, Untold};
+use object_links::row_machine_crate::Work;
+use object_links::size_values_crate::{Action, Deed, NoMemory, Seq};
 use object_links::{life_notice, target_of, view_of};
-use operations::Operation;
-use records::{Life, Row, Target, Told, Untold};
-use row_machine::Work;
-use size_values::{Action, Deed, NoMemory, Seq};
 use std::alloc::Global;
 
 /// What a change of state tells.

@@ -1,12 +1,12 @@
 //! The status of an instance after a deed.
 ghost use Rattle.std.specs.Prelude.{◌≡◌};
-ghost use Rattle.row_machine.specs.machine.Deeds.{breaks_instance};
-ghost use Rattle.row_machine.specs.machine.Work.{power_after};
+ghost use Rattle.object_links.specs.row_machine.specs.machine.Deeds.{breaks_instance};
+ghost use Rattle.object_links.specs.row_machine.specs.machine.Work.{power_after};
 
-use instance_states::after;
-use row_machine::Work;
+use object_links::instance_states_crate::after;
+use object_links::row_machine_crate::Work;
+use object_links::size_values_crate::{Deed, Power};
 use row_readings::{View, power_of};
-use size_values::{Deed, Power};
 
 /// The status that the target of an operation has after its success, where the deed is a change of state that the
 /// present status allows.

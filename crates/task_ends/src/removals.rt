@@ -2,16 +2,16 @@
 ghost use Rattle.std.specs.Prelude.{◌≡◌, [], ◌∷◌, ◌++◌, IfOk, OnOk, map, filter, if◌then◌else◌, false};
 ghost use Rattle.std.specs.Str.{bytes_eq};
 ghost use Rattle.std.specs.Option.{option_to_list, option_copied};
-ghost use Rattle.records.specs.declared.rows.Row.TheVariants as row_of;
-ghost use Rattle.row_machine.specs.machine.Changes.{removal};
-ghost use Rattle.row_machine.specs.machine.Rows.{snapshot_named};
-ghost use Rattle.row_machine.specs.machine.Work.{removes_instance};
+ghost use Rattle.object_links.specs.records.specs.declared.rows.Row.TheVariants as row_of;
+ghost use Rattle.object_links.specs.row_machine.specs.machine.Changes.{removal};
+ghost use Rattle.object_links.specs.row_machine.specs.machine.Rows.{snapshot_named};
+ghost use Rattle.object_links.specs.row_machine.specs.machine.Work.{removes_instance};
 
+use object_links::records_crate::{Instance, Snapshot};
+use object_links::row_machine_crate::{RowChange, Work};
+use object_links::size_values_crate::{NoMemory, ObjectKind, Seq};
 use object_links::{three_names, two_names};
-use records::{Instance, Snapshot};
-use row_machine::{RowChange, Work};
 use row_readings::View;
-use size_values::{NoMemory, ObjectKind, Seq};
 use std::alloc::Global;
 
 /// The change that removes a snapshot.

@@ -1,15 +1,15 @@
 //! Changes that put the row of an operation in place of an instance of another name.
 ghost use Rattle.std.specs.Prelude.{◌≡◌, [], ◌∷◌, ◌++◌, IfOk, OnOk, map, filter, if◌then◌else◌, false};
 ghost use Rattle.std.specs.Str.{bytes_eq};
-ghost use Rattle.records.specs.declared.rows.Row.TheVariants as row_of;
-ghost use Rattle.row_machine.specs.declared.changes.RowChange.TheVariants as change;
-ghost use Rattle.row_machine.specs.machine.Work.{renames_instance};
+ghost use Rattle.object_links.specs.records.specs.declared.rows.Row.TheVariants as row_of;
+ghost use Rattle.object_links.specs.row_machine.specs.declared.changes.RowChange.TheVariants as change;
+ghost use Rattle.object_links.specs.row_machine.specs.machine.Work.{renames_instance};
 
 use crate::removals::{is_of, removes_instance};
-use records::{Instance, Row, Snapshot};
-use row_machine::{RowChange, Work};
+use object_links::records_crate::{Instance, Row, Snapshot};
+use object_links::row_machine_crate::{RowChange, Work};
+use object_links::size_values_crate::{NoMemory, Seq, Text};
 use row_readings::View;
-use size_values::{NoMemory, Seq, Text};
 use std::alloc::Global;
 
 /// A snapshot as one of another instance.

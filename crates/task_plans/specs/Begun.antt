@@ -1,9 +1,9 @@
 -- What a command begins in the background.
 use Rattle.std.specs.Prelude.{Option, Some, None}
-use Rattle.records.specs.declared.rows.Instance.{Instance}
-use Rattle.records.specs.declared.rows.Row.{Row}
-use Rattle.records.specs.declared.rows.Row.TheVariants as row
-use Rattle.records.specs.declared.rows.Snapshot.{Snapshot}
+use Rattle.row_machine.specs.records.specs.declared.rows.Instance.{Instance}
+use Rattle.row_machine.specs.records.specs.declared.rows.Row.{Row}
+use Rattle.row_machine.specs.records.specs.declared.rows.Row.TheVariants as row
+use Rattle.row_machine.specs.records.specs.declared.rows.Snapshot.{Snapshot}
 use Rattle.row_machine.specs.machine.Task.{Task}
 use Rattle.row_machine.specs.machine.Plans.{Plan, nothing, changes, starts}
 

@@ -1,18 +1,18 @@
 //! Changes of the state of an instance.
 ghost use Rattle.std.specs.Prelude.{◌≡◌, IfOk, OnOk, ◌++◌, ◌∷◌, []};
-ghost use Rattle.host_model.specs.declared.call.HostCall.TheVariants as call;
+ghost use Rattle.row_machine.specs.host_model.specs.declared.call.HostCall.TheVariants as call;
 ghost use Rattle.row_machine.specs.machine.Expansions.{expanded_of};
 ghost use Rattle.row_machine.specs.machine.HostCalls.{spec_of, act_calls};
 ghost use Rattle.row_machine.specs.machine.Tasks.{act_task};
 
 use crate::calls::{one_call, spec_of};
 use crate::works::{plain_task, project_and_target};
-use host_model::{HostCall, Place};
+use instance_tasks::row_readings_crate::View;
 use instance_tasks::{place_of, push_clear, zip_or_drop};
-use records::{Instance, Target};
 use row_machine::Work;
-use row_readings::View;
-use size_values::{Action, Deed, NoMemory, Seq, Text};
+use row_machine::host_model_crate::{HostCall, Place};
+use row_machine::records_crate::{Instance, Target};
+use row_machine::size_values_crate::{Action, Deed, NoMemory, Seq, Text};
 use std::alloc::Global;
 
 /// Then an instance is started with what it has.

@@ -1,14 +1,14 @@
 //! The calls on the host of operations that make one call.
 ghost use Rattle.std.specs.Prelude.{◌≡◌, IfOk, ◌∷◌, []};
-ghost use Rattle.host_model.specs.declared.call.HostCall.TheVariants as call;
+ghost use Rattle.row_machine.specs.host_model.specs.declared.call.HostCall.TheVariants as call;
 ghost use Rattle.row_machine.specs.machine.Expansions.{expanded_of};
 ghost use Rattle.row_machine.specs.machine.HostCalls.{place_of, spec_of};
 
-use host_model::{HostCall, Place, Spec};
+use instance_tasks::row_readings_crate::View;
 use instance_tasks::{place_of, zip_or_drop};
-use records::{Instance, Target};
-use row_readings::View;
-use size_values::{NoMemory, Seq, Text};
+use row_machine::host_model_crate::{HostCall, Place, Spec};
+use row_machine::records_crate::{Instance, Target};
+use row_machine::size_values_crate::{NoMemory, Seq, Text};
 use std::alloc::Global;
 
 /// One call alone.

@@ -6,10 +6,10 @@ ghost use Rattle.task_plans.specs.Begun.{task_in};
 use crate::snapshots::plan_snapshot;
 use crate::volumes::plan_volume;
 use instance_tasks::instance_creation;
-use records::{Body, Target};
+use instance_tasks::row_readings_crate::{View, volume_home};
 use row_machine::Work;
-use row_readings::{View, volume_home};
-use size_values::{NoMemory, ObjectKind, Text};
+use row_machine::records_crate::{Body, Target};
+use row_machine::size_values_crate::{NoMemory, ObjectKind, Text};
 use std::alloc::Global;
 
 /// What a creation begins: those of instances and snapshots, and of copies of volumes, are no changes at once.

@@ -2,6 +2,11 @@
 //! host.
 #![tactic(auto)]
 
+// The libraries that crates above name through this one.
+pub use instance_tasks::row_readings_crate;
+pub use row_machine as row_machine_crate;
+pub use row_machine::{records_crate, size_values_crate};
+
 mod acts;
 mod calls;
 mod changes;

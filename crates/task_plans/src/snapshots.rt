@@ -1,9 +1,9 @@
 //! What the creation of a snapshot begins.
 ghost use Rattle.std.specs.Prelude.{◌≡◌, ◌==◌, IfOk, Some, length, if◌then◌else◌};
 ghost use Rattle.std.specs.Option.{option_copied};
-ghost use Rattle.host_model.specs.declared.call.HostCall.TheVariants as call;
-ghost use Rattle.records.specs.declared.rows.Row.TheVariants as row_of;
-ghost use Rattle.size_values.specs.declared.kinds.Deed.TheVariants as deed;
+ghost use Rattle.row_machine.specs.host_model.specs.declared.call.HostCall.TheVariants as call;
+ghost use Rattle.row_machine.specs.records.specs.declared.rows.Row.TheVariants as row_of;
+ghost use Rattle.row_machine.specs.size_values.specs.declared.kinds.Deed.TheVariants as deed;
 ghost use Rattle.row_machine.specs.machine.Asked.{next_snapshot, with_name};
 ghost use Rattle.row_machine.specs.machine.NewRows.{made_snapshot};
 ghost use Rattle.row_machine.specs.machine.Plans.{if_there, starts};
@@ -14,12 +14,12 @@ ghost use Rattle.task_plans.specs.Begun.{task_in};
 use crate::calls::{snap_calls, snapshot_place};
 use crate::rows::copied_parts;
 use crate::works::project_and_target;
-use host_model::{HostCall, Place};
+use instance_tasks::row_readings_crate::{View, next_snapshot};
 use instance_tasks::zip_or_drop;
-use records::{Instance, Row, Snapshot, Target};
 use row_machine::Work;
-use row_readings::{View, next_snapshot};
-use size_values::{Deed, NoMemory, Seq, Text};
+use row_machine::host_model_crate::{HostCall, Place};
+use row_machine::records_crate::{Instance, Row, Snapshot, Target};
+use row_machine::size_values_crate::{Deed, NoMemory, Seq, Text};
 use std::alloc::Global;
 
 /// A new snapshot of an instance.

@@ -1,8 +1,8 @@
 //! What the copy of a volume begins.
 ghost use Rattle.std.specs.Prelude.{◌≡◌, IfOk, [], Some};
-ghost use Rattle.host_model.specs.declared.call.HostCall.TheVariants as call;
-ghost use Rattle.records.specs.declared.rows.Row.TheVariants as row_of;
-ghost use Rattle.size_values.specs.declared.kinds.Deed.TheVariants as deed;
+ghost use Rattle.row_machine.specs.host_model.specs.declared.call.HostCall.TheVariants as call;
+ghost use Rattle.row_machine.specs.records.specs.declared.rows.Row.TheVariants as row_of;
+ghost use Rattle.row_machine.specs.size_values.specs.declared.kinds.Deed.TheVariants as deed;
 ghost use Rattle.row_machine.specs.machine.HostCalls.{volume_place, copy_calls};
 ghost use Rattle.row_machine.specs.machine.NameRules.{volume_source};
 ghost use Rattle.row_machine.specs.machine.NewRows.{copied_volume};
@@ -10,13 +10,13 @@ ghost use Rattle.row_machine.specs.machine.Plans.{volume_creation};
 ghost use Rattle.row_machine.specs.machine.Tasks.{plain_task, volume_copy};
 ghost use Rattle.task_plans.specs.Begun.{task_in};
 
-use host_model::{HostCall, Place};
+use instance_tasks::new_rows_crate::{new_description, patched_config};
+use instance_tasks::row_readings_crate::View;
 use instance_tasks::{copy_calls, zip_or_drop};
-use new_rows::{new_description, patched_config};
-use records::{Body, Origin, Row, Target, Volume};
 use row_machine::Work;
-use row_readings::View;
-use size_values::{Deed, NoMemory, Seq, Text};
+use row_machine::host_model_crate::{HostCall, Place};
+use row_machine::records_crate::{Body, Origin, Row, Target, Volume};
+use row_machine::size_values_crate::{Deed, NoMemory, Seq, Text};
 use std::alloc::Global;
 
 /// Where the root of a volume stands.

@@ -1,13 +1,13 @@
 //! Operations, put together of their parts.
 ghost use Rattle.std.specs.Prelude.{◌≡◌, IfOk, Some};
-ghost use Rattle.records.specs.declared.rows.Row.TheVariants as row_of;
+ghost use Rattle.row_machine.specs.records.specs.declared.rows.Row.TheVariants as row_of;
 ghost use Rattle.row_machine.specs.machine.Tasks.{plain_task};
 
-use host_model::HostCall;
 use instance_tasks::zip_or_drop;
-use records::{Instance, Row, Target};
 use row_machine::Work;
-use size_values::{Deed, NoMemory, Seq, Text};
+use row_machine::host_model_crate::HostCall;
+use row_machine::records_crate::{Instance, Row, Target};
+use row_machine::size_values_crate::{Deed, NoMemory, Seq, Text};
 use std::alloc::Global;
 
 /// What an operation is about: its project and its object.

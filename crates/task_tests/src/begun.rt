@@ -1,11 +1,11 @@
 //! Whether an operation is the one that a table names.
 use crate::rows::Settings;
-use config_lists::Config;
-use host_model::{HostCall, Place};
-use instance_states::CallName;
-use records::{Row, Target};
-use row_machine::Work;
-use size_values::{Deed, Text};
+use lent_rows::config_lists_crate::Config;
+use lent_rows::host_model_crate::{HostCall, Place};
+use lent_rows::instance_states_crate::CallName;
+use lent_rows::records_crate::{Row, Target};
+use lent_rows::size_values_crate::{Deed, Text};
+use task_plans::row_machine_crate::Work;
 
 /// A call, the name of the root that it is made on, and a text that it gives: an image, the name that a root gets, a
 /// snapshot, or how many processors a specification has.

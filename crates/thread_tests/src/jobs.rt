@@ -1,11 +1,11 @@
 //! Jobs over links and workers that meet in a few words.
 ghost use Rattle.std.specs.Prelude.{◌≡◌};
 
-use doors::Link;
-use http_front::{Sink, Source};
+use host_lock::size_values_crate::NoMemory;
 use serving::Jobs;
-use size_values::NoMemory;
-use spawners::Job;
+use serving::doors_crate::Link;
+use serving::http_front_crate::{Sink, Source};
+use serving::spawners_crate::Job;
 use std::alloc::Global;
 use std::marker::PhantomData;
 use std::sync::atomic::{AtomicU64, Ordering};

@@ -3,11 +3,13 @@ ghost use Rattle.std.specs.Prelude.{◌≡◌};
 
 use crate::jobs::{Bench, Board, TestJob};
 use crate::links::{doors, numbers};
-use doors::Doors;
-use http_front::{ByteSink, ByteSource};
+use host_lock::size_values_crate::NoMemory;
+use serving::doors_crate::Doors;
+use serving::http_front_crate::{ByteSink, ByteSource};
+use serving::spawners_crate::{
+    Job, RefusingSpawner, Spawner, ThreadSpawner, start_thread, start_thread_or_run,
+};
 use serving::{serve, status_of};
-use size_values::NoMemory;
-use spawners::{Job, RefusingSpawner, Spawner, ThreadSpawner, start_thread, start_thread_or_run};
 use std::alloc::Global;
 use std::sync::atomic::Ordering;
 use std::sync::{Arc, Wait};

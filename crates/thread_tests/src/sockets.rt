@@ -1,8 +1,8 @@
 //! Links over TCP on 127.0.0.1.
 ghost use Rattle.std.specs.Prelude.{◌≡◌, IfSome};
 
-use doors::{Doors, NetDoors};
-use http_front::{Sink, Source};
+use serving::doors_crate::{Doors, NetDoors};
+use serving::http_front_crate::{Sink, Source};
 use std::alloc::Global;
 use std::io::{Read, Write};
 use std::net::{Ipv4Addr, Net, OpenListener, Shutdown, SocketAddr, TcpListener, TcpStream};

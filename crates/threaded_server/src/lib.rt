@@ -2,6 +2,10 @@
 //! a file, by the clock of the system (`serve_words::serve_usage`).
 #![tactic(auto)]
 
+// The libraries that crates above name through this one.
+pub use file_telling::start_telling_crate;
+pub use server_main::{serve_words_crate, start_faults_crate};
+
 mod listening;
 mod starting;
 mod telling;

@@ -1,17 +1,17 @@
 //! A server over TCP, whose jobs run on threads.
 ghost use Rattle.std.specs.Prelude.{◌≡◌, map, string_bytes};
-ghost use Rattle.serve_words.specs.Words.{serve_setup_of};
+ghost use Rattle.server_main.specs.serve_words.specs.Words.{serve_setup_of};
 
 use crate::telling::tell_address;
 use crate::threads::{Spawning, on_threads};
-use doors::{Doors, listen};
-use host_model::ModelHost;
-use http_front::{Clock, ReaderSource, SystemClock, WriterSink};
-use record_keeper::Keeper;
-use server_jobs::ServerJob;
+use file_telling::host_model_crate::ModelHost;
+use file_telling::http_front_crate::{Clock, ReaderSource, SystemClock, WriterSink};
+use file_telling::record_keeper_crate::Keeper;
+use file_telling::size_values_crate::Seq;
+use server_main::doors_crate::{Doors, listen};
 use server_main::serve_main;
-use size_values::Seq;
-use spawners::Spawner;
+use server_main::server_jobs_crate::ServerJob;
+use server_main::spawners_crate::Spawner;
 use std::alloc::Global;
 use std::marker::{Brand, PhantomData};
 use std::net::{Net, TcpListener, TcpStream};

@@ -1,15 +1,15 @@
 //! What a server is started with.
 ghost use Rattle.std.specs.Prelude.{◌≡◌, map, string_bytes};
-ghost use Rattle.serve_words.specs.Words.{serve_setup_of};
+ghost use Rattle.server_main.specs.serve_words.specs.Words.{serve_setup_of};
 
 use crate::listening::serve_over;
 use crate::telling::PROGRAM;
+use file_telling::record_keeper_crate::MapKeeper;
+use file_telling::size_values_crate::{Seq, Text};
+use file_telling::sqlite_keeper_crate::SqliteKeeper;
 use file_telling::tell_why;
-use record_keeper::MapKeeper;
-use serve_words::serve_setup_of;
-use size_values::{Seq, Text};
-use sqlite_keeper::SqliteKeeper;
-use start_faults::StartFault;
+use server_main::serve_words_crate::serve_setup_of;
+use server_main::start_faults_crate::StartFault;
 use std::net::{Net, TcpListener, TcpStream};
 use std::sync::Wait;
 use std::thread::Threads;

@@ -1,6 +1,6 @@
 //! What standard error tells a person of a server.
-use size_values::NoMemory;
-use start_telling::{tell, tell_line};
+use file_telling::size_values_crate::NoMemory;
+use file_telling::start_telling_crate::{tell, tell_line};
 use std::alloc::Global;
 
 /// The name of the program.

@@ -4,9 +4,9 @@
 use crate::chance::Chance;
 use crate::judging::{PROJECTS, changes_nothing, mark_of};
 use crate::server::Server;
-use host_model::Report;
+use plain_sums::host_model_crate::Report;
+use plain_sums::size_values_crate::{NoMemory, Rise};
 use rest_routes::Router;
-use size_values::{NoMemory, Rise};
 use std::alloc::Global;
 
 /// What is there before the first event.

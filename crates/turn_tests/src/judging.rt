@@ -1,14 +1,14 @@
 //! What has to stand after each turn.
 
 use crate::server::Server;
-use operations::Operation;
+use plain_sums::operations_crate::Operation;
+use plain_sums::records_crate::{LimitKeyName, Project, Reply, UsageLine};
+use plain_sums::reservations_crate::Hold;
+use plain_sums::row_machine_crate::{Answer, Work};
+use plain_sums::row_readings_crate::View;
+use plain_sums::size_values_crate::{Amounts, NoMemory, read_count, read_size};
 use plain_sums::{Sums, claim_sums, project_named, sums_of};
-use records::{LimitKeyName, Project, Reply, UsageLine};
-use reservations::Hold;
 use rest_routes::Router;
-use row_machine::{Answer, Work};
-use row_readings::View;
-use size_values::{Amounts, NoMemory, read_count, read_size};
 use std::alloc::Global;
 
 /// The projects of a random run.
@@ -103,7 +103,10 @@ fn is_right(line: &UsageLine, sums: Sums, project: &Project) -> bool {
 fn is_told(view: &View<'_>, name: &str, answer: &Option<Answer>) -> bool {
     let sums = sums_of(view, name);
     match (project_named(view, name), answer) {
-        (Some(project), Some(Answer::Reply(Reply::One(records::View::Usage(lines))))) => {
+        (
+            Some(project),
+            Some(Answer::Reply(Reply::One(plain_sums::records_crate::View::Usage(lines)))),
+        ) => {
             lines.len() == 8
                 && lines
                     .view()

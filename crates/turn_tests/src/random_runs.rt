@@ -4,8 +4,8 @@ use crate::chance::Chance;
 use crate::events::{SETUP, happens};
 use crate::judging::all_stands;
 use crate::server::Server;
+use plain_sums::size_values_crate::NoMemory;
 use rest_routes::Router;
-use size_values::NoMemory;
 use std::alloc::Global;
 
 /// The seed behind the last one.

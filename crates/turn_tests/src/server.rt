@@ -1,14 +1,14 @@
 //! A server with its keeper, asked by requests of the REST API.
 
 use core_turns::Daemon;
-use host_model::Report;
-use http_heads::Request;
-use record_keeper::MapKeeper;
-use records::{Command, What};
+use core_turns::record_keeper_crate::MapKeeper;
+use plain_sums::host_model_crate::Report;
+use plain_sums::records_crate::{Command, What};
+use plain_sums::row_machine_crate::Answer;
+use plain_sums::row_readings_crate::View;
+use plain_sums::size_values_crate::{NoMemory, Seq, Text};
 use rest_routes::Router;
-use row_machine::Answer;
-use row_readings::View;
-use size_values::{NoMemory, Seq, Text};
+use rest_routes::http_heads_crate::Request;
 use std::alloc::Global;
 
 /// The moment of every turn.

@@ -1,6 +1,6 @@
 //! Lists of words of the program that serves connections, each with what it says.
+use run_words::size_values_crate::NoMemory;
 use serve_words::{ServeWords, read_serve_words, serve_setup_of};
-use size_values::NoMemory;
 use std::alloc::Global;
 
 /// What a list of words says: the port, the number of connections, of workers and of passes, and the file.

@@ -1,6 +1,6 @@
 //! Lists of words, each with what it says.
+use run_words::size_values_crate::NoMemory;
 use run_words::{CommandWords, Pace, RunWords, read_words, setup_of};
-use size_values::NoMemory;
 use std::alloc::Global;
 
 /// No moment, all steps, and no word of the start.

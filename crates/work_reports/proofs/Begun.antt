@@ -1,22 +1,22 @@
 -- The first operation that waits has calls, and one that is handed out makes it run.
 use Rattle.std.proofs.Common.{◌≡◌, ℕ, ◌<◌, List, [], ◌∷◌, ◌++◌, length, map, Option, Some, None, IsSome, refl, ap, sym, subst, ◌∙◌, arith}
 use Rattle.std.specs.Option.{option_map, option_and_then, option_to_list}
-use Rattle.size_values.specs.Moments.{moment_limit}
+use Rattle.row_sizes.specs.size_values.specs.Moments.{moment_limit}
 use Rattle.row_machine.specs.Words.{calls_of}
-use Rattle.host_model.specs.declared.call.HostCall.{HostCall}
-use Rattle.operations.specs.declared.operation.Operation.{Operation}
-use Rattle.operations.specs.declared.status.Status.TheVariants as status
-use Rattle.operations.specs.Kept.{Kept, live_at, kept_at, first_pending_of}
-use Rattle.records.specs.declared.notices.Untold.{Untold}
+use Rattle.row_machine.specs.host_model.specs.declared.call.HostCall.{HostCall}
+use Rattle.row_sizes.specs.operations.specs.declared.operation.Operation.{Operation}
+use Rattle.row_sizes.specs.operations.specs.declared.status.Status.TheVariants as status
+use Rattle.row_sizes.specs.operations.specs.Kept.{Kept, live_at, kept_at, first_pending_of}
+use Rattle.row_sizes.specs.records.specs.declared.notices.Untold.{Untold}
 use Rattle.row_machine.specs.machine.Task.{Task}
 use Rattle.row_machine.specs.machine.State.{State}
 use Rattle.row_machine.specs.machine.Step.{first_pending}
 use Rattle.row_machine.specs.machine.Work.{with_task, moved, handing_out}
 use Rattle.row_machine.specs.facts.Whole.{IsWhole, IsUnderWay, calls_out}
-use Rattle.machine_laws.proofs.Base.{live-mem, first-live}
-use Rattle.machine_laws.proofs.CancelsBegin.{live-kept}
-use Rattle.machine_laws.proofs.ChangeKinds.{first_calls-keep}
-use Rattle.machine_laws.proofs.WaitsEnding.{few-calls}
+use Rattle.row_drafts.specs.machine_laws.proofs.Base.{live-mem, first-live}
+use Rattle.row_drafts.specs.machine_laws.proofs.CancelsBegin.{live-kept}
+use Rattle.row_drafts.specs.machine_laws.proofs.ChangeKinds.{first_calls-keep}
+use Rattle.row_drafts.specs.machine_laws.proofs.WaitsEnding.{few-calls}
 use Rattle.row_drafts.specs.Background.{handed, handed_at}
 use Rattle.row_drafts.specs.declared.calls.Handing.TheVariants as handing
 use Rattle.work_reports.specs.Jobs.{IsTaken}

@@ -2,27 +2,27 @@
 use Rattle.std.proofs.Common.{◌≡◌, ℕ, ◌+◌, ◌<◌, true, List, [], ◌∷◌, ◌++◌, map, Option, Some, None, refl, ap, sym}
 use Rattle.std.proofs.Common.{subst, ◌∙◌}
 use Rattle.std.specs.Option.{option_and_then, option_map_or}
-use Rattle.size_values.specs.Moments.{moment_limit}
-use Rattle.host_model.specs.declared.call.HostCall.{HostCall}
-use Rattle.host_model.specs.declared.report.Report.{Report}
-use Rattle.host_model.specs.declared.report.Report.TheVariants as report
-use Rattle.operations.specs.Statuses.{is_live}
-use Rattle.operations.specs.declared.operation.Operation.{Operation}
-use Rattle.operations.specs.declared.operation.OpFault.{OpFault}
-use Rattle.operations.specs.declared.operation.OpFault.TheVariants as fault
-use Rattle.operations.specs.declared.status.Status.{Status}
-use Rattle.operations.specs.declared.status.Status.TheVariants as status
-use Rattle.operations.specs.Kept.{live_at, kept_at}
-use Rattle.record_keeper.specs.Store.{Store}
-use Rattle.records.specs.declared.notices.Untold.{Untold}
+use Rattle.row_sizes.specs.size_values.specs.Moments.{moment_limit}
+use Rattle.row_machine.specs.host_model.specs.declared.call.HostCall.{HostCall}
+use Rattle.row_machine.specs.host_model.specs.declared.report.Report.{Report}
+use Rattle.row_machine.specs.host_model.specs.declared.report.Report.TheVariants as report
+use Rattle.row_sizes.specs.operations.specs.Statuses.{is_live}
+use Rattle.row_sizes.specs.operations.specs.declared.operation.Operation.{Operation}
+use Rattle.row_sizes.specs.operations.specs.declared.operation.OpFault.{OpFault}
+use Rattle.row_sizes.specs.operations.specs.declared.operation.OpFault.TheVariants as fault
+use Rattle.row_sizes.specs.operations.specs.declared.status.Status.{Status}
+use Rattle.row_sizes.specs.operations.specs.declared.status.Status.TheVariants as status
+use Rattle.row_sizes.specs.operations.specs.Kept.{live_at, kept_at}
+use Rattle.row_drafts.specs.record_keeper.specs.Store.{Store}
+use Rattle.row_sizes.specs.records.specs.declared.notices.Untold.{Untold}
 use Rattle.row_machine.specs.machine.Task.{Task}
 use Rattle.row_machine.specs.machine.State.{State}
 use Rattle.row_machine.specs.machine.Work.{with_task, one_more_done, undone, failed, cancelled}
 use Rattle.row_machine.specs.facts.Whole.{IsWhole}
-use Rattle.machine_laws.proofs.Base.{live-mem, live-number}
-use Rattle.machine_laws.proofs.BooksSteps.{failure-keeps}
-use Rattle.machine_laws.proofs.ChangeKinds.{next_calls-keep, undo_calls-keep, cancelled-keeps}
-use Rattle.machine_laws.proofs.ChangeKinds.{failure-keeps as failures-keep}
+use Rattle.row_drafts.specs.machine_laws.proofs.Base.{live-mem, live-number}
+use Rattle.row_drafts.specs.machine_laws.proofs.BooksSteps.{failure-keeps}
+use Rattle.row_drafts.specs.machine_laws.proofs.ChangeKinds.{next_calls-keep, undo_calls-keep, cancelled-keeps}
+use Rattle.row_drafts.specs.machine_laws.proofs.ChangeKinds.{failure-keeps as failures-keep}
 use Rattle.row_drafts.specs.Background.{handed, handed_at}
 use Rattle.row_drafts.specs.declared.calls.Handing.TheVariants as handing
 use Rattle.work_reports.specs.Jobs.{IsReported}

@@ -2,17 +2,17 @@
 use Rattle.std.proofs.Common.{◌≡◌, ℕ, ◌+◌, ◌<◌, ◌≤◌, List, [], ◌∷◌, ◌++◌, length, map, Option, Some, Ok, Err, refl, ap}
 use Rattle.std.proofs.Common.{sym, subst, ◌∙◌, arith}
 use Rattle.std.specs.Option.{option_map_or}
-use Rattle.size_values.specs.Moments.{moment_limit}
-use Rattle.size_values.specs.declared.entry.EntryChange.{EntryChange}
-use Rattle.size_values.specs.declared.rise.Rise.{Rise}
-use Rattle.host_model.specs.declared.report.Report.TheVariants as report
-use Rattle.operations.specs.declared.operation.Operation.{Operation}
-use Rattle.operations.specs.declared.operation.OpFault.{OpFault}
-use Rattle.operations.specs.declared.operation.OpFault.TheVariants as fault
-use Rattle.operations.specs.declared.status.Status.TheVariants as status
-use Rattle.operations.specs.Kept.{Kept, live_at, kept_at}
-use Rattle.record_keeper.specs.Store.{Store}
-use Rattle.records.specs.declared.notices.Untold.{Untold}
+use Rattle.row_sizes.specs.size_values.specs.Moments.{moment_limit}
+use Rattle.row_sizes.specs.size_values.specs.declared.entry.EntryChange.{EntryChange}
+use Rattle.row_sizes.specs.size_values.specs.declared.rise.Rise.{Rise}
+use Rattle.row_machine.specs.host_model.specs.declared.report.Report.TheVariants as report
+use Rattle.row_sizes.specs.operations.specs.declared.operation.Operation.{Operation}
+use Rattle.row_sizes.specs.operations.specs.declared.operation.OpFault.{OpFault}
+use Rattle.row_sizes.specs.operations.specs.declared.operation.OpFault.TheVariants as fault
+use Rattle.row_sizes.specs.operations.specs.declared.status.Status.TheVariants as status
+use Rattle.row_sizes.specs.operations.specs.Kept.{Kept, live_at, kept_at}
+use Rattle.row_drafts.specs.record_keeper.specs.Store.{Store}
+use Rattle.row_sizes.specs.records.specs.declared.notices.Untold.{Untold}
 use Rattle.row_machine.specs.declared.changes.RowChange.{RowChange}
 use Rattle.row_machine.specs.machine.Changes.{applied}
 use Rattle.row_machine.specs.machine.Task.{Task}
@@ -21,11 +21,11 @@ use Rattle.row_machine.specs.machine.Work.{converted, ended, failed, power_after
 use Rattle.row_machine.specs.machine.Work.{with_power_after}
 use Rattle.row_machine.specs.shown.Notices.{success_notices}
 use Rattle.row_machine.specs.facts.Whole.{IsWhole}
-use Rattle.machine_laws.specs.Entries.{entry_changes}
-use Rattle.machine_laws.proofs.BooksSteps.{power-keeps}
-use Rattle.machine_laws.proofs.ChangeKinds.{success-keeps}
-use Rattle.machine_laws.proofs.NamesApplied.{applied-operations}
-use Rattle.machine_laws.proofs.NamesDeeds.{power_after-operations}
+use Rattle.row_drafts.specs.machine_laws.specs.Entries.{entry_changes}
+use Rattle.row_drafts.specs.machine_laws.proofs.BooksSteps.{power-keeps}
+use Rattle.row_drafts.specs.machine_laws.proofs.ChangeKinds.{success-keeps}
+use Rattle.row_drafts.specs.machine_laws.proofs.NamesApplied.{applied-operations}
+use Rattle.row_drafts.specs.machine_laws.proofs.NamesDeeds.{power_after-operations}
 use Rattle.work_reports.specs.Jobs.{IsReported}
 use Rattle.work_reports.specs.Waiting.{IsSilent}
 use Rattle.work_reports.specs.Reported.{CommitsSome, IsEndingOf, IsTurned}

@@ -1,17 +1,17 @@
 -- What is done for an operation that fails is what the machine says.
 use Rattle.std.proofs.Common.{◌≡◌, ℕ, Option, Some, None, IsSome, find, refl, ap, sym, subst, ◌∙◌}
 use Rattle.std.specs.Option.{option_map}
-use Rattle.operations.specs.declared.operation.Operation.{Operation}
-use Rattle.operations.specs.declared.operation.OpFault.{OpFault}
-use Rattle.operations.specs.declared.status.Status.TheVariants as status
-use Rattle.operations.specs.Kept.{has_number, live_at}
+use Rattle.row_sizes.specs.operations.specs.declared.operation.Operation.{Operation}
+use Rattle.row_sizes.specs.operations.specs.declared.operation.OpFault.{OpFault}
+use Rattle.row_sizes.specs.operations.specs.declared.status.Status.TheVariants as status
+use Rattle.row_sizes.specs.operations.specs.Kept.{has_number, live_at}
 use Rattle.row_machine.specs.machine.Task.{Task}
 use Rattle.row_machine.specs.machine.State.{State}
-use Rattle.size_values.specs.declared.kinds.Power.{Power}
+use Rattle.row_sizes.specs.size_values.specs.declared.kinds.Power.{Power}
 use Rattle.row_machine.specs.machine.Work.{after_failure, ended, failed, is_held_by, returned, with_power}
 use Rattle.row_machine.specs.facts.Whole.{IsWhole, held_by}
-use Rattle.machine_laws.proofs.Base.{live-number}
-use Rattle.machine_laws.proofs.EndsLive.{find-map}
+use Rattle.row_drafts.specs.machine_laws.proofs.Base.{live-number}
+use Rattle.row_drafts.specs.machine_laws.proofs.EndsLive.{find-map}
 
 -- the instance is broken, the operation ends, and its share goes back
 pub failed-by : (s s1 s2 s3 : State) (number : ℕ) (o : Operation Task) (why : OpFault) (count moment : ℕ) → live_at s.operations number ≡ Some o

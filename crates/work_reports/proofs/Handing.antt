@@ -2,16 +2,16 @@
 use Rattle.std.proofs.Common.{◌≡◌, ℕ, List, [], ◌∷◌, Option, Some, refl, ap, sym, ◌∙◌}
 use Rattle.std.specs.Option.{option_map, option_to_list}
 use Rattle.std.proofs.lemmas.Bool.{eq-eqb}
-use Rattle.plain_lists.proofs.EditLemmas.{find-changed}
-use Rattle.host_model.specs.declared.call.HostCall.{HostCall}
-use Rattle.host_model.specs.declared.report.Report.{Report}
-use Rattle.host_model.specs.declared.report.Report.TheVariants as report
-use Rattle.operations.specs.declared.operation.Operation.{Operation}
-use Rattle.operations.specs.declared.status.Status.{Status}
-use Rattle.operations.specs.declared.status.Status.TheVariants.{Running, Cancelling}
-use Rattle.operations.specs.Kept.{has_number, live_at, kept_at}
-use Rattle.records.specs.declared.notices.Told.TheVariants as told_as
-use Rattle.records.specs.declared.notices.Untold.{Untold}
+use Rattle.row_sizes.specs.plain_lists.proofs.EditLemmas.{find-changed}
+use Rattle.row_machine.specs.host_model.specs.declared.call.HostCall.{HostCall}
+use Rattle.row_machine.specs.host_model.specs.declared.report.Report.{Report}
+use Rattle.row_machine.specs.host_model.specs.declared.report.Report.TheVariants as report
+use Rattle.row_sizes.specs.operations.specs.declared.operation.Operation.{Operation}
+use Rattle.row_sizes.specs.operations.specs.declared.status.Status.{Status}
+use Rattle.row_sizes.specs.operations.specs.declared.status.Status.TheVariants.{Running, Cancelling}
+use Rattle.row_sizes.specs.operations.specs.Kept.{has_number, live_at, kept_at}
+use Rattle.row_sizes.specs.records.specs.declared.notices.Told.TheVariants as told_as
+use Rattle.row_sizes.specs.records.specs.declared.notices.Untold.{Untold}
 use Rattle.row_machine.specs.declared.events.Answer.TheVariants as answer
 use Rattle.row_machine.specs.declared.events.Event.TheVariants as event
 use Rattle.row_machine.specs.machine.Task.{Task}
@@ -20,7 +20,7 @@ use Rattle.row_machine.specs.machine.Accept.{and_then, told}
 use Rattle.row_machine.specs.machine.Step.{well, step, first_pending, taken, handed_out, done, reported, call_done, while_cancelling}
 use Rattle.row_machine.specs.machine.Work.{with_task, moved, handing_out, one_more_done, undone}
 use Rattle.row_machine.specs.shown.Notices.{telling, view_of}
-use Rattle.machine_laws.proofs.CancelsBegin.{live-kept}
+use Rattle.row_drafts.specs.machine_laws.proofs.CancelsBegin.{live-kept}
 use Rattle.work_reports.specs.Jobs.{IsTaken}
 
 -- the notice of an operation as it is

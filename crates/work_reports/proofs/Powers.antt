@@ -1,14 +1,14 @@
 -- A status that is given before the rows of a success are committed: where that fails, the failure gives another one.
 use Rattle.std.proofs.Common.{◌≡◌, ℕ, ◌+◌, nat_lt, Bool, true, false, ◌&&◌, cond, List, [], ◌∷◌, Option, Some, None, refl, ap, ◌∙◌, arith}
 use Rattle.std.proofs.lemmas.Bool.{lt-ltb}
-use Rattle.plain_lists.specs.Edits.{changed_first}
-use Rattle.size_values.specs.declared.kinds.Deed.{Deed}
-use Rattle.size_values.specs.declared.kinds.Deed.TheVariants as deed
-use Rattle.size_values.specs.declared.kinds.Power.{Power}
-use Rattle.size_values.specs.declared.kinds.Power.TheVariants.{Error}
-use Rattle.operations.specs.declared.operation.Operation.{Operation}
-use Rattle.operations.specs.declared.operation.OpFault.{OpFault}
-use Rattle.operations.specs.declared.status.Status.TheVariants as status
+use Rattle.row_sizes.specs.plain_lists.specs.Edits.{changed_first}
+use Rattle.row_sizes.specs.size_values.specs.declared.kinds.Deed.{Deed}
+use Rattle.row_sizes.specs.size_values.specs.declared.kinds.Deed.TheVariants as deed
+use Rattle.row_sizes.specs.size_values.specs.declared.kinds.Power.{Power}
+use Rattle.row_sizes.specs.size_values.specs.declared.kinds.Power.TheVariants.{Error}
+use Rattle.row_sizes.specs.operations.specs.declared.operation.Operation.{Operation}
+use Rattle.row_sizes.specs.operations.specs.declared.operation.OpFault.{OpFault}
+use Rattle.row_sizes.specs.operations.specs.declared.status.Status.TheVariants as status
 use Rattle.row_machine.specs.machine.Task.{Task}
 use Rattle.row_machine.specs.machine.State.{State, Standing}
 use Rattle.row_machine.specs.machine.Rows.{is_standing}

@@ -1,15 +1,15 @@
 -- What the end of an operation comes to, as one step of the machine.
 use Rattle.std.proofs.Common.{◌≡◌, ℕ, List, [], ◌∷◌, ◌++◌, Option, Some, None, refl, ap, sym, ◌∙◌}
-use Rattle.host_model.specs.declared.report.Report.{Report}
-use Rattle.host_model.specs.declared.report.Report.TheVariants as report
-use Rattle.operations.specs.declared.operation.Operation.{Operation}
-use Rattle.operations.specs.declared.operation.OpFault.{OpFault}
-use Rattle.operations.specs.declared.operation.OpFault.TheVariants as fault
-use Rattle.operations.specs.declared.status.Status.{Status}
-use Rattle.operations.specs.declared.status.Status.TheVariants as status
-use Rattle.operations.specs.Kept.{Kept, live_at, kept_at, ends}
-use Rattle.operations.specs.Facts.{AreKept}
-use Rattle.records.specs.declared.notices.Untold.{Untold}
+use Rattle.row_machine.specs.host_model.specs.declared.report.Report.{Report}
+use Rattle.row_machine.specs.host_model.specs.declared.report.Report.TheVariants as report
+use Rattle.row_sizes.specs.operations.specs.declared.operation.Operation.{Operation}
+use Rattle.row_sizes.specs.operations.specs.declared.operation.OpFault.{OpFault}
+use Rattle.row_sizes.specs.operations.specs.declared.operation.OpFault.TheVariants as fault
+use Rattle.row_sizes.specs.operations.specs.declared.status.Status.{Status}
+use Rattle.row_sizes.specs.operations.specs.declared.status.Status.TheVariants as status
+use Rattle.row_sizes.specs.operations.specs.Kept.{Kept, live_at, kept_at, ends}
+use Rattle.row_sizes.specs.operations.specs.Facts.{AreKept}
+use Rattle.row_sizes.specs.records.specs.declared.notices.Untold.{Untold}
 use Rattle.row_machine.specs.declared.events.Answer.TheVariants as answer
 use Rattle.row_machine.specs.declared.events.Event.TheVariants as event
 use Rattle.row_machine.specs.machine.Task.{Task}
@@ -18,9 +18,9 @@ use Rattle.row_machine.specs.machine.Accept.{After, and_then, told}
 use Rattle.row_machine.specs.machine.Step.{Outcome, well, step, done, reported, while_running, call_done, committed, while_cancelling, failure, success}
 use Rattle.row_machine.specs.machine.Work.{failed, succeeded, cancelled, success_changes, power_after, with_power_after}
 use Rattle.row_machine.specs.shown.Notices.{telling, success_notices}
-use Rattle.machine_laws.proofs.BooksSteps.{telling-keeps, failure-keeps, applied-same}
-use Rattle.machine_laws.proofs.EndsLive.{found-ended}
-use Rattle.machine_laws.proofs.NamesDeeds.{power_after-operations}
+use Rattle.row_drafts.specs.machine_laws.proofs.BooksSteps.{telling-keeps, failure-keeps, applied-same}
+use Rattle.row_drafts.specs.machine_laws.proofs.EndsLive.{found-ended}
+use Rattle.row_drafts.specs.machine_laws.proofs.NamesDeeds.{power_after-operations}
 use Rattle.work_reports.proofs.Handing.{notice_of, told-kept}
 
 -- an operation as it ended

@@ -1,20 +1,20 @@
 -- A report taken as one step of the machine, with what went to the store, from what was done for it.
 use Rattle.std.proofs.Common.{◌≡◌, ℕ, ◌+◌, List, [], ◌∷◌, ◌++◌, Option, Some, None, refl, ap, sym, subst, ◌∙◌}
 use Rattle.std.specs.Option.{option_map}
-use Rattle.size_values.specs.declared.entry.Entry.{Entry}
-use Rattle.size_values.specs.declared.rise.Rise.{Rise}
-use Rattle.host_model.specs.declared.call.HostCall.{HostCall}
-use Rattle.host_model.specs.declared.report.Report.{Report}
-use Rattle.host_model.specs.declared.report.Report.TheVariants as report
-use Rattle.operations.specs.declared.operation.Operation.{Operation}
-use Rattle.operations.specs.declared.operation.OpFault.{OpFault}
-use Rattle.operations.specs.declared.operation.OpFault.TheVariants as fault
-use Rattle.operations.specs.declared.status.Status.{Status}
-use Rattle.operations.specs.declared.status.Status.TheVariants as status
-use Rattle.operations.specs.Kept.{live_at}
-use Rattle.record_keeper.specs.Entries.{after_changes}
-use Rattle.record_keeper.specs.Store.{Store, FailsAtCall, IsAfterUpTo}
-use Rattle.records.specs.declared.notices.Untold.{Untold}
+use Rattle.row_sizes.specs.size_values.specs.declared.entry.Entry.{Entry}
+use Rattle.row_sizes.specs.size_values.specs.declared.rise.Rise.{Rise}
+use Rattle.row_machine.specs.host_model.specs.declared.call.HostCall.{HostCall}
+use Rattle.row_machine.specs.host_model.specs.declared.report.Report.{Report}
+use Rattle.row_machine.specs.host_model.specs.declared.report.Report.TheVariants as report
+use Rattle.row_sizes.specs.operations.specs.declared.operation.Operation.{Operation}
+use Rattle.row_sizes.specs.operations.specs.declared.operation.OpFault.{OpFault}
+use Rattle.row_sizes.specs.operations.specs.declared.operation.OpFault.TheVariants as fault
+use Rattle.row_sizes.specs.operations.specs.declared.status.Status.{Status}
+use Rattle.row_sizes.specs.operations.specs.declared.status.Status.TheVariants as status
+use Rattle.row_sizes.specs.operations.specs.Kept.{live_at}
+use Rattle.row_drafts.specs.record_keeper.specs.Entries.{after_changes}
+use Rattle.row_drafts.specs.record_keeper.specs.Store.{Store, FailsAtCall, IsAfterUpTo}
+use Rattle.row_sizes.specs.records.specs.declared.notices.Untold.{Untold}
 use Rattle.row_machine.specs.declared.changes.RowChange.{RowChange}
 use Rattle.row_machine.specs.declared.events.Event.TheVariants as event
 use Rattle.row_machine.specs.declared.events.Answer.TheVariants as answer
@@ -26,9 +26,9 @@ use Rattle.row_machine.specs.machine.Work.{with_task, one_more_done, undone, fai
 use Rattle.row_machine.specs.opening.Records.{records_of}
 use Rattle.row_machine.specs.shown.Notices.{telling, success_notices}
 use Rattle.row_machine.specs.facts.Whole.{IsWhole}
-use Rattle.machine_laws.specs.Entries.{entry_changes}
-use Rattle.machine_laws.proofs.BooksSteps.{failure-keeps}
-use Rattle.machine_laws.proofs.RecordsKept.{successes-follow}
+use Rattle.row_drafts.specs.machine_laws.specs.Entries.{entry_changes}
+use Rattle.row_drafts.specs.machine_laws.proofs.BooksSteps.{failure-keeps}
+use Rattle.row_drafts.specs.machine_laws.proofs.RecordsKept.{successes-follow}
 use Rattle.work_reports.specs.Jobs.{changes_reported, changes_by, changes_while, changes_at_last, answer_of, IsReported}
 use Rattle.work_reports.specs.Stores.{Stores}
 use Rattle.work_reports.specs.declared.jobs.Turned.{Turned}

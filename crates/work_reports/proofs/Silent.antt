@@ -3,7 +3,7 @@ use Rattle.std.proofs.Common.{List, ◌∙◌, ap}
 use Rattle.row_machine.specs.declared.changes.RowChange.{RowChange}
 use Rattle.row_machine.specs.machine.State.{State}
 use Rattle.row_machine.specs.machine.Changes.{applied}
-use Rattle.machine_laws.proofs.SizesSteps.{applied-notices}
+use Rattle.row_drafts.specs.machine_laws.proofs.SizesSteps.{applied-notices}
 use Rattle.work_reports.specs.Waiting.{IsSilent}
 
 pub applied-silent : (cs : List RowChange) (s : State) → IsSilent s → IsSilent (applied s cs)

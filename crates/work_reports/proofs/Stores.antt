@@ -1,6 +1,6 @@
 -- What a call to the store leaves as it was.
 use Rattle.std.proofs.Common.{◌≡◌, ap, inl, inr}
-use Rattle.record_keeper.specs.Store.{Store, IsAfterUpTo}
+use Rattle.row_drafts.specs.record_keeper.specs.Store.{Store, IsAfterUpTo}
 
 -- at most one call leaves the count of failures
 pub failures-same : (store store' : Store) → IsAfterUpTo 1 store store' → store'.failures ≡ store.failures

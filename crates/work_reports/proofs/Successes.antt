@@ -4,17 +4,17 @@ use Rattle.std.proofs.Common.{inr, true, false, arith}
 use Rattle.std.specs.List.{AllByRecursion}
 use Rattle.std.specs.Option.{option_map}
 use Rattle.std.proofs.lemmas.List.{length-map}
-use Rattle.plain_lists.proofs.Elements.{Each-map}
-use Rattle.size_values.specs.declared.entry.Entry.{Entry}
-use Rattle.size_values.specs.declared.entry.EntryChange.{EntryChange}
-use Rattle.size_values.specs.declared.kinds.Action.TheVariants as action
-use Rattle.size_values.specs.declared.kinds.Deed.{Deed}
-use Rattle.size_values.specs.declared.kinds.Deed.TheVariants as deed
-use Rattle.operations.specs.declared.operation.Operation.{Operation}
-use Rattle.operations.specs.declared.operation.OpFault.TheVariants as fault
-use Rattle.operations.specs.Kept.{live_at}
-use Rattle.record_keeper.specs.Store.{Store, FailsAtCall, IsAfterUpTo}
-use Rattle.record_keeper.specs.Entries.{after_changes}
+use Rattle.row_sizes.specs.plain_lists.proofs.Elements.{Each-map}
+use Rattle.row_sizes.specs.size_values.specs.declared.entry.Entry.{Entry}
+use Rattle.row_sizes.specs.size_values.specs.declared.entry.EntryChange.{EntryChange}
+use Rattle.row_sizes.specs.size_values.specs.declared.kinds.Action.TheVariants as action
+use Rattle.row_sizes.specs.size_values.specs.declared.kinds.Deed.{Deed}
+use Rattle.row_sizes.specs.size_values.specs.declared.kinds.Deed.TheVariants as deed
+use Rattle.row_sizes.specs.operations.specs.declared.operation.Operation.{Operation}
+use Rattle.row_sizes.specs.operations.specs.declared.operation.OpFault.TheVariants as fault
+use Rattle.row_sizes.specs.operations.specs.Kept.{live_at}
+use Rattle.row_drafts.specs.record_keeper.specs.Store.{Store, FailsAtCall, IsAfterUpTo}
+use Rattle.row_drafts.specs.record_keeper.specs.Entries.{after_changes}
 use Rattle.row_sizes.proofs.ShortParts.{short-parts}
 use Rattle.row_machine.specs.declared.changes.RowChange.{RowChange}
 use Rattle.row_machine.specs.machine.Task.{Task}
@@ -23,10 +23,10 @@ use Rattle.row_machine.specs.machine.Step.{well, no_memory}
 use Rattle.row_machine.specs.machine.Work.{success_changes}
 use Rattle.row_machine.specs.shown.Notices.{deed_lives, life_notice, object_told, success_notices}
 use Rattle.row_machine.specs.facts.Whole.{IsWhole}
-use Rattle.machine_laws.specs.Entries.{entry_changes}
-use Rattle.machine_laws.proofs.NamesDeeds.{success-ready}
-use Rattle.machine_laws.proofs.SizesDeeds.{deed-small}
-use Rattle.machine_laws.proofs.SizesSteps.{sized}
+use Rattle.row_drafts.specs.machine_laws.specs.Entries.{entry_changes}
+use Rattle.row_drafts.specs.machine_laws.proofs.NamesDeeds.{success-ready}
+use Rattle.row_drafts.specs.machine_laws.proofs.SizesDeeds.{deed-small}
+use Rattle.row_drafts.specs.machine_laws.proofs.SizesSteps.{sized}
 use Rattle.work_reports.specs.Entries.{HasEntry}
 use Rattle.work_reports.specs.Reported.{CommitsSome}
 use Rattle.work_reports.specs.Stores.{Stores}

@@ -2,19 +2,19 @@
 use Rattle.std.proofs.Common.{◌≡◌, ℕ, ◌+◌, ◌<◌, List, [], ◌∷◌, Option, Some, None, IsSome}
 use Rattle.std.proofs.Common.{IfSome, refl, sym, subst, arith}
 use Rattle.std.specs.Option.{option_map_or}
-use Rattle.host_model.specs.declared.call.HostCall.{HostCall}
-use Rattle.host_model.specs.declared.report.Report.{Report}
-use Rattle.host_model.specs.declared.report.Report.TheVariants as report
-use Rattle.operations.specs.declared.operation.Operation.{Operation}
-use Rattle.operations.specs.declared.operation.OpFault.{OpFault}
-use Rattle.operations.specs.declared.status.Status.{Status}
-use Rattle.operations.specs.declared.status.Status.TheVariants as status
-use Rattle.operations.specs.Kept.{live_at}
+use Rattle.row_machine.specs.host_model.specs.declared.call.HostCall.{HostCall}
+use Rattle.row_machine.specs.host_model.specs.declared.report.Report.{Report}
+use Rattle.row_machine.specs.host_model.specs.declared.report.Report.TheVariants as report
+use Rattle.row_sizes.specs.operations.specs.declared.operation.Operation.{Operation}
+use Rattle.row_sizes.specs.operations.specs.declared.operation.OpFault.{OpFault}
+use Rattle.row_sizes.specs.operations.specs.declared.status.Status.{Status}
+use Rattle.row_sizes.specs.operations.specs.declared.status.Status.TheVariants as status
+use Rattle.row_sizes.specs.operations.specs.Kept.{live_at}
 use Rattle.row_machine.specs.machine.Task.{Task}
 use Rattle.row_machine.specs.machine.State.{State}
 use Rattle.row_machine.specs.facts.Whole.{IsWhole, IsUnderWay}
-use Rattle.machine_laws.proofs.Base.{live-mem, live-number}
-use Rattle.machine_laws.proofs.WaitsEnding.{few-calls}
+use Rattle.row_drafts.specs.machine_laws.proofs.Base.{live-mem, live-number}
+use Rattle.row_drafts.specs.machine_laws.proofs.WaitsEnding.{few-calls}
 use Rattle.row_drafts.specs.Background.{HasCount, HasCountAt}
 use Rattle.row_drafts.specs.declared.calls.Handing.TheVariants as handing
 use Rattle.work_reports.specs.Turns.{turn_of, turn_while, turn_done, turn_cancelling}

@@ -1,9 +1,9 @@
 -- Rows that have entries.
 use Rattle.std.proofs.Common.{[], ◌∷◌, List}
 use Rattle.std.specs.List.{AllByRecursion}
-use Rattle.plain_lists.specs.Members.{Each}
-use Rattle.plain_lists.proofs.Elements.{Each-head, Each-tail}
-use Rattle.row_codec.specs.Rows.{HasGoodKey, HasMoments, HasShortParts}
+use Rattle.row_sizes.specs.plain_lists.specs.Members.{Each}
+use Rattle.row_sizes.specs.plain_lists.proofs.Elements.{Each-head, Each-tail}
+use Rattle.row_sizes.specs.row_codec.specs.Rows.{HasGoodKey, HasMoments, HasShortParts}
 use Rattle.row_machine.specs.declared.changes.RowChange.{RowChange}
 use Rattle.row_machine.specs.declared.changes.RowChange.TheVariants as change
 use Rattle.row_machine.specs.machine.Changes.{rows_put}

@@ -1,5 +1,5 @@
 -- What can be written as an entry.
-use Rattle.row_codec.specs.Rows.{HasGoodKey, HasMoments, HasShortParts}
+use Rattle.row_sizes.specs.row_codec.specs.Rows.{HasGoodKey, HasMoments, HasShortParts}
 use Rattle.row_machine.specs.declared.changes.RowChange.{RowChange}
 use Rattle.row_machine.specs.declared.changes.RowChange.TheVariants as change
 

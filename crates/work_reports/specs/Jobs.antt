@@ -1,14 +1,14 @@
 -- The jobs of a worker: a call that an operation hands out, and what the report of one makes of the rows.
 use Rattle.std.specs.Prelude.{◌≡◌, ℕ, List, [], ◌∷◌, Option, Some, None}
-use Rattle.host_model.specs.declared.call.HostCall.{HostCall}
-use Rattle.host_model.specs.declared.report.Report.{Report}
-use Rattle.host_model.specs.declared.report.Report.TheVariants as report
-use Rattle.operations.specs.declared.operation.Operation.{Operation}
-use Rattle.operations.specs.declared.status.Status.{Status}
-use Rattle.operations.specs.declared.status.Status.TheVariants.{Running}
-use Rattle.operations.specs.Kept.{live_at}
-use Rattle.record_keeper.specs.Store.{Store}
-use Rattle.records.specs.declared.notices.Untold.{Untold}
+use Rattle.row_machine.specs.host_model.specs.declared.call.HostCall.{HostCall}
+use Rattle.row_machine.specs.host_model.specs.declared.report.Report.{Report}
+use Rattle.row_machine.specs.host_model.specs.declared.report.Report.TheVariants as report
+use Rattle.row_sizes.specs.operations.specs.declared.operation.Operation.{Operation}
+use Rattle.row_sizes.specs.operations.specs.declared.status.Status.{Status}
+use Rattle.row_sizes.specs.operations.specs.declared.status.Status.TheVariants.{Running}
+use Rattle.row_sizes.specs.operations.specs.Kept.{live_at}
+use Rattle.row_drafts.specs.record_keeper.specs.Store.{Store}
+use Rattle.row_sizes.specs.records.specs.declared.notices.Untold.{Untold}
 use Rattle.row_machine.specs.declared.changes.RowChange.{RowChange}
 use Rattle.row_machine.specs.declared.events.Answer.{Answer}
 use Rattle.row_machine.specs.declared.events.Answer.TheVariants as answer

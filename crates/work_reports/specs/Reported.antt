@@ -1,16 +1,16 @@
 -- The parts of a report: what a success needs, what its commit did to the store, and what a report comes to.
 use Rattle.std.specs.Prelude.{◌≡◌, ℕ, List, [], ◌∷◌, map, Result, Ok, Err}
-use Rattle.host_model.specs.declared.report.Report.{Report}
-use Rattle.operations.specs.declared.operation.OpFault.{OpFault}
-use Rattle.operations.specs.declared.operation.OpFault.TheVariants as fault
-use Rattle.record_keeper.specs.Store.{Store, FailsAtCall, IsAfterUpTo, after_commit}
-use Rattle.size_values.specs.declared.entry.EntryChange.{EntryChange}
+use Rattle.row_machine.specs.host_model.specs.declared.report.Report.{Report}
+use Rattle.row_sizes.specs.operations.specs.declared.operation.OpFault.{OpFault}
+use Rattle.row_sizes.specs.operations.specs.declared.operation.OpFault.TheVariants as fault
+use Rattle.row_drafts.specs.record_keeper.specs.Store.{Store, FailsAtCall, IsAfterUpTo, after_commit}
+use Rattle.row_sizes.specs.size_values.specs.declared.entry.EntryChange.{EntryChange}
 use Rattle.row_machine.specs.machine.Task.{Task}
 use Rattle.row_machine.specs.machine.State.{State}
 use Rattle.row_machine.specs.machine.Work.{power_after, success_changes}
 use Rattle.row_machine.specs.shown.Notices.{success_notices}
 use Rattle.row_machine.specs.facts.Whole.{IsWhole}
-use Rattle.machine_laws.specs.Entries.{entry_changes}
+use Rattle.row_drafts.specs.machine_laws.specs.Entries.{entry_changes}
 use Rattle.work_reports.specs.Jobs.{IsReported}
 use Rattle.work_reports.specs.Waiting.{IsSilent}
 use Rattle.work_reports.specs.Waiting.{told_by}

@@ -1,12 +1,12 @@
 -- What changes of rows do to the store that keeps them.
 use Rattle.std.specs.Prelude.{◌≡◌, ◌≤◌, ℕ, List, [], ◌∷◌, Option, option_map}
-use Rattle.size_values.specs.declared.entry.Entry.{Entry}
-use Rattle.record_keeper.specs.Store.{Store, FailsAtCall, IsAfterUpTo, after_commit}
+use Rattle.row_sizes.specs.size_values.specs.declared.entry.Entry.{Entry}
+use Rattle.row_drafts.specs.record_keeper.specs.Store.{Store, FailsAtCall, IsAfterUpTo, after_commit}
 use Rattle.row_machine.specs.declared.changes.RowChange.{RowChange}
 use Rattle.row_machine.specs.opening.Records.{records_of}
 use Rattle.row_machine.specs.machine.State.{State}
 use Rattle.row_machine.specs.machine.Step.{Outcome, well, keeper_failed, no_memory}
-use Rattle.machine_laws.specs.Entries.{entry_changes}
+use Rattle.row_drafts.specs.machine_laws.specs.Entries.{entry_changes}
 
 -- The keeper's count of failures bears the outcome out: where the keeper failed it rose from before to now (that it rose is part
 -- of the outcome), and else it is as it was.

@@ -1,14 +1,14 @@
 -- The parts of a job: a first call that is handed out, and what waits to be told of an operation.
 use Rattle.std.specs.Prelude.{◌≡◌, ℕ, ◌+◌, List, [], ◌∷◌, Option, Some, None, option_map}
 use Rattle.std.specs.Option.{option_to_list}
-use Rattle.host_model.specs.declared.call.HostCall.{HostCall}
-use Rattle.operations.specs.declared.operation.Operation.{Operation}
-use Rattle.host_model.specs.declared.report.Report.{Report}
-use Rattle.host_model.specs.declared.report.Report.TheVariants as report
-use Rattle.operations.specs.declared.operation.OpFault.TheVariants as fault
-use Rattle.operations.specs.declared.status.Status.{Status}
-use Rattle.operations.specs.declared.status.Status.TheVariants.{Running, Cancelling}
-use Rattle.operations.specs.Kept.{Kept, kept_at}
+use Rattle.row_machine.specs.host_model.specs.declared.call.HostCall.{HostCall}
+use Rattle.row_sizes.specs.operations.specs.declared.operation.Operation.{Operation}
+use Rattle.row_machine.specs.host_model.specs.declared.report.Report.{Report}
+use Rattle.row_machine.specs.host_model.specs.declared.report.Report.TheVariants as report
+use Rattle.row_sizes.specs.operations.specs.declared.operation.OpFault.TheVariants as fault
+use Rattle.row_sizes.specs.operations.specs.declared.status.Status.{Status}
+use Rattle.row_sizes.specs.operations.specs.declared.status.Status.TheVariants.{Running, Cancelling}
+use Rattle.row_sizes.specs.operations.specs.Kept.{Kept, kept_at}
 use Rattle.row_machine.specs.machine.Task.{Task}
 use Rattle.row_machine.specs.machine.State.{State}
 use Rattle.row_machine.specs.machine.Step.{first_pending}

@@ -2,12 +2,12 @@
 -- operation as it is kept. These two never change.
 use Rattle.std.specs.Prelude.{◌≡◌, ℕ, List, [], Option}
 use Rattle.std.specs.Option.{option_map_or}
-use Rattle.size_values.specs.declared.kinds.ObjectKind.TheVariants as kind
-use Rattle.operations.specs.declared.operation.Operation.{Operation}
-use Rattle.operations.specs.Kept.{Kept, kept_at}
-use Rattle.records.specs.declared.commands.Target.{Target}
-use Rattle.records.specs.declared.notices.Told.TheVariants as told
-use Rattle.records.specs.declared.notices.Untold.{Untold}
+use Rattle.row_sizes.specs.size_values.specs.declared.kinds.ObjectKind.TheVariants as kind
+use Rattle.row_sizes.specs.operations.specs.declared.operation.Operation.{Operation}
+use Rattle.row_sizes.specs.operations.specs.Kept.{Kept, kept_at}
+use Rattle.row_sizes.specs.records.specs.declared.commands.Target.{Target}
+use Rattle.row_sizes.specs.records.specs.declared.notices.Told.TheVariants as told
+use Rattle.row_sizes.specs.records.specs.declared.notices.Untold.{Untold}
 use Rattle.row_machine.specs.machine.Task.{Task}
 use Rattle.row_machine.specs.machine.State.{State}
 use Rattle.work_reports.specs.declared.waiting.Shown.{Shown}

@@ -1,18 +1,18 @@
 //! The ends of operations that fail or were cancelled. None of it takes memory.
 ghost use Rattle.std.specs.Prelude.{◌≡◌, [], Some, IsSome, false, find};
 ghost use Rattle.std.specs.Option.{option_map_or};
-ghost use Rattle.operations.specs.Kept.{live_at};
-ghost use Rattle.operations.specs.declared.operation.Operation.{Operation as OperationValue};
+ghost use Rattle.row_sizes.specs.operations.specs.Kept.{live_at};
+ghost use Rattle.row_sizes.specs.operations.specs.declared.operation.Operation.{Operation as OperationValue};
 ghost use Rattle.row_machine.specs.machine.Deeds.{breaks_instance};
 ghost use Rattle.row_machine.specs.machine.Task.{Task};
 ghost use Rattle.row_machine.specs.machine.Work.{after_failure, cancelled, failed, is_held_by};
 
 use crate::turns::live_at;
-use operations::{OpFault, Status};
 use row_drafts::Draft;
-use row_readings::View;
-use size_values::Power;
+use row_sizes::operations_crate::{OpFault, Status};
+use row_sizes::size_values_crate::Power;
 use task_ends::breaks_instance;
+use task_ends::row_readings_crate::View;
 
 /// Whether a failure of the live operation of a number leaves its instance in an unknown state.
 fn breaks_at(view: &View<'_>, number: u64) -> bool

@@ -2,14 +2,14 @@
 ghost use Rattle.std.specs.Prelude.{◌≡◌, IfOk};
 ghost use Rattle.std.specs.List.{AllByRecursion};
 ghost use Rattle.row_machine.specs.machine.NewRows.{default_profile};
-ghost use Rattle.machine_laws.specs.Entries.{number_of, entry_change, entry_changes};
+ghost use Rattle.row_drafts.specs.machine_laws.specs.Entries.{number_of, entry_change, entry_changes};
 ghost use Rattle.work_reports.specs.Entries.{HasEntry};
 
-use config_lists::{Config, Devices};
-use records::Profile;
-use row_codec::encode;
 use row_machine::RowChange;
-use size_values::{EntryChange, NoMemory, ObjectKind, Seq, Text};
+use row_sizes::config_lists_crate::{Config, Devices};
+use row_sizes::records_crate::Profile;
+use row_sizes::row_codec_crate::encode;
+use row_sizes::size_values_crate::{EntryChange, NoMemory, ObjectKind, Seq, Text};
 use std::alloc::Global;
 
 /// The number that entries of a kind have.

@@ -1,18 +1,18 @@
 //! The jobs of a worker: calls on the host that operations hand out, and what their reports make of the rows.
 ghost use Rattle.std.specs.Prelude.{◌≡◌, ◌<◌, ◌≤◌, ◌++◌, [], Some, find, vec_len, vec_capacity};
 ghost use Rattle.std.specs.Option.{option_copied};
-ghost use Rattle.operations.specs.Statuses.{is_pending};
-ghost use Rattle.operations.specs.Kept.{first_pending_of};
+ghost use Rattle.row_sizes.specs.operations.specs.Statuses.{is_pending};
+ghost use Rattle.row_sizes.specs.operations.specs.Kept.{first_pending_of};
 ghost use Rattle.row_machine.specs.facts.Whole.{IsWhole};
 ghost use Rattle.work_reports.specs.Turns.{shown_as, shown_at, IsBegun};
 
 use crate::waiting::{Shown, Waiting};
-use host_model::HostCall;
-use operations::{Operation, Status};
-use plain_lists::push_reserved;
 use row_drafts::Draft;
 use row_machine::Work;
-use row_readings::{View, kept_at};
+use row_machine::host_model_crate::HostCall;
+use row_sizes::operations_crate::{Operation, Status};
+use row_sizes::plain_lists_crate::push_reserved;
+use task_ends::row_readings_crate::{View, kept_at};
 
 /// What a report comes to.
 #[derive(Drop)]

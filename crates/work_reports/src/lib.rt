@@ -2,6 +2,14 @@
 //! out the next one or ends the operation. And the notices that wait to be taken meanwhile.
 #![tactic(auto)]
 
+// The libraries that crates above name through this one.
+pub use row_drafts as row_drafts_crate;
+pub use row_drafts::record_keeper_crate;
+pub use row_machine as row_machine_crate;
+pub use row_machine::reservations_crate;
+pub use row_sizes::{operations_crate, size_values_crate};
+pub use task_ends::row_readings_crate;
+
 mod ends;
 mod entries;
 mod jobs;

@@ -1,13 +1,13 @@
 //! What the report of a call makes of the rows: the next call is handed out, or the operation ends.
 ghost use Rattle.std.specs.Prelude.{◌≡◌, ◌+◌, ◌<◌, ◌≤◌, ◌++◌, [], Some, IsSome, find, vec_len, vec_capacity};
 ghost use Rattle.std.specs.Option.{option_map_or};
-ghost use Rattle.host_model.specs.declared.report.Report.TheVariants as report_of;
-ghost use Rattle.operations.specs.Kept.{live_at};
-ghost use Rattle.operations.specs.declared.operation.Operation.{Operation as OperationValue};
+ghost use Rattle.row_machine.specs.host_model.specs.declared.report.Report.TheVariants as report_of;
+ghost use Rattle.row_sizes.specs.operations.specs.Kept.{live_at};
+ghost use Rattle.row_sizes.specs.operations.specs.declared.operation.Operation.{Operation as OperationValue};
 ghost use Rattle.row_machine.specs.facts.Whole.{IsWhole};
 ghost use Rattle.row_machine.specs.machine.Task.{Task};
 ghost use Rattle.row_machine.specs.machine.Work.{cancelled, failed, is_held_by};
-ghost use Rattle.size_values.specs.Moments.{moment_limit};
+ghost use Rattle.row_sizes.specs.size_values.specs.Moments.{moment_limit};
 ghost use Rattle.work_reports.specs.Waiting.{IsSilent, untold_limit};
 ghost use Rattle.work_reports.specs.Reported.{IsTurned};
 ghost use Rattle.work_reports.specs.Turns.{shown_at, turn_of};
@@ -19,12 +19,12 @@ use crate::jobs::{Turned, tell};
 use crate::success::{carry_out, make_ending, succeed};
 use crate::turns::{Turn, live_at, turn_of};
 use crate::waiting::Waiting;
-use host_model::Report;
-use operations::OpFault;
-use record_keeper::Keeper;
 use row_drafts::Draft;
-use row_readings::View;
+use row_drafts::record_keeper_crate::Keeper;
+use row_machine::host_model_crate::Report;
+use row_sizes::operations_crate::OpFault;
 use std::alloc::Global;
+use task_ends::row_readings_crate::View;
 
 /// How many calls of the live operation of a number were done.
 fn calls_done(view: &View<'_>, number: u64) -> u32

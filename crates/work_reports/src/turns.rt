@@ -1,15 +1,15 @@
 //! What comes of the report of a call, before anything changes.
 ghost use Rattle.std.specs.Prelude.{◌≡◌, ◌+◌, ◌<◌, IfSome};
 ghost use Rattle.std.specs.Option.{option_copied};
-ghost use Rattle.operations.specs.Kept.{live_at};
-ghost use Rattle.operations.specs.declared.operation.Operation.{Operation as OperationValue};
+ghost use Rattle.row_sizes.specs.operations.specs.Kept.{live_at};
+ghost use Rattle.row_sizes.specs.operations.specs.declared.operation.Operation.{Operation as OperationValue};
 ghost use Rattle.row_machine.specs.machine.Task.{Task};
 ghost use Rattle.work_reports.specs.Turns.{turn_running, turn_cancelling, turn_while, turn_of};
 
-use host_model::{HostCall, Report};
-use operations::{OpFault, Operation, Status};
 use row_machine::Work;
-use row_readings::View;
+use row_machine::host_model_crate::{HostCall, Report};
+use row_sizes::operations_crate::{OpFault, Operation, Status};
+use task_ends::row_readings_crate::View;
 
 /// What comes of the report of a call.
 #[derive(Clone, Copy)]

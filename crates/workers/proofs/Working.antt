@@ -1,17 +1,17 @@
 -- What a worker does at its post, from what its parts ensure.
 use Rattle.std.proofs.Common.{◌≡◌, ◌≤◌, ◌<◌, ◌+◌, ℕ, [], ◌∷◌, refl}
-use Rattle.size_values.specs.Moments.{moment_limit}
-use Rattle.host_model.specs.declared.call.HostCall.{HostCall}
-use Rattle.host_model.specs.declared.report.Report.{Report}
-use Rattle.host_model.specs.Reports.{roots_after, CarriesCounts}
-use Rattle.http_front.specs.Clocks.{Readings, Reads}
-use Rattle.row_machine.specs.declared.events.Answer.{Answer}
-use Rattle.row_machine.specs.declared.events.Event.TheVariants as event
-use Rattle.serial_steps.specs.Steps.{Hosted}
-use Rattle.serial_steps.proofs.Stepping.{has-cause}
-use Rattle.gate_trails.specs.Gates.{Seen, Walk}
-use Rattle.gate_trails.specs.Trails.{RestsTold, TurnsTold, capped}
-use Rattle.gate_trails.proofs.Walking.{walk-rest, walk-turn}
+use Rattle.gate_answers.specs.size_values.specs.Moments.{moment_limit}
+use Rattle.gate_answers.specs.host_model.specs.declared.call.HostCall.{HostCall}
+use Rattle.gate_answers.specs.host_model.specs.declared.report.Report.{Report}
+use Rattle.gate_answers.specs.host_model.specs.Reports.{roots_after, CarriesCounts}
+use Rattle.gate_answers.specs.http_front.specs.Clocks.{Readings, Reads}
+use Rattle.gate_answers.specs.row_machine.specs.declared.events.Answer.{Answer}
+use Rattle.gate_answers.specs.row_machine.specs.declared.events.Event.TheVariants as event
+use Rattle.gate_answers.specs.serial_steps.specs.Steps.{Hosted}
+use Rattle.gate_answers.specs.serial_steps.proofs.Stepping.{has-cause}
+use Rattle.gate_answers.specs.gate_trails.specs.Gates.{Seen, Walk}
+use Rattle.gate_answers.specs.gate_trails.specs.Trails.{RestsTold, TurnsTold, capped}
+use Rattle.gate_answers.specs.gate_trails.proofs.Walking.{walk-rest, walk-turn}
 use Rattle.workers.specs.Work.{Gets, GoesOn, WorkBy, standing}
 use Rattle.workers.specs.declared.worker.Post.{Post}
 use Rattle.workers.specs.declared.worker.Post.TheVariants as post

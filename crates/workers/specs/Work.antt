@@ -1,15 +1,15 @@
 -- A worker: it asks for calls of background operations, makes them on a host, and reports of them, one after the other.
 use Rattle.std.specs.Prelude.{◌≡◌, ◌≤◌, ℕ}
-use Rattle.host_model.specs.declared.call.HostCall.{HostCall}
-use Rattle.host_model.specs.declared.report.Report.{Report}
-use Rattle.host_model.specs.Reports.{roots_after, CarriesCounts}
-use Rattle.http_front.specs.Clocks.{Readings}
-use Rattle.row_machine.specs.declared.events.Answer.{Answer}
-use Rattle.row_machine.specs.declared.events.Answer.TheVariants as answer
-use Rattle.row_machine.specs.declared.events.Event.{Event}
-use Rattle.row_machine.specs.declared.events.Event.TheVariants as event
-use Rattle.serial_steps.specs.Steps.{HasCause, Hosted}
-use Rattle.gate_trails.specs.Trails.{Item, rest, turn}
+use Rattle.gate_answers.specs.host_model.specs.declared.call.HostCall.{HostCall}
+use Rattle.gate_answers.specs.host_model.specs.declared.report.Report.{Report}
+use Rattle.gate_answers.specs.host_model.specs.Reports.{roots_after, CarriesCounts}
+use Rattle.gate_answers.specs.http_front.specs.Clocks.{Readings}
+use Rattle.gate_answers.specs.row_machine.specs.declared.events.Answer.{Answer}
+use Rattle.gate_answers.specs.row_machine.specs.declared.events.Answer.TheVariants as answer
+use Rattle.gate_answers.specs.row_machine.specs.declared.events.Event.{Event}
+use Rattle.gate_answers.specs.row_machine.specs.declared.events.Event.TheVariants as event
+use Rattle.gate_answers.specs.serial_steps.specs.Steps.{HasCause, Hosted}
+use Rattle.gate_answers.specs.gate_trails.specs.Trails.{Item, rest, turn}
 use Rattle.gate_answers.specs.Moments.{IsRead}
 use Rattle.workers.specs.declared.worker.Post.{Post}
 use Rattle.workers.specs.declared.worker.Post.TheVariants as post

@@ -1,16 +1,16 @@
 //! A worker, and what it has to do next.
 ghost use Rattle.std.specs.Prelude.{◌≡◌};
-ghost use Rattle.http_front.specs.Clocks.{Readings};
-ghost use Rattle.serial_steps.specs.Steps.{Hosted, hosted};
-ghost use Rattle.gate_trails.specs.Gates.{Walk, seen};
+ghost use Rattle.gate_answers.specs.http_front.specs.Clocks.{Readings};
+ghost use Rattle.gate_answers.specs.serial_steps.specs.Steps.{Hosted, hosted};
+ghost use Rattle.gate_answers.specs.gate_trails.specs.Gates.{Walk, seen};
 ghost use Rattle.gate_answers.specs.Answers.{IsForReporter, IsForTaker};
 ghost use Rattle.workers.specs.Work.{Gets, GoesOn, WorkBy, standing};
 ghost use Rattle.workers.specs.declared.worker.Post.TheVariants as post_of;
 
-use gate_trails::Gate;
-use host_model::{Host, HostCall, perform};
-use http_front::Clock;
-use row_machine::{Answer, Event};
+use gate_answers::gate_trails_crate::Gate;
+use gate_answers::host_model_crate::{Host, HostCall, perform};
+use gate_answers::http_front_crate::Clock;
+use gate_answers::row_machine_crate::{Answer, Event};
 use std::sync::Wait;
 
 /// What a worker has to do next.

@@ -1,2 +1,4 @@
+-- The libraries whose words crates above name through this one.
+pub use Rattle.size_values as size_values
 pub mod Stream
 pub mod Summary

@@ -10,9 +10,9 @@ use Rattle.row_machine.specs.Words.kind
 use Rattle.row_machine.specs.Words.status
 use Rattle.row_machine.specs.machine.Deeds.{keeps_name, has_target, claim_kind, replaces_target, target_kind}
 use Rattle.row_machine.specs.machine.Deeds.{has_source}
-use Rattle.operations.specs.declared.operation.Operation.{Operation}
-use Rattle.records.specs.declared.rows.Project.{Project}
-use Rattle.records.specs.declared.rows.Instance.{Instance}
+use Rattle.row_codec.specs.operations.specs.declared.operation.Operation.{Operation}
+use Rattle.row_codec.specs.records.specs.declared.rows.Project.{Project}
+use Rattle.row_codec.specs.records.specs.declared.rows.Instance.{Instance}
 use Rattle.row_machine.specs.machine.Task.{Task}
 use Rattle.reservations.specs.declared.books.Hold.{Hold}
 use Rattle.row_machine.specs.machine.State.{State}

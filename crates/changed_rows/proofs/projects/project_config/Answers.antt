@@ -1,6 +1,6 @@
 use Rattle.std.proofs.Common.{ap, ◌∙◌}
 use Rattle.std.specs.Prelude.{codes}
-use Rattle.row_machine.specs.machine.NewRows.{feature_on}
+use Rattle.new_rows.specs.row_machine.specs.machine.NewRows.{feature_on}
 use Rattle.changed_rows.proofs.projects.project_config.Goals as goal
 
 pub returns : goal.returns

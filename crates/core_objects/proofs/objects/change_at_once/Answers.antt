@@ -1,7 +1,7 @@
 use Rattle.std.proofs.Common.{◌≡◌, subst, sym, ap, ◌∙◌, None}
-use Rattle.size_values.specs.declared.memory.Or.TheVariants as or
-use Rattle.row_machine.specs.shown.Notices.{change_notices}
-use Rattle.row_machine.specs.machine.Plans.{plan_of}
+use Rattle.name_rules.specs.size_values.specs.declared.memory.Or.TheVariants as or
+use Rattle.name_rules.specs.row_machine.specs.shown.Notices.{change_notices}
+use Rattle.name_rules.specs.row_machine.specs.machine.Plans.{plan_of}
 use Rattle.object_plans.specs.Planning.{IsPlanned, changes_in}
 use Rattle.core_rows.proofs.Following.{follows-why}
 use Rattle.core_objects.proofs.FirstRules.{both-free}

@@ -2,7 +2,7 @@ use Rattle.std.proofs.Common.{◌≡◌, get_or, rules}
 use Rattle.event_sessions.specs.Frames.{text_frame}
 use Rattle.event_sessions.proofs.Hearing.{front_at}
 use Rattle.event_sessions.proofs.Taking.{front_broken, front_same, rose_after}
-use Rattle.rest_replies.specs.Notices.{notice_text}
+use Rattle.gate_replies.specs.rest_replies.specs.Notices.{notice_text}
 use Rattle.event_sessions.proofs.frames.send_notices.Goals as goal
 
 pub returns-in-WriteFault : goal.returns-in-WriteFault

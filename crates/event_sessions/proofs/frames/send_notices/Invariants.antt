@@ -1,5 +1,5 @@
 use Rattle.std.proofs.Common.{take}
-use Rattle.rest_answers.specs.Links.{Takes, outlet}
+use Rattle.gate_replies.specs.rest_answers.specs.Links.{Takes, outlet}
 use Rattle.event_sessions.specs.Sessions.{frames_of}
 use Rattle.event_sessions.proofs.frames.send_notices.Given as goal
 

@@ -3,10 +3,10 @@ use Rattle.std.specs.Fmt.{digits}
 use Rattle.json.specs.Print.{escape_byte}
 use Rattle.uuid.specs.Text.{by_index}
 use Rattle.jiff_fmt.specs.Text.{places}
-use Rattle.reply_parts.specs.Ids.{high_half, low_half, id_bytes, id_text}
-use Rattle.reply_parts.specs.Moments.{year_of, year_at, month_of, month_at, date_text, time_text, stamp_text, moment_text}
-use Rattle.reply_views.specs.Operations.{resources_data, operation_data}
-use Rattle.rest_replies.specs.Notices.{life_data, notice_data, notice_text}
+use Rattle.gate_replies.specs.reply_parts.specs.Ids.{high_half, low_half, id_bytes, id_text}
+use Rattle.gate_replies.specs.reply_parts.specs.Moments.{year_of, year_at, month_of, month_at, date_text, time_text, stamp_text, moment_text}
+use Rattle.gate_replies.specs.reply_views.specs.Operations.{resources_data, operation_data}
+use Rattle.gate_replies.specs.rest_replies.specs.Notices.{life_data, notice_data, notice_text}
 use Rattle.event_sessions.proofs.laws.notices_by_example.Goals as goal
 
 pub returns : goal.returns

@@ -1,4 +1,4 @@
-use Rattle.gate_answers.proofs.Answering.{for_listener}
+use Rattle.gate_replies.specs.gate_answers.proofs.Answering.{for_listener}
 use Rattle.event_sessions.proofs.Hearing.{asks_err, asks_ok}
 use Rattle.event_sessions.proofs.listening.ask.Goals as goal
 

@@ -1,7 +1,7 @@
 use Rattle.std.proofs.Common.{◌<◌, []}
 use Rattle.gate_replies.specs.Waits.{most_rests}
-use Rattle.gate_trails.specs.Gates.{seen}
-use Rattle.rest_answers.specs.Links.{outlet}
+use Rattle.gate_replies.specs.gate_trails.specs.Gates.{seen}
+use Rattle.gate_replies.specs.rest_answers.specs.Links.{outlet}
 use Rattle.event_sessions.specs.Listening.{Hears, ear}
 use Rattle.event_sessions.specs.Sessions.{asking}
 use Rattle.event_sessions.proofs.listening.listen.Given as goal

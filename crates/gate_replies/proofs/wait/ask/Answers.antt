@@ -1,7 +1,7 @@
 use Rattle.std.proofs.Common.{sym, ◌∙◌, subst}
-use Rattle.row_machine.specs.declared.events.Event.TheVariants as event
-use Rattle.gate_trails.specs.Trails.{MayAnswer}
-use Rattle.gate_trails.proofs.Walking.{walk-append}
+use Rattle.rest_routes.specs.row_machine.specs.declared.events.Event.TheVariants as event
+use Rattle.gate_answers.specs.gate_trails.specs.Trails.{MayAnswer}
+use Rattle.gate_answers.specs.gate_trails.proofs.Walking.{walk-append}
 use Rattle.gate_replies.proofs.Answering.{for_client, hold_waits}
 use Rattle.gate_replies.proofs.Waiting.{asks, holds, replies}
 use Rattle.gate_replies.proofs.wait.ask.Goals as goal

@@ -1,5 +1,5 @@
 use Rattle.std.proofs.Common.{true, false}
-use Rattle.gate_trails.proofs.Walking.{walk-none}
+use Rattle.gate_answers.specs.gate_trails.proofs.Walking.{walk-none}
 use Rattle.gate_replies.specs.Waits.{ServeBy}
 use Rattle.gate_replies.proofs.Waiting.{round_ends, round_rests, wait_spent}
 use Rattle.gate_replies.proofs.wait.wait_for.Goals as goal

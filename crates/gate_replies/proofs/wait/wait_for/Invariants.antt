@@ -1,6 +1,6 @@
 use Rattle.std.proofs.Common.{false}
-use Rattle.records.specs.declared.commands.Command.{Command}
-use Rattle.gate_trails.specs.Gates.{Walk, seen}
+use Rattle.rest_routes.specs.records.specs.declared.commands.Command.{Command}
+use Rattle.gate_answers.specs.gate_trails.specs.Gates.{Walk, seen}
 use Rattle.gate_replies.specs.Waits.{ServeBy, after_rest, looking, stand}
 use Rattle.gate_replies.proofs.wait.wait_for.Given as goal
 

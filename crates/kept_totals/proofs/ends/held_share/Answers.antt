@@ -1,9 +1,9 @@
 use Rattle.std.proofs.Common.{find, sym, ap, ◌∙◌}
 use Rattle.std.specs.Option.{option_copied, option_map_or}
-use Rattle.size_values.specs.Amounts.{nothing}
-use Rattle.reservations.specs.declared.books.Hold.{Hold}
-use Rattle.row_machine.specs.machine.State.{State}
-use Rattle.row_machine.specs.machine.Work.{is_held_by}
+use Rattle.work_reports.specs.size_values.specs.Amounts.{nothing}
+use Rattle.work_reports.specs.reservations.specs.declared.books.Hold.{Hold}
+use Rattle.work_reports.specs.row_machine.specs.machine.State.{State}
+use Rattle.work_reports.specs.row_machine.specs.machine.Work.{is_held_by}
 use Rattle.kept_totals.proofs.ends.held_share.Goals as goal
 
 pub returns-in-Some : goal.returns-in-Some

@@ -1,5 +1,5 @@
 use Rattle.std.proofs.Common.{◌≡◌, None, take}
-use Rattle.plain_lists.specs.Firsts.{first_of}
+use Rattle.row_machine.specs.plain_lists.specs.Firsts.{first_of}
 use Rattle.limit_rules.specs.Alone.{share_over}
 use Rattle.limit_rules.proofs.alone.share_exceeds.Given as goal
 

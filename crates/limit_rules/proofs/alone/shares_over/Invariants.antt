@@ -1,6 +1,6 @@
 use Rattle.std.proofs.Common.{◌≡◌, None, take}
 use Rattle.limit_rules.specs.Alone.{share_over}
-use Rattle.plain_lists.specs.Firsts.{first_of}
+use Rattle.row_machine.specs.plain_lists.specs.Firsts.{first_of}
 use Rattle.limit_rules.proofs.alone.shares_over.Given as goal
 
 -- those before break nothing

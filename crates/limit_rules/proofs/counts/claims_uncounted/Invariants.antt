@@ -1,6 +1,6 @@
 use Rattle.std.proofs.Common.{◌≡◌, None, take}
 use Rattle.row_machine.specs.machine.LimitRules.{claim_uncounted}
-use Rattle.plain_lists.specs.Firsts.{first_of}
+use Rattle.row_machine.specs.plain_lists.specs.Firsts.{first_of}
 use Rattle.limit_rules.proofs.counts.claims_uncounted.Given as goal
 
 -- those before break nothing

@@ -1,5 +1,5 @@
 use Rattle.std.proofs.Common.{sym, ap, ◌∙◌}
-use Rattle.project_limits.specs.Limits.{limits_of}
+use Rattle.row_machine.specs.project_limits.specs.Limits.{limits_of}
 use Rattle.rule_refusals.proofs.Saying.{says-as}
 use Rattle.limit_rules.specs.Exceeding.{limits_sum}
 use Rattle.limit_rules.proofs.Countables.{uncounted-split}

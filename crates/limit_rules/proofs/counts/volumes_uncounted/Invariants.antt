@@ -1,6 +1,6 @@
 use Rattle.std.proofs.Common.{◌≡◌, None, take}
 use Rattle.limit_rules.specs.Within.{own_volume}
-use Rattle.plain_lists.specs.Firsts.{first_of}
+use Rattle.row_machine.specs.plain_lists.specs.Firsts.{first_of}
 use Rattle.limit_rules.proofs.counts.volumes_uncounted.Given as goal
 
 -- those before break nothing

@@ -1,5 +1,5 @@
 use Rattle.std.proofs.Common.{◌≡◌, None, take}
-use Rattle.plain_lists.specs.Firsts.{first_of}
+use Rattle.row_machine.specs.plain_lists.specs.Firsts.{first_of}
 use Rattle.limit_rules.specs.Exceeding.{part_over}
 use Rattle.limit_rules.proofs.limits.parts_exceed.Given as goal
 

@@ -1,4 +1,4 @@
-use Rattle.size_values.specs.declared.amounts.Part.TheVariants.{Instances, Containers, Machines, Cpu, Memory, Processes, Disk}
+use Rattle.made_settings.specs.size_values.specs.declared.amounts.Part.TheVariants.{Instances, Containers, Machines, Cpu, Memory, Processes, Disk}
 use Rattle.limit_tests.proofs.limits.equal_amounts.Goals as goal
 
 pub returns : goal.returns

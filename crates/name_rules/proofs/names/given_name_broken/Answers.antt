@@ -1,6 +1,6 @@
 use Rattle.std.proofs.Common.{option_and_then, sym, ap, ◌∙◌, subst}
-use Rattle.size_values.specs.Causes.{Says}
-use Rattle.records.specs.declared.commands.What.TheVariants as what_of
+use Rattle.row_machine.specs.size_values.specs.Causes.{Says}
+use Rattle.row_machine.specs.records.specs.declared.commands.What.TheVariants as what_of
 use Rattle.row_machine.specs.machine.Asked.{named_anew}
 use Rattle.row_machine.specs.machine.NameRules.{name_broken}
 use Rattle.name_rules.proofs.names.given_name_broken.Goals as goal

@@ -1,11 +1,11 @@
-use Rattle.records.specs.declared.commands.What.TheVariants as what
+use Rattle.object_links.specs.records.specs.declared.commands.What.TheVariants as what
 use Rattle.std.proofs.Common.{subst}
 use Rattle.std.specs.Result.{IfOk}
 use Rattle.std.specs.Option.{option_map, option_to_list}
-use Rattle.records.specs.declared.commands.Target.{Target}
-use Rattle.row_machine.specs.machine.Homes.{home_of}
-use Rattle.row_machine.specs.shown.Notices.{life_notice, moved_life}
-use Rattle.row_machine.specs.machine.Plans.{plan_of, row_of, plan_move}
+use Rattle.object_links.specs.records.specs.declared.commands.Target.{Target}
+use Rattle.object_links.specs.row_machine.specs.machine.Homes.{home_of}
+use Rattle.object_links.specs.row_machine.specs.shown.Notices.{life_notice, moved_life}
+use Rattle.object_links.specs.row_machine.specs.machine.Plans.{plan_of, row_of, plan_move}
 use Rattle.object_plans.specs.Planning.{IsPlanned}
 use Rattle.object_plans.specs.Rows.{row_at}
 use Rattle.object_plans.proofs.Silent.{command_of, move-silent}

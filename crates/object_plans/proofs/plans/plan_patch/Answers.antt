@@ -1,7 +1,7 @@
-use Rattle.records.specs.declared.commands.What.TheVariants as what
-use Rattle.row_machine.specs.machine.Homes.{home_of}
-use Rattle.row_machine.specs.shown.Notices.{life_notice, changed_life}
-use Rattle.row_machine.specs.machine.Plans.{plan_of, row_of, plan_patch}
+use Rattle.object_links.specs.records.specs.declared.commands.What.TheVariants as what
+use Rattle.object_links.specs.row_machine.specs.machine.Homes.{home_of}
+use Rattle.object_links.specs.row_machine.specs.shown.Notices.{life_notice, changed_life}
+use Rattle.object_links.specs.row_machine.specs.machine.Plans.{plan_of, row_of, plan_patch}
 use Rattle.object_plans.specs.Rows.{row_at}
 use Rattle.object_plans.proofs.Silent.{command_of, patch-silent}
 use Rattle.object_plans.proofs.Noted.{noted, changes-there, changes-gone}

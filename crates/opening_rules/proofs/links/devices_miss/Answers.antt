@@ -3,7 +3,7 @@ use Rattle.std.specs.Map.{values_of}
 use Rattle.std.proofs.lemmas.List.{length-map}
 use Rattle.row_machine.specs.machine.SettingRules.{device_misses, devices_miss}
 use Rattle.row_machine.specs.opening.Opening.{rule_of}
-use Rattle.rule_refusals.proofs.Loops.{place-here, place-next, place-end}
+use Rattle.limit_rules.specs.rule_refusals.proofs.Loops.{place-here, place-next, place-end}
 use Rattle.opening_rules.proofs.Refused.{rule-first}
 use Rattle.opening_rules.proofs.links.devices_miss.Goals as goal
 

@@ -1,5 +1,5 @@
 use Rattle.std.proofs.Common.{◌≡◌, drop}
-use Rattle.records.specs.Forms.{are_distinct}
+use Rattle.row_machine.specs.records.specs.Forms.{are_distinct}
 use Rattle.opening_rules.proofs.places.are_distinct.Given as goal
 
 abbrev pub invariant-loop-index : goal.invariant-loop-index

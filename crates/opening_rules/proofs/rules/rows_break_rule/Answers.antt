@@ -1,7 +1,7 @@
 use Rattle.std.proofs.Common.{option_map}
 use Rattle.row_machine.specs.opening.Opening.{broken_at}
 use Rattle.opening_rules.specs.Rules.{row_rule}
-use Rattle.rule_refusals.proofs.Saying.{refuses-here, free-next}
+use Rattle.limit_rules.specs.rule_refusals.proofs.Saying.{refuses-here, free-next}
 use Rattle.opening_rules.proofs.rules.rows_break_rule.Goals as goal
 
 pub returns-in-Err : goal.returns-in-Err

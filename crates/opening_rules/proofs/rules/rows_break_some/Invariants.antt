@@ -1,5 +1,5 @@
 use Rattle.std.proofs.Common.{◌≡◌, None, take}
-use Rattle.plain_lists.specs.Firsts.{first_of}
+use Rattle.row_machine.specs.plain_lists.specs.Firsts.{first_of}
 use Rattle.row_machine.specs.opening.Opening.{row_breaks}
 use Rattle.opening_rules.specs.Rules.{row_rule}
 use Rattle.opening_rules.proofs.rules.rows_break_some.Given as goal

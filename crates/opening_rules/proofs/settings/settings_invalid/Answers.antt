@@ -1,7 +1,7 @@
 use Rattle.std.proofs.Common.{option_map, sym, ap, ◌∙◌}
-use Rattle.option_tables.specs.Checks.{project_fault, instance_fault, network_fault, pool_fault, volume_fault}
-use Rattle.option_tables.specs.declared.tables.Scope.{Scope}
-use Rattle.option_tables.specs.declared.tables.Scope.TheVariants as scope
+use Rattle.row_machine.specs.option_tables.specs.Checks.{project_fault, instance_fault, network_fault, pool_fault, volume_fault}
+use Rattle.row_machine.specs.option_tables.specs.declared.tables.Scope.{Scope}
+use Rattle.row_machine.specs.option_tables.specs.declared.tables.Scope.TheVariants as scope
 use Rattle.row_machine.specs.machine.SettingRules.{scope_of}
 use Rattle.row_machine.specs.opening.Opening.{settings_invalid}
 use Rattle.opening_rules.specs.Rules.{fault_rule}

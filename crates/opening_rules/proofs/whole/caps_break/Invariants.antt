@@ -1,5 +1,5 @@
 use Rattle.std.proofs.Common.{◌≡◌, None, take}
-use Rattle.plain_lists.specs.Firsts.{first_of}
+use Rattle.row_machine.specs.plain_lists.specs.Firsts.{first_of}
 use Rattle.row_machine.specs.opening.Opening.{past_cap}
 use Rattle.opening_rules.proofs.whole.caps_break.Given as goal
 

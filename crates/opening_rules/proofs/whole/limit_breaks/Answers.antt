@@ -1,5 +1,5 @@
 use Rattle.std.proofs.Common.{[]}
-use Rattle.rule_refusals.proofs.Saying.{says-as}
+use Rattle.limit_rules.specs.rule_refusals.proofs.Saying.{says-as}
 use Rattle.opening_rules.proofs.Limits.{limit-breach}
 use Rattle.opening_rules.proofs.whole.limit_breaks.Goals as goal
 

@@ -1,6 +1,6 @@
 use Rattle.std.proofs.Common.{ℕ, ◌==◌, Some, filter, option_map, slice_get, sym, ap, ◌∙◌}
-use Rattle.records.specs.declared.refusals.Rule.TheVariants.{C1}
-use Rattle.row_codec.specs.Spelling.{kind_of}
+use Rattle.row_machine.specs.records.specs.declared.refusals.Rule.TheVariants.{C1}
+use Rattle.row_machine.specs.row_codec.specs.Spelling.{kind_of}
 use Rattle.row_machine.specs.machine.Kinds.{cap_of}
 use Rattle.row_machine.specs.opening.Opening.{broken_at}
 use Rattle.opening_rules.proofs.whole.past_cap.Goals as goal

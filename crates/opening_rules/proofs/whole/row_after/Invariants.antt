@@ -1,5 +1,5 @@
 use Rattle.std.proofs.Common.{◌≡◌, ◌==◌, drop, filter, slice_get}
-use Rattle.row_codec.specs.Spelling.{kind_of}
+use Rattle.row_machine.specs.row_codec.specs.Spelling.{kind_of}
 use Rattle.opening_rules.proofs.whole.row_after.Given as goal
 
 -- the row is among those that are left

@@ -1,7 +1,7 @@
 use Rattle.std.proofs.Common.{Some, nat_lt, length, sym, ap, ◌∙◌}
 use Rattle.std.proofs.lemmas.Bool.{le-ltb, lt-ltb}
-use Rattle.records.specs.declared.refusals.Rule.TheVariants.{C2}
-use Rattle.row_codec.specs.Spelling.{body_of}
+use Rattle.row_machine.specs.records.specs.declared.refusals.Rule.TheVariants.{C2}
+use Rattle.row_machine.specs.row_codec.specs.Spelling.{body_of}
 use Rattle.row_machine.specs.opening.Opening.{broken_at}
 use Rattle.table_rules.proofs.Bounds.{small-size, large-size}
 use Rattle.opening_rules.proofs.Refused.{told-where, told-nowhere}

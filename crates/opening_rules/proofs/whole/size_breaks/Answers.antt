@@ -1,8 +1,8 @@
 use Rattle.std.proofs.Common.{option_map}
-use Rattle.records.specs.declared.refusals.Rule.TheVariants.{C2}
+use Rattle.row_machine.specs.records.specs.declared.refusals.Rule.TheVariants.{C2}
 use Rattle.row_machine.specs.machine.TableRules.{too_large}
 use Rattle.row_machine.specs.opening.Opening.{broken_at}
-use Rattle.rule_refusals.proofs.Saying.{refuses-here, free-next}
+use Rattle.limit_rules.specs.rule_refusals.proofs.Saying.{refuses-here, free-next}
 use Rattle.opening_rules.proofs.whole.size_breaks.Goals as goal
 
 pub returns-in-Err : goal.returns-in-Err

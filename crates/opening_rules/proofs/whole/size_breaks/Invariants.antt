@@ -1,6 +1,6 @@
 use Rattle.std.proofs.Common.{◌≡◌, None, take, option_map}
-use Rattle.plain_lists.specs.Firsts.{first_of}
-use Rattle.records.specs.declared.refusals.Rule.TheVariants.{C2}
+use Rattle.row_machine.specs.plain_lists.specs.Firsts.{first_of}
+use Rattle.row_machine.specs.records.specs.declared.refusals.Rule.TheVariants.{C2}
 use Rattle.row_machine.specs.machine.TableRules.{too_large}
 use Rattle.row_machine.specs.opening.Opening.{broken_at}
 use Rattle.opening_rules.proofs.whole.size_breaks.Given as goal

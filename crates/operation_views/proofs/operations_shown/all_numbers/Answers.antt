@@ -1,7 +1,7 @@
 use Rattle.std.proofs.Common.{◌≡◌, filter, subst, ◌∙◌}
 use Rattle.std.specs.List.{filter_map}
 use Rattle.std.specs.Result.{IfOk}
-use Rattle.row_machine.specs.shown.Views.{if_any, statuses}
+use Rattle.object_links.specs.row_machine.specs.shown.Views.{if_any, statuses}
 use Rattle.operation_views.specs.Statuses.{has_status}
 use Rattle.operation_views.proofs.operations_shown.all_numbers.Goals as goal
 

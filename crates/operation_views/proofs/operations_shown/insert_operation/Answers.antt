@@ -1,7 +1,7 @@
 use Rattle.std.proofs.Common.{◌∙◌, ap, unwrap_or, length, nat_lt, List}
 use Rattle.std.specs.List.{position, insert}
-use Rattle.operations.specs.declared.operation.Operation.{Operation}
-use Rattle.row_machine.specs.machine.Task.{Task}
+use Rattle.object_links.specs.operations.specs.declared.operation.Operation.{Operation}
+use Rattle.object_links.specs.row_machine.specs.machine.Task.{Task}
 use Rattle.operation_views.proofs.Numbered.{inserted-gap}
 use Rattle.operation_views.proofs.operations_shown.insert_operation.Goals as goal
 

@@ -1,6 +1,6 @@
 use Rattle.std.proofs.Common.{◌≡◌, filter, take}
 use Rattle.std.specs.List.{filter_map}
-use Rattle.row_machine.specs.shown.Views.{if_any}
+use Rattle.object_links.specs.row_machine.specs.shown.Views.{if_any}
 use Rattle.operation_views.specs.Statuses.{has_status}
 use Rattle.operation_views.proofs.operations_shown.numbers_by_status.Given as goal
 

@@ -1,5 +1,5 @@
 use Rattle.std.proofs.Common.{◌≡◌, map, take}
-use Rattle.row_machine.specs.shown.Notices.{view_of}
+use Rattle.object_links.specs.row_machine.specs.shown.Notices.{view_of}
 use Rattle.operation_views.proofs.operations_shown.views.Given as goal
 
 abbrev pub invariant-loop-row : goal.invariant-loop-row

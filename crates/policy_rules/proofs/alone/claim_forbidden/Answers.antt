@@ -1,6 +1,6 @@
 use Rattle.std.proofs.Common.{ℕ, List, [], ◌∷◌, sym, ap, ◌∙◌}
 use Rattle.std.proofs.lemmas.Grind.{get_or_default_zero}
-use Rattle.plain_lists.specs.Firsts.{first_of}
+use Rattle.restrictions.specs.plain_lists.specs.Firsts.{first_of}
 use Rattle.row_machine.specs.machine.State.{State}
 use Rattle.rule_refusals.proofs.Saying.{refuses-here, free-next}
 use Rattle.policy_rules.specs.Alone.{claim_forbidden}

@@ -1,5 +1,5 @@
 use Rattle.std.proofs.Common.{◌≡◌, None, take}
-use Rattle.plain_lists.specs.Firsts.{first_of}
+use Rattle.restrictions.specs.plain_lists.specs.Firsts.{first_of}
 use Rattle.policy_rules.specs.Within.{own_claim}
 use Rattle.policy_rules.proofs.alone.claim_forbidden.Given as goal
 

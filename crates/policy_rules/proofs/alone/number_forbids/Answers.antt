@@ -1,5 +1,5 @@
 use Rattle.std.proofs.Common.{ap}
-use Rattle.plain_lists.specs.Firsts.{first_of}
+use Rattle.restrictions.specs.plain_lists.specs.Firsts.{first_of}
 use Rattle.row_machine.specs.machine.State.{State}
 use Rattle.rule_refusals.proofs.Saying.{says-as}
 use Rattle.policy_rules.specs.Within.{own_claim}

@@ -1,5 +1,5 @@
 use Rattle.std.proofs.Common.{take}
-use Rattle.plain_lists.specs.Firsts.{first_of}
+use Rattle.restrictions.specs.plain_lists.specs.Firsts.{first_of}
 use Rattle.row_machine.specs.machine.PolicyRules.{project_forbids}
 use Rattle.policy_rules.specs.Lowest.{HoldBelow}
 use Rattle.policy_rules.proofs.lowest.lowest_broken.Given as goal

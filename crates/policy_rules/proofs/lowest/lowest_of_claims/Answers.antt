@@ -1,6 +1,6 @@
 use Rattle.std.proofs.Common.{sym, ap, ◌∙◌, arith}
 use Rattle.std.proofs.lemmas.List.{take_all}
-use Rattle.plain_lists.specs.Firsts.{first_of}
+use Rattle.restrictions.specs.plain_lists.specs.Firsts.{first_of}
 use Rattle.policy_rules.specs.Within.{own_claim}
 use Rattle.policy_rules.proofs.Below.{below-next}
 use Rattle.policy_rules.proofs.lowest.lowest_of_claims.Goals as goal

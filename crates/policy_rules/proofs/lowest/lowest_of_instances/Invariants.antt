@@ -1,5 +1,5 @@
 use Rattle.std.proofs.Common.{take}
-use Rattle.plain_lists.specs.Firsts.{first_of}
+use Rattle.restrictions.specs.plain_lists.specs.Firsts.{first_of}
 use Rattle.policy_rules.specs.Within.{own_instance}
 use Rattle.policy_rules.specs.Lowest.{HoldBelow}
 use Rattle.policy_rules.proofs.lowest.lowest_of_instances.Given as goal

@@ -1,6 +1,6 @@
 use Rattle.std.proofs.Common.{◌≡◌, None, take}
 use Rattle.policy_rules.specs.Within.{own_profile}
-use Rattle.plain_lists.specs.Firsts.{first_of}
+use Rattle.restrictions.specs.plain_lists.specs.Firsts.{first_of}
 use Rattle.policy_rules.proofs.policy.profiles_forbid.Given as goal
 
 -- those before break nothing

@@ -1,9 +1,9 @@
 use Rattle.std.proofs.Common.{◌<◌, ◌^◌, length, refl, sym, ap, ◌∙◌, arith}
 use Rattle.std.proofs.lemmas.List.Sums.{sum_by_more_le, sum_by_more, sum_by-take-le}
-use Rattle.expansion.specs.Layers.{expanded}
-use Rattle.size_values.specs.Amounts.{part}
-use Rattle.size_values.proofs.AmountParts.{part-plus}
-use Rattle.row_machine.specs.machine.State.{State}
+use Rattle.row_readings.specs.expansion.specs.Layers.{expanded}
+use Rattle.row_readings.specs.size_values.specs.Amounts.{part}
+use Rattle.row_readings.specs.size_values.proofs.AmountParts.{part-plus}
+use Rattle.row_readings.specs.row_machine.specs.machine.State.{State}
 use Rattle.project_usage.specs.Counted.{instance_part}
 use Rattle.project_usage.proofs.Over.{counted-over}
 use Rattle.project_usage.proofs.Parts.{few-instances}

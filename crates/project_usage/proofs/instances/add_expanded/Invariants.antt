@@ -1,7 +1,7 @@
 use Rattle.std.proofs.Common.{◌≡◌, ◌+◌, take}
 use Rattle.std.specs.List.{sum_by}
-use Rattle.size_values.specs.Amounts.{part}
-use Rattle.size_values.specs.declared.amounts.Part.{Part}
+use Rattle.row_readings.specs.size_values.specs.Amounts.{part}
+use Rattle.row_readings.specs.size_values.specs.declared.amounts.Part.{Part}
 use Rattle.project_usage.specs.Counted.{instance_part}
 use Rattle.project_usage.specs.Layered.{profiles_of}
 use Rattle.project_usage.proofs.instances.add_expanded.Given as goal

@@ -1,7 +1,7 @@
 use Rattle.std.proofs.Common.{ap, ◌∙◌, arith}
-use Rattle.config_lists.specs.Entries.{replaced}
-use Rattle.expansion.specs.Layers.{laid}
-use Rattle.project_limits.specs.Instance.{instance_amounts}
+use Rattle.row_readings.specs.config_lists.specs.Entries.{replaced}
+use Rattle.row_readings.specs.expansion.specs.Layers.{laid}
+use Rattle.row_readings.specs.project_limits.specs.Instance.{instance_amounts}
 use Rattle.project_usage.proofs.Over.{own-devices_none}
 use Rattle.project_usage.proofs.instances.amounts_over.Goals as goal
 

@@ -1,5 +1,5 @@
 use Rattle.std.proofs.Common.{sym, ap, ◌∙◌, arith}
-use Rattle.project_limits.specs.Instance.{instance_amounts}
+use Rattle.row_readings.specs.project_limits.specs.Instance.{instance_amounts}
 use Rattle.project_usage.proofs.Over.{replaced-by_none, amounts-laid}
 use Rattle.project_usage.proofs.instances.amounts_with.Goals as goal
 

@@ -1,9 +1,9 @@
 use Rattle.std.proofs.Common.{◌<◌, ◌^◌, length, ap, ◌∙◌, arith}
 use Rattle.std.proofs.lemmas.List.Sums.{sum_by_more_le, sum_by_more, sum_by-take-le}
-use Rattle.size_values.specs.Amounts.{part}
-use Rattle.size_values.proofs.AmountParts.{part-plus}
-use Rattle.operations.specs.declared.operation.Operation.{Operation}
-use Rattle.row_machine.specs.machine.Task.{Task}
+use Rattle.row_readings.specs.size_values.specs.Amounts.{part}
+use Rattle.row_readings.specs.size_values.proofs.AmountParts.{part-plus}
+use Rattle.row_readings.specs.operations.specs.declared.operation.Operation.{Operation}
+use Rattle.row_readings.specs.row_machine.specs.machine.Task.{Task}
 use Rattle.project_usage.specs.Counted.{claim_part}
 use Rattle.project_usage.proofs.Parts.{few-claims}
 use Rattle.project_usage.proofs.usage.add_claims.Goals as goal

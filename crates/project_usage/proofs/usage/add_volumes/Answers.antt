@@ -1,7 +1,7 @@
 use Rattle.std.proofs.Common.{◌<◌, ◌^◌, length, ap, ◌∙◌, arith}
 use Rattle.std.proofs.lemmas.List.Sums.{sum_by_more_le, sum_by_more, sum_by-take-le}
-use Rattle.size_values.specs.Amounts.{part}
-use Rattle.size_values.proofs.AmountParts.{part-plus}
+use Rattle.row_readings.specs.size_values.specs.Amounts.{part}
+use Rattle.row_readings.specs.size_values.proofs.AmountParts.{part-plus}
 use Rattle.project_usage.specs.Counted.{volume_part}
 use Rattle.project_usage.proofs.Parts.{few-volumes}
 use Rattle.project_usage.proofs.usage.add_volumes.Goals as goal

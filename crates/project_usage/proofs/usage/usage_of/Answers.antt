@@ -1,7 +1,7 @@
 use Rattle.std.proofs.Common.{ap, arith}
 use Rattle.std.proofs.lemmas.Result.{IfOk-weaker}
-use Rattle.size_values.specs.Amounts.{part}
-use Rattle.row_machine.specs.machine.State.{State}
+use Rattle.row_readings.specs.size_values.specs.Amounts.{part}
+use Rattle.row_readings.specs.row_machine.specs.machine.State.{State}
 use Rattle.project_usage.proofs.Parts.{none-of, usage-summed}
 use Rattle.project_usage.proofs.usage.usage_of.Goals as goal
 

@@ -1,9 +1,9 @@
 use Rattle.std.proofs.Common.{subst}
-use Rattle.plain_lists.specs.Members.{Each}
-use Rattle.row_codec.specs.Rows.{HasTypedParts}
-use Rattle.row_machine.specs.machine.State.{State}
-use Rattle.row_machine.specs.opening.Records.{rows_of}
-use Rattle.row_readings.specs.Lent.{state_in}
+use Rattle.kept_laws.specs.plain_lists.specs.Members.{Each}
+use Rattle.kept_laws.specs.row_codec.specs.Rows.{HasTypedParts}
+use Rattle.kept_laws.specs.row_machine.specs.machine.State.{State}
+use Rattle.kept_laws.specs.row_machine.specs.opening.Records.{rows_of}
+use Rattle.core_turns.specs.row_readings.specs.Lent.{state_in}
 use Rattle.reopened_rows.proofs.Together.{all-typed}
 use Rattle.reopened_rows.proofs.opening.rows_are_typed.Goals as goal
 

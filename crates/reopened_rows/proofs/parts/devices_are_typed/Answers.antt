@@ -1,6 +1,6 @@
 use Rattle.std.specs.Str.{IsUtf8}
-use Rattle.config_lists.proofs.Walks.{take-read}
-use Rattle.row_parts.specs.Parts.{AreTypedSettings}
+use Rattle.kept_laws.specs.config_lists.proofs.Walks.{take-read}
+use Rattle.kept_laws.specs.row_parts.specs.Parts.{AreTypedSettings}
 use Rattle.reopened_rows.proofs.Typed.{all-next}
 use Rattle.reopened_rows.proofs.parts.devices_are_typed.Goals as goal
 

@@ -1,5 +1,5 @@
 use Rattle.std.specs.Str.{IsUtf8}
-use Rattle.config_lists.proofs.Walks.{take-read}
+use Rattle.kept_laws.specs.config_lists.proofs.Walks.{take-read}
 use Rattle.reopened_rows.proofs.Typed.{all-next}
 use Rattle.reopened_rows.proofs.parts.settings_are_typed.Goals as goal
 

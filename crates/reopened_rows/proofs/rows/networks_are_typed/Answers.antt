@@ -1,6 +1,6 @@
-use Rattle.records.specs.declared.rows.Network.{Network}
-use Rattle.records.specs.declared.rows.Row.TheVariants as row
-use Rattle.row_codec.specs.Rows.{HasTypedParts}
+use Rattle.kept_laws.specs.records.specs.declared.rows.Network.{Network}
+use Rattle.kept_laws.specs.records.specs.declared.rows.Row.TheVariants as row
+use Rattle.kept_laws.specs.row_codec.specs.Rows.{HasTypedParts}
 use Rattle.reopened_rows.proofs.Typed.{each-all, each-next}
 use Rattle.reopened_rows.proofs.rows.networks_are_typed.Goals as goal
 

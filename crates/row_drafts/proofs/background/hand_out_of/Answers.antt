@@ -1,11 +1,11 @@
 use Rattle.std.proofs.Common.{◌∙◌, Some, IsSome, IfSome, set, ap, sym, subst}
 use Rattle.std.specs.List.{position}
-use Rattle.operations.specs.Kept.{has_number}
-use Rattle.operations.specs.declared.operation.Operation.{Operation}
-use Rattle.plain_lists.proofs.Places.{find-at, changed-at}
+use Rattle.machine_laws.specs.operations.specs.Kept.{has_number}
+use Rattle.machine_laws.specs.operations.specs.declared.operation.Operation.{Operation}
+use Rattle.machine_laws.specs.plain_lists.proofs.Places.{find-at, changed-at}
 use Rattle.row_drafts.specs.Background.{handed, HasCount}
 use Rattle.row_drafts.proofs.Handed.{same-task, same-call}
-use Rattle.row_machine.specs.machine.Task.{Task}
+use Rattle.machine_laws.specs.row_machine.specs.machine.Task.{Task}
 use Rattle.row_drafts.proofs.background.hand_out_of.Goals as goal
 
 pub hand_out-requires-clause-call : goal.hand_out-requires-clause-call

@@ -1,6 +1,6 @@
 use Rattle.std.proofs.Common.{◌≤◌, Ok, Err, ◌∙◌, ap, sym, subst, cond, length}
 use Rattle.std.specs.List.{remove}
-use Rattle.row_machine.specs.machine.Rows.{put_by}
+use Rattle.machine_laws.specs.row_machine.specs.machine.Rows.{put_by}
 use Rattle.row_readings.specs.Rising.{FindsPlace}
 use Rattle.row_drafts.proofs.Backs.{insert-back}
 use Rattle.row_drafts.proofs.Orders.{put-between, like-found, like-none}

@@ -1,6 +1,6 @@
 use Rattle.std.proofs.Common.{◌∙◌, ap}
 use Rattle.std.specs.List.{position}
-use Rattle.plain_lists.proofs.Places.{dropped-at, dropped-nothing}
+use Rattle.machine_laws.specs.plain_lists.proofs.Places.{dropped-at, dropped-nothing}
 use Rattle.row_drafts.proofs.edits.remove.Goals as goal
 
 pub returns-in-Some-clause-rows : goal.returns-in-Some-clause-rows

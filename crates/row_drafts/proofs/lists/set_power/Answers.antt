@@ -1,8 +1,8 @@
 use Rattle.std.proofs.Common.{Ok, Err, set, ◌∷◌, [], ◌∙◌, ap, sym, subst}
-use Rattle.plain_lists.proofs.EditLemmas.{changed-none}
-use Rattle.plain_lists.proofs.Places.{any-position, changed-at}
-use Rattle.row_machine.specs.machine.Rows.{is_standing, standing_names}
-use Rattle.row_machine.specs.machine.State.{Standing}
+use Rattle.machine_laws.specs.plain_lists.proofs.EditLemmas.{changed-none}
+use Rattle.machine_laws.specs.plain_lists.proofs.Places.{any-position, changed-at}
+use Rattle.machine_laws.specs.row_machine.specs.machine.Rows.{is_standing, standing_names}
+use Rattle.machine_laws.specs.row_machine.specs.machine.State.{Standing}
 use Rattle.row_readings.specs.Rising.{FindsPlace}
 use Rattle.row_drafts.proofs.lists.set_power.Goals as goal
 

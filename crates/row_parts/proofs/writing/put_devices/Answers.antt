@@ -1,6 +1,6 @@
 use Rattle.std.proofs.Common.{List, ℕ, ◌++◌, ap, ◌∙◌, append_assoc, arith}
 use Rattle.std.specs.Str.{IsUtf8}
-use Rattle.config_lists.proofs.Walks.{take-read}
+use Rattle.records.specs.config_lists.proofs.Walks.{take-read}
 use Rattle.row_parts.specs.Parts.{IsShort, AreShortSettings, AreTypedSettings}
 use Rattle.row_parts.specs.Spelling.{text_bytes, settings_bytes, device_bytes}
 use Rattle.row_parts.proofs.Written.{one_more, all_bytes, each_key, each_value}

@@ -1,5 +1,5 @@
 use Rattle.std.proofs.Common.{length, ap, sym, ◌∙◌, arith, length-append}
-use Rattle.config_lists.proofs.Walks.{take-read}
+use Rattle.row_codec.specs.config_lists.proofs.Walks.{take-read}
 use Rattle.row_codec.specs.Spelling.{text_bytes, settings_bytes, device_bytes}
 use Rattle.row_sizes.specs.Sizes.{capped}
 use Rattle.row_sizes.proofs.Sums.{capped-fits, sum-more, sum-all}

@@ -1,4 +1,4 @@
-use Rattle.serial_steps.specs.Steps.{hosted}
+use Rattle.rest_service.specs.serial_steps.specs.Steps.{hosted}
 use Rattle.serial_sessions.specs.Worlds.{inlet, outlet, outside, world}
 use Rattle.serial_sessions.proofs.Served.{ServesSoFar}
 use Rattle.serial_sessions.proofs.serving.serve.Given as goal

@@ -1,6 +1,6 @@
 use Rattle.std.proofs.Common.{refl, inl}
 use Rattle.serial_sessions.specs.Worlds.{inlet}
-use Rattle.rest_answers.proofs.Linking.{unread}
+use Rattle.rest_service.specs.rest_answers.proofs.Linking.{unread}
 use Rattle.serial_sessions.proofs.Turning.{turn_answers, turn_refuses}
 use Rattle.serial_sessions.proofs.turn.turn.Goals as goal
 

@@ -1,6 +1,6 @@
 use Rattle.std.proofs.Common.{◌≡◌, drop}
 use Rattle.std.specs.Map.{values_of}
-use Rattle.plain_lists.specs.Firsts.{first_of}
+use Rattle.row_machine.specs.plain_lists.specs.Firsts.{first_of}
 use Rattle.row_machine.specs.machine.SettingRules.{device_misses}
 use Rattle.setting_rules.proofs.devices.devices_miss.Given as goal
 

@@ -1,6 +1,6 @@
 use Rattle.std.proofs.Common.{◌≡◌, None, take}
 use Rattle.setting_rules.specs.Named.{where_claimed}
-use Rattle.plain_lists.specs.Firsts.{first_of}
+use Rattle.row_machine.specs.plain_lists.specs.Firsts.{first_of}
 use Rattle.setting_rules.proofs.instances.claims_break.Given as goal
 
 -- those before break nothing

@@ -1,7 +1,7 @@
 use Rattle.std.proofs.Common.{[], ◌∷◌}
 use Rattle.row_machine.specs.machine.Changes.{rows_put}
 use Rattle.row_machine.specs.machine.SettingRules.{row_settings}
-use Rattle.plain_lists.specs.Firsts.{first_of}
+use Rattle.row_machine.specs.plain_lists.specs.Firsts.{first_of}
 use Rattle.rule_refusals.proofs.Saying.{refuses-here, free-next}
 use Rattle.setting_rules.proofs.rows.changes_break.Goals as goal
 

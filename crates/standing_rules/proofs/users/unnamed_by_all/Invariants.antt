@@ -1,5 +1,5 @@
 use Rattle.std.proofs.Common.{◌≡◌, None, take}
-use Rattle.plain_lists.specs.Firsts.{first_of}
+use Rattle.row_machine.specs.plain_lists.specs.Firsts.{first_of}
 use Rattle.standing_rules.specs.Users.{naming_link}
 use Rattle.standing_rules.proofs.users.unnamed_by_all.Given as goal
 

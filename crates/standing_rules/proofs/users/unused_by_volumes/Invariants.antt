@@ -1,6 +1,6 @@
 use Rattle.std.proofs.Common.{◌≡◌, None, filter, take}
 use Rattle.std.specs.Str.{bytes_eq}
-use Rattle.plain_lists.specs.Firsts.{first_of}
+use Rattle.row_machine.specs.plain_lists.specs.Firsts.{first_of}
 use Rattle.standing_rules.specs.Users.{volume_link}
 use Rattle.standing_rules.proofs.users.unused_by_volumes.Given as goal
 

@@ -1,6 +1,6 @@
 use Rattle.std.proofs.Common.{◌∙◌, ◌-◌, ap, arith}
-use Rattle.size_values.proofs.AmountParts.{part-minus}
-use Rattle.size_values.specs.Amounts.{part}
+use Rattle.row_readings.specs.size_values.proofs.AmountParts.{part-minus}
+use Rattle.row_readings.specs.size_values.specs.Amounts.{part}
 use Rattle.store_report.proofs.report.held_of.Goals as goal
 
 pub minus-requires : goal.minus-requires

@@ -1,7 +1,7 @@
 use Rattle.std.proofs.Common.{◌≡◌, None, take, [], ◌∷◌}
 use Rattle.row_machine.specs.machine.Changes.{rows_put}
 use Rattle.row_machine.specs.machine.TableRules.{too_large}
-use Rattle.plain_lists.specs.Firsts.{first_of}
+use Rattle.row_sizes.specs.plain_lists.specs.Firsts.{first_of}
 use Rattle.table_rules.proofs.tables.changes_too_large.Given as goal
 
 -- those before break nothing

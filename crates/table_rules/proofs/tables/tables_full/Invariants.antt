@@ -1,5 +1,5 @@
 use Rattle.std.proofs.Common.{◌≡◌, None, take}
-use Rattle.plain_lists.specs.Firsts.{first_of}
+use Rattle.row_sizes.specs.plain_lists.specs.Firsts.{first_of}
 use Rattle.row_machine.specs.machine.TableRules.{too_many}
 use Rattle.table_rules.proofs.tables.tables_full.Given as goal
 

@@ -1,6 +1,6 @@
 use Rattle.std.proofs.Common.{length, ap, ◌∙◌}
-use Rattle.records.specs.declared.refusals.Rule.TheVariants.{C2}
-use Rattle.row_codec.specs.Spelling.{body_of}
+use Rattle.row_sizes.specs.records.specs.declared.refusals.Rule.TheVariants.{C2}
+use Rattle.row_sizes.specs.row_codec.specs.Spelling.{body_of}
 use Rattle.row_machine.specs.shown.Links.{target_of}
 use Rattle.row_machine.specs.machine.Kinds.{kind_text}
 use Rattle.row_machine.specs.machine.Refusals.{nothing_told}

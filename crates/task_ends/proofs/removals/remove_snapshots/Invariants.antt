@@ -1,7 +1,7 @@
 use Rattle.std.proofs.Common.{◌≡◌, ◌++◌, map, filter, if◌then◌else◌, false, take}
 use Rattle.std.specs.Str.{bytes_eq}
-use Rattle.records.specs.declared.rows.Row.TheVariants as row_of
-use Rattle.row_machine.specs.machine.Changes.{removal}
+use Rattle.object_links.specs.records.specs.declared.rows.Row.TheVariants as row_of
+use Rattle.object_links.specs.row_machine.specs.machine.Changes.{removal}
 use Rattle.task_ends.proofs.removals.remove_snapshots.Given as goal
 
 abbrev pub invariant-loop-row : goal.invariant-loop-row

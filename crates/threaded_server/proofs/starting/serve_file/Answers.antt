@@ -1,5 +1,5 @@
 use denote.Param.Send.{sendable}
-use Rattle.sqlite_keeper.proofs.Sent.{keeper_send}
+use Rattle.file_telling.specs.sqlite_keeper.proofs.Sent.{keeper_send}
 use Rattle.threaded_server.proofs.starting.serve_file.Goals as goal
 
 pub serve_over-status-requires-send-R : goal.serve_over-status-requires-send-R

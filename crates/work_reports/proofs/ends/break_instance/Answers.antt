@@ -1,5 +1,5 @@
 use Rattle.std.proofs.Common.{refl}
-use Rattle.size_values.specs.declared.kinds.Power.TheVariants.{Error}
+use Rattle.row_sizes.specs.size_values.specs.declared.kinds.Power.TheVariants.{Error}
 use Rattle.row_machine.specs.machine.State.{State}
 use Rattle.work_reports.proofs.Failing.{power-leaves}
 use Rattle.work_reports.proofs.ends.break_instance.Goals as goal

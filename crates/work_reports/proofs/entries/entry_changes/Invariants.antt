@@ -1,7 +1,7 @@
 use Rattle.std.proofs.Common.{◌≡◌, ◌++◌, map, drop}
 use Rattle.std.specs.List.{AllByRecursion}
 use Rattle.work_reports.specs.Entries.{HasEntry}
-use Rattle.machine_laws.specs.Entries.{entry_change, entry_changes}
+use Rattle.row_drafts.specs.machine_laws.specs.Entries.{entry_change, entry_changes}
 use Rattle.work_reports.proofs.entries.entry_changes.Given as goal
 
 abbrev pub invariant-loop-change : goal.invariant-loop-change

@@ -1,6 +1,6 @@
 use Rattle.std.proofs.Common.{◌∙◌, ap, sym}
-use Rattle.operations.specs.Kept.{live_at}
-use Rattle.machine_laws.proofs.Base.{live-number}
+use Rattle.row_sizes.specs.operations.specs.Kept.{live_at}
+use Rattle.row_drafts.specs.machine_laws.proofs.Base.{live-number}
 use Rattle.work_reports.proofs.Successes.{success-entries}
 use Rattle.work_reports.proofs.success.make_ending.Goals as goal
 

@@ -1,8 +1,8 @@
 use Rattle.std.proofs.Common.{IsSome, find, ◌∙◌, ap, sym, subst}
-use Rattle.operations.specs.Kept.{live_at}
+use Rattle.row_sizes.specs.operations.specs.Kept.{live_at}
 use Rattle.row_machine.specs.machine.State.{State}
 use Rattle.row_machine.specs.machine.Work.{is_held_by}
-use Rattle.machine_laws.proofs.BooksSteps.{applied-same}
+use Rattle.row_drafts.specs.machine_laws.proofs.BooksSteps.{applied-same}
 use Rattle.work_reports.proofs.success.make_success.Goals as goal
 
 pub end-requires-clause-live : goal.end-requires-clause-live

@@ -1,4 +1,4 @@
-use Rattle.gate_trails.proofs.Walking.{walk-none}
+use Rattle.gate_answers.specs.gate_trails.proofs.Walking.{walk-none}
 use Rattle.workers.specs.Work.{WorkBy}
 use Rattle.workers.proofs.worker.go_on.Goals as goal
 

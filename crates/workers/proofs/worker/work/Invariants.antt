@@ -1,5 +1,5 @@
-use Rattle.serial_steps.specs.Steps.{hosted}
-use Rattle.gate_trails.specs.Gates.{Walk, seen}
+use Rattle.gate_answers.specs.serial_steps.specs.Steps.{hosted}
+use Rattle.gate_answers.specs.gate_trails.specs.Gates.{Walk, seen}
 use Rattle.workers.specs.Work.{WorkBy, standing}
 use Rattle.workers.specs.declared.worker.Post.TheVariants as post
 use Rattle.workers.proofs.worker.work.Given as goal

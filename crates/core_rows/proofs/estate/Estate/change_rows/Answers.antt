@@ -1,25 +1,25 @@
 use Rattle.std.proofs.Common.{length, ◌∙◌, ap, sym, subst, arith}
 use Rattle.std.specs.List.{AllByRecursion}
-use Rattle.record_keeper.specs.Store.{after_commit}
-use Rattle.limit_rules.specs.Exceeding.{Serves}
-use Rattle.row_machine.specs.machine.Changes.{applied}
-use Rattle.row_machine.specs.facts.Whole.{IsWhole}
-use Rattle.machine_laws.specs.Entries.{entry_changes}
-use Rattle.row_machine.specs.machine.State.{State}
-use Rattle.row_drafts.specs.Background.{Backing}
-use Rattle.machine_laws.proofs.NamesApplied.{applied-operations}
-use Rattle.row_drafts.specs.Steps.{before_changes}
-use Rattle.work_reports.specs.Entries.{HasEntry}
-use Rattle.work_reports.specs.Waiting.{IsSilent}
+use Rattle.judged_changes.specs.record_keeper.specs.Store.{after_commit}
+use Rattle.opening_rules.specs.limit_rules.specs.Exceeding.{Serves}
+use Rattle.opening_rules.specs.row_machine.specs.machine.Changes.{applied}
+use Rattle.opening_rules.specs.row_machine.specs.facts.Whole.{IsWhole}
+use Rattle.judged_changes.specs.machine_laws.specs.Entries.{entry_changes}
+use Rattle.opening_rules.specs.row_machine.specs.machine.State.{State}
+use Rattle.judged_changes.specs.row_drafts.specs.Background.{Backing}
+use Rattle.judged_changes.specs.machine_laws.proofs.NamesApplied.{applied-operations}
+use Rattle.judged_changes.specs.row_drafts.specs.Steps.{before_changes}
+use Rattle.judged_changes.specs.work_reports.specs.Entries.{HasEntry}
+use Rattle.judged_changes.specs.work_reports.specs.Waiting.{IsSilent}
 use Rattle.core_rows.specs.Kept.{Kept}
-use Rattle.work_reports.proofs.Silent.{applied-silent}
+use Rattle.judged_changes.specs.work_reports.proofs.Silent.{applied-silent}
 use Rattle.core_rows.proofs.Silent.{still-quiet, only-one, none-wait}
 use Rattle.core_rows.proofs.Changed.{accepted-from, refused-from, uncommitted-from, unready-from}
 use Rattle.core_rows.proofs.Following.{follows-made}
 use Rattle.core_rows.proofs.Judging.{entries-ready}
-use Rattle.machine_laws.proofs.WholeKept.{whole-changes}
-use Rattle.kept_totals.specs.Totals.{AreTotals}
-use Rattle.kept_totals.proofs.Told.{totals-none}
+use Rattle.judged_changes.specs.machine_laws.proofs.WholeKept.{whole-changes}
+use Rattle.judged_changes.specs.kept_totals.specs.Totals.{AreTotals}
+use Rattle.judged_changes.specs.kept_totals.proofs.Told.{totals-none}
 use Rattle.core_rows.proofs.estate.Estate.change_rows.Goals as goal
 
 pub returns-in_default : goal.returns-in_default

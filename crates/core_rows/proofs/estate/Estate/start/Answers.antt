@@ -1,20 +1,20 @@
 use Rattle.std.proofs.Common.{[], ◌∷◌, map, length, refl, ap, sym, subst, ◌∙◌, arith}
-use Rattle.size_values.specs.Amounts.{part}
-use Rattle.size_values.specs.Causes.{Refuses}
-use Rattle.size_values.specs.declared.memory.Or.TheVariants as or
-use Rattle.records.specs.declared.replies.Reply.TheVariants as reply
-use Rattle.row_machine.specs.machine.State.{State}
-use Rattle.row_machine.specs.machine.Work.{claiming}
-use Rattle.row_machine.specs.facts.Whole.{IsWhole}
-use Rattle.row_drafts.specs.Steps.{before_changes}
-use Rattle.row_readings.proofs.Small.{low-share_of}
-use Rattle.machine_laws.proofs.WholeKept.{whole-entered}
+use Rattle.config_lists.specs.size_values.specs.Amounts.{part}
+use Rattle.config_lists.specs.size_values.specs.Causes.{Refuses}
+use Rattle.config_lists.specs.size_values.specs.declared.memory.Or.TheVariants as or
+use Rattle.opening_rules.specs.records.specs.declared.replies.Reply.TheVariants as reply
+use Rattle.opening_rules.specs.row_machine.specs.machine.State.{State}
+use Rattle.opening_rules.specs.row_machine.specs.machine.Work.{claiming}
+use Rattle.opening_rules.specs.row_machine.specs.facts.Whole.{IsWhole}
+use Rattle.judged_changes.specs.row_drafts.specs.Steps.{before_changes}
+use Rattle.opening_rules.specs.row_readings.proofs.Small.{low-share_of}
+use Rattle.judged_changes.specs.machine_laws.proofs.WholeKept.{whole-entered}
 use Rattle.core_rows.specs.Asked.{IsAsked}
-use Rattle.work_reports.specs.Waiting.{IsSilent}
+use Rattle.judged_changes.specs.work_reports.specs.Waiting.{IsSilent}
 use Rattle.core_rows.specs.Kept.{Kept}
 use Rattle.core_rows.specs.Planned.{IsToStart}
-use Rattle.work_reports.specs.Waiting.{told_by}
-use Rattle.kept_totals.specs.Totals.{AreTotals}
+use Rattle.judged_changes.specs.work_reports.specs.Waiting.{told_by}
+use Rattle.judged_changes.specs.kept_totals.specs.Totals.{AreTotals}
 use Rattle.core_rows.proofs.KnownTotals.{begin-totals, roomy-totals}
 use Rattle.core_rows.proofs.Silent.{still-quiet, only-one, none-wait}
 use Rattle.core_rows.proofs.Started.{judged-claim, start-refused, start-accepted, start-made, entered-from, number-left, entered-silent}

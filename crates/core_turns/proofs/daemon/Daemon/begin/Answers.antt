@@ -1,6 +1,6 @@
 use Rattle.std.proofs.Common.{◌≡◌, [], sym, subst}
-use Rattle.event_hub.specs.Recent.{nothing_told}
-use Rattle.core_rows.specs.Opening.{OpensTo}
+use Rattle.notice_laws.specs.event_hub.specs.Recent.{nothing_told}
+use Rattle.core_instances.specs.core_rows.specs.Opening.{OpensTo}
 use Rattle.core_turns.proofs.Turning.{opening-invariant}
 use Rattle.core_turns.proofs.daemon.Daemon.begin.Goals as goal
 

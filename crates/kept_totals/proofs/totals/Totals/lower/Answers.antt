@@ -1,8 +1,8 @@
 use Rattle.std.proofs.Common.{set, sym, ◌∙◌, ap}
 use Rattle.std.specs.List.{position}
-use Rattle.plain_lists.proofs.EditLemmas.{changed-none}
-use Rattle.plain_lists.proofs.Places.{any-position, changed-at}
-use Rattle.size_values.specs.Amounts.{excess_of}
+use Rattle.work_reports.specs.plain_lists.proofs.EditLemmas.{changed-none}
+use Rattle.work_reports.specs.plain_lists.proofs.Places.{any-position, changed-at}
+use Rattle.work_reports.specs.size_values.specs.Amounts.{excess_of}
 use Rattle.kept_totals.specs.declared.totals.Total.{Total}
 use Rattle.kept_totals.specs.Totals.{is_of, lowered}
 use Rattle.kept_totals.proofs.totals.Totals.lower.Goals as goal

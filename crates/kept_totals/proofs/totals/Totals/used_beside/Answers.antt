@@ -1,7 +1,7 @@
 use Rattle.std.proofs.Common.{◌≡◌, subst, sym, ap, arith}
 use Rattle.std.specs.Prelude.{IfSome}
-use Rattle.size_values.specs.Amounts.{part}
-use Rattle.row_machine.specs.machine.Usage.{usage_of}
+use Rattle.work_reports.specs.size_values.specs.Amounts.{part}
+use Rattle.work_reports.specs.row_machine.specs.machine.Usage.{usage_of}
 use Rattle.kept_totals.specs.Totals.{AreTotals}
 use Rattle.kept_totals.proofs.Few.{few-used}
 use Rattle.kept_totals.proofs.Told.{totals-more}

@@ -1,5 +1,5 @@
 use Rattle.std.proofs.Common.{ap}
-use Rattle.core_rows.proofs.Opened.{opened-idle}
+use Rattle.serial_steps.specs.core_rows.proofs.Opened.{opened-idle}
 use Rattle.rest_service.proofs.service.Service.new.Goals as goal
 
 pub of-requires : goal.of-requires

@@ -1,7 +1,7 @@
 use Rattle.std.proofs.Common.{Some, sym, ◌∙◌, ap}
 use Rattle.std.specs.List.{position}
-use Rattle.operations.specs.Kept.{has_number, live_at}
-use Rattle.plain_lists.proofs.Places.{find-at}
+use Rattle.machine_laws.specs.operations.specs.Kept.{has_number, live_at}
+use Rattle.machine_laws.specs.plain_lists.proofs.Places.{find-at}
 use Rattle.row_drafts.specs.Background.{Background}
 use Rattle.row_drafts.proofs.background.Background.at.Goals as goal
 

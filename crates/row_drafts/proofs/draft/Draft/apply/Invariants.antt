@@ -1,5 +1,5 @@
 use Rattle.std.proofs.Common.{◌≡◌, ◌+◌, length}
-use Rattle.row_machine.specs.machine.Changes.{applied}
+use Rattle.machine_laws.specs.row_machine.specs.machine.Changes.{applied}
 use Rattle.row_drafts.specs.Drafted.{former, IsReady}
 use Rattle.row_drafts.proofs.draft.Draft.apply.Given as goal
 

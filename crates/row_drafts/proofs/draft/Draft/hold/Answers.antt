@@ -1,5 +1,5 @@
 use Rattle.std.proofs.Common.{◌-◌, ◌++◌, [], ◌∷◌, sym, subst, arith}
-use Rattle.reservations.specs.Holdings.{granted_more}
+use Rattle.machine_laws.specs.reservations.specs.Holdings.{granted_more}
 use Rattle.row_readings.specs.Rising.{AreRising}
 use Rattle.row_drafts.specs.Steps.{FitChanges, RoseBefore}
 use Rattle.row_drafts.proofs.HeldAside.{fits-held, rose-held}

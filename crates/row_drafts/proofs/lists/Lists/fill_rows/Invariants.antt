@@ -1,5 +1,5 @@
 use Rattle.std.proofs.Common.{◌≡◌, drop, fold}
-use Rattle.row_machine.specs.machine.Changes.{with_row}
+use Rattle.machine_laws.specs.row_machine.specs.machine.Changes.{with_row}
 use Rattle.row_readings.specs.Rising.{AreRising}
 use Rattle.row_drafts.proofs.lists.Lists.fill_rows.Given as goal
 

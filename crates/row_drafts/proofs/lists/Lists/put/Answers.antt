@@ -1,6 +1,6 @@
 use Rattle.std.proofs.Common.{◌∙◌, ap, sym, subst}
-use Rattle.records.specs.declared.rows.Row.TheVariants as row
-use Rattle.row_machine.specs.machine.Changes.{with_row}
+use Rattle.machine_laws.specs.records.specs.declared.rows.Row.TheVariants as row
+use Rattle.machine_laws.specs.row_machine.specs.machine.Changes.{with_row}
 use Rattle.row_readings.specs.Rising.{AreRising}
 use Rattle.row_drafts.specs.Inside.{state_in}
 use Rattle.row_drafts.specs.Drafted.{Listed}

@@ -1,9 +1,9 @@
 use Rattle.std.proofs.Common.{◌∙◌, ap, sym, subst, if◌then◌else◌}
 use Rattle.std.specs.List.{list_any}
-use Rattle.records.specs.declared.rows.Row.TheVariants as row
-use Rattle.row_machine.specs.machine.State.{Standing}
-use Rattle.row_machine.specs.machine.Rows.{is_standing, with_instance, with_standing}
-use Rattle.row_machine.specs.machine.Changes.{with_row}
+use Rattle.machine_laws.specs.records.specs.declared.rows.Row.TheVariants as row
+use Rattle.machine_laws.specs.row_machine.specs.machine.State.{Standing}
+use Rattle.machine_laws.specs.row_machine.specs.machine.Rows.{is_standing, with_instance, with_standing}
+use Rattle.machine_laws.specs.row_machine.specs.machine.Changes.{with_row}
 use Rattle.row_readings.specs.Rising.{AreRising}
 use Rattle.row_drafts.specs.Inside.{state_in}
 use Rattle.row_drafts.specs.Drafted.{Listed}
