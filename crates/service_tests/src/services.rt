@@ -1,11 +1,11 @@
 //! Whole requests over a keeper.
 
 use rest_service::Service;
-use rest_service::host_model_crate::ModelHost;
-use rest_service::http_front_crate::{HeadFault, Request, StillClock};
-use rest_service::record_keeper_crate::MapKeeper;
-use rest_service::rest_answers_crate::{Answered, print_malformed};
-use rest_service::size_values_crate::{NoMemory, Seq, Text};
+use rest_service::from_host_model::ModelHost;
+use rest_service::from_http_front::{HeadFault, Request, StillClock};
+use rest_service::from_record_keeper::MapKeeper;
+use rest_service::from_rest_answers::{Answered, print_malformed};
+use rest_service::from_size_values::{NoMemory, Seq, Text};
 use std::alloc::Global;
 
 const MADE: &str =
