@@ -2,9 +2,9 @@
 ghost use Rattle.std.specs.Prelude.{◌≡◌, IfOk};
 ghost use Rattle.new_rows.specs.row_machine.specs.machine.NewRows.{new_description, new_config, patched_description, patched_config};
 
-use new_rows::config_lists_crate::Config;
-use new_rows::records_crate::Body;
-use new_rows::size_values_crate::{NoMemory, Text};
+use new_rows::from_config_lists::Config;
+use new_rows::from_records::Body;
+use new_rows::from_size_values::{NoMemory, Text};
 use new_rows::{new_config, new_description, patched_config, patched_description};
 use std::alloc::Global;
 

@@ -3,10 +3,10 @@ ghost use Rattle.std.specs.Prelude.{◌≡◌, unwrap_or, IfOk};
 ghost use Rattle.new_rows.specs.row_machine.specs.machine.NewRows.{patched_devices, patched_instance};
 
 use crate::contents::patched_content;
-use new_rows::config_lists_crate::Devices;
+use new_rows::from_config_lists::Devices;
+use new_rows::from_records::{Body, Instance};
+use new_rows::from_size_values::{NoMemory, Seq, Text};
 use new_rows::patched_devices;
-use new_rows::records_crate::{Body, Instance};
-use new_rows::size_values_crate::{NoMemory, Seq, Text};
 use std::alloc::Global;
 
 /// What an instance has beside its own settings: its profiles and devices.

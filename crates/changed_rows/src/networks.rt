@@ -3,8 +3,8 @@ ghost use Rattle.std.specs.Prelude.{◌≡◌, IfOk};
 ghost use Rattle.new_rows.specs.row_machine.specs.machine.NewRows.{made_network, put_network, patched_network};
 
 use crate::contents::{Content, copied_content, new_content, patched_content};
-use new_rows::records_crate::{Body, Network};
-use new_rows::size_values_crate::{NoMemory, Text};
+use new_rows::from_records::{Body, Network};
+use new_rows::from_size_values::{NoMemory, Text};
 use std::alloc::Global;
 
 /// The network of this name in this project.

@@ -3,8 +3,8 @@ ghost use Rattle.std.specs.Prelude.{◌≡◌, IfOk};
 ghost use Rattle.new_rows.specs.row_machine.specs.machine.NewRows.{made_pool, put_pool, patched_pool};
 
 use crate::contents::{Content, new_content, patched_content};
-use new_rows::records_crate::{Body, Driver, Pool};
-use new_rows::size_values_crate::{NoMemory, Text};
+use new_rows::from_records::{Body, Driver, Pool};
+use new_rows::from_size_values::{NoMemory, Text};
 use std::alloc::Global;
 
 /// The pool of this name and driver.

@@ -4,9 +4,9 @@ ghost use Rattle.new_rows.specs.row_machine.specs.machine.NewRows.{new_devices, 
 ghost use Rattle.new_rows.specs.row_machine.specs.machine.NewRows.{default_profile, made_profile, put_profile, patched_profile};
 
 use crate::contents::{Content, copied_content, new_content, patched_content};
-use new_rows::config_lists_crate::{Config, Devices};
-use new_rows::records_crate::{Body, Profile};
-use new_rows::size_values_crate::{NoMemory, Text};
+use new_rows::from_config_lists::{Config, Devices};
+use new_rows::from_records::{Body, Profile};
+use new_rows::from_size_values::{NoMemory, Text};
 use new_rows::{new_devices, patched_devices};
 use std::alloc::Global;
 

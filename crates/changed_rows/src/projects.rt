@@ -4,9 +4,9 @@ ghost use Rattle.new_rows.specs.row_machine.specs.machine.NewRows.{new_config, f
 ghost use Rattle.new_rows.specs.row_machine.specs.machine.NewRows.{patched_project};
 
 use crate::contents::{Content, copied_content, new_content, patched_content};
-use new_rows::config_lists_crate::Config;
-use new_rows::records_crate::{Body, Project};
-use new_rows::size_values_crate::{NoMemory, Text};
+use new_rows::from_config_lists::Config;
+use new_rows::from_records::{Body, Project};
+use new_rows::from_size_values::{NoMemory, Text};
 use new_rows::{new_config, new_description};
 use std::alloc::Global;
 

@@ -3,8 +3,8 @@ ghost use Rattle.std.specs.Prelude.{◌≡◌, IfOk};
 ghost use Rattle.new_rows.specs.row_machine.specs.machine.NewRows.{made_volume, put_volume, patched_volume};
 
 use crate::contents::{Content, copied_content, new_content, patched_content};
-use new_rows::records_crate::{Body, Target, Volume};
-use new_rows::size_values_crate::{NoMemory, Text};
+use new_rows::from_records::{Body, Target, Volume};
+use new_rows::from_size_values::{NoMemory, Text};
 use std::alloc::Global;
 
 /// The volume of these names with this content.

@@ -1,10 +1,23 @@
 //! A new operation is judged by what it claims alone: a function that does nothing, whose contract is the law.
 #![tactic(auto)]
 
-// The libraries that crates above name through this one.
-pub use limit_rules as limit_rules_crate;
-pub use policy_rules as policy_rules_crate;
-pub use project_usage as project_usage_crate;
+/// Of `limit_rules`, for the crates above.
+pub mod from_limit_rules {
+    pub use limit_rules::{
+        Usage, claim_uncounts, counts_broken, limits_broken, needs_usage, share_broken,
+        usage_before_changes,
+    };
+}
+
+/// Of `policy_rules`, for the crates above.
+pub mod from_policy_rules {
+    pub use policy_rules::{claim_forbidden, policy_broken, snapshot_blocked};
+}
+
+/// Of `project_usage`, for the crates above.
+pub mod from_project_usage {
+    pub use project_usage::usage_of;
+}
 
 mod laws;
 

@@ -1,8 +1,8 @@
 //! What a body of a new volume makes it from.
 
-use rest_routes::records_crate::Origin;
-use rest_routes::rest_bodies_crate::{object_in, volume_origin};
-use rest_routes::size_values_crate::NoMemory;
+use rest_routes::from_records::Origin;
+use rest_routes::from_rest_bodies::{object_in, volume_origin};
+use rest_routes::from_size_values::NoMemory;
 use std::alloc::Global;
 
 /// Stands for the name of what is copied, where nothing is.

@@ -1,8 +1,8 @@
 //! Which command a request on instances, snapshots, copies and operations asks for, or by which field it is refused.
 
 use crate::requests::{Want, answers};
-use rest_routes::records_crate::Rule;
-use rest_routes::size_values_crate::ObjectKind;
+use rest_routes::from_records::Rule;
+use rest_routes::from_size_values::ObjectKind;
 
 /// Requests on instances and their snapshots that are refused by their body, with the rule and the key.
 const INSTANCE_BODIES: &[(&str, &str, &str, Rule, &str)] = &[

@@ -1,10 +1,10 @@
 //! How a new router answers a request.
 
 use rest_routes::Router;
-use rest_routes::config_lists_crate::Config;
-use rest_routes::http_heads_crate::Request;
-use rest_routes::records_crate::{Body, Command, Origin, Refusal, Rule, Target, What};
-use rest_routes::size_values_crate::{Action, NoMemory, ObjectKind, Or, Seq, Text};
+use rest_routes::from_config_lists::Config;
+use rest_routes::from_http_heads::Request;
+use rest_routes::from_records::{Body, Command, Origin, Refusal, Rule, Target, What};
+use rest_routes::from_size_values::{Action, NoMemory, ObjectKind, Or, Seq, Text};
 use std::alloc::Global;
 
 fn request(alloc: Global, method: &str, target: &str, body: &str) -> Result<Request, NoMemory> {

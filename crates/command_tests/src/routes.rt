@@ -1,8 +1,8 @@
 //! Which methods a path offers, and which queries are good.
 
 use crate::requests::{Want, answers};
-use rest_routes::records_crate::Rule;
-use rest_routes::size_values_crate::ObjectKind;
+use rest_routes::from_records::Rule;
+use rest_routes::from_size_values::ObjectKind;
 use std::alloc::Global;
 
 /// Refused by a rule that tells nothing.

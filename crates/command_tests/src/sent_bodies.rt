@@ -1,7 +1,7 @@
 //! Which bodies are judged well-formed, and what is read off them.
 
 use crate::requests::{BODY, Want, answers};
-use rest_routes::records_crate::Rule;
+use rest_routes::from_records::Rule;
 
 /// Requests that are refused by their body, with the rule and the key.
 const BODIES: &[(&str, &str, &str, Rule, &str)] = &[

@@ -3,8 +3,14 @@
 //! their look-ups, and prints them in the order of their keys.
 #![tactic(auto)]
 
-// The libraries that crates above name through this one.
-pub use size_values as size_values_crate;
+/// Of `size_values`, for the crates above.
+pub mod from_size_values {
+    pub use size_values::{
+        Action, Amounts, Cpu, Deed, Entry, EntryChange, FailingCalls, Kind, MOMENT_LIMIT, Memory,
+        NoMemory, ObjectKind, Or, Power, Rise, Seq, Text, ValueFault, read_address, read_cidr,
+        read_count, read_cpu, read_expiry, read_memory, read_size, read_truth,
+    };
+}
 
 mod changes;
 mod config;

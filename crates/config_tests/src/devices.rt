@@ -1,7 +1,7 @@
 //! Devices, and which of them is the root disk.
 use crate::given::{NamedDevices, Settings, are_devices, config_of, devices_of};
-use expansion::config_lists_crate::{Devices, Root, is_root_disk};
-use expansion::size_values_crate::NoMemory;
+use expansion::from_config_lists::{Devices, Root, is_root_disk};
+use expansion::from_size_values::NoMemory;
 use std::alloc::Global;
 
 const DEVICES: NamedDevices = &[

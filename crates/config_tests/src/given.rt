@@ -1,7 +1,7 @@
 //! Settings and devices that are made of a table, and whether they are as a table says. Where memory is refused, a row
 //! is missing in what is made, and it is not as its table says.
-use expansion::config_lists_crate::{Config, Devices};
-use expansion::size_values_crate::NoMemory;
+use expansion::from_config_lists::{Config, Devices};
+use expansion::from_size_values::NoMemory;
 use std::alloc::Global;
 
 /// Keys and values.

@@ -1,7 +1,7 @@
 //! Layers of settings and devices, laid one over the other.
 use crate::given::{NamedDevices, Settings, config_of, devices_of, is_config};
 use expansion::Expanded;
-use expansion::config_lists_crate::Devices;
+use expansion::from_config_lists::Devices;
 use std::alloc::Global;
 
 /// Settings and devices of a layer.

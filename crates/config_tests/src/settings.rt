@@ -1,6 +1,6 @@
 //! Settings and changes of them.
 use crate::given::{Settings, config_of, is_config, is_made};
-use expansion::config_lists_crate::{Changes, Config};
+use expansion::from_config_lists::{Changes, Config};
 use std::alloc::Global;
 
 const SETS: Settings = &[("b", "2"), ("a", "1"), ("ba", "3"), ("b", "4"), ("B", "5")];

@@ -5,9 +5,9 @@ ghost use Rattle.serve_loop.specs.Serving.{line};
 ghost use Rattle.connections.specs.Connections.{Connects};
 
 use event_sessions::{SessionEnd, event_session};
-use serve_loop::event_texts_crate::Subscription;
-use serve_loop::gate_trails_crate::Gate;
-use serve_loop::http_front_crate::{Clock, Sink, Source};
+use serve_loop::from_event_texts::Subscription;
+use serve_loop::from_gate_trails::Gate;
+use serve_loop::from_http_front::{Clock, Sink, Source};
 use serve_loop::{LinkEnd, serve_link};
 use std::alloc::Global;
 use std::sync::Wait;

@@ -9,11 +9,11 @@ ghost use Rattle.core_objects.specs.core_rows.specs.Planned.{Follows};
 ghost use Rattle.core_instances.specs.Ways.{way_of};
 ghost use Rattle.core_instances.specs.declared.ways.Way.TheVariants as way;
 
-use core_objects::core_rows_crate::Estate;
+use core_objects::from_core_rows::Estate;
 use std::alloc::Global;
+use task_plans::from_records::{Command, Reply};
+use task_plans::from_size_values::MOMENT_LIMIT;
 use task_plans::plan_task;
-use task_plans::records_crate::{Command, Reply};
-use task_plans::size_values_crate::MOMENT_LIMIT;
 
 /// Begins the operation of a command that breaks no rule on names and on what stands in the way. The store is not asked.
 pub(crate) fn begin_task(

@@ -6,12 +6,12 @@ ghost use Rattle.core_instances.specs.Waits.{is_held};
 
 use crate::beginning::begin_task;
 use crate::ways::{Way, way_of};
-use core_objects::core_rows_crate::{Estate, refused_reply};
-use core_objects::record_keeper_crate::Keeper;
+use core_objects::from_core_rows::{Estate, refused_reply};
+use core_objects::from_record_keeper::Keeper;
 use core_objects::{answer_read, change_at_once, first_broken};
 use std::alloc::Global;
-use task_plans::records_crate::{Command, Reply};
-use task_plans::size_values_crate::MOMENT_LIMIT;
+use task_plans::from_records::{Command, Reply};
+use task_plans::from_size_values::MOMENT_LIMIT;
 
 /// Carries one command out that is not about objects whose rows are changed at once. A command that
 /// breaks a rule changes nothing, and neither does one whose changes the keeper did not commit. A

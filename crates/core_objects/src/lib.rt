@@ -2,13 +2,57 @@
 //! is judged, committed and made.
 #![tactic(auto)]
 
-// The libraries that crates above name through this one.
-pub use core_rows as core_rows_crate;
-pub use core_rows::{record_keeper_crate, row_drafts_crate, work_reports_crate};
-pub use name_rules as name_rules_crate;
-pub use name_rules::{
-    records_crate, row_machine_crate, row_readings_crate, rule_refusals_crate, size_values_crate,
-};
+/// Of `core_rows`, for the crates above.
+pub mod from_core_rows {
+    pub use core_rows::{Estate, OpenFault, load_rows, refused_reply};
+}
+
+/// Of `name_rules`, for the crates above.
+pub mod from_name_rules {
+    pub use name_rules::names_broken;
+}
+
+/// Of `record_keeper`, for the crates above.
+pub mod from_record_keeper {
+    pub use core_rows::from_record_keeper::{Keeper, MapKeeper};
+}
+
+/// Of `records`, for the crates above.
+pub mod from_records {
+    pub use name_rules::from_records::{Body, Command, Origin, Reply, Row, Rule, Target, What};
+}
+
+/// Of `row_drafts`, for the crates above.
+pub mod from_row_drafts {
+    pub use core_rows::from_row_drafts::Draft;
+}
+
+/// Of `row_machine`, for the crates above.
+pub mod from_row_machine {
+    pub use name_rules::from_row_machine::RowChange;
+}
+
+/// Of `row_readings`, for the crates above.
+pub mod from_row_readings {
+    pub use name_rules::from_row_readings::{profile_home, project_named};
+}
+
+/// Of `rule_refusals`, for the crates above.
+pub mod from_rule_refusals {
+    pub use name_rules::from_rule_refusals::nothing_told;
+}
+
+/// Of `size_values`, for the crates above.
+pub mod from_size_values {
+    pub use name_rules::from_size_values::{Entry, EntryChange, NoMemory, ObjectKind, Seq, Text};
+}
+
+/// Of `work_reports`, for the crates above.
+pub mod from_work_reports {
+    pub use core_rows::from_work_reports::{
+        Shown, Turned, Waiting, default_profile, entry_changes,
+    };
+}
 
 mod commands;
 mod objects;

@@ -11,12 +11,12 @@ ghost use Rattle.core_rows.specs.Planned.{Follows};
 ghost use Rattle.core_objects.specs.Answers.{IsAnswer, is_read};
 ghost use Rattle.core_objects.specs.Commands.{is_object_command};
 
-use core_rows::record_keeper_crate::Keeper;
+use core_rows::from_record_keeper::Keeper;
 use core_rows::{Estate, refused_reply};
+use name_rules::from_records::{Command, Refusal, Reply, What};
+use name_rules::from_row_readings::View;
+use name_rules::from_size_values::{MOMENT_LIMIT, NoMemory, Or};
 use name_rules::names_broken;
-use name_rules::records_crate::{Command, Refusal, Reply, What};
-use name_rules::row_readings_crate::View;
-use name_rules::size_values_crate::{MOMENT_LIMIT, NoMemory, Or};
 use object_plans::plan_change;
 use object_views::read;
 use standing_rules::standing_broken;

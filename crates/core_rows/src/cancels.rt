@@ -6,11 +6,11 @@ ghost use Rattle.core_rows.specs.Cancels.{waits, stopped};
 ghost use Rattle.core_rows.specs.Counted.{counted_out};
 ghost use Rattle.judged_changes.specs.work_reports.specs.Turns.{shown_at};
 
-use judged_changes::kept_totals_crate::{Totals, give_back, held_share};
-use judged_changes::row_drafts_crate::Draft;
-use judged_changes::work_reports_crate::{Waiting, cancel, is_pending, live_at, tell};
-use opening_rules::operations_crate::Status;
-use opening_rules::row_readings_crate::View;
+use judged_changes::from_kept_totals::{Totals, give_back, held_share};
+use judged_changes::from_row_drafts::Draft;
+use judged_changes::from_work_reports::{Waiting, cancel, is_pending, live_at, tell};
+use opening_rules::from_operations::Status;
+use opening_rules::from_row_readings::View;
 
 /// Whether the live operation of a number waits for its first call.
 fn waits(view: &View<'_>, number: u64) -> bool

@@ -11,23 +11,23 @@ ghost use Rattle.judged_changes.specs.record_keeper.specs.Store.{Store};
 
 use crate::cancels::{count_out, stop};
 use crate::counted::follow_report;
-use config_lists::size_values_crate::{NoMemory, Seq};
-use judged_changes::kept_totals_crate::{Totals, count};
-use judged_changes::record_keeper_crate::Keeper;
-use judged_changes::row_drafts_crate::Draft;
-use judged_changes::work_reports_crate::{
+use config_lists::from_size_values::{NoMemory, Seq};
+use judged_changes::from_kept_totals::{Totals, count};
+use judged_changes::from_record_keeper::Keeper;
+use judged_changes::from_row_drafts::Draft;
+use judged_changes::from_work_reports::{
     Turned, Waiting, begin, first_pending, take_report, tell, told_by,
 };
 use judged_changes::{
     commit, give_up, judge, judge_claim, make_beginning, make_ready, refused_reply,
     settle_beginning,
 };
-use opening_rules::host_model_crate::{HostCall, Report};
-use opening_rules::plain_lists_crate::push_reserved;
-use opening_rules::records_crate::{Command, Reply, Untold};
-use opening_rules::row_machine_crate::{RowChange, Work};
-use opening_rules::row_readings_crate::View;
-use opening_rules::table_rules_crate::cancel_broken;
+use opening_rules::from_host_model::{HostCall, Report};
+use opening_rules::from_plain_lists::push_reserved;
+use opening_rules::from_records::{Command, Reply, Untold};
+use opening_rules::from_row_machine::{RowChange, Work};
+use opening_rules::from_row_readings::View;
+use opening_rules::from_table_rules::cancel_broken;
 use std::alloc::Global;
 use std::marker::Model;
 

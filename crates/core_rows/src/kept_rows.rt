@@ -7,9 +7,9 @@ ghost use Rattle.core_rows.specs.Opening.{Gives, GivesDraft, GivesRows, Judges, 
 
 use crate::estate::Estate;
 use crate::opening::OpenFault;
-use config_lists::size_values_crate::{Entry, NoMemory, Or, Seq};
-use judged_changes::row_drafts_crate::Draft;
-use opening_rules::records_crate::Row;
+use config_lists::from_size_values::{Entry, NoMemory, Or, Seq};
+use judged_changes::from_row_drafts::Draft;
+use opening_rules::from_records::Row;
 use opening_rules::{rows_break, rows_in};
 use std::alloc::Global;
 

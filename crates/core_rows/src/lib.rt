@@ -2,10 +2,32 @@
 //! made, judged, committed to a keeper, and taken back where a rule is broken or the keeper fails.
 #![tactic(auto)]
 
-// The libraries that crates above name through this one.
-pub use config_lists::size_values_crate;
-pub use judged_changes::{record_keeper_crate, row_drafts_crate, work_reports_crate};
-pub use opening_rules::host_model_crate;
+/// Of `host_model`, for the crates above.
+pub mod from_host_model {
+    pub use opening_rules::from_host_model::{Host, ModelHost};
+}
+
+/// Of `record_keeper`, for the crates above.
+pub mod from_record_keeper {
+    pub use judged_changes::from_record_keeper::{Keeper, MapKeeper};
+}
+
+/// Of `row_drafts`, for the crates above.
+pub mod from_row_drafts {
+    pub use judged_changes::from_row_drafts::Draft;
+}
+
+/// Of `size_values`, for the crates above.
+pub mod from_size_values {
+    pub use config_lists::from_size_values::{Entry, EntryChange, NoMemory, Or, Seq};
+}
+
+/// Of `work_reports`, for the crates above.
+pub mod from_work_reports {
+    pub use judged_changes::from_work_reports::{
+        Shown, Turned, Waiting, default_profile, entry_changes,
+    };
+}
 
 mod cancels;
 mod counted;

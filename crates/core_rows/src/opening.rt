@@ -9,12 +9,12 @@ ghost use Rattle.core_rows.specs.Opening.{Opens, Begins, Commits, GoesOn, Loads,
 use crate::estate::Estate;
 use crate::kept_rows::{have_bytes, open_entries};
 use config_lists::Config;
-use config_lists::size_values_crate::{Entry, EntryChange, NoMemory, Or, Seq, Text};
-use judged_changes::record_keeper_crate::Keeper;
-use judged_changes::row_drafts_crate::Draft;
-use judged_changes::work_reports_crate::{default_profile, entry_changes};
-use opening_rules::records_crate::{Project, Row, Rule};
-use opening_rules::row_machine_crate::RowChange;
+use config_lists::from_size_values::{Entry, EntryChange, NoMemory, Or, Seq, Text};
+use judged_changes::from_record_keeper::Keeper;
+use judged_changes::from_row_drafts::Draft;
+use judged_changes::from_work_reports::{default_profile, entry_changes};
+use opening_rules::from_records::{Project, Row, Rule};
+use opening_rules::from_row_machine::RowChange;
 use std::alloc::Global;
 
 /// Why the rows could not be opened. A row is told by the number of its kind and its key, as its entry has them.

@@ -10,14 +10,14 @@ ghost use Rattle.core_instances.specs.core_rows.specs.Planned.{Follows};
 ghost use Rattle.core_turns.specs.Commands.{held_for};
 ghost use Rattle.core_turns.specs.Turns.{Comes, IsServed};
 
-use core_instances::core_objects_crate::{do_object, is_object_command};
-use core_instances::core_rows_crate::Estate;
 use core_instances::do_instance;
-use core_instances::row_readings_crate::View;
-use notice_laws::operations_crate::Operation;
-use notice_laws::record_keeper_crate::Keeper;
-use notice_laws::records_crate::{Command, Reply, What};
-use notice_laws::row_machine_crate::{Answer, Work};
+use core_instances::from_core_objects::{do_object, is_object_command};
+use core_instances::from_core_rows::Estate;
+use core_instances::from_row_readings::View;
+use notice_laws::from_operations::Operation;
+use notice_laws::from_record_keeper::Keeper;
+use notice_laws::from_records::{Command, Reply, What};
+use notice_laws::from_row_machine::{Answer, Work};
 use std::alloc::Global;
 
 /// The live operation of a number.

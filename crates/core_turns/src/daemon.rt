@@ -9,13 +9,13 @@ ghost use Rattle.core_turns.specs.Turns.{IsServed, IsTurn, without_notices};
 
 use crate::hearing::hear;
 use crate::{asking, working};
-use core_instances::core_rows_crate::{Estate, OpenFault, load_rows};
-use core_instances::row_readings_crate::View;
-use notice_laws::event_hub_crate::Hub;
-use notice_laws::host_model_crate::Report;
-use notice_laws::record_keeper_crate::Keeper;
-use notice_laws::records_crate::{Command, Filter};
-use notice_laws::row_machine_crate::{Answer, Event};
+use core_instances::from_core_rows::{Estate, OpenFault, load_rows};
+use core_instances::from_row_readings::View;
+use notice_laws::from_event_hub::Hub;
+use notice_laws::from_host_model::Report;
+use notice_laws::from_record_keeper::Keeper;
+use notice_laws::from_records::{Command, Filter};
+use notice_laws::from_row_machine::{Answer, Event};
 use std::alloc::Global;
 use std::marker::Model;
 

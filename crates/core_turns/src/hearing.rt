@@ -8,12 +8,12 @@ ghost use Rattle.notice_laws.specs.operations.specs.Kept.{kept_at};
 ghost use Rattle.core_instances.specs.work_reports.specs.Waiting.{IsSilent, project_shown, target_shown, told_by};
 ghost use Rattle.core_turns.specs.Hearing.{IsAbout, progress_of};
 
-use core_instances::core_rows_crate::Estate;
-use core_instances::row_readings_crate::{View, kept_at};
-use core_instances::work_reports_crate::{Shown, Waiting};
-use notice_laws::event_hub_crate::{About, Hub, Progress};
-use notice_laws::row_machine_crate::Work;
-use notice_laws::size_values_crate::ObjectKind;
+use core_instances::from_core_rows::Estate;
+use core_instances::from_row_readings::{View, kept_at};
+use core_instances::from_work_reports::{Shown, Waiting};
+use notice_laws::from_event_hub::{About, Hub, Progress};
+use notice_laws::from_row_machine::Work;
+use notice_laws::from_size_values::ObjectKind;
 
 /// What an operation is about.
 fn about_work(work: &Work) -> About<'_>

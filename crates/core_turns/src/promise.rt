@@ -13,11 +13,11 @@ ghost use Rattle.notice_laws.specs.records.specs.declared.rows.Snapshot.{Snapsho
 ghost use Rattle.notice_laws.specs.row_machine.specs.machine.Task.{Task};
 
 use crate::daemon::Daemon;
-use core_instances::row_readings_crate::View;
-use notice_laws::config_lists_crate::{Config, Devices};
-use notice_laws::operations_crate::Operation;
-use notice_laws::records_crate::{Instance, Profile, Row, Snapshot};
-use notice_laws::row_machine_crate::Work;
+use core_instances::from_row_readings::View;
+use notice_laws::from_config_lists::{Config, Devices};
+use notice_laws::from_operations::Operation;
+use notice_laws::from_records::{Instance, Profile, Row, Snapshot};
+use notice_laws::from_row_machine::Work;
 
 /// Settings and devices stand in the order of their keys.
 fn layer_is_ordered(config: &Config, devices: &Devices)

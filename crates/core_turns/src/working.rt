@@ -7,11 +7,11 @@ ghost use Rattle.notice_laws.specs.size_values.specs.Moments.{moment_limit};
 ghost use Rattle.core_instances.specs.work_reports.specs.Jobs.{answer_of};
 ghost use Rattle.core_turns.specs.Turns.{Comes};
 
-use core_instances::core_rows_crate::Estate;
-use core_instances::work_reports_crate::Turned;
-use notice_laws::host_model_crate::Report;
-use notice_laws::record_keeper_crate::Keeper;
-use notice_laws::row_machine_crate::Answer;
+use core_instances::from_core_rows::Estate;
+use core_instances::from_work_reports::Turned;
+use notice_laws::from_host_model::Report;
+use notice_laws::from_record_keeper::Keeper;
+use notice_laws::from_row_machine::Answer;
 use std::alloc::Global;
 
 /// What a worker gets where nothing waits.

@@ -2,8 +2,10 @@
 //! memory, and doors over a listener of TCP. A link is two values, its source and its sink.
 #![tactic(auto)]
 
-// The libraries that crates above name through this one.
-pub use http_front as http_front_crate;
+/// Of `http_front`, for the crates above.
+pub mod from_http_front {
+    pub use http_front::{ByteSink, ByteSource, Clock, Sink, Source};
+}
 
 mod door;
 mod link;

@@ -5,7 +5,7 @@ ghost use Rattle.doors.specs.Accepts.{Gives, Takes, seen_of};
 
 use crate::door::{Doors, DoorsFailed};
 use crate::link::Link;
-use http_front::size_values_crate::{FailingCalls, Seq};
+use http_front::from_size_values::{FailingCalls, Seq};
 use http_front::{Sink, Source};
 use std::marker::Model;
 

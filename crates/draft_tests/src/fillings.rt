@@ -1,10 +1,10 @@
 //! Which rows stand after some were put, and in which order, whether a draft begins with them or changes to them.
 use row_drafts::Draft;
-use row_drafts::config_lists_crate::{Config, Devices};
-use row_drafts::records_crate::{Instance, Network, Row};
-use row_drafts::row_machine_crate::RowChange;
-use row_drafts::row_readings_crate::View;
-use row_drafts::size_values_crate::{Kind, NoMemory, Power, Seq, Text};
+use row_drafts::from_config_lists::{Config, Devices};
+use row_drafts::from_records::{Instance, Network, Row};
+use row_drafts::from_row_machine::RowChange;
+use row_drafts::from_row_readings::View;
+use row_drafts::from_size_values::{Kind, NoMemory, Power, Seq, Text};
 use std::alloc::Global;
 
 /// The project, name and description of a network and of an instance.

@@ -2,9 +2,17 @@
 //! networks, pools and volumes a list of devices names.
 #![tactic(auto)]
 
-// The libraries that crates above name through this one.
-pub use config_lists as config_lists_crate;
-pub use config_lists::size_values_crate;
+/// Of `config_lists`, for the crates above.
+pub mod from_config_lists {
+    pub use config_lists::{Config, Devices};
+}
+
+/// Of `size_values`, for the crates above.
+pub mod from_size_values {
+    pub use config_lists::from_size_values::{
+        Action, Amounts, Deed, Entry, EntryChange, Kind, NoMemory, ObjectKind, Or, Power, Seq, Text,
+    };
+}
 
 mod names;
 mod uses;

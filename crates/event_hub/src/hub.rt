@@ -10,8 +10,8 @@ use crate::short_text::ShortText;
 use crate::slot::{Content, Slot};
 use circular_buffer::HeapCircularBuffer;
 use row_machine::Fetched;
-use row_machine::records_crate::{Filter, Notice, Untold};
-use row_machine::size_values_crate::{NoMemory, Seq};
+use row_machine::from_records::{Filter, Notice, Untold};
+use row_machine::from_size_values::{NoMemory, Seq};
 use std::alloc::Global;
 use std::marker::Model;
 

@@ -3,8 +3,8 @@ ghost use Rattle.event_hub.specs.Telling.{IsShort, object_in};
 
 use crate::progress::About;
 use crate::short_text::ShortText;
-use row_machine::records_crate::Target;
-use row_machine::size_values_crate::{NoMemory, ObjectKind};
+use row_machine::from_records::Target;
+use row_machine::from_size_values::{NoMemory, ObjectKind};
 use std::alloc::Global;
 use std::marker::Model;
 

@@ -8,8 +8,8 @@ ghost use Rattle.row_machine.specs.shown.Notices.{takes_told};
 use crate::progress::Progress;
 use crate::short_target::ShortTarget;
 use crate::short_text::ShortText;
-use row_machine::records_crate::{Filter, Notice, OpView, Told, Untold};
-use row_machine::size_values_crate::NoMemory;
+use row_machine::from_records::{Filter, Notice, OpView, Told, Untold};
+use row_machine::from_size_values::NoMemory;
 use std::alloc::Global;
 use std::marker::Model;
 

@@ -8,11 +8,11 @@ ghost use Rattle.event_sessions.specs.Sessions.{frames_of};
 ghost use Rattle.gate_replies.specs.rest_replies.specs.Notices.{notice_text};
 
 use event_texts::accept_text;
-use event_texts::records_crate::Notice;
-use event_texts::size_values_crate::NoMemory;
-use gate_replies::http_front_crate::{Sink, SinkFailed};
-use gate_replies::rest_answers_crate::Written;
-use gate_replies::rest_replies_crate::print_notice;
+use event_texts::from_records::Notice;
+use event_texts::from_size_values::NoMemory;
+use gate_replies::from_http_front::{Sink, SinkFailed};
+use gate_replies::from_rest_answers::Written;
+use gate_replies::from_rest_replies::print_notice;
 use std::alloc::Global;
 use websocket::protocol::frame::coding::{Control, Data, OpCode};
 use websocket::protocol::frame::{FrameHeader, write_frame};

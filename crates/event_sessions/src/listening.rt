@@ -11,13 +11,13 @@ ghost use Rattle.event_sessions.specs.Sessions.{after_fetched, after_notices, as
 
 use crate::frames::{send_close, send_notices};
 use crate::session::SessionEnd;
-use event_texts::records_crate::{Filter, Notice};
-use event_texts::size_values_crate::{NoMemory, Seq};
+use event_texts::from_records::{Filter, Notice};
+use event_texts::from_size_values::{NoMemory, Seq};
 use gate_replies::MOST_RESTS;
-use gate_replies::gate_trails_crate::Gate;
-use gate_replies::http_front_crate::Sink;
-use gate_replies::rest_answers_crate::Written;
-use gate_replies::row_machine_crate::{Answer, Event, Fetched};
+use gate_replies::from_gate_trails::Gate;
+use gate_replies::from_http_front::Sink;
+use gate_replies::from_rest_answers::Written;
+use gate_replies::from_row_machine::{Answer, Event, Fetched};
 use std::alloc::Global;
 use std::sync::Wait;
 

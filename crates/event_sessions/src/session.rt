@@ -7,12 +7,12 @@ ghost use Rattle.event_sessions.specs.Sessions.{Session, after_fetched};
 
 use crate::frames::send_head;
 use crate::listening::{Post, ask, heard, listen};
-use event_texts::records_crate::Filter;
-use event_texts::size_values_crate::NoMemory;
-use gate_replies::gate_trails_crate::Gate;
-use gate_replies::http_front_crate::Sink;
-use gate_replies::rest_answers_crate::Written;
-use gate_replies::row_machine_crate::Fetched;
+use event_texts::from_records::Filter;
+use event_texts::from_size_values::NoMemory;
+use gate_replies::from_gate_trails::Gate;
+use gate_replies::from_http_front::Sink;
+use gate_replies::from_rest_answers::Written;
+use gate_replies::from_row_machine::Fetched;
 use std::alloc::Global;
 use std::sync::Wait;
 

@@ -2,9 +2,9 @@
 
 use crate::filters::Want::{Events, NoEvents, Refused};
 use event_texts::event_filter;
-use event_texts::http_heads_crate::Request;
-use event_texts::records_crate::{Filter, Refusal, Rule};
-use event_texts::size_values_crate::{NoMemory, Or, Seq, Text};
+use event_texts::from_http_heads::Request;
+use event_texts::from_records::{Filter, Refusal, Rule};
+use event_texts::from_size_values::{NoMemory, Or, Seq, Text};
 use std::alloc::Global;
 
 /// What is to be answered.

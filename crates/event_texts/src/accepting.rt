@@ -3,7 +3,7 @@ ghost use Rattle.std.specs.Prelude.{◌≡◌, IfOk};
 ghost use Rattle.event_texts.specs.Accepting.{accept_text};
 
 use base64::engine::general_purpose::STANDARD;
-use http_heads::size_values_crate::{NoMemory, Text};
+use http_heads::from_size_values::{NoMemory, Text};
 use sha1::Sha1;
 use std::alloc::Global;
 

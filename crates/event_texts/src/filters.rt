@@ -4,8 +4,8 @@ ghost use Rattle.rest_paths.specs.Answers.{Gives};
 ghost use Rattle.event_texts.specs.Filters.{asks_events, filter_from, filter_of};
 
 use http_heads::Request;
-use http_heads::size_values_crate::{NoMemory, Or};
-use rest_paths::records_crate::{Filter, Refusal};
+use http_heads::from_size_values::{NoMemory, Or};
+use rest_paths::from_records::{Filter, Refusal};
 use rest_paths::{Query, path_of, project_of, query_from_text, query_of, wanted_types};
 use std::alloc::Global;
 

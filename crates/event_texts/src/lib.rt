@@ -2,10 +2,20 @@
 //! text that accepts its WebSocket handshake (RFC 6455).
 #![tactic(auto)]
 
-// The libraries that crates above name through this one.
-pub use http_heads as http_heads_crate;
-pub use http_heads::size_values_crate;
-pub use rest_paths::records_crate;
+/// Of `http_heads`, for the crates above.
+pub mod from_http_heads {
+    pub use http_heads::Request;
+}
+
+/// Of `records`, for the crates above.
+pub mod from_records {
+    pub use rest_paths::from_records::{Filter, Notice, Refusal, Reply, Rule};
+}
+
+/// Of `size_values`, for the crates above.
+pub mod from_size_values {
+    pub use http_heads::from_size_values::{NoMemory, Or, Seq, Text};
+}
 
 mod accepting;
 mod filters;

@@ -4,8 +4,8 @@ ghost use Rattle.event_texts.specs.Subscriptions.{subscribed, subscription_of};
 
 use crate::filters::event_filter;
 use http_heads::Request;
-use http_heads::size_values_crate::{NoMemory, Or, Text};
-use rest_paths::records_crate::Filter;
+use http_heads::from_size_values::{NoMemory, Or, Text};
+use rest_paths::from_records::Filter;
 use std::alloc::Global;
 
 /// What a listener asks for: the key of its handshake, and which events it takes.

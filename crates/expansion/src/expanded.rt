@@ -1,7 +1,7 @@
 ghost use Rattle.std.specs.Prelude.{◌≡◌, IfOk, OnOk, OnErr};
 ghost use Rattle.config_lists.specs.Entries.{replaced};
 
-use config_lists::size_values_crate::NoMemory;
+use config_lists::from_size_values::NoMemory;
 use config_lists::{Config, Devices};
 use std::alloc::Global;
 

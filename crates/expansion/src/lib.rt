@@ -2,9 +2,15 @@
 //! its own. Everything that speaks of what an instance has reads it here.
 #![tactic(auto)]
 
-// The libraries that crates above name through this one.
-pub use config_lists as config_lists_crate;
-pub use config_lists::size_values_crate;
+/// Of `config_lists`, for the crates above.
+pub mod from_config_lists {
+    pub use config_lists::{Changes, Config, Device, Devices, Root, is_root_disk};
+}
+
+/// Of `size_values`, for the crates above.
+pub mod from_size_values {
+    pub use config_lists::from_size_values::NoMemory;
+}
 
 mod expanded;
 mod laws;

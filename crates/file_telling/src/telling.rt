@@ -1,6 +1,6 @@
 use sqlite_keeper::SqliteKeeper;
-use sqlite_keeper::size_values_crate::NoMemory;
-use start_telling::start_faults_crate::StartFault;
+use sqlite_keeper::from_size_values::NoMemory;
+use start_telling::from_start_faults::StartFault;
 use start_telling::{tell_fault, tell_line};
 use std::alloc::Global;
 

@@ -2,10 +2,37 @@
 //! the answer of a wait is held back while its operation is live.
 #![tactic(auto)]
 
-// The libraries that crates above name through this one.
-pub use gate_answers::{gate_trails_crate, rest_answers_crate};
-pub use rest_routes as rest_routes_crate;
-pub use rest_routes::{http_front_crate, rest_replies_crate, row_machine_crate};
+/// Of `gate_trails`, for the crates above.
+pub mod from_gate_trails {
+    pub use gate_answers::from_gate_trails::Gate;
+}
+
+/// Of `http_front`, for the crates above.
+pub mod from_http_front {
+    pub use rest_routes::from_http_front::{
+        Buffer, Clock, Got, HeadFault, Request, Sink, SinkFailed, Source, read_request,
+    };
+}
+
+/// Of `rest_answers`, for the crates above.
+pub mod from_rest_answers {
+    pub use gate_answers::from_rest_answers::{Written, answer_for, write_answer, write_refusal};
+}
+
+/// Of `rest_replies`, for the crates above.
+pub mod from_rest_replies {
+    pub use rest_routes::from_rest_replies::print_notice;
+}
+
+/// Of `rest_routes`, for the crates above.
+pub mod from_rest_routes {
+    pub use rest_routes::Router;
+}
+
+/// Of `row_machine`, for the crates above.
+pub mod from_row_machine {
+    pub use rest_routes::from_row_machine::{Answer, Event, Fetched};
+}
 
 mod reply;
 mod wait;

@@ -6,12 +6,12 @@ ghost use Rattle.gate_answers.specs.gate_trails.specs.Gates.{seen};
 ghost use Rattle.gate_replies.specs.Replying.{Reaches};
 
 use crate::wait::{ask, wait_of};
-use gate_answers::core_rows_crate::refused_reply;
-use gate_answers::gate_trails_crate::Gate;
+use gate_answers::from_core_rows::refused_reply;
+use gate_answers::from_gate_trails::Gate;
 use rest_routes::Router;
-use rest_routes::http_front_crate::{Clock, Request};
-use rest_routes::records_crate::{Command, Reply};
-use rest_routes::size_values_crate::NoMemory;
+use rest_routes::from_http_front::{Clock, Request};
+use rest_routes::from_records::{Command, Reply};
+use rest_routes::from_size_values::NoMemory;
 use std::alloc::Global;
 
 /// Asks for a command. What a wait needs later is taken beforehand.

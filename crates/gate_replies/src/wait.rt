@@ -11,12 +11,12 @@ ghost use Rattle.gate_answers.specs.Answers.{IsForLooker};
 ghost use Rattle.gate_replies.specs.Waits.{Looked, ServeBy, after_rest, due};
 ghost use Rattle.gate_replies.specs.Waits.{looking, most_rests, replied, stand, unasked, wait_of, waiting};
 
-use gate_answers::gate_trails_crate::Gate;
-use gate_answers::rest_answers_crate::{Asked, asked_of, reply_of};
-use rest_routes::http_front_crate::Clock;
-use rest_routes::records_crate::{Command, Reply, What};
-use rest_routes::row_machine_crate::{Answer, Event};
-use rest_routes::size_values_crate::{NoMemory, Text};
+use gate_answers::from_gate_trails::Gate;
+use gate_answers::from_rest_answers::{Asked, asked_of, reply_of};
+use rest_routes::from_http_front::Clock;
+use rest_routes::from_records::{Command, Reply, What};
+use rest_routes::from_row_machine::{Answer, Event};
+use rest_routes::from_size_values::{NoMemory, Text};
 use std::alloc::Global;
 
 /// The most rests that are made for one wait.

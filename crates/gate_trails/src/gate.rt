@@ -2,7 +2,7 @@ ghost use Rattle.std.specs.Prelude.{◌≡◌, ◌+◌, ℕ, Option};
 ghost use Rattle.serial_steps.specs.core_turns.specs.Turns.{IsServed};
 ghost use Rattle.gate_trails.specs.Trails.{MayAnswer, RestsTold, Told, TurnsTold, capped};
 
-use serial_steps::row_machine_crate::{Answer, Event};
+use serial_steps::from_row_machine::{Answer, Event};
 
 /// A way to the server. Each turn is one event, which the server answers as one step. Between two
 /// turns others may have theirs.

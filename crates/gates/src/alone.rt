@@ -5,12 +5,12 @@ ghost use Rattle.gate_trails.specs.serial_steps.specs.Steps.{Step, Steps, hosted
 ghost use Rattle.gates.specs.Alone.{site_of, told_at};
 
 use gate_trails::Gate;
-use gate_trails::core_turns_crate::Daemon;
-use gate_trails::host_model_crate::{Host, HostCall};
-use gate_trails::http_front_crate::Clock;
-use gate_trails::record_keeper_crate::Keeper;
-use gate_trails::row_machine_crate::{Answer, Event};
-use gate_trails::serial_steps_crate::{facts_hold, go_on};
+use gate_trails::from_core_turns::Daemon;
+use gate_trails::from_host_model::{Host, HostCall};
+use gate_trails::from_http_front::Clock;
+use gate_trails::from_record_keeper::Keeper;
+use gate_trails::from_row_machine::{Answer, Event};
+use gate_trails::from_serial_steps::{facts_hold, go_on};
 use std::alloc::Global;
 use std::mem;
 

@@ -2,8 +2,8 @@ ghost use Rattle.std.specs.Prelude.{◌≡◌, None};
 
 use crate::machine::DaemonMachine;
 use gate_trails::Gate;
-use gate_trails::record_keeper_crate::Keeper;
-use gate_trails::row_machine_crate::{Answer, Event};
+use gate_trails::from_record_keeper::Keeper;
+use gate_trails::from_row_machine::{Answer, Event};
 use std::alloc::Global;
 use std::sync::ledger::Ledger;
 use std::sync::{Arc, Wait};

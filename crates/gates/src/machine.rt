@@ -1,10 +1,10 @@
 ghost use Rattle.gate_trails.specs.core_turns.specs.Turns.{IsServed};
 ghost use Rattle.gate_trails.specs.Trails.{MayAnswer};
 
-use gate_trails::core_turns_crate::Daemon;
-use gate_trails::record_keeper_crate::Keeper;
-use gate_trails::row_machine_crate::{Answer, Event};
-use gate_trails::serial_steps_crate::facts_hold;
+use gate_trails::from_core_turns::Daemon;
+use gate_trails::from_record_keeper::Keeper;
+use gate_trails::from_row_machine::{Answer, Event};
+use gate_trails::from_serial_steps::facts_hold;
 use std::alloc::Global;
 use turnstile::Machine;
 

@@ -2,7 +2,7 @@ ghost use Rattle.std.specs.Prelude.{◌≡◌, IfOk};
 ghost use Rattle.host_lock.specs.Passing.{counted};
 
 use crate::passing::{counted, pass_on};
-use host_model::size_values_crate::{NoMemory, Or};
+use host_model::from_size_values::{NoMemory, Or};
 use host_model::{Host, HostCall, HostFailed};
 use std::alloc::Global;
 use std::marker::Model;

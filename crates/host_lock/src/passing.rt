@@ -3,7 +3,7 @@ ghost use Rattle.host_model.specs.size_values.specs.Causes.{HasCauseOrMemory};
 ghost use Rattle.host_model.specs.Effects.{effect_of};
 ghost use Rattle.host_lock.specs.Passing.{counted};
 
-use host_model::size_values_crate::Or;
+use host_model::from_size_values::Or;
 use host_model::{Host, HostCall, HostFailed};
 
 /// Makes one call on the host and answers what it answered. The count rises by one exactly where the call failed; it

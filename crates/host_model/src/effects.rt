@@ -8,7 +8,7 @@ ghost use Rattle.host_model.specs.Effects.{effect_of, with_power, with_spec, ren
 use crate::call::HostCall;
 use crate::place::Place;
 use crate::root::{HostRoot, Spec};
-use config_lists::size_values_crate::{NoMemory, Power, Text};
+use config_lists::from_size_values::{NoMemory, Power, Text};
 use plain_lists::push_reserved;
 use std::alloc::Global;
 

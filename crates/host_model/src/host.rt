@@ -4,7 +4,7 @@ ghost use Rattle.host_model.specs.declared.root.HostRoot.{HostRoot as HostRootVa
 ghost use Rattle.host_model.specs.Effects.{effect_of};
 
 use crate::call::HostCall;
-use config_lists::size_values_crate::Or;
+use config_lists::from_size_values::Or;
 use thiserror::Error;
 
 /// A call of a host failed.

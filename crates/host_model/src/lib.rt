@@ -2,8 +2,10 @@
 //! modelled host in memory whose listed calls fail.
 #![tactic(auto)]
 
-// The libraries that crates above name through this one.
-pub use config_lists::size_values_crate;
+/// Of `size_values`, for the crates above.
+pub mod from_size_values {
+    pub use config_lists::from_size_values::{Action, Deed, NoMemory, Or, Power, Seq, Text};
+}
 
 mod call;
 mod effects;

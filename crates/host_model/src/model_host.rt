@@ -7,7 +7,7 @@ use crate::call::HostCall;
 use crate::effects;
 use crate::host::{Host, HostFailed};
 use crate::root::HostRoot;
-use config_lists::size_values_crate::{FailingCalls, Or, Seq};
+use config_lists::from_size_values::{FailingCalls, Or, Seq};
 use std::alloc::Global;
 use std::marker::Model;
 

@@ -3,7 +3,7 @@ ghost use Rattle.std.specs.Option.{option_copied};
 ghost use Rattle.host_model.specs.Roots.{no_spec, new_root, others, snapshot_of, content_in};
 
 use crate::place::Place;
-use config_lists::size_values_crate::{NoMemory, Power, Seq, Text};
+use config_lists::from_size_values::{NoMemory, Power, Seq, Text};
 use config_lists::{Config, Devices};
 use std::alloc::Global;
 

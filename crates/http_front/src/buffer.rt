@@ -6,7 +6,7 @@ ghost use Rattle.http_front.specs.Streams.{Ends};
 ghost use Rattle.http_front.specs.Held.{TakesIn, max_piece, most_held};
 
 use crate::source::{Source, SourceFailed};
-use http_heads::size_values_crate::{NoMemory, Or};
+use http_heads::from_size_values::{NoMemory, Or};
 use std::alloc::Global;
 use std::marker::Model;
 

@@ -2,7 +2,7 @@ ghost use Rattle.std.specs.Prelude.{◌≡◌, ◌<◌, ℕ, [], ◌∷◌, Opti
 ghost use Rattle.http_heads.specs.size_values.specs.Moments.{moment_limit};
 ghost use Rattle.http_front.specs.Clocks.{Reads, Readings, moment_of, standing_still};
 
-use http_heads::size_values_crate::MOMENT_LIMIT;
+use http_heads::from_size_values::MOMENT_LIMIT;
 use std::marker::Model;
 use std::time;
 use std::time::{SystemTime, UNIX_EPOCH};

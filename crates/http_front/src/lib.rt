@@ -2,9 +2,15 @@
 //! outside, `Source`, `Sink` and `Clock`, with an object in memory and one over std or the system for each.
 #![tactic(auto)]
 
-// The libraries that crates above name through this one.
-pub use http_heads as http_heads_crate;
-pub use http_heads::size_values_crate;
+/// Of `http_heads`, for the crates above.
+pub mod from_http_heads {
+    pub use http_heads::{Request, read_head};
+}
+
+/// Of `size_values`, for the crates above.
+pub mod from_size_values {
+    pub use http_heads::from_size_values::{FailingCalls, MOMENT_LIMIT, NoMemory, Seq, Text};
+}
 
 mod buffer;
 mod clock;

@@ -13,7 +13,7 @@ ghost use Rattle.http_front.specs.Held.{IsReadStop, read_stop, head_stop, got_of
 
 use crate::buffer::Buffer;
 use crate::source::{Source, SourceFailed};
-use http_heads::size_values_crate::{NoMemory, Or, Seq};
+use http_heads::from_size_values::{NoMemory, Or, Seq};
 use http_heads::{
     Head, HeadFault, MAX_HEAD, Request, Search, end_of_head, leading_line_bytes, read_head,
 };

@@ -4,7 +4,7 @@ ghost use Rattle.http_heads.specs.size_values.specs.Causes.{HasCause};
 ghost use Rattle.http_heads.specs.size_values.specs.Calls.{no_calls};
 ghost use Rattle.http_front.specs.Streams.{Writes, WritesToPaper};
 
-use http_heads::size_values_crate::{FailingCalls, Seq};
+use http_heads::from_size_values::{FailingCalls, Seq};
 use std::alloc::Global;
 use std::io::{ErrorKind, Write};
 use std::marker::Model;

@@ -5,7 +5,7 @@ ghost use Rattle.http_heads.specs.size_values.specs.Causes.{HasCause};
 ghost use Rattle.http_heads.specs.size_values.specs.Calls.{is_next_failing, after_call, no_calls};
 ghost use Rattle.http_front.specs.Streams.{Delivers, Ends};
 
-use http_heads::size_values_crate::{FailingCalls, Seq};
+use http_heads::from_size_values::{FailingCalls, Seq};
 use std::io::{ErrorKind, Read};
 use std::marker::Model;
 use thiserror::Error;

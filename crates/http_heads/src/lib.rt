@@ -2,8 +2,10 @@
 //! whole text has. The readers take slices, and nothing here reads from outside.
 #![tactic(auto)]
 
-// The libraries that crates above name through this one.
-pub use size_values as size_values_crate;
+/// Of `size_values`, for the crates above.
+pub mod from_size_values {
+    pub use size_values::{FailingCalls, MOMENT_LIMIT, NoMemory, Or, Seq, Text};
+}
 
 mod fields;
 mod head;

@@ -1,6 +1,6 @@
 //! What calls of `read_request` are to answer.
 
-use http_front::size_values_crate::Seq;
+use http_front::from_size_values::Seq;
 use http_front::{Buffer, ByteSource, Got, HeadFault, Request, Source, read_request};
 use std::alloc::Global;
 

@@ -1,6 +1,6 @@
 //! Clocks.
 
-use http_front::size_values_crate::MOMENT_LIMIT;
+use http_front::from_size_values::MOMENT_LIMIT;
 use http_front::{Clock, StillClock, SystemClock};
 use std::time::Duration;
 use std::{io, time};

@@ -2,7 +2,7 @@
 
 use crate::answers::Want::{Cut, End, Last, Malformed, Next, ReadFault};
 use crate::answers::{Want, reads_as, reads_in_any_pieces};
-use http_front::size_values_crate::{NoMemory, Seq};
+use http_front::from_size_values::{NoMemory, Seq};
 use http_front::{Buffer, ByteSource, Got, HeadFault, Request, read_request};
 use std::alloc::Global;
 

@@ -1,6 +1,6 @@
 //! Replies, and their bytes.
 
-use http_front::size_values_crate::{NoMemory, Seq, Text};
+use http_front::from_size_values::{NoMemory, Seq, Text};
 use http_front::{Printed, no_memory_reply, reply_bytes};
 use std::alloc::Global;
 

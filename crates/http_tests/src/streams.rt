@@ -2,7 +2,7 @@
 
 use crate::answers::Want::{Cut, Next, ReadFault};
 use crate::answers::{Want, answers_all};
-use http_front::size_values_crate::Seq;
+use http_front::from_size_values::Seq;
 use http_front::{ByteSink, ReaderSource, Sink, Source, WriterSink};
 use std::alloc::Global;
 use std::io;

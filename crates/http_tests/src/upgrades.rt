@@ -1,7 +1,7 @@
 //! Heads, and the key of the WebSocket handshake that each of them asks for.
 
-use http_front::http_heads_crate::read_head;
-use http_front::size_values_crate::{NoMemory, Seq};
+use http_front::from_http_heads::read_head;
+use http_front::from_size_values::{NoMemory, Seq};
 use http_front::{Buffer, ByteSource, Got, read_request};
 use std::alloc::Global;
 

@@ -3,9 +3,9 @@ ghost use Rattle.std.specs.Prelude.{◌≤◌, length};
 ghost use Rattle.event_hub.specs.Short.{most_bytes};
 ghost use Rattle.event_hub.specs.Telling.{IsShort};
 
-use event_hub::records_crate::{Filter, Life, Notice, OpFault, Status, Told, Untold};
-use event_hub::row_machine_crate::Fetched;
-use event_hub::size_values_crate::{NoMemory, ObjectKind, Text};
+use event_hub::from_records::{Filter, Life, Notice, OpFault, Status, Told, Untold};
+use event_hub::from_row_machine::Fetched;
+use event_hub::from_size_values::{NoMemory, ObjectKind, Text};
 use event_hub::{About, Hub, Progress};
 use std::alloc::Global;
 

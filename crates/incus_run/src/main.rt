@@ -2,16 +2,16 @@
 //! memory or in a file, by the clock of the system; or writes, drills or checks (`run_words::usage`).
 #![tactic(auto)]
 
-use file_telling::host_model_crate::ModelHost;
-use file_telling::http_front_crate::{Clock, ReaderSource, SystemClock, WriterSink};
-use file_telling::record_keeper_crate::{Keeper, MapKeeper};
-use file_telling::size_values_crate::Seq;
-use file_telling::sqlite_keeper_crate::SqliteKeeper;
-use file_telling::start_telling_crate::{fault_of, tell, words_of};
+use file_telling::from_host_model::ModelHost;
+use file_telling::from_http_front::{Clock, ReaderSource, SystemClock, WriterSink};
+use file_telling::from_record_keeper::{Keeper, MapKeeper};
+use file_telling::from_size_values::Seq;
+use file_telling::from_sqlite_keeper::SqliteKeeper;
+use file_telling::from_start_telling::{fault_of, tell, words_of};
 use file_telling::tell_why;
+use serial_run::from_run_words::{Setup, setup_of, usage};
+use serial_run::from_start_faults::StartFault;
 use serial_run::run_main;
-use serial_run::run_words_crate::{Setup, setup_of, usage};
-use serial_run::start_faults_crate::StartFault;
 use std::process::ExitCode;
 
 /// The name of the program.

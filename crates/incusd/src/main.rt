@@ -4,9 +4,9 @@
 #![tactic(auto)]
 
 use std::process::ExitCode;
-use threaded_server::serve_words_crate::serve_usage;
-use threaded_server::start_faults_crate::StartFault;
-use threaded_server::start_telling_crate::{fault_of, tell, words_of};
+use threaded_server::from_serve_words::serve_usage;
+use threaded_server::from_start_faults::StartFault;
+use threaded_server::from_start_telling::{fault_of, tell, words_of};
 use threaded_server::{serve, tell_end};
 
 fn main(rt: HostRuntime) -> ExitCode {

@@ -4,8 +4,8 @@ ghost use Rattle.new_rows.specs.host_model.specs.declared.call.HostCall.TheVaria
 ghost use Rattle.new_rows.specs.row_machine.specs.machine.HostCalls.{place_of, create_calls, copy_calls};
 
 use crate::pairs::zip_or_drop;
-use new_rows::host_model_crate::{HostCall, Place};
-use new_rows::size_values_crate::{NoMemory, Seq, Text};
+use new_rows::from_host_model::{HostCall, Place};
+use new_rows::from_size_values::{NoMemory, Seq, Text};
 use std::alloc::Global;
 
 /// Where the root of an instance stands.

@@ -2,9 +2,18 @@
 //! parts serves other operations too.
 #![tactic(auto)]
 
-// The libraries that crates above name through this one.
-pub use new_rows as new_rows_crate;
-pub use row_readings as row_readings_crate;
+/// Of `new_rows`, for the crates above.
+pub mod from_new_rows {
+    pub use new_rows::{
+        LARGEST_ROW, cap_of, largest_row_is_64_kib, new_config, new_description, new_devices,
+        patched_config, patched_description, patched_devices,
+    };
+}
+
+/// Of `row_readings`, for the crates above.
+pub mod from_row_readings {
+    pub use row_readings::{View, kept_at, next_snapshot, volume_home};
+}
 
 mod calls;
 mod making;

@@ -5,9 +5,9 @@ ghost use Rattle.new_rows.specs.row_machine.specs.machine.NewRows.{new_descripti
 ghost use Rattle.new_rows.specs.row_machine.specs.machine.NewRows.{patched_devices, image_of, made_instance, copied_instance};
 
 use crate::pairs::zip_or_drop;
-use new_rows::config_lists_crate::{Config, Devices};
-use new_rows::records_crate::{Body, Instance, Origin};
-use new_rows::size_values_crate::{Kind, NoMemory, Seq, Text};
+use new_rows::from_config_lists::{Config, Devices};
+use new_rows::from_records::{Body, Instance, Origin};
+use new_rows::from_size_values::{Kind, NoMemory, Seq, Text};
 use new_rows::{new_config, new_description, new_devices, patched_config, patched_devices};
 use std::alloc::Global;
 

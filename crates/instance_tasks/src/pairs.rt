@@ -1,6 +1,6 @@
 ghost use Rattle.std.specs.Prelude.{◌≡◌, IfOk};
 
-use new_rows::size_values_crate::NoMemory;
+use new_rows::from_size_values::NoMemory;
 
 /// Both values, where there was memory for both. Neither is then alive where the other one is missing.
 pub fn zip_or_drop<A: Drop, B: Drop>(

@@ -13,10 +13,10 @@ ghost use Rattle.instance_tasks.specs.Planned.{planned};
 use crate::calls::{copy_calls, create_calls, place_of};
 use crate::making::{Source, copied_instance, image_of, made_instance};
 use crate::pairs::zip_or_drop;
-use new_rows::host_model_crate::{HostCall, Place};
-use new_rows::records_crate::{Body, Instance, Origin, Row, Snapshot, Target};
-use new_rows::row_machine_crate::Work;
-use new_rows::size_values_crate::{Deed, NoMemory, ObjectKind, Seq, Text};
+use new_rows::from_host_model::{HostCall, Place};
+use new_rows::from_records::{Body, Instance, Origin, Row, Snapshot, Target};
+use new_rows::from_row_machine::Work;
+use new_rows::from_size_values::{Deed, NoMemory, ObjectKind, Seq, Text};
 use row_readings::View;
 use std::alloc::Global;
 

@@ -1,7 +1,7 @@
-use instance_states::host_model_crate::{
+use instance_states::from_host_model::{
     Host, HostCall, HostFailed, HostRoot, ModelHost, Place, Report, Spec, perform,
 };
-use instance_states::size_values_crate::{NoMemory, Or, Power, Seq, Text};
+use instance_states::from_size_values::{NoMemory, Or, Power, Seq, Text};
 use std::alloc::Global;
 
 /// A host that does not tell its roots and always fails, with a count of faults at its last value.

@@ -1,5 +1,5 @@
 use instance_states::SnapshotNumbers;
-use instance_states::size_values_crate::NoMemory;
+use instance_states::from_size_values::NoMemory;
 use std::alloc::Global;
 
 // Names of the pattern `snap%d` or of others, and the name that follows.

@@ -1,4 +1,4 @@
-use instance_states::size_values_crate::{Action, Deed, Power};
+use instance_states::from_size_values::{Action, Deed, Power};
 use instance_states::{CallName, Plan, after, is_allowed, plan_of};
 
 /// A deed, its calls, and the call that takes them back.

@@ -13,17 +13,17 @@ ghost use Rattle.kept_totals.specs.work_reports.specs.Entries.{HasEntry};
 ghost use Rattle.judged_changes.specs.Judged.{changes_judged, reply_for};
 ghost use Rattle.judged_changes.specs.Commits.{Commits};
 
-use kept_totals::limit_rules_crate::{Usage, counts_broken, limits_broken, usage_before_changes};
-use kept_totals::policy_rules_crate::policy_broken;
-use kept_totals::record_keeper_crate::Keeper;
-use kept_totals::row_drafts_crate::Draft;
-use kept_totals::work_reports_crate::entry_changes;
-use setting_rules::records_crate::{Refusal, Reply, Rule};
-use setting_rules::row_machine_crate::RowChange;
-use setting_rules::row_readings_crate::View;
-use setting_rules::rule_refusals_crate::nothing_told;
+use kept_totals::from_limit_rules::{Usage, counts_broken, limits_broken, usage_before_changes};
+use kept_totals::from_policy_rules::policy_broken;
+use kept_totals::from_record_keeper::Keeper;
+use kept_totals::from_row_drafts::Draft;
+use kept_totals::from_work_reports::entry_changes;
+use setting_rules::from_records::{Refusal, Reply, Rule};
+use setting_rules::from_row_machine::RowChange;
+use setting_rules::from_row_readings::View;
+use setting_rules::from_rule_refusals::nothing_told;
+use setting_rules::from_size_values::{NoMemory, Or, Seq};
 use setting_rules::settings_broken;
-use setting_rules::size_values_crate::{NoMemory, Or, Seq};
 use std::alloc::Global;
 use table_rules::tables_broken;
 

@@ -2,9 +2,28 @@
 //! judged by the state after them, and committed or given up.
 #![tactic(auto)]
 
-// The libraries that crates above name through this one.
-pub use kept_totals as kept_totals_crate;
-pub use kept_totals::{record_keeper_crate, row_drafts_crate, work_reports_crate};
+/// Of `kept_totals`, for the crates above.
+pub mod from_kept_totals {
+    pub use kept_totals::{Counted, Totals, count, follow_end, give_back, held_share};
+}
+
+/// Of `record_keeper`, for the crates above.
+pub mod from_record_keeper {
+    pub use kept_totals::from_record_keeper::{Keeper, MapKeeper};
+}
+
+/// Of `row_drafts`, for the crates above.
+pub mod from_row_drafts {
+    pub use kept_totals::from_row_drafts::Draft;
+}
+
+/// Of `work_reports`, for the crates above.
+pub mod from_work_reports {
+    pub use kept_totals::from_work_reports::{
+        Shown, Turned, Waiting, begin, cancel, default_profile, entry_changes, first_pending,
+        is_pending, live_at, take_report, tell, told_by,
+    };
+}
 
 mod changing;
 mod starting;

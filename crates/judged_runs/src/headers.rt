@@ -1,6 +1,6 @@
 //! What the header of a run says.
 
-use serial_run::size_values_crate::NoMemory;
+use serial_run::from_size_values::NoMemory;
 use std::alloc::Global;
 
 /// A header: the words of the command line, how the run ends, and its settings.

@@ -4,8 +4,8 @@ use crate::headers::{Header, header_of, words_of};
 use crate::lines::{is_reply, is_request, push_due};
 use crate::running::run_end;
 use crate::spelling::{push_texts, spelled_out};
-use serial_run::run_words_crate::setup_of;
-use serial_run::size_values_crate::NoMemory;
+use serial_run::from_run_words::setup_of;
+use serial_run::from_size_values::NoMemory;
 use std::alloc::Global;
 
 /// What stands before the header of a run.

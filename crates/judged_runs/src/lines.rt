@@ -1,6 +1,6 @@
 //! Lines of a run, and the bytes for which they stand.
 
-use serial_run::size_values_crate::NoMemory;
+use serial_run::from_size_values::NoMemory;
 use std::alloc::Global;
 
 /// Whether a line is a reply: it begins with its code.

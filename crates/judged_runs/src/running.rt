@@ -2,12 +2,12 @@
 
 use crate::headers::{Header, numbers_of, value_of, words_of};
 use crate::lines::sent_for;
-use serial_run::host_model_crate::ModelHost;
-use serial_run::http_front_crate::{ByteSink, ByteSource, StillClock};
-use serial_run::record_keeper_crate::{Keeper, MapKeeper};
+use serial_run::from_host_model::ModelHost;
+use serial_run::from_http_front::{ByteSink, ByteSource, StillClock};
+use serial_run::from_record_keeper::{Keeper, MapKeeper};
+use serial_run::from_run_words::setup_of;
+use serial_run::from_size_values::{Entry, EntryChange, NoMemory, Or, Seq};
 use serial_run::run_main;
-use serial_run::run_words_crate::setup_of;
-use serial_run::size_values_crate::{Entry, EntryChange, NoMemory, Or, Seq};
 use std::alloc::Global;
 
 /// The moment of the clock that is handed in. Runs whose words give no other one tell it.

@@ -2,7 +2,7 @@
 //! times, changes that are sent again, and what is read again after each refusal.
 
 use crate::lines::is_refusal;
-use serial_run::size_values_crate::NoMemory;
+use serial_run::from_size_values::NoMemory;
 use std::alloc::Global;
 
 /// The reply to a change that was made.

@@ -1,5 +1,5 @@
 //! What a keeper in memory keeps, and which of its calls fail.
-use record_keeper::size_values_crate::{Entry, EntryChange, NoMemory, Or, Seq, Text};
+use record_keeper::from_size_values::{Entry, EntryChange, NoMemory, Or, Seq, Text};
 use record_keeper::{Keeper, KeeperFailed, MapKeeper};
 use std::alloc::Global;
 

@@ -10,14 +10,14 @@ ghost use Rattle.kept_totals.specs.Ends.{given_back, leaves_usage, has_fall, fal
 
 use crate::totals::Totals;
 use std::alloc::Global;
-use work_reports::live_at;
-use work_reports::operations_crate::{Operation, Status};
-use work_reports::reservations_crate::Hold;
-use work_reports::row_machine_crate::Work;
-use work_reports::row_readings_crate::{
+use work_reports::from_operations::{Operation, Status};
+use work_reports::from_reservations::Hold;
+use work_reports::from_row_machine::Work;
+use work_reports::from_row_readings::{
     View, amounts_of_instance, claimed_instance, kept_at, project_of_row,
 };
-use work_reports::size_values_crate::{Action, Amounts, Deed, NoMemory};
+use work_reports::from_size_values::{Action, Amounts, Deed, NoMemory};
+use work_reports::live_at;
 
 /// What an operation counts for while it is live: the share that it holds, and by how much its success lowers what its
 /// project uses, where that is known.

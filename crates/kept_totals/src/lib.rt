@@ -2,10 +2,35 @@
 //! nothing anew. A total is made where it is first needed; ends of operations change it, or it is forgotten.
 #![tactic(auto)]
 
-// The libraries that crates above name through this one.
-pub use claim_laws::{limit_rules_crate, policy_rules_crate};
-pub use work_reports as work_reports_crate;
-pub use work_reports::{record_keeper_crate, row_drafts_crate};
+/// Of `limit_rules`, for the crates above.
+pub mod from_limit_rules {
+    pub use claim_laws::from_limit_rules::{
+        Usage, claim_uncounts, counts_broken, limits_broken, share_broken, usage_before_changes,
+    };
+}
+
+/// Of `policy_rules`, for the crates above.
+pub mod from_policy_rules {
+    pub use claim_laws::from_policy_rules::{claim_forbidden, policy_broken, snapshot_blocked};
+}
+
+/// Of `record_keeper`, for the crates above.
+pub mod from_record_keeper {
+    pub use work_reports::from_record_keeper::{Keeper, MapKeeper};
+}
+
+/// Of `row_drafts`, for the crates above.
+pub mod from_row_drafts {
+    pub use work_reports::from_row_drafts::Draft;
+}
+
+/// Of `work_reports`, for the crates above.
+pub mod from_work_reports {
+    pub use work_reports::{
+        Shown, Turned, Waiting, begin, cancel, default_profile, entry_changes, first_pending,
+        is_pending, live_at, take_report, tell, told_by,
+    };
+}
 
 mod ends;
 mod totals;

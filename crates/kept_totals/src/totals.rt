@@ -7,12 +7,12 @@ ghost use Rattle.work_reports.specs.row_machine.specs.facts.Whole.{IsWhole};
 ghost use Rattle.work_reports.specs.row_machine.specs.machine.Usage.{usage_of};
 ghost use Rattle.kept_totals.specs.Totals.{AreTotals, is_of, known, grown, lowered};
 
-use claim_laws::limit_rules_crate::needs_usage;
-use claim_laws::project_usage_crate::usage_of;
+use claim_laws::from_limit_rules::needs_usage;
+use claim_laws::from_project_usage::usage_of;
 use std::alloc::Global;
 use std::marker::Model;
-use work_reports::row_readings_crate::View;
-use work_reports::size_values_crate::{Amounts, NoMemory, Text};
+use work_reports::from_row_readings::View;
+use work_reports::from_size_values::{Amounts, NoMemory, Text};
 
 /// What one project uses of its limits.
 #[derive(Drop)]

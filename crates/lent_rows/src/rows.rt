@@ -2,12 +2,12 @@
 ghost use Rattle.std.specs.Prelude.{◌≡◌, IfOk};
 ghost use Rattle.row_readings.specs.row_machine.specs.facts.Whole.{Rise};
 
-use row_readings::config_lists_crate::{Config, Devices};
-use row_readings::operations_crate::Operation;
-use row_readings::records_crate::{Instance, Network, Pool, Profile, Project, Snapshot, Volume};
-use row_readings::reservations_crate::{Books, Hold};
-use row_readings::row_machine_crate::Work;
-use row_readings::size_values_crate::{Amounts, NoMemory, Text};
+use row_readings::from_config_lists::{Config, Devices};
+use row_readings::from_operations::Operation;
+use row_readings::from_records::{Instance, Network, Pool, Profile, Project, Snapshot, Volume};
+use row_readings::from_reservations::{Books, Hold};
+use row_readings::from_row_machine::Work;
+use row_readings::from_size_values::{Amounts, NoMemory, Text};
 use row_readings::{InstancePower, Named, View, rises};
 use std::alloc::Global;
 

@@ -13,9 +13,9 @@ use crate::counts::claim_uncounted;
 use crate::limits::limit_exceeded;
 use crate::parts::{PARTS, is_limited, key_of, limit_on, part_of};
 use row_machine::Work;
-use row_machine::project_limits_crate::limits_of;
-use row_machine::records_crate::{Project, Refusal};
-use row_machine::size_values_crate::{Amounts, Or, Part};
+use row_machine::from_project_limits::limits_of;
+use row_machine::from_records::{Project, Refusal};
+use row_machine::from_size_values::{Amounts, Or, Part};
 use row_readings::View;
 use std::alloc::Global;
 

@@ -9,10 +9,10 @@ ghost use Rattle.limit_rules.specs.Within.{own_instance, own_volume, own_objects
 
 use crate::parts::limits_sum;
 use row_machine::Work;
-use row_machine::operations_crate::Operation;
-use row_machine::project_limits_crate::{SumKey, countable, limits_of, volume_countable};
-use row_machine::records_crate::{Instance, Project, Refusal, Rule, Volume};
-use row_machine::size_values_crate::{Or, Text};
+use row_machine::from_operations::Operation;
+use row_machine::from_project_limits::{SumKey, countable, limits_of, volume_countable};
+use row_machine::from_records::{Instance, Project, Refusal, Rule, Volume};
+use row_machine::from_size_values::{Or, Text};
 use row_readings::{View, claimed_instance, claimed_volume};
 use rule_refusals::on_key_of;
 use std::alloc::Global;

@@ -1,8 +1,13 @@
 //! Rules on limits, L0 to L8: that what counts gives its numbers, and that each project stands within its limits.
 #![tactic(auto)]
 
-// The libraries that crates above name through this one.
-pub use row_readings as row_readings_crate;
+/// Of `row_readings`, for the crates above.
+pub mod from_row_readings {
+    pub use row_readings::{
+        View, home_of, is_on, network_home, network_named, pool_named, profile_home, project_named,
+        volume_home,
+    };
+}
 
 mod alone;
 mod counts;

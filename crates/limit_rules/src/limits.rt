@@ -13,9 +13,9 @@ ghost use Rattle.limit_rules.specs.Exceeding.{part_over, parts_over, networks_ov
 
 use crate::parts::{PARTS, is_any_limited, key_of, limit_on, limit_rule, limit_text, part_of};
 use crate::usage::Usage;
-use row_machine::project_limits_crate::{LimitKey, Over, limits_of};
-use row_machine::records_crate::{Kept, Network, Project, Refusal};
-use row_machine::size_values_crate::{NoMemory, Or, Part, Text};
+use row_machine::from_project_limits::{LimitKey, Over, limits_of};
+use row_machine::from_records::{Kept, Network, Project, Refusal};
+use row_machine::from_size_values::{NoMemory, Or, Part, Text};
 use row_readings::{Load, View, loads, usage_in};
 use std::alloc::Global;
 

@@ -8,9 +8,9 @@ ghost use Rattle.row_machine.specs.machine.LimitRules.{limit_rule, limit_text};
 ghost use Rattle.limit_rules.specs.Exceeding.{limits_any, limits_sum, is_any_limited, is_limited_row, sets_limit};
 
 use row_machine::RowChange;
-use row_machine::project_limits_crate::{LimitKey, Limits, limits_of};
-use row_machine::records_crate::{Project, Row, Rule};
-use row_machine::size_values_crate::{Amounts, Part};
+use row_machine::from_project_limits::{LimitKey, Limits, limits_of};
+use row_machine::from_records::{Project, Row, Rule};
+use row_machine::from_size_values::{Amounts, Part};
 
 /// The parts of amounts, in the order in which their limits are judged.
 pub(crate) const PARTS: [Part; 7] = [

@@ -7,8 +7,8 @@ ghost use Rattle.limit_rules.specs.Exceeding.{Serves};
 
 use crate::parts::{is_any_limit_set, is_any_limited};
 use row_machine::RowChange;
-use row_machine::records_crate::Network;
-use row_machine::size_values_crate::{NoMemory, Text};
+use row_machine::from_records::Network;
+use row_machine::from_size_values::{NoMemory, Text};
 use row_readings::{Load, View, loads};
 use std::alloc::Global;
 use std::marker::Model;

@@ -2,8 +2,8 @@ ghost use Rattle.std.specs.Prelude.{◌≡◌};
 ghost use Rattle.made_settings.specs.size_values.specs.Amounts.{part};
 ghost use Rattle.made_settings.specs.size_values.specs.declared.amounts.Part.{Part};
 
-use made_settings::config_lists_crate::{Config, Devices};
-use made_settings::size_values_crate::{Amounts, Kind, NoMemory};
+use made_settings::from_config_lists::{Config, Devices};
+use made_settings::from_size_values::{Amounts, Kind, NoMemory};
 use made_settings::{Settings, config_of, devices_of};
 use project_limits::{
     LimitKey, Limits, Over, SumKey, admit, admit_networks, amounts_of, countable, limits_of,

@@ -1,8 +1,8 @@
 //! A gate with a word of its own, which it may hold too long.
 ghost use Rattle.std.specs.Prelude.{None};
 
-use gates::gate_trails_crate::Gate;
-use gates::row_machine_crate::{Answer, Event};
+use gates::from_gate_trails::Gate;
+use gates::from_row_machine::{Answer, Event};
 use std::alloc::Global;
 use std::sync::atomic::{AtomicBool, Ordering};
 use std::sync::{Arc, Wait};

@@ -1,11 +1,11 @@
 //! Links in memory over the gates of one server.
-use gates::core_turns_crate::Daemon;
-use gates::gate_trails_crate::Gate;
-use gates::http_front_crate::{ByteSink, ByteSource, StillClock};
-use gates::record_keeper_crate::MapKeeper;
-use gates::turnstile_crate::{Pass, Turnstile};
+use gates::from_core_turns::Daemon;
+use gates::from_gate_trails::Gate;
+use gates::from_http_front::{ByteSink, ByteSource, StillClock};
+use gates::from_record_keeper::MapKeeper;
+use gates::from_turnstile::{Pass, Turnstile};
 use gates::{DaemonMachine, LockedGate};
-use host_lock::size_values_crate::Seq;
+use host_lock::from_size_values::Seq;
 use serve_loop::{LinkEnd, serve_link};
 use std::alloc::Global;
 use std::sync::ledger::Ledger;

@@ -2,9 +2,9 @@
 ghost use Rattle.std.specs.Prelude.{◌≡◌, ◌≤◌};
 
 use crate::links::{gate_at, is_answered, new_machine};
-use gates::gate_trails_crate::Gate;
-use gates::record_keeper_crate::MapKeeper;
-use gates::turnstile_crate::{Pass, Turnstile};
+use gates::from_gate_trails::Gate;
+use gates::from_record_keeper::MapKeeper;
+use gates::from_turnstile::{Pass, Turnstile};
 use gates::{DaemonMachine, LockedGate};
 use std::alloc::Global;
 use std::marker::Brand;

@@ -2,15 +2,15 @@
 ghost use Rattle.std.specs.Prelude.{◌≡◌};
 
 use crate::links::{INSTANCES, POOL, count_in_replies, new_machine, replies_to};
-use gates::gate_trails_crate::Gate;
-use gates::http_front_crate::StillClock;
-use gates::record_keeper_crate::MapKeeper;
-use gates::row_machine_crate::Event;
-use gates::turnstile_crate::{Pass, Turnstile};
+use gates::from_gate_trails::Gate;
+use gates::from_http_front::StillClock;
+use gates::from_record_keeper::MapKeeper;
+use gates::from_row_machine::Event;
+use gates::from_turnstile::{Pass, Turnstile};
 use gates::{DaemonMachine, LockedGate};
 use host_lock::LockedHost;
-use host_lock::host_model_crate::ModelHost;
-use host_lock::size_values_crate::Seq;
+use host_lock::from_host_model::ModelHost;
+use host_lock::from_size_values::Seq;
 use std::alloc::Global;
 use std::marker::Brand;
 use std::sync::atomic::{AtomicU64, Ordering};

@@ -2,14 +2,61 @@
 //! from it for whole runs, for operations and their shares, for the kept rows and for openings.
 #![tactic(auto)]
 
-// The libraries that crates above name through this one.
-pub use record_keeper as record_keeper_crate;
-pub use record_keeper::size_values_crate;
-pub use row_machine as row_machine_crate;
-pub use row_machine::{
-    config_lists_crate, host_model_crate, instance_states_crate, operations_crate,
-    plain_lists_crate, records_crate, reservations_crate,
-};
+/// Of `config_lists`, for the crates above.
+pub mod from_config_lists {
+    pub use row_machine::from_config_lists::{Config, Devices};
+}
+
+/// Of `host_model`, for the crates above.
+pub mod from_host_model {
+    pub use row_machine::from_host_model::HostCall;
+}
+
+/// Of `instance_states`, for the crates above.
+pub mod from_instance_states {
+    pub use row_machine::from_instance_states::may_cancel;
+}
+
+/// Of `operations`, for the crates above.
+pub mod from_operations {
+    pub use row_machine::from_operations::{
+        ENDED_LIMIT, OpFault, Operation, Status, drop_oldest, known_place, set_status, take_out,
+    };
+}
+
+/// Of `plain_lists`, for the crates above.
+pub mod from_plain_lists {
+    pub use row_machine::from_plain_lists::push_reserved;
+}
+
+/// Of `record_keeper`, for the crates above.
+pub mod from_record_keeper {
+    pub use record_keeper::{Keeper, MapKeeper};
+}
+
+/// Of `records`, for the crates above.
+pub mod from_records {
+    pub use row_machine::from_records::{
+        Instance, Network, Pool, Profile, Project, Row, Snapshot, Volume,
+    };
+}
+
+/// Of `reservations`, for the crates above.
+pub mod from_reservations {
+    pub use row_machine::from_reservations::{Books, Hold, Ledger};
+}
+
+/// Of `row_machine`, for the crates above.
+pub mod from_row_machine {
+    pub use row_machine::{RowChange, Work};
+}
+
+/// Of `size_values`, for the crates above.
+pub mod from_size_values {
+    pub use record_keeper::from_size_values::{
+        Amounts, Kind, NoMemory, ObjectKind, Power, Seq, Text,
+    };
+}
 
 mod cancels;
 mod kept_records;

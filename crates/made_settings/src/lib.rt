@@ -1,10 +1,17 @@
 //! Settings and devices made from constant tables, for the crates of tests.
 #![tactic(auto)]
 
-// The libraries that crates above name through this one.
-pub use config_lists as config_lists_crate;
-pub use config_lists::size_values_crate;
-use config_lists::size_values_crate::NoMemory;
+/// Of `config_lists`, for the crates above.
+pub mod from_config_lists {
+    pub use config_lists::{Config, Devices};
+}
+
+/// Of `size_values`, for the crates above.
+pub mod from_size_values {
+    pub use config_lists::from_size_values::{Amounts, Kind, NoMemory, ValueFault};
+}
+
+use config_lists::from_size_values::NoMemory;
 use config_lists::{Config, Devices};
 use std::alloc::Global;
 

@@ -9,10 +9,10 @@ ghost use Rattle.name_rules.specs.Pointed.{target_at, has_names};
 
 use crate::places::{Place, is_there};
 use row_machine::Work;
-use row_machine::estate_rules_crate::good_name;
-use row_machine::operations_crate::Operation;
-use row_machine::records_crate::{Refusal, Row, Rule};
-use row_machine::size_values_crate::{ObjectKind, Or};
+use row_machine::from_estate_rules::good_name;
+use row_machine::from_operations::Operation;
+use row_machine::from_records::{Refusal, Row, Rule};
+use row_machine::from_size_values::{ObjectKind, Or};
 use row_readings::{View, home_of, project_of_row};
 use rule_refusals::{on_held, on_object};
 use std::alloc::Global;

@@ -11,8 +11,8 @@ ghost use Rattle.row_machine.specs.machine.Kinds.{is_in_project};
 
 use crate::places::{Place, is_there, place_of};
 use crate::sources::source_missing;
-use row_machine::records_crate::{Command, Refusal, Rule, Target, What};
-use row_machine::size_values_crate::{ObjectKind, Or};
+use row_machine::from_records::{Command, Refusal, Rule, Target, What};
+use row_machine::from_size_values::{ObjectKind, Or};
 use row_readings::{View, kept_at, pool_named, project_named};
 use rule_refusals::{on_object, on_project};
 use std::alloc::Global;

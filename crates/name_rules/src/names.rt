@@ -11,8 +11,8 @@ ghost use Rattle.row_machine.specs.machine.Rules.{names_broken};
 use crate::free::name_broken;
 use crate::missing::{project_missing, what_is_missing};
 use crate::places::{Place, named_place, place_of};
-use row_machine::records_crate::{Command, Refusal, What};
-use row_machine::size_values_crate::{ObjectKind, Or};
+use row_machine::from_records::{Command, Refusal, What};
+use row_machine::from_size_values::{ObjectKind, Or};
 use row_readings::{View, next_snapshot};
 use std::alloc::Global;
 

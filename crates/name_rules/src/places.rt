@@ -3,8 +3,8 @@ ghost use Rattle.std.specs.Prelude.{◌≡◌};
 ghost use Rattle.name_rules.specs.Pointed.{target_at};
 ghost use Rattle.row_machine.specs.machine.NameRules.{is_there};
 
-use row_machine::records_crate::Target;
-use row_machine::size_values_crate::ObjectKind;
+use row_machine::from_records::Target;
+use row_machine::from_size_values::ObjectKind;
 use row_readings::{View, home_of, network_named, pool_named, project_named};
 
 /// An object by its kind and names.

@@ -7,8 +7,8 @@ ghost use Rattle.row_machine.specs.machine.NameRules.{source_missing};
 
 use crate::missing::{missing_unless, object_missing, snapshot_missing};
 use crate::places::{Place, place_in_pool};
-use row_machine::records_crate::{Origin, Refusal};
-use row_machine::size_values_crate::{ObjectKind, Or};
+use row_machine::from_records::{Origin, Refusal};
+use row_machine::from_size_values::{ObjectKind, Or};
 use row_readings::View;
 use std::alloc::Global;
 

@@ -3,7 +3,7 @@ ghost use Rattle.std.specs.Prelude.{◌≡◌};
 ghost use Rattle.row_machine.specs.machine.TableRules.{largest_row};
 ghost use Rattle.row_machine.specs.machine.Kinds.{cap_of};
 
-use row_machine::size_values_crate::ObjectKind;
+use row_machine::from_size_values::ObjectKind;
 
 /// The most bytes that the body of a row may have.
 pub const LARGEST_ROW: u64 = 65_536;

@@ -2,9 +2,33 @@
 //! large. The calls that make rows of projects, profiles and instances share it.
 #![tactic(auto)]
 
-// The libraries that crates above name through this one.
-pub use row_machine as row_machine_crate;
-pub use row_machine::{config_lists_crate, host_model_crate, records_crate, size_values_crate};
+/// Of `config_lists`, for the crates above.
+pub mod from_config_lists {
+    pub use row_machine::from_config_lists::{Config, Devices};
+}
+
+/// Of `host_model`, for the crates above.
+pub mod from_host_model {
+    pub use row_machine::from_host_model::{HostCall, Place};
+}
+
+/// Of `records`, for the crates above.
+pub mod from_records {
+    pub use row_machine::from_records::{
+        Body, Driver, Instance, Network, Origin, Pool, Profile, Project, Row, Snapshot, Target,
+        Volume,
+    };
+}
+
+/// Of `row_machine`, for the crates above.
+pub mod from_row_machine {
+    pub use row_machine::Work;
+}
+
+/// Of `size_values`, for the crates above.
+pub mod from_size_values {
+    pub use row_machine::from_size_values::{Deed, Kind, NoMemory, ObjectKind, Seq, Text};
+}
 
 mod caps;
 mod parts;

@@ -3,9 +3,9 @@ ghost use Rattle.std.specs.Prelude.{◌≡◌, IfOk};
 ghost use Rattle.row_machine.specs.machine.NewRows.{new_description, new_config, new_devices, patched_description};
 ghost use Rattle.row_machine.specs.machine.NewRows.{patched_config, patched_devices};
 
-use row_machine::config_lists_crate::{Config, Devices};
-use row_machine::records_crate::Body;
-use row_machine::size_values_crate::{NoMemory, Text};
+use row_machine::from_config_lists::{Config, Devices};
+use row_machine::from_records::Body;
+use row_machine::from_size_values::{NoMemory, Text};
 use std::alloc::Global;
 
 /// The description of a new row: empty where the request gives none.

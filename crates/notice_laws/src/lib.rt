@@ -3,13 +3,47 @@
 //! of them can be kept in place.
 #![tactic(auto)]
 
-// The libraries that crates above name through this one.
-pub use event_hub as event_hub_crate;
-pub use event_hub::{
-    config_lists_crate, host_model_crate, operations_crate, records_crate, row_machine_crate,
-    size_values_crate,
-};
-pub use machine_laws::record_keeper_crate;
+/// Of `config_lists`, for the crates above.
+pub mod from_config_lists {
+    pub use event_hub::from_config_lists::{Config, Devices};
+}
+
+/// Of `event_hub`, for the crates above.
+pub mod from_event_hub {
+    pub use event_hub::{About, Hub, Progress};
+}
+
+/// Of `host_model`, for the crates above.
+pub mod from_host_model {
+    pub use event_hub::from_host_model::{Host, HostCall, ModelHost, Report, perform};
+}
+
+/// Of `operations`, for the crates above.
+pub mod from_operations {
+    pub use event_hub::from_operations::Operation;
+}
+
+/// Of `record_keeper`, for the crates above.
+pub mod from_record_keeper {
+    pub use machine_laws::from_record_keeper::{Keeper, MapKeeper};
+}
+
+/// Of `records`, for the crates above.
+pub mod from_records {
+    pub use event_hub::from_records::{
+        Command, Filter, Instance, Profile, Reply, Row, Snapshot, What,
+    };
+}
+
+/// Of `row_machine`, for the crates above.
+pub mod from_row_machine {
+    pub use event_hub::from_row_machine::{Answer, Event, Work};
+}
+
+/// Of `size_values`, for the crates above.
+pub mod from_size_values {
+    pub use event_hub::from_size_values::ObjectKind;
+}
 
 mod laws;
 

@@ -2,7 +2,7 @@
 ghost use Rattle.std.specs.Prelude.{◌≡◌, IfOk};
 ghost use Rattle.row_machine.specs.row_codec.specs.Spelling.{two_names};
 
-use row_machine::size_values_crate::{NoMemory, Text};
+use row_machine::from_size_values::{NoMemory, Text};
 use std::alloc::Global;
 
 /// The key of a row that has two names.

@@ -4,9 +4,9 @@ ghost use Rattle.row_machine.specs.shown.Notices.{life_notice, project_told, vie
 
 use crate::links::link_of;
 use row_machine::Work;
-use row_machine::operations_crate::Operation;
-use row_machine::records_crate::{Life, OpView, Target, Told, Untold};
-use row_machine::size_values_crate::{NoMemory, ObjectKind, Text};
+use row_machine::from_operations::Operation;
+use row_machine::from_records::{Life, OpView, Target, Told, Untold};
+use row_machine::from_size_values::{NoMemory, ObjectKind, Text};
 use std::alloc::Global;
 
 /// The project that the notice of an object has: `default` for pools and projects, which belong to none.

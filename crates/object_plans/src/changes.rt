@@ -8,9 +8,9 @@ ghost use Rattle.object_links.specs.row_machine.specs.machine.Changes.{removal};
 ghost use Rattle.object_plans.specs.Rows.{row_at};
 
 use crate::found::Found;
-use object_links::records_crate::Row;
-use object_links::row_machine_crate::RowChange;
-use object_links::size_values_crate::{NoMemory, ObjectKind, Seq, Text};
+use object_links::from_records::Row;
+use object_links::from_row_machine::RowChange;
+use object_links::from_size_values::{NoMemory, ObjectKind, Seq, Text};
 use object_links::{three_names, two_names};
 use std::alloc::Global;
 

@@ -4,10 +4,10 @@ ghost use Rattle.std.specs.Option.{option_map};
 ghost use Rattle.object_links.specs.row_machine.specs.machine.Plans.{row_of};
 ghost use Rattle.object_plans.specs.Rows.{row_at};
 
-use object_links::records_crate::{
+use object_links::from_records::{
     Instance, Network, Pool, Profile, Project, Snapshot, Target, Volume,
 };
-use object_links::size_values_crate::ObjectKind;
+use object_links::from_size_values::ObjectKind;
 use row_readings::{View, home_of, network_named, pool_named, project_named};
 
 /// A row of any kind.

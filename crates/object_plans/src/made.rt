@@ -18,9 +18,9 @@ use changed_rows::{
     patched_pool, patched_profile, patched_volume, put_network, put_pool, put_profile, put_volume,
     renamed_network, renamed_profile, renamed_volume,
 };
-use object_links::records_crate::{Body, Origin, Row, Target};
-use object_links::row_machine_crate::RowChange;
-use object_links::size_values_crate::{NoMemory, ObjectKind, Seq, Text};
+use object_links::from_records::{Body, Origin, Row, Target};
+use object_links::from_row_machine::RowChange;
+use object_links::from_size_values::{NoMemory, ObjectKind, Seq, Text};
 use row_readings::{View, home_of};
 use std::alloc::Global;
 

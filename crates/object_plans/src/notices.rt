@@ -6,10 +6,10 @@ ghost use Rattle.object_links.specs.row_machine.specs.shown.Notices.{life_notice
 ghost use Rattle.object_plans.specs.Planning.{changes_in, IsPlanned};
 
 use crate::planned::Planned;
+use object_links::from_records::{Life, Target};
+use object_links::from_row_machine::RowChange;
+use object_links::from_size_values::{NoMemory, ObjectKind, Seq};
 use object_links::life_notice;
-use object_links::records_crate::{Life, Target};
-use object_links::row_machine_crate::RowChange;
-use object_links::size_values_crate::{NoMemory, ObjectKind, Seq};
 use row_readings::{View, home_of};
 use std::alloc::Global;
 

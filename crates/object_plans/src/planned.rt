@@ -1,6 +1,6 @@
-use object_links::records_crate::Untold;
-use object_links::row_machine_crate::RowChange;
-use object_links::size_values_crate::Seq;
+use object_links::from_records::Untold;
+use object_links::from_row_machine::RowChange;
+use object_links::from_size_values::Seq;
 
 /// What a command changes at once: the changes of rows in their order, and the notice that tells of them.
 #[derive(Drop)]

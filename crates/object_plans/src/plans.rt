@@ -7,8 +7,8 @@ use crate::found::row_of;
 use crate::made::{creation_changes, deletion_changes, move_changes, patch_changes, put_changes};
 use crate::notices::{changed_life, deleted_life, made_life, moved_life, with_notice};
 use crate::planned::Planned;
-use object_links::records_crate::{Body, Command, Target, What};
-use object_links::size_values_crate::{NoMemory, Text};
+use object_links::from_records::{Body, Command, Target, What};
+use object_links::from_size_values::{NoMemory, Text};
 use row_readings::View;
 use std::alloc::Global;
 

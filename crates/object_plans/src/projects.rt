@@ -12,9 +12,9 @@ use crate::found::Found;
 use changed_rows::{
     default_profile, made_project, patched_project, put_project, rehomed_profile, renamed_project,
 };
-use object_links::records_crate::{Body, Profile, Project, Row};
-use object_links::row_machine_crate::RowChange;
-use object_links::size_values_crate::{NoMemory, Seq, Text};
+use object_links::from_records::{Body, Profile, Project, Row};
+use object_links::from_row_machine::RowChange;
+use object_links::from_size_values::{NoMemory, Seq, Text};
 use row_readings::{View, is_on};
 use std::alloc::Global;
 

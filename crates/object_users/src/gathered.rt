@@ -4,8 +4,8 @@ ghost use Rattle.std.specs.Str.{bytes_eq};
 ghost use Rattle.row_machine.specs.records.specs.declared.rows.Row.TheVariants as row;
 
 use crate::row_ref::{AnyRow, RowRef};
-use row_machine::records_crate::{Instance, Network, Pool, Profile, Project, Snapshot, Volume};
-use row_machine::size_values_crate::NoMemory;
+use row_machine::from_records::{Instance, Network, Pool, Profile, Project, Snapshot, Volume};
+use row_machine::from_size_values::NoMemory;
 
 /// Adds all projects.
 pub fn add_projects<'x>(rows: &'x [Project], all: &mut Vec<RowRef<'x>>) -> Result<(), NoMemory>

@@ -1,9 +1,18 @@
 //! The users of objects: which rows use a row, and the links of rows.
 #![tactic(auto)]
 
-// The libraries that crates above name through this one.
-pub use object_links as object_links_crate;
-pub use row_readings as row_readings_crate;
+/// Of `object_links`, for the crates above.
+pub mod from_object_links {
+    pub use object_links::link_of;
+}
+
+/// Of `row_readings`, for the crates above.
+pub mod from_row_readings {
+    pub use row_readings::{
+        View, claimed_instance, claimed_volume, home_of, is_on, power_of, profile_home,
+        project_named, project_of_row, replaced_instance,
+    };
+}
 
 mod gathered;
 mod row_links;

@@ -1,4 +1,4 @@
-use row_machine::records_crate::{Instance, Network, Pool, Profile, Project, Snapshot, Volume};
+use row_machine::from_records::{Instance, Network, Pool, Profile, Project, Snapshot, Volume};
 use std::marker::Model;
 
 /// A row of any kind, which stays where it is.

@@ -9,8 +9,8 @@ use crate::gathered::{add_instances, add_networks, add_profiles, add_volumes};
 use crate::row_links::{sorted_links, target_of};
 use crate::row_ref::{AnyRow, RowRef};
 use crate::uses::{instance_uses, names_profile, profile_uses, volume_uses};
-use row_machine::records_crate::Target;
-use row_machine::size_values_crate::{NoMemory, ObjectKind, Seq, Text};
+use row_machine::from_records::Target;
+use row_machine::from_size_values::{NoMemory, ObjectKind, Seq, Text};
 use row_readings::View;
 use std::alloc::Global;
 

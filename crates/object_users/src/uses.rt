@@ -5,10 +5,10 @@ ghost use Rattle.std.specs.Str.{bytes_eq};
 ghost use Rattle.row_machine.specs.machine.Holders.{devices_name, instance_uses, names_profile, profile_uses};
 ghost use Rattle.row_machine.specs.machine.Holders.{volume_uses};
 
-use row_machine::config_lists_crate::Devices;
-use row_machine::estate_rules_crate::{names_network, names_pool, names_volume};
-use row_machine::records_crate::{Instance, Profile, Target, Volume};
-use row_machine::size_values_crate::{NoMemory, ObjectKind, Text};
+use row_machine::from_config_lists::Devices;
+use row_machine::from_estate_rules::{names_network, names_pool, names_volume};
+use row_machine::from_records::{Instance, Profile, Target, Volume};
+use row_machine::from_size_values::{NoMemory, ObjectKind, Text};
 use row_readings::{View, network_home, profile_home, volume_home};
 use std::alloc::Global;
 

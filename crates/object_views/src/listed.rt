@@ -8,12 +8,12 @@ use object_users::{
     AnyRow, RowRef, add_instances, add_networks, add_pools, add_profiles, add_projects,
     add_snapshots, add_volumes_in,
 };
-use project_usage::row_readings_crate::{
+use project_usage::from_row_readings::{
     View, home_of, network_home, network_named, pool_named, profile_home, project_named,
     volume_home,
 };
-use row_machine::records_crate::Target;
-use row_machine::size_values_crate::{NoMemory, ObjectKind};
+use row_machine::from_records::Target;
+use row_machine::from_size_values::{NoMemory, ObjectKind};
 use std::alloc::Global;
 
 /// Adds the rows of a list.

@@ -12,9 +12,9 @@ use crate::row_views::{row_view, row_views};
 use crate::usage::usage_view;
 use object_users::{AnyRow, RowRef, links_of_rows};
 use operation_views::{operation_reply, operations_reply};
-use project_usage::row_readings_crate::{View, power_of};
-use row_machine::records_crate::{Instance, Reply, Target, View as Shown, What};
-use row_machine::size_values_crate::{NoMemory, ObjectKind, Seq, Text};
+use project_usage::from_row_readings::{View, power_of};
+use row_machine::from_records::{Instance, Reply, Target, View as Shown, What};
+use row_machine::from_size_values::{NoMemory, ObjectKind, Seq, Text};
 use std::alloc::Global;
 
 // ---- lists

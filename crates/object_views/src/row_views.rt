@@ -5,9 +5,9 @@ ghost use Rattle.row_machine.specs.machine.StandingRules.{power_of};
 ghost use Rattle.row_machine.specs.shown.Views.{instance_view, row_view};
 
 use object_users::{AnyRow, RowRef, used_by};
-use project_usage::row_readings_crate::{View, power_of};
-use row_machine::records_crate::{Instance, View as Shown};
-use row_machine::size_values_crate::{NoMemory, Power, Seq};
+use project_usage::from_row_readings::{View, power_of};
+use row_machine::from_records::{Instance, View as Shown};
+use row_machine::from_size_values::{NoMemory, Power, Seq};
 use std::alloc::Global;
 
 fn shown_power(view: &View<'_>, row: &Instance) -> Power

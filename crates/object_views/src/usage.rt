@@ -6,11 +6,11 @@ ghost use Rattle.row_machine.specs.project_limits.specs.Admission.{limit_on, par
 ghost use Rattle.row_machine.specs.records.specs.declared.replies.LimitKeyName.TheVariants as line;
 ghost use Rattle.row_machine.specs.shown.Views.{line_key, usage_view};
 
-use project_usage::row_readings_crate::View;
+use project_usage::from_row_readings::View;
 use project_usage::usage_of;
-use row_machine::project_limits_crate::{Limits, limits_of};
-use row_machine::records_crate::{LimitKeyName, Network, Project, UsageLine, View as Shown};
-use row_machine::size_values_crate::{Amounts, NoMemory, Seq};
+use row_machine::from_project_limits::{Limits, limits_of};
+use row_machine::from_records::{LimitKeyName, Network, Project, UsageLine, View as Shown};
+use row_machine::from_size_values::{Amounts, NoMemory, Seq};
 use std::alloc::Global;
 
 /// The number of networks of a project.

@@ -2,9 +2,9 @@
 ghost use Rattle.std.specs.Prelude.{◌≡◌, IfOk};
 ghost use Rattle.row_machine.specs.opening.Opening.{broken, broken_at};
 
-use row_machine::records_crate::{Row, Rule};
-use row_machine::row_codec_crate::{key_of, kind_of};
-use row_machine::size_values_crate::{NoMemory, Text};
+use row_machine::from_records::{Row, Rule};
+use row_machine::from_row_codec::{key_of, kind_of};
+use row_machine::from_size_values::{NoMemory, Text};
 use std::alloc::Global;
 use std::marker::Model;
 

@@ -6,10 +6,10 @@ ghost use Rattle.row_machine.specs.machine.Rows.{project_named};
 ghost use Rattle.row_machine.specs.opening.Opening.{rule_of, uncountable};
 ghost use Rattle.opening_rules.specs.Rules.{uncounted_by};
 
-use limit_rules::row_readings_crate::{View, project_named};
-use row_machine::project_limits_crate::{SumKey, countable, limits_of, volume_countable};
-use row_machine::records_crate::{Instance, Project, Row, Rule, Volume};
-use row_machine::size_values_crate::NoMemory;
+use limit_rules::from_row_readings::{View, project_named};
+use row_machine::from_project_limits::{SumKey, countable, limits_of, volume_countable};
+use row_machine::from_records::{Instance, Project, Row, Rule, Volume};
+use row_machine::from_size_values::NoMemory;
 use std::alloc::Global;
 
 /// The rule that is broken where some sum gets no number.

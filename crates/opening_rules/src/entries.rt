@@ -2,9 +2,9 @@
 ghost use Rattle.std.specs.Prelude.{◌≡◌, ◌∷◌, ◌++◌, [], OnOk};
 ghost use Rattle.opening_rules.specs.Entries.{Adds, Fills, AreRows};
 
-use row_machine::records_crate::Row;
-use row_machine::row_codec_crate::{Damaged, decode};
-use row_machine::size_values_crate::{Entry, Or, Seq};
+use row_machine::from_records::Row;
+use row_machine::from_row_codec::{Damaged, decode};
+use row_machine::from_size_values::{Entry, Or, Seq};
 use std::alloc::Global;
 
 /// Adds the row that an entry spells.

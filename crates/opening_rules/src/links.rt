@@ -9,12 +9,12 @@ ghost use Rattle.row_machine.specs.opening.Opening.{rule_of, root_disk_missing, 
 ghost use Rattle.row_machine.specs.machine.SettingRules.{root_missing};
 ghost use Rattle.opening_rules.specs.Rules.{without_root, source_missing, names_missing, instance_unlinked};
 
-use limit_rules::row_readings_crate::{
+use limit_rules::from_row_readings::{
     View, network_home, network_named, pool_named, profile_home, volume_home,
 };
-use row_machine::config_lists_crate::{Device, Devices, Root};
-use row_machine::records_crate::{Instance, Profile, Row, Rule};
-use row_machine::size_values_crate::{NoMemory, Text};
+use row_machine::from_config_lists::{Device, Devices, Root};
+use row_machine::from_records::{Instance, Profile, Row, Rule};
+use row_machine::from_size_values::{NoMemory, Text};
 use std::alloc::Global;
 
 // ---- the root disk

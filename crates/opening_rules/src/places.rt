@@ -11,9 +11,9 @@ ghost use Rattle.row_machine.specs.opening.Opening.{defaults_missing};
 ghost use Rattle.row_machine.specs.opening.Opening.{has_all_features};
 ghost use Rattle.opening_rules.specs.Rules.{lacks_defaults};
 
-use limit_rules::row_readings_crate::{View, home_of, is_on, pool_named, project_named};
-use row_machine::records_crate::{Project, Row, Rule};
-use row_machine::size_values_crate::{ObjectKind, Text};
+use limit_rules::from_row_readings::{View, home_of, is_on, pool_named, project_named};
+use row_machine::from_records::{Project, Row, Rule};
+use row_machine::from_size_values::{ObjectKind, Text};
 
 /// The most profiles that an instance may name.
 const MOST_PROFILES: usize = 64;

@@ -5,11 +5,11 @@ ghost use Rattle.row_machine.specs.machine.Rows.{project_named};
 ghost use Rattle.row_machine.specs.opening.Opening.{rule_of, forbidden};
 ghost use Rattle.opening_rules.specs.Rules.{forbidden_rule};
 
-use limit_rules::row_readings_crate::{View, project_named};
-use row_machine::config_lists_crate::{Config, Devices};
-use row_machine::records_crate::{Instance, Profile, Project, Row, Rule};
-use row_machine::restrictions_crate::{Subject, first_forbidden, is_restricted, policy_of};
-use row_machine::size_values_crate::{Kind, NoMemory};
+use limit_rules::from_row_readings::{View, project_named};
+use row_machine::from_config_lists::{Config, Devices};
+use row_machine::from_records::{Instance, Profile, Project, Row, Rule};
+use row_machine::from_restrictions::{Subject, first_forbidden, is_restricted, policy_of};
+use row_machine::from_size_values::{Kind, NoMemory};
 use std::alloc::Global;
 
 /// The rule of this number, from F1 on.

@@ -11,9 +11,9 @@ use crate::links::{named_row_missing, root_disk_missing};
 use crate::places::{defaults_missing, home_missing, parent_row_missing, profiles_malformed};
 use crate::policies::forbidden;
 use crate::settings::{devices_invalid, settings_invalid};
-use limit_rules::row_readings_crate::View;
-use row_machine::records_crate::{Row, Rule};
-use row_machine::size_values_crate::{NoMemory, Or};
+use limit_rules::from_row_readings::View;
+use row_machine::from_records::{Row, Rule};
+use row_machine::from_size_values::{NoMemory, Or};
 use std::alloc::Global;
 
 /// A rule on one row.

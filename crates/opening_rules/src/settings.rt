@@ -6,12 +6,12 @@ ghost use Rattle.row_machine.specs.machine.State.{State};
 ghost use Rattle.row_machine.specs.opening.Opening.{settings_invalid, devices_invalid};
 ghost use Rattle.opening_rules.specs.Rules.{fault_rule};
 
-use row_machine::option_tables_crate::{
+use row_machine::from_option_tables::{
     Scope, SettingFault, check_devices, check_instance, check_network, check_pool, check_project,
     check_volume,
 };
-use row_machine::records_crate::{Row, Rule};
-use row_machine::size_values_crate::Kind;
+use row_machine::from_records::{Row, Rule};
+use row_machine::from_size_values::Kind;
 
 /// The rule that a fault breaks.
 fn fault_rule(fault: SettingFault) -> Rule

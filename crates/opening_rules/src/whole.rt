@@ -14,14 +14,14 @@ ghost use Rattle.opening_rules.specs.Rules.{breach_of};
 
 use crate::breach::{Breach, broken_at, broken_in};
 use crate::rules::rows_break_rules;
-use limit_rules::row_readings_crate::{View, project_named};
+use limit_rules::from_row_readings::{View, project_named};
 use limit_rules::{limits_broken, usage_before_changes};
-use row_machine::records_crate::{Refusal, Row, Rule};
-use row_machine::row_codec_crate::kind_of;
-use row_machine::size_values_crate::{ObjectKind, Or};
+use row_machine::from_records::{Refusal, Row, Rule};
+use row_machine::from_row_codec::kind_of;
+use row_machine::from_size_values::{ObjectKind, Or};
 use std::alloc::Global;
-use table_rules::new_rows_crate::{LARGEST_ROW, cap_of};
-use table_rules::row_sizes_crate::row_size;
+use table_rules::from_new_rows::{LARGEST_ROW, cap_of};
+use table_rules::from_row_sizes::row_size;
 
 /// The kinds of rows.
 const ROW_KINDS: [ObjectKind; 7] = [

@@ -1,5 +1,5 @@
-use object_links::operations_crate::Operation;
-use object_links::row_machine_crate::Work;
+use object_links::from_operations::Operation;
+use object_links::from_row_machine::Work;
 use std::marker::Model;
 
 /// A background operation, lent. Contracts see the operation.

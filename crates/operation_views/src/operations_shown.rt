@@ -9,10 +9,10 @@ ghost use Rattle.object_links.specs.row_machine.specs.shown.Notices.{view_of};
 ghost use Rattle.object_links.specs.row_machine.specs.shown.Views.{by_status, if_any, one, operation_view, operations_reply, status_number};
 
 use crate::operation_ref::OperationRef;
-use object_links::operations_crate::{Operation, Status};
-use object_links::records_crate::{OpView, Reply, View as Shown};
-use object_links::row_machine_crate::Work;
-use object_links::size_values_crate::{NoMemory, Seq};
+use object_links::from_operations::{Operation, Status};
+use object_links::from_records::{OpView, Reply, View as Shown};
+use object_links::from_row_machine::Work;
+use object_links::from_size_values::{NoMemory, Seq};
 use object_links::view_of;
 use row_readings::{View, kept_at};
 use std::alloc::Global;

@@ -2,8 +2,10 @@
 //! all of them is taken once, so no later call takes memory.
 #![tactic(auto)]
 
-// The libraries that crates above name through this one.
-pub use plain_lists as plain_lists_crate;
+/// Of `plain_lists`, for the crates above.
+pub mod from_plain_lists {
+    pub use plain_lists::push_reserved;
+}
 
 mod faults;
 mod limits;

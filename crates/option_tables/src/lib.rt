@@ -3,9 +3,18 @@
 //! the tables refuse. Commands check every row that they would put.
 #![tactic(auto)]
 
-// The libraries that crates above name through this one.
-pub use config_lists as config_lists_crate;
-pub use config_lists::size_values_crate;
+/// Of `config_lists`, for the crates above.
+pub mod from_config_lists {
+    pub use config_lists::{Changes, Config, Device, Devices, is_root_disk};
+}
+
+/// Of `size_values`, for the crates above.
+pub mod from_size_values {
+    pub use config_lists::from_size_values::{
+        Action, Amounts, Cpu, Deed, Kind, Memory, NoMemory, ObjectKind, Or, Power, Rise, Seq, Text,
+        read_count, read_cpu, read_memory, read_size, read_truth,
+    };
+}
 
 mod checks;
 mod devices;

@@ -2,8 +2,10 @@
 //! takes, and the numbers that values say.
 #![tactic(auto)]
 
-// The libraries that crates above name through this one.
-pub use size_values as size_values_crate;
+/// Of `size_values`, for the crates above.
+pub mod from_size_values {
+    pub use size_values::{MOMENT_LIMIT, NoMemory, Seq, Text};
+}
 
 mod commands;
 mod numbers;

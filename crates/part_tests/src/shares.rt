@@ -4,7 +4,7 @@ ghost use Rattle.workload.specs.size_values.specs.declared.amounts.Part.{Part};
 
 use reservations::Ledger;
 use std::alloc::Global;
-use workload::size_values_crate::{Amounts, NoMemory, Text};
+use workload::from_size_values::{Amounts, NoMemory, Text};
 
 fn share(cpu: u32, disk: u64) -> Amounts
     ensures { (k : Part) → part k result < 2 ^ 80 }

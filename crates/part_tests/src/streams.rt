@@ -1,5 +1,5 @@
 use std::alloc::Global;
-use workload::size_values_crate::{NoMemory, Seq};
+use workload::from_size_values::{NoMemory, Seq};
 use workload::{make_stream, summary_of};
 
 // The stream of seed 7 and three creations, as `bench/stream.py instances 3 7` writes it.

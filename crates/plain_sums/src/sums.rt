@@ -3,10 +3,10 @@
 //! looked up layer by layer, each time again.
 
 use row_readings::View;
-use row_readings::config_lists_crate::Device;
-use row_readings::records_crate::{Instance, Profile, Project, Row, Volume};
-use row_readings::row_machine_crate::Work;
-use row_readings::size_values_crate::{
+use row_readings::from_config_lists::Device;
+use row_readings::from_records::{Instance, Profile, Project, Row, Volume};
+use row_readings::from_row_machine::Work;
+use row_readings::from_size_values::{
     Cpu, Kind, Memory, read_count, read_cpu, read_memory, read_size, read_truth,
 };
 

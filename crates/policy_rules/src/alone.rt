@@ -10,10 +10,10 @@ ghost use Rattle.policy_rules.specs.Within.{own_claim};
 use crate::lowest::lowest_of_claim;
 use crate::policy::{NUMBERS, claim_forbids};
 use crate::restricted::Restricted;
+use restrictions::from_size_values::{NoMemory, Or};
 use restrictions::is_restricted;
-use restrictions::size_values_crate::{NoMemory, Or};
 use row_machine::Work;
-use row_machine::records_crate::{Project, Refusal};
+use row_machine::from_records::{Project, Refusal};
 use row_readings::View;
 use std::alloc::Global;
 

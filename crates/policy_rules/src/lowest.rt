@@ -6,11 +6,11 @@ ghost use Rattle.policy_rules.specs.Lowest.{HoldBelow};
 ghost use Rattle.policy_rules.specs.Within.{own_profile, own_instance, own_claim};
 
 use crate::restricted::{Restricted, subject_of};
-use restrictions::size_values_crate::NoMemory;
+use restrictions::from_size_values::NoMemory;
 use restrictions::{Subject, is_restricted};
 use row_machine::Work;
-use row_machine::operations_crate::Operation;
-use row_machine::records_crate::{Instance, Profile, Project};
+use row_machine::from_operations::Operation;
+use row_machine::from_records::{Instance, Profile, Project};
 use row_readings::{View, claimed_instance};
 use std::alloc::Global;
 

@@ -7,10 +7,10 @@ ghost use Rattle.restrictions.specs.Policies.{policy_of};
 ghost use Rattle.row_machine.specs.machine.PolicyRules.{policy_rule, subject_of, forbidden_key, forbids};
 ghost use Rattle.policy_rules.specs.Lowest.{HoldBelow};
 
-use restrictions::config_lists_crate::{Config, Devices};
-use restrictions::size_values_crate::{Kind, Or, Text};
+use restrictions::from_config_lists::{Config, Devices};
+use restrictions::from_size_values::{Kind, Or, Text};
 use restrictions::{Forbidden, Policy, Subject, first_forbidden, policy_of};
-use row_machine::records_crate::{Project, Refusal, Rule};
+use row_machine::from_records::{Project, Refusal, Rule};
 use rule_refusals::{key_at, name_at, on_key_of};
 use std::alloc::Global;
 use std::marker::Model;

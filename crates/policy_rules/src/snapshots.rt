@@ -8,9 +8,9 @@ ghost use Rattle.row_machine.specs.machine.Refusals.{on_project};
 ghost use Rattle.row_machine.specs.machine.Rows.{project_named};
 ghost use Rattle.row_machine.specs.machine.PolicyRules.{snapshot_blocked};
 
-use restrictions::size_values_crate::{ObjectKind, Or};
+use restrictions::from_size_values::{ObjectKind, Or};
 use restrictions::{policy_of, snapshots_forbidden};
-use row_machine::records_crate::{Command, Refusal, Rule, What};
+use row_machine::from_records::{Command, Refusal, Rule, What};
 use row_readings::{View, project_named};
 use rule_refusals::on_project;
 use std::alloc::Global;

@@ -1,5 +1,5 @@
-use estate_rules::config_lists_crate::Devices;
-use estate_rules::size_values_crate::{NoMemory, ObjectKind};
+use estate_rules::from_config_lists::Devices;
+use estate_rules::from_size_values::{NoMemory, ObjectKind};
 use estate_rules::{good_name, names_network, names_pool, names_volume};
 use made_settings::{Settings, devices_of};
 use std::alloc::Global;

@@ -1,5 +1,5 @@
-use estate_rules::config_lists_crate::{Config, Devices};
-use estate_rules::size_values_crate::NoMemory;
+use estate_rules::from_config_lists::{Config, Devices};
+use estate_rules::from_size_values::NoMemory;
 use made_settings::{Settings, config_of, devices_of, put_device, set};
 use restrictions::{
     Forbidden, Policy, Subject, Word, first_forbidden, policy_of, snapshots_forbidden,

@@ -5,7 +5,7 @@ ghost use Rattle.config_lists.specs.size_values.specs.declared.amounts.Part.{Par
 ghost use Rattle.project_limits.specs.Admission.{first_over, networks_over, over};
 
 use crate::limits::Limits;
-use config_lists::size_values_crate::Amounts;
+use config_lists::from_size_values::Amounts;
 
 /// The keys of limits, in the order in which they are judged.
 #[derive(Clone, Copy, PartialEq, Eq)]

@@ -12,10 +12,10 @@ ghost use Rattle.project_usage.specs.Counted.{instance_part};
 ghost use Rattle.project_usage.specs.Layered.{amounts_over};
 
 use crate::layers::lay_again;
-use row_readings::config_lists_crate::{Config, Devices};
-use row_readings::expansion_crate::Expanded;
-use row_readings::records_crate::Instance;
-use row_readings::size_values_crate::{Amounts, NoMemory, Text};
+use row_readings::from_config_lists::{Config, Devices};
+use row_readings::from_expansion::Expanded;
+use row_readings::from_records::Instance;
+use row_readings::from_size_values::{Amounts, NoMemory, Text};
 use row_readings::{View, profile_home};
 use std::alloc::Global;
 
@@ -93,11 +93,11 @@ fn amounts_over(row: &Instance, below: &Expanded) -> Result<Amounts, NoMemory>
 fn amounts_with(row: &Instance, config: &Config, devices: &Devices) -> Amounts
     ensures { result ≡ instance_amounts row.now.kind (replaced config.now row.now.config) devices.now }
 {
-    let below = row_readings::project_limits_crate::amounts_of(row.kind, config, devices);
+    let below = row_readings::from_project_limits::amounts_of(row.kind, config, devices);
     if row.config.len() == 0 {
         return below;
     }
-    let own = row_readings::project_limits_crate::amounts_of(row.kind, &row.config, devices);
+    let own = row_readings::from_project_limits::amounts_of(row.kind, &row.config, devices);
     Amounts {
         cpu: own_or(&row.config, "limits.cpu", own.cpu, below.cpu),
         memory: own_or(&row.config, "limits.memory", own.memory, below.memory),

@@ -3,8 +3,8 @@ ghost use Rattle.std.specs.Prelude.{◌≡◌, OnOk, IsTrue};
 ghost use Rattle.project_usage.specs.Layered.{profiles_of};
 
 use row_readings::View;
-use row_readings::expansion_crate::Expanded;
-use row_readings::size_values_crate::{NoMemory, Text};
+use row_readings::from_expansion::Expanded;
+use row_readings::from_size_values::{NoMemory, Text};
 use std::alloc::Global;
 
 /// Lays the profiles of these names, in their order, in place of those of the names `last`.

@@ -6,10 +6,10 @@ ghost use Rattle.row_readings.specs.row_machine.specs.machine.Usage.{usage_of};
 ghost use Rattle.project_usage.specs.Counted.{volume_part, claim_part};
 
 use crate::instances::add_instances;
-use row_readings::operations_crate::Operation;
-use row_readings::records_crate::Volume;
-use row_readings::row_machine_crate::Work;
-use row_readings::size_values_crate::{Amounts, NoMemory};
+use row_readings::from_operations::Operation;
+use row_readings::from_records::Volume;
+use row_readings::from_row_machine::Work;
+use row_readings::from_size_values::{Amounts, NoMemory};
 use row_readings::{View, project_of_row, share_of};
 use std::alloc::Global;
 
@@ -42,7 +42,7 @@ fn volume_counts(row: &Volume, project: &str) -> Amounts
     ensures { (k : Part) → part k result ≡ volume_part project.now k row.now }
 {
     if row.project.view() == project {
-        row_readings::project_limits_crate::volume_amounts(&row.config)
+        row_readings::from_project_limits::volume_amounts(&row.config)
     } else {
         Amounts::zero()
     }

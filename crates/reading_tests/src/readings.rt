@@ -1,14 +1,14 @@
 use lent_rows::{Rows, both, config, device, texts};
-use project_usage::config_lists_crate::Devices;
-use project_usage::expansion_crate::Expanded;
-use project_usage::operations_crate::{OpFault, Operation, Status};
-use project_usage::records_crate::{Instance, Profile, Row, Target, Volume};
-use project_usage::row_machine_crate::Work;
-use project_usage::row_readings_crate::{
+use project_usage::from_config_lists::Devices;
+use project_usage::from_expansion::Expanded;
+use project_usage::from_operations::{OpFault, Operation, Status};
+use project_usage::from_records::{Instance, Profile, Row, Target, Volume};
+use project_usage::from_row_machine::Work;
+use project_usage::from_row_readings::{
     View, claimed_instance, claimed_snapshot, claimed_volume, network_home, network_named,
     pool_named, profile_home, project_named, project_of_row, volume_home,
 };
-use project_usage::size_values_crate::{Amounts, Deed, Kind, NoMemory, ObjectKind, Seq, Text};
+use project_usage::from_size_values::{Amounts, Deed, Kind, NoMemory, ObjectKind, Seq, Text};
 use project_usage::usage_of;
 use std::alloc::Global;
 

@@ -2,8 +2,12 @@
 //! fail, for runs without a file and for tests.
 #![tactic(auto)]
 
-// The libraries that crates above name through this one.
-pub use size_values as size_values_crate;
+/// Of `size_values`, for the crates above.
+pub mod from_size_values {
+    pub use size_values::{
+        Amounts, Entry, EntryChange, Kind, NoMemory, ObjectKind, Or, Power, Seq, Text,
+    };
+}
 
 mod keeper;
 mod laws;

@@ -1,8 +1,8 @@
 //! Copies of notices and refusals.
-use row_sizes::records_crate::{
+use row_sizes::from_records::{
     Kept, Life, Notice, OpFault, OpView, Refusal, Rule, Status, Target, Told,
 };
-use row_sizes::size_values_crate::{NoMemory, ObjectKind, Text};
+use row_sizes::from_size_values::{NoMemory, ObjectKind, Text};
 use std::alloc::Global;
 
 fn operation_of(alloc: Global) -> Result<Told, NoMemory> {

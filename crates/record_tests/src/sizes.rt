@@ -1,7 +1,7 @@
 //! The sizes of bodies that are written out byte by byte.
-use row_sizes::records_crate::Row;
-use row_sizes::row_codec_crate::decode;
-use row_sizes::size_values_crate::{Entry, NoMemory, Seq, Text};
+use row_sizes::from_records::Row;
+use row_sizes::from_row_codec::decode;
+use row_sizes::from_size_values::{Entry, NoMemory, Seq, Text};
 use row_sizes::{instance_size, profile_size, project_size};
 use std::alloc::Global;
 

@@ -1,7 +1,7 @@
 //! Rows as entries and entries as rows: bodies are written out byte by byte.
-use row_sizes::records_crate::{Driver, Instance, Pool, Row, Snapshot};
-use row_sizes::row_codec_crate::{Damaged, decode, encode, key_of, kind_of};
-use row_sizes::size_values_crate::{Entry, Kind, NoMemory, Or, Seq, Text};
+use row_sizes::from_records::{Driver, Instance, Pool, Row, Snapshot};
+use row_sizes::from_row_codec::{Damaged, decode, encode, key_of, kind_of};
+use row_sizes::from_size_values::{Entry, Kind, NoMemory, Or, Seq, Text};
 use std::alloc::Global;
 use std::test::Fail;
 

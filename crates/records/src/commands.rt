@@ -1,7 +1,7 @@
 ghost use Rattle.std.specs.Prelude.{◌≡◌, IfOk};
 
 use crate::rows::Driver;
-use config_lists::size_values_crate::{Action, Kind, NoMemory, ObjectKind, Seq, Text};
+use config_lists::from_size_values::{Action, Kind, NoMemory, ObjectKind, Seq, Text};
 use config_lists::{Changes, Devices};
 use std::alloc::Global;
 

@@ -3,11 +3,30 @@
 //! the store speaks of them.
 #![tactic(auto)]
 
-// The libraries that crates above name through this one.
-pub use config_lists as config_lists_crate;
-pub use config_lists::size_values_crate;
-pub use operations as operations_crate;
-pub use operations::plain_lists_crate;
+/// Of `config_lists`, for the crates above.
+pub mod from_config_lists {
+    pub use config_lists::{Changes, Config, Device, Devices};
+}
+
+/// Of `operations`, for the crates above.
+pub mod from_operations {
+    pub use operations::{
+        CancelFault, ENDED_LIMIT, EnterFault, LIVE_LIMIT, NUMBER_LIMIT, OpFault, Operation, Status,
+        drop_oldest, known_place, set_status, take_out,
+    };
+}
+
+/// Of `plain_lists`, for the crates above.
+pub mod from_plain_lists {
+    pub use operations::from_plain_lists::push_reserved;
+}
+
+/// Of `size_values`, for the crates above.
+pub mod from_size_values {
+    pub use config_lists::from_size_values::{
+        Action, Kind, MOMENT_LIMIT, NoMemory, ObjectKind, Or, Power, Seq, Text, read_count,
+    };
+}
 
 mod commands;
 mod notices;

@@ -3,7 +3,7 @@ ghost use Rattle.std.specs.Prelude.{◌≡◌, IfOk};
 use crate::commands::Target;
 use crate::refusals::Refusal;
 use crate::rows::{Instance, Network, Pool, Profile, Project, Snapshot, Volume};
-use config_lists::size_values_crate::{NoMemory, Power, Seq, Text};
+use config_lists::from_size_values::{NoMemory, Power, Seq, Text};
 use config_lists::{Config, Devices};
 use operations::{OpFault, Status};
 use std::alloc::Global;

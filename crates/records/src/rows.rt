@@ -1,7 +1,7 @@
 ghost use Rattle.std.specs.Prelude.{◌≡◌, IfOk};
 
 use crate::texts::copy_texts;
-use config_lists::size_values_crate::{Kind, NoMemory, Seq, Text};
+use config_lists::from_size_values::{Kind, NoMemory, Seq, Text};
 use config_lists::{Config, Devices};
 use std::alloc::Global;
 

@@ -11,7 +11,7 @@ use crate::rows::{
     instances_are_typed, networks_are_typed, pools_are_typed, profiles_are_typed,
     projects_are_typed, snapshots_are_typed, volumes_are_typed,
 };
-use core_turns::row_readings_crate::View;
+use core_turns::from_row_readings::View;
 use kept_laws::kept_rows_open;
 
 /// The rows of every kind have it by their types that they can be kept.

@@ -2,8 +2,8 @@
 ghost use Rattle.std.specs.Str.{IsUtf8};
 ghost use Rattle.kept_laws.specs.row_parts.specs.Parts.{AreUtf8, AreTypedSettings, AreTypedDevices};
 
-use kept_laws::config_lists_crate::{Config, Devices};
-use kept_laws::size_values_crate::{Seq, Text};
+use kept_laws::from_config_lists::{Config, Devices};
+use kept_laws::from_size_values::{Seq, Text};
 
 /// The bytes of a string are UTF-8.
 fn string_is_utf8(string: &str)

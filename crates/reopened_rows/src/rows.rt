@@ -11,7 +11,7 @@ ghost use Rattle.kept_laws.specs.records.specs.declared.rows.Volume.{Volume as V
 ghost use Rattle.kept_laws.specs.row_codec.specs.Rows.{HasTypedParts};
 
 use crate::parts::{devices_are_typed, settings_are_typed, text_is_utf8, texts_are_utf8};
-use kept_laws::records_crate::{Instance, Network, Pool, Profile, Project, Snapshot, Volume};
+use kept_laws::from_records::{Instance, Network, Pool, Profile, Project, Snapshot, Volume};
 
 fn project_is_typed(project: &Project)
     ensures { HasTypedParts (row_of.Project project.now) }

@@ -3,7 +3,7 @@ ghost use Rattle.std.specs.Prelude.{◌≡◌, IfOk};
 ghost use Rattle.reply_parts.specs.Ids.{high_half, low_half, id_bytes, id_text, operation_link, number_in};
 ghost use Rattle.reply_parts.specs.Ids.{number_in_bytes, number_of};
 
-use config_lists::size_values_crate::{NoMemory, Text};
+use config_lists::from_size_values::{NoMemory, Text};
 use std::alloc::Global;
 use uuid::Uuid;
 

@@ -3,7 +3,7 @@ ghost use Rattle.std.specs.Prelude.{◌≡◌, ◌<◌, ◌≤◌, ◌/◌, ◌%
 ghost use Rattle.jiff.specs.Words.{epoch_day};
 ghost use Rattle.reply_parts.specs.Moments.{last_moment, stamp_text, moment_text};
 
-use config_lists::size_values_crate::{NoMemory, Text};
+use config_lists::from_size_values::{NoMemory, Text};
 use jiff::ToSpan;
 use jiff::civil::{Date, DateTime, Time};
 use std::alloc::Global;

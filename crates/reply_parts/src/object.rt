@@ -10,7 +10,7 @@ ghost use Rattle.reply_parts.specs.Settings.{settings_data, devices_data, texts_
 use crate::ids::{id_text, operation_link};
 use crate::moments::moment_text;
 use crate::settings::{devices_value, settings_value, texts_value};
-use config_lists::size_values_crate::{NoMemory, Seq, Text};
+use config_lists::from_size_values::{NoMemory, Seq, Text};
 use config_lists::{Config, Devices};
 use serde_json::{Map, Value};
 use std::alloc::Global;

@@ -4,7 +4,7 @@ ghost use Rattle.serde_json.specs.View.{view};
 ghost use Rattle.reply_parts.specs.Settings.{settings_data, devices_data, texts_data};
 
 use crate::object::Object;
-use config_lists::size_values_crate::{NoMemory, Seq, Text};
+use config_lists::from_size_values::{NoMemory, Seq, Text};
 use config_lists::{Config, Devices};
 use serde_json::Value;
 use std::alloc::Global;

@@ -1,10 +1,10 @@
 //! Replies, notices and ids as texts.
 
-use rest_routes::records_crate::{
+use rest_routes::from_records::{
     Kept, Life, LimitKeyName, Notice, OpFault, OpView, Refusal, Reply, Rule, Status, Target, Told,
     UsageLine, View,
 };
-use rest_routes::size_values_crate::{NoMemory, ObjectKind, Seq, Text};
+use rest_routes::from_size_values::{NoMemory, ObjectKind, Seq, Text};
 use rest_routes::{id_text, number_of, print, print_notice};
 use std::alloc::Global;
 

@@ -1,11 +1,11 @@
 //! Each rule, each object, each action and each status as it is written in replies and events.
 
-use rest_routes::config_lists_crate::{Config, Devices};
-use rest_routes::records_crate::{
+use rest_routes::from_config_lists::{Config, Devices};
+use rest_routes::from_records::{
     Driver, Instance, Kept, Life, LimitKeyName, Network, Notice, OpFault, OpView, Pool, Profile,
     Project, Refusal, Reply, Rule, Snapshot, Status, Target, Told, UsageLine, View, Volume,
 };
-use rest_routes::size_values_crate::{Kind, ObjectKind, Power, Seq, Text};
+use rest_routes::from_size_values::{Kind, ObjectKind, Power, Seq, Text};
 use rest_routes::{print, print_notice};
 use std::alloc::Global;
 

@@ -1,9 +1,27 @@
 //! Objects of all kinds and operations as JSON.
 #![tactic(auto)]
 
-// The libraries that crates above name through this one.
-pub use object_links::{host_model_crate, records_crate, row_machine_crate};
-pub use reply_parts as reply_parts_crate;
+/// Of `host_model`, for the crates above.
+pub mod from_host_model {
+    pub use object_links::from_host_model::{Host, ModelHost};
+}
+
+/// Of `records`, for the crates above.
+pub mod from_records {
+    pub use object_links::from_records::{
+        Kept, Life, Notice, OpView, Refusal, Reply, Rule, Status, Told, View,
+    };
+}
+
+/// Of `reply_parts`, for the crates above.
+pub mod from_reply_parts {
+    pub use reply_parts::{Object, id_text, ids_read_back, number_of, operation_link, texts_value};
+}
+
+/// Of `row_machine`, for the crates above.
+pub mod from_row_machine {
+    pub use object_links::from_row_machine::{Answer, Event, Fetched};
+}
 
 mod operation;
 mod views;

@@ -7,10 +7,10 @@ ghost use Rattle.serde_json.specs.Data.{string};
 ghost use Rattle.object_links.specs.operations.specs.declared.operation.OpFault.TheVariants as fault;
 
 use crate::words::{error_text, status_code, status_text};
+use object_links::from_records::{OpFault, OpView, Status};
 use object_links::link_of;
-use object_links::records_crate::{OpFault, OpView, Status};
 use reply_parts::Object;
-use reply_parts::size_values_crate::{NoMemory, ObjectKind};
+use reply_parts::from_size_values::{NoMemory, ObjectKind};
 use serde_json::Value;
 use std::alloc::Global;
 

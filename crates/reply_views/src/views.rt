@@ -9,11 +9,11 @@ ghost use Rattle.reply_views.specs.Views.{limit_data, line_data, lines_data, usa
 
 use crate::operation::operation_value;
 use crate::words::{driver_text, instance_kind, limit_name, power_code, power_text};
-use object_links::records_crate::{
+use object_links::from_records::{
     Instance, Network, Pool, Profile, Project, Snapshot, UsageLine, View, Volume,
 };
-use reply_parts::config_lists_crate::{Config, Devices};
-use reply_parts::size_values_crate::{NoMemory, Power, Seq, Text};
+use reply_parts::from_config_lists::{Config, Devices};
+use reply_parts::from_size_values::{NoMemory, Power, Seq, Text};
 use reply_parts::{Object, moment_text};
 use serde_json::Value;
 use std::alloc::Global;

@@ -4,8 +4,8 @@ ghost use Rattle.object_links.specs.row_machine.specs.machine.StandingRules.{pow
 ghost use Rattle.reply_views.specs.Words.{status_code, status_key, power_code, instance_kind, driver_text, limit_name};
 ghost use Rattle.reply_views.specs.Words.{fault_text, error_text};
 
-use object_links::records_crate::{Driver, LimitKeyName, OpFault, Status};
-use reply_parts::size_values_crate::{Kind, Power};
+use object_links::from_records::{Driver, LimitKeyName, OpFault, Status};
+use reply_parts::from_size_values::{Kind, Power};
 
 /// How a status is written.
 pub(crate) fn status_text(status: Status) -> &'static str

@@ -3,12 +3,12 @@ ghost use Rattle.std.specs.Prelude.{◌≡◌, ◌+◌};
 ghost use Rattle.lent_rows.specs.size_values.specs.Amounts.{part};
 ghost use Rattle.lent_rows.specs.size_values.specs.declared.amounts.Part.{Part};
 
-use lent_rows::config_lists_crate::Config;
+use lent_rows::from_config_lists::Config;
+use lent_rows::from_records::Project;
+use lent_rows::from_reservations::Books;
+use lent_rows::from_row_readings::View;
+use lent_rows::from_size_values::{Amounts, NoMemory, Text};
 use lent_rows::in_order;
-use lent_rows::records_crate::Project;
-use lent_rows::reservations_crate::Books;
-use lent_rows::row_readings_crate::View;
-use lent_rows::size_values_crate::{Amounts, NoMemory, Text};
 use std::alloc::Global;
 use store_report::check_report;
 

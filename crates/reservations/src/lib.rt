@@ -2,9 +2,18 @@
 //! granted to operations, converted into objects, and returned.
 #![tactic(auto)]
 
-// The libraries that crates above name through this one.
-pub use plain_lists as plain_lists_crate;
-pub use size_values as size_values_crate;
+/// Of `plain_lists`, for the crates above.
+pub mod from_plain_lists {
+    pub use plain_lists::push_reserved;
+}
+
+/// Of `size_values`, for the crates above.
+pub mod from_size_values {
+    pub use size_values::{
+        Action, Amounts, Deed, Entry, EntryChange, Kind, MOMENT_LIMIT, NoMemory, ObjectKind, Or,
+        Part, Power, Seq, Text, read_truth,
+    };
+}
 
 mod books;
 mod ledger;

@@ -3,10 +3,10 @@ ghost use Rattle.std.specs.Prelude.{◌≡◌, true, IfOk};
 ghost use Rattle.rest_replies.specs.row_machine.specs.machine.Refusals.{plain_refusal};
 ghost use Rattle.rest_answers.specs.Texts.{HasText, malformed_text, printed, rule_of};
 
-use core_turns::rule_refusals_crate::nothing_told;
-use rest_replies::http_front_crate::{HeadFault, reply_bytes};
-use rest_replies::records_crate::{Refusal, Reply, Rule};
-use rest_replies::size_values_crate::{NoMemory, Seq};
+use core_turns::from_rule_refusals::nothing_told;
+use rest_replies::from_http_front::{HeadFault, reply_bytes};
+use rest_replies::from_records::{Refusal, Reply, Rule};
+use rest_replies::from_size_values::{NoMemory, Seq};
 use rest_replies::{no_memory_is_known, print};
 use std::alloc::Global;
 

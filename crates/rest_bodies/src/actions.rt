@@ -3,7 +3,7 @@ ghost use Rattle.serde_json.specs.View.{view};
 ghost use Rattle.rest_bodies.specs.Actions.{action_of, action_in, action_at};
 
 use crate::members::non_null_member;
-use records::size_values_crate::Action;
+use records::from_size_values::Action;
 use serde_json::Value;
 
 #[tactic(auto, unfolding(crate::specs::Actions::action_of))]

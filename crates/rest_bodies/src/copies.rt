@@ -6,7 +6,7 @@ ghost use Rattle.rest_bodies.specs.Copies.{copied_from, copy_origin};
 
 use crate::members::{non_null_member, str_at};
 use records::Origin;
-use records::size_values_crate::{NoMemory, Text};
+use records::from_size_values::{NoMemory, Text};
 use serde_json::Value;
 use std::alloc::Global;
 

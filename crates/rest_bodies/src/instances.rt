@@ -8,7 +8,7 @@ use crate::copies::copied_fault;
 use crate::members::{is_word, non_null_member, str_at, text_at};
 use crate::origins::has_word;
 use records::Origin;
-use records::size_values_crate::{Kind, NoMemory, Text};
+use records::from_size_values::{Kind, NoMemory, Text};
 use serde_json::Value;
 use std::alloc::Global;
 

@@ -3,7 +3,7 @@ ghost use Rattle.serde_json.specs.View.{view};
 ghost use Rattle.rest_bodies.specs.Members.{json_in, if_object, object_in, if_given, non_null_member, text_at, is_word};
 ghost use Rattle.rest_bodies.specs.Members.{name_at};
 
-use records::size_values_crate::{NoMemory, Text};
+use records::from_size_values::{NoMemory, Text};
 use serde_json::Value;
 use std::alloc::Global;
 

@@ -5,7 +5,7 @@ ghost use Rattle.rest_bodies.specs.Origins.{source_pool, volume_copied, volume_o
 
 use crate::members::{is_word, name_at, non_null_member, str_at};
 use records::Origin;
-use records::size_values_crate::{NoMemory, Text};
+use records::from_size_values::{NoMemory, Text};
 use serde_json::Value;
 use std::alloc::Global;
 

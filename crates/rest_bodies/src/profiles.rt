@@ -6,7 +6,7 @@ ghost use Rattle.rest_bodies.specs.Profiles.{is_text, are_texts, is_here, is_amo
 ghost use Rattle.rest_bodies.specs.Profiles.{are_names, fits_profiles, text_in, texts_in, profiles_in, profiles_at};
 
 use crate::members::non_null_member;
-use records::size_values_crate::{NoMemory, Seq, Text};
+use records::from_size_values::{NoMemory, Seq, Text};
 use serde_json::Value;
 use std::alloc::Global;
 

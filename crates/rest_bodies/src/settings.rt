@@ -5,8 +5,8 @@ ghost use Rattle.rest_bodies.specs.Settings.{is_setting, all_settings, fits_sett
 ghost use Rattle.rest_bodies.specs.Settings.{with_change, changes_after, changes_of, with_setting, settings_after};
 ghost use Rattle.rest_bodies.specs.Settings.{device_of, devices_after, devices_of};
 
-use records::config_lists_crate::{Changes, Device, Devices};
-use records::size_values_crate::NoMemory;
+use records::from_config_lists::{Changes, Device, Devices};
+use records::from_size_values::NoMemory;
 use serde_json::{Map, Value};
 use std::alloc::Global;
 

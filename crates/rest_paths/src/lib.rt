@@ -2,8 +2,10 @@
 //! and what the query says; with the refusals of requests by their form.
 #![tactic(auto)]
 
-// The libraries that crates above name through this one.
-pub use records as records_crate;
+/// Of `records`, for the crates above.
+pub mod from_records {
+    pub use records::{Filter, Notice, Refusal, Reply, Rule};
+}
 
 mod laws;
 mod paths;

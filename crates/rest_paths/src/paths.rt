@@ -2,7 +2,7 @@ ghost use Rattle.std.specs.Prelude.{◌≡◌};
 ghost use Rattle.rest_paths.specs.Paths.{before_slash, after_slash, after_three_slashes, path_of, query_of, name_of};
 ghost use Rattle.rest_paths.specs.Paths.{pool_of, instance_of};
 
-use records::size_values_crate::ObjectKind;
+use records::from_size_values::ObjectKind;
 
 /// What stands before the first slash, or all where there is none.
 #[tactic(auto, unfolding(crate::specs::Paths::before_slash))]

@@ -1,7 +1,7 @@
 ghost use Rattle.std.specs.Prelude.{◌≡◌};
 ghost use Rattle.rest_paths.specs.Places.{verb_of, has_body, is_offered, verb_offered};
 
-use records::size_values_crate::ObjectKind;
+use records::from_size_values::ObjectKind;
 
 /// What stands at a path of the REST API: the root, the server at `/1.0`, the list of a kind of objects, one object,
 /// the usage of a project, the state of an instance, the wait for an operation, and the events.

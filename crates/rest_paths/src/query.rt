@@ -9,7 +9,7 @@ ghost use Rattle.rest_paths.specs.Queries.{project_of, wants_objects, wait_timeo
 
 use crate::refusals::refusal_on_key;
 use form_urlencoded::parse;
-use records::size_values_crate::{NoMemory, Or, Text, read_count};
+use records::from_size_values::{NoMemory, Or, Text, read_count};
 use records::{Refusal, Rule};
 use std::alloc::Global;
 

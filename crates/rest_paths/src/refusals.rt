@@ -2,7 +2,7 @@ ghost use Rattle.std.specs.Prelude.{◌≡◌, IfOk};
 ghost use Rattle.rest_paths.specs.Answers.{IsRefused};
 ghost use Rattle.rest_paths.specs.Refusals.{nothing_told, on_key, plain_refusal, no_operation};
 
-use records::size_values_crate::{NoMemory, Or, Text};
+use records::from_size_values::{NoMemory, Or, Text};
 use records::{Kept, Refusal, Rule};
 use std::alloc::Global;
 

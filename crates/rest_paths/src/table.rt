@@ -5,7 +5,7 @@ ghost use Rattle.rest_paths.specs.Places.{line_with, are_taken, rows_after, rows
 
 use crate::places::{Line, Methods, Place, ROUTES};
 use matchit::InsertError;
-use records::size_values_crate::NoMemory;
+use records::from_size_values::NoMemory;
 use std::alloc::Global;
 use std::marker::Model;
 

@@ -12,9 +12,9 @@ ghost use Rattle.rest_replies.specs.Replies.{reply_location, printed_of};
 
 use crate::refusals::{refusal_value, rule_code};
 use http_front::Printed;
-use http_front::size_values_crate::{NoMemory, Seq, Text};
-use reply_views::records_crate::{Kept, OpView, Refusal, Reply, Rule, Status, View};
-use reply_views::reply_parts_crate::{Object, operation_link, texts_value};
+use http_front::from_size_values::{NoMemory, Seq, Text};
+use reply_views::from_records::{Kept, OpView, Refusal, Reply, Rule, Status, View};
+use reply_views::from_reply_parts::{Object, operation_link, texts_value};
 use reply_views::{operation_value, status_key, view_value};
 use serde_json::{Map, Value};
 use std::alloc::Global;

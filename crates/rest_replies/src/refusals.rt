@@ -6,9 +6,9 @@ ghost use Rattle.serde_json.specs.View.{view};
 ghost use Rattle.rest_replies.specs.Refusals.{rule_name, rule_text, rule_code, kept_parts, part_key, part_data};
 ghost use Rattle.rest_replies.specs.Refusals.{kept_data, refusal_data};
 
-use http_front::size_values_crate::NoMemory;
-use reply_views::records_crate::{Kept, Refusal, Rule};
-use reply_views::reply_parts_crate::Object;
+use http_front::from_size_values::NoMemory;
+use reply_views::from_records::{Kept, Refusal, Rule};
+use reply_views::from_reply_parts::Object;
 use serde_json::Value;
 use std::alloc::Global;
 

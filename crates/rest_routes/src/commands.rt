@@ -6,14 +6,14 @@ ghost use Rattle.rest_routes.specs.Commands.{sent_body, what_of, command_at, com
 
 use crate::with_body::what_with_body;
 use crate::without_body::what_without_body;
+use rest_bodies::from_records::{Command, Refusal, Rule, What};
+use rest_bodies::from_size_values::{NoMemory, Or};
 use rest_bodies::object_in;
-use rest_bodies::records_crate::{Command, Refusal, Rule, What};
-use rest_bodies::size_values_crate::{NoMemory, Or};
 use rest_paths::{
     PathTable, Place, Query, Verb, has_body, path_of, plain_refusal, project_of, query_from_text,
     query_of, verb_offered,
 };
-use rest_replies::http_heads_crate::Request;
+use rest_replies::from_http_heads::Request;
 use serde_json::Value;
 use std::alloc::Global;
 

@@ -3,11 +3,58 @@
 //! What judges the fields of bodies, `rest_bodies`, and what prints replies, `rest_replies`, are passed on.
 #![tactic(auto)]
 
-// The libraries that crates above name through this one.
-pub use rest_bodies as rest_bodies_crate;
-pub use rest_bodies::{config_lists_crate, records_crate, size_values_crate};
-pub use rest_replies as rest_replies_crate;
-pub use rest_replies::{host_model_crate, http_front_crate, http_heads_crate, row_machine_crate};
+/// Of `config_lists`, for the crates above.
+pub mod from_config_lists {
+    pub use rest_bodies::from_config_lists::{Config, Devices};
+}
+
+/// Of `host_model`, for the crates above.
+pub mod from_host_model {
+    pub use rest_replies::from_host_model::{Host, ModelHost};
+}
+
+/// Of `http_front`, for the crates above.
+pub mod from_http_front {
+    pub use rest_replies::from_http_front::{
+        Buffer, Clock, Got, HeadFault, Request, Sink, SinkFailed, Source, read_request,
+    };
+}
+
+/// Of `http_heads`, for the crates above.
+pub mod from_http_heads {
+    pub use rest_replies::from_http_heads::Request;
+}
+
+/// Of `records`, for the crates above.
+pub mod from_records {
+    pub use rest_bodies::from_records::{
+        Body, Command, Driver, Instance, Kept, Life, LimitKeyName, Network, Notice, OpFault,
+        OpView, Origin, Pool, Profile, Project, Refusal, Reply, Rule, Snapshot, Status, Target,
+        Told, UsageLine, View, Volume, What,
+    };
+}
+
+/// Of `rest_bodies`, for the crates above.
+pub mod from_rest_bodies {
+    pub use rest_bodies::{object_in, volume_origin};
+}
+
+/// Of `rest_replies`, for the crates above.
+pub mod from_rest_replies {
+    pub use rest_replies::print_notice;
+}
+
+/// Of `row_machine`, for the crates above.
+pub mod from_row_machine {
+    pub use rest_replies::from_row_machine::{Answer, Event, Fetched};
+}
+
+/// Of `size_values`, for the crates above.
+pub mod from_size_values {
+    pub use rest_bodies::from_size_values::{
+        Action, Kind, NoMemory, ObjectKind, Or, Power, Seq, Text,
+    };
+}
 
 mod commands;
 mod laws;

@@ -5,10 +5,10 @@ ghost use Rattle.rest_paths.specs.Places.{rows};
 ghost use Rattle.rest_routes.specs.Commands.{command_of};
 
 use crate::commands::command_of;
-use rest_bodies::records_crate::{Command, Refusal};
-use rest_bodies::size_values_crate::{NoMemory, Or};
+use rest_bodies::from_records::{Command, Refusal};
+use rest_bodies::from_size_values::{NoMemory, Or};
 use rest_paths::PathTable;
-use rest_replies::http_heads_crate::Request;
+use rest_replies::from_http_heads::Request;
 use std::alloc::Global;
 use std::marker::Model;
 

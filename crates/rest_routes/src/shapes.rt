@@ -4,7 +4,7 @@ ghost use Rattle.serde_json.specs.View.{view};
 ghost use Rattle.rest_routes.specs.Shapes.{instance_shape, creation_shape, rename_shape, instance_change};
 ghost use Rattle.rest_routes.specs.Shapes.{change_shape, object_shape, shape_of};
 
-use rest_bodies::size_values_crate::ObjectKind;
+use rest_bodies::from_size_values::ObjectKind;
 use rest_bodies::{Shape, asks_for_copy};
 use rest_paths::{Place, Verb};
 use serde_json::Value;

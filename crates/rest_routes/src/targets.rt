@@ -3,8 +3,8 @@ ghost use Rattle.std.specs.Prelude.{◌≡◌, IfOk};
 ghost use Rattle.rest_paths.specs.Answers.{Gives};
 ghost use Rattle.rest_routes.specs.Targets.{target_at_path, object_of, objects_of, operation_at};
 
-use rest_bodies::records_crate::{Refusal, Target};
-use rest_bodies::size_values_crate::{NoMemory, ObjectKind, Or, Text};
+use rest_bodies::from_records::{Refusal, Target};
+use rest_bodies::from_size_values::{NoMemory, ObjectKind, Or, Text};
 use rest_paths::{instance_of, name_of, no_operation, pool_of};
 use rest_replies::number_of;
 use std::alloc::Global;

@@ -8,8 +8,8 @@ ghost use Rattle.rest_routes.specs.WithBody.{what_from_body, what_with_body};
 
 use crate::shapes::shape_of;
 use crate::targets::{object_of, target_at_path};
-use rest_bodies::records_crate::{Refusal, Rule, Target, What};
-use rest_bodies::size_values_crate::{NoMemory, ObjectKind, Or, Text};
+use rest_bodies::from_records::{Refusal, Rule, Target, What};
+use rest_bodies::from_size_values::{NoMemory, ObjectKind, Or, Text};
 use rest_bodies::{Shape, action_at, body_of, judge_fields, name_at, restore_at};
 use rest_paths::{Place, Verb, plain_refusal, pool_of, refusal_on_key};
 use serde_json::Value;

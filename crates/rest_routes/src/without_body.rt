@@ -4,8 +4,8 @@ ghost use Rattle.rest_paths.specs.Answers.{Gives};
 ghost use Rattle.rest_routes.specs.WithoutBody.{get_or_delete, get_or_cancel, get_or_delete_at, what_without_body};
 
 use crate::targets::{object_of, objects_of, operation_at};
-use rest_bodies::records_crate::{Refusal, Rule, Target, What};
-use rest_bodies::size_values_crate::{ObjectKind, Or};
+use rest_bodies::from_records::{Refusal, Rule, Target, What};
+use rest_bodies::from_size_values::{ObjectKind, Or};
 use rest_paths::{Place, Query, Verb, plain_refusal, wait_timeout, wants_objects};
 use std::alloc::Global;
 

@@ -7,13 +7,13 @@ ghost use Rattle.rest_service.specs.Answers.{Reaches, Shows};
 
 use rest_answers::{Asked, asked_of, reply_of};
 use rest_routes::Router;
-use rest_routes::host_model_crate::Host;
-use rest_routes::records_crate::{Command, Reply, What};
-use run_words::size_values_crate::Text;
+use rest_routes::from_host_model::Host;
+use rest_routes::from_records::{Command, Reply, What};
+use run_words::from_size_values::Text;
 use serial_steps::SerialDaemon;
-use serial_steps::core_rows_crate::refused_reply;
-use serial_steps::http_front_crate::{Clock, Request};
-use serial_steps::record_keeper_crate::Keeper;
+use serial_steps::from_core_rows::refused_reply;
+use serial_steps::from_http_front::{Clock, Request};
+use serial_steps::from_record_keeper::Keeper;
 use std::alloc::Global;
 
 /// Asks for an operation in a project.

@@ -2,15 +2,51 @@
 //! it keeps (REST API of the Incus documentation).
 #![tactic(auto)]
 
-// The libraries that crates above name through this one.
-pub use rest_answers as rest_answers_crate;
-pub use rest_routes::host_model_crate;
-pub use run_words as run_words_crate;
-pub use run_words::size_values_crate;
-pub use serial_steps::{core_rows_crate, core_turns_crate, http_front_crate, record_keeper_crate};
+/// Of `core_rows`, for the crates above.
+pub mod from_core_rows {
+    pub use serial_steps::from_core_rows::OpenFault;
+}
+
+/// Of `core_turns`, for the crates above.
+pub mod from_core_turns {
+    pub use serial_steps::from_core_turns::Daemon;
+}
+
+/// Of `host_model`, for the crates above.
+pub mod from_host_model {
+    pub use rest_routes::from_host_model::{Host, ModelHost};
+}
+
+/// Of `http_front`, for the crates above.
+pub mod from_http_front {
+    pub use serial_steps::from_http_front::{
+        Buffer, ByteSink, ByteSource, Clock, Got, HeadFault, Request, Sink, SinkFailed, Source,
+        StillClock, no_memory_reply, read_request,
+    };
+}
+
+/// Of `record_keeper`, for the crates above.
+pub mod from_record_keeper {
+    pub use serial_steps::from_record_keeper::{Keeper, MapKeeper};
+}
+
+/// Of `rest_answers`, for the crates above.
+pub mod from_rest_answers {
+    pub use rest_answers::{Answered, print_malformed};
+}
+
+/// Of `run_words`, for the crates above.
+pub mod from_run_words {
+    pub use run_words::{CommandWords, Pace, RunWords, Setup, read_words, setup_of, usage};
+}
+
+/// Of `size_values`, for the crates above.
+pub mod from_size_values {
+    pub use run_words::from_size_values::{NoMemory, Seq, Text};
+}
 
 mod asking;
 mod service;
 
-pub use serial_steps::core_rows_crate::OpenFault;
+pub use serial_steps::from_core_rows::OpenFault;
 pub use service::Service;

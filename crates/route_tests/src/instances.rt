@@ -1,8 +1,8 @@
 //! The body of a new instance: the first field that is at fault, and what the fields say.
 
 use crate::faults::has_fault;
-use rest_bodies::records_crate::{Body, Origin};
-use rest_bodies::size_values_crate::{Kind, NoMemory, Seq, Text};
+use rest_bodies::from_records::{Body, Origin};
+use rest_bodies::from_size_values::{Kind, NoMemory, Seq, Text};
 use rest_bodies::{Shape, body_of, object_in};
 use serde_json::Value;
 use std::alloc::Global;

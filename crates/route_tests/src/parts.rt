@@ -1,7 +1,7 @@
 //! What bodies say: the parts that each shape has, what is copied, which action is asked for, and what is restored.
 
-use rest_bodies::records_crate::{Body, Origin};
-use rest_bodies::size_values_crate::{Action, NoMemory, Text};
+use rest_bodies::from_records::{Body, Origin};
+use rest_bodies::from_size_values::{Action, NoMemory, Text};
 use rest_bodies::{Shape, action_at, body_of, judge_fields, object_in, restore_at};
 use serde_json::Value;
 use std::alloc::Global;

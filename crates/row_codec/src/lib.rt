@@ -2,10 +2,44 @@
 //! first damage where an entry is no spelling.
 #![tactic(auto)]
 
-// The libraries that crates above name through this one.
-pub use estate_rules as estate_rules_crate;
-pub use estate_rules::{config_lists_crate, size_values_crate};
-pub use row_parts::{operations_crate, plain_lists_crate, records_crate};
+/// Of `config_lists`, for the crates above.
+pub mod from_config_lists {
+    pub use estate_rules::from_config_lists::{Config, Devices};
+}
+
+/// Of `estate_rules`, for the crates above.
+pub mod from_estate_rules {
+    pub use estate_rules::{good_name, names_network, names_pool, names_volume};
+}
+
+/// Of `operations`, for the crates above.
+pub mod from_operations {
+    pub use row_parts::from_operations::{
+        CancelFault, ENDED_LIMIT, EnterFault, LIVE_LIMIT, NUMBER_LIMIT, OpFault, Operation, Status,
+        drop_oldest, known_place, set_status, take_out,
+    };
+}
+
+/// Of `plain_lists`, for the crates above.
+pub mod from_plain_lists {
+    pub use row_parts::from_plain_lists::push_reserved;
+}
+
+/// Of `records`, for the crates above.
+pub mod from_records {
+    pub use row_parts::from_records::{
+        Body, Command, Driver, Filter, Instance, Kept, Life, LimitKeyName, Network, Notice,
+        OpFault, OpView, Origin, Pool, Profile, Project, Refusal, Reply, Row, Rule, Snapshot,
+        Status, Target, Told, Untold, UsageLine, View, Volume, What,
+    };
+}
+
+/// Of `size_values`, for the crates above.
+pub mod from_size_values {
+    pub use estate_rules::from_size_values::{
+        Action, Amounts, Deed, Entry, EntryChange, Kind, NoMemory, ObjectKind, Or, Power, Seq, Text,
+    };
+}
 
 mod body_rows;
 mod damage;

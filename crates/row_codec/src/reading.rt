@@ -11,10 +11,10 @@ use crate::body_rows::{
 };
 use crate::damage::Damaged;
 use crate::keys::{three_names_in, two_names_in};
+use estate_rules::from_size_values::{Entry, ObjectKind, Or};
 use estate_rules::good_name;
-use estate_rules::size_values_crate::{Entry, ObjectKind, Or};
 use row_parts::Unreadable;
-use row_parts::records_crate::{Instance, Network, Pool, Profile, Project, Row, Snapshot, Volume};
+use row_parts::from_records::{Instance, Network, Pool, Profile, Project, Row, Snapshot, Volume};
 use std::alloc::Global;
 
 /// The damage of a body in which a part cannot be read.

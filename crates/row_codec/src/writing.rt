@@ -7,8 +7,8 @@ ghost use Rattle.row_codec.specs.Spelling.{project_bytes, profile_bytes, network
 ghost use Rattle.row_codec.specs.Spelling.{instance_bytes, snapshot_bytes, body_of, kind_of, key_of, two_names};
 ghost use Rattle.row_codec.specs.Spelling.{three_names};
 
-use estate_rules::size_values_crate::{Entry, NoMemory, Seq, Text};
-use row_parts::records_crate::{Instance, Network, Pool, Profile, Project, Row, Snapshot, Volume};
+use estate_rules::from_size_values::{Entry, NoMemory, Seq, Text};
+use row_parts::from_records::{Instance, Network, Pool, Profile, Project, Row, Snapshot, Volume};
 use row_parts::{
     driver_byte, kind_byte, put_devices, put_number, put_settings, put_text, put_texts, truth_byte,
 };

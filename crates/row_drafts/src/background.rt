@@ -14,15 +14,15 @@ ghost use Rattle.machine_laws.specs.size_values.specs.Amounts.{part};
 ghost use Rattle.machine_laws.specs.size_values.specs.declared.amounts.Part.{Part};
 
 use crate::calls::{Handing, hand_out};
-use machine_laws::host_model_crate::HostCall;
-use machine_laws::instance_states_crate::may_cancel;
-use machine_laws::operations_crate::{
+use machine_laws::from_host_model::HostCall;
+use machine_laws::from_instance_states::may_cancel;
+use machine_laws::from_operations::{
     ENDED_LIMIT, OpFault, Operation, Status, drop_oldest, known_place, set_status, take_out,
 };
-use machine_laws::plain_lists_crate::push_reserved;
-use machine_laws::reservations_crate::{Books, Hold, Ledger};
-use machine_laws::row_machine_crate::Work;
-use machine_laws::size_values_crate::{Amounts, NoMemory, Text};
+use machine_laws::from_plain_lists::push_reserved;
+use machine_laws::from_reservations::{Books, Hold, Ledger};
+use machine_laws::from_row_machine::Work;
+use machine_laws::from_size_values::{Amounts, NoMemory, Text};
 use std::alloc::Global;
 use std::marker::Model;
 

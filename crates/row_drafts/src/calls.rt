@@ -3,8 +3,8 @@ ghost use Rattle.std.specs.Prelude.{◌≡◌, IsSome, Some};
 ghost use Rattle.row_drafts.specs.Background.{handed, HasCount};
 ghost use Rattle.row_drafts.specs.declared.calls.Handing.TheVariants as handing;
 
-use machine_laws::host_model_crate::HostCall;
-use machine_laws::row_machine_crate::Work;
+use machine_laws::from_host_model::HostCall;
+use machine_laws::from_row_machine::Work;
 
 /// Which call of a task is handed out: the first that is left; the same, once the one before it was done; or the one
 /// that takes the deed back.

@@ -17,12 +17,12 @@ ghost use Rattle.machine_laws.specs.size_values.specs.declared.amounts.Part.{Par
 
 use crate::calls::Handing;
 use crate::lists::{Lists, Undone};
-use machine_laws::host_model_crate::HostCall;
-use machine_laws::operations_crate::{OpFault, Status};
-use machine_laws::plain_lists_crate::push_reserved;
-use machine_laws::records_crate::{Instance, Row};
-use machine_laws::row_machine_crate::{RowChange, Work};
-use machine_laws::size_values_crate::{Amounts, NoMemory, Power, Seq, Text};
+use machine_laws::from_host_model::HostCall;
+use machine_laws::from_operations::{OpFault, Status};
+use machine_laws::from_plain_lists::push_reserved;
+use machine_laws::from_records::{Instance, Row};
+use machine_laws::from_row_machine::{RowChange, Work};
+use machine_laws::from_size_values::{Amounts, NoMemory, Power, Seq, Text};
 use row_readings::{InstancePower, View};
 use std::alloc::Global;
 use std::marker::Model;

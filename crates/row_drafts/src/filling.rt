@@ -11,8 +11,8 @@ use crate::draft::{Draft, stopped};
 use crate::edits::{put, put_new};
 use crate::lists::Lists;
 use crate::placed::Placed;
-use machine_laws::records_crate::{Instance, Row};
-use machine_laws::size_values_crate::NoMemory;
+use machine_laws::from_records::{Instance, Row};
+use machine_laws::from_size_values::NoMemory;
 use row_readings::InstancePower;
 use std::alloc::Global;
 

@@ -2,11 +2,35 @@
 //! and taken back to what they were before the changes.
 #![tactic(auto)]
 
-// The libraries that crates above name through this one.
-pub use machine_laws::{
-    config_lists_crate, record_keeper_crate, records_crate, row_machine_crate, size_values_crate,
-};
-pub use row_readings as row_readings_crate;
+/// Of `config_lists`, for the crates above.
+pub mod from_config_lists {
+    pub use machine_laws::from_config_lists::{Config, Devices};
+}
+
+/// Of `record_keeper`, for the crates above.
+pub mod from_record_keeper {
+    pub use machine_laws::from_record_keeper::{Keeper, MapKeeper};
+}
+
+/// Of `records`, for the crates above.
+pub mod from_records {
+    pub use machine_laws::from_records::{Instance, Network, Row};
+}
+
+/// Of `row_machine`, for the crates above.
+pub mod from_row_machine {
+    pub use machine_laws::from_row_machine::RowChange;
+}
+
+/// Of `row_readings`, for the crates above.
+pub mod from_row_readings {
+    pub use row_readings::View;
+}
+
+/// Of `size_values`, for the crates above.
+pub mod from_size_values {
+    pub use machine_laws::from_size_values::{Kind, NoMemory, Power, Seq, Text};
+}
 
 mod background;
 mod calls;

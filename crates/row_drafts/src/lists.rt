@@ -25,13 +25,13 @@ ghost use Rattle.row_drafts.specs.Steps.{before_change, before_step, FitsChange,
 use crate::background::Background;
 use crate::calls::Handing;
 use crate::edits::{Step, put, put_new, remove, take_back};
-use machine_laws::host_model_crate::HostCall;
-use machine_laws::operations_crate::{OpFault, Status};
-use machine_laws::records_crate::{
+use machine_laws::from_host_model::HostCall;
+use machine_laws::from_operations::{OpFault, Status};
+use machine_laws::from_records::{
     Instance, Network, Pool, Profile, Project, Row, Snapshot, Volume,
 };
-use machine_laws::row_machine_crate::{RowChange, Work};
-use machine_laws::size_values_crate::{Amounts, NoMemory, ObjectKind, Power, Text};
+use machine_laws::from_row_machine::{RowChange, Work};
+use machine_laws::from_size_values::{Amounts, NoMemory, ObjectKind, Power, Text};
 use row_readings::{InstancePower, Names, View, place_named};
 use std::alloc::Global;
 use std::marker::Model;

@@ -6,7 +6,7 @@ ghost use Rattle.machine_laws.specs.row_codec.specs.Spelling.{two_names};
 ghost use Rattle.machine_laws.specs.row_machine.specs.machine.Changes.{has_key};
 
 use crate::keys::{is_three_names, is_two_names};
-use machine_laws::records_crate::{Instance, Network, Pool, Profile, Project, Snapshot, Volume};
+use machine_laws::from_records::{Instance, Network, Pool, Profile, Project, Snapshot, Volume};
 use row_readings::{InstancePower, Named};
 
 /// A row that stands in the order of its names, and has a key.

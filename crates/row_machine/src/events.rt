@@ -1,6 +1,6 @@
-use instance_states::host_model_crate::{HostCall, Report};
-use reservations::size_values_crate::Seq;
-use row_codec::records_crate::{Command, Filter, Notice, Reply};
+use instance_states::from_host_model::{HostCall, Report};
+use reservations::from_size_values::Seq;
+use row_codec::from_records::{Command, Filter, Notice, Reply};
 
 /// What happens to the server, one thing at a time. The last number of `Ask`, `Take` and `Done` is the moment, in
 /// seconds since 1970.

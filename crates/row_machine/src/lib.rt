@@ -3,18 +3,93 @@
 //! question. Everything above is proved against it.
 #![tactic(auto)]
 
-// The libraries that crates above name through this one.
-pub use expansion as expansion_crate;
-pub use expansion::config_lists_crate;
-pub use instance_states as instance_states_crate;
-pub use instance_states::host_model_crate;
-pub use project_limits as project_limits_crate;
-pub use reservations as reservations_crate;
-pub use reservations::{plain_lists_crate, size_values_crate};
-pub use restrictions as restrictions_crate;
-pub use restrictions::option_tables_crate;
-pub use row_codec as row_codec_crate;
-pub use row_codec::{estate_rules_crate, operations_crate, records_crate};
+/// Of `config_lists`, for the crates above.
+pub mod from_config_lists {
+    pub use expansion::from_config_lists::{Config, Device, Devices, Root};
+}
+
+/// Of `estate_rules`, for the crates above.
+pub mod from_estate_rules {
+    pub use row_codec::from_estate_rules::{good_name, names_network, names_pool, names_volume};
+}
+
+/// Of `expansion`, for the crates above.
+pub mod from_expansion {
+    pub use expansion::Expanded;
+}
+
+/// Of `host_model`, for the crates above.
+pub mod from_host_model {
+    pub use instance_states::from_host_model::{
+        Host, HostCall, ModelHost, Place, Report, Spec, perform,
+    };
+}
+
+/// Of `instance_states`, for the crates above.
+pub mod from_instance_states {
+    pub use instance_states::{CallName, SnapshotNumbers, after, is_allowed, may_cancel};
+}
+
+/// Of `operations`, for the crates above.
+pub mod from_operations {
+    pub use row_codec::from_operations::{
+        ENDED_LIMIT, EnterFault, OpFault, Operation, Status, drop_oldest, known_place, set_status,
+        take_out,
+    };
+}
+
+/// Of `option_tables`, for the crates above.
+pub mod from_option_tables {
+    pub use restrictions::from_option_tables::{
+        DeviceFault, Scope, SettingFault, check_devices, check_instance, check_network, check_pool,
+        check_project, check_volume,
+    };
+}
+
+/// Of `plain_lists`, for the crates above.
+pub mod from_plain_lists {
+    pub use reservations::from_plain_lists::push_reserved;
+}
+
+/// Of `project_limits`, for the crates above.
+pub mod from_project_limits {
+    pub use project_limits::{
+        LimitKey, Limits, Over, SumKey, amounts_of, countable, limits_of, volume_amounts,
+        volume_countable,
+    };
+}
+
+/// Of `records`, for the crates above.
+pub mod from_records {
+    pub use row_codec::from_records::{
+        Body, Command, Driver, Filter, Instance, Kept, Life, LimitKeyName, Network, Notice,
+        OpFault, OpView, Origin, Pool, Profile, Project, Refusal, Reply, Row, Rule, Snapshot,
+        Status, Target, Told, Untold, UsageLine, View, Volume, What,
+    };
+}
+
+/// Of `reservations`, for the crates above.
+pub mod from_reservations {
+    pub use reservations::{Books, Hold, Ledger};
+}
+
+/// Of `restrictions`, for the crates above.
+pub mod from_restrictions {
+    pub use restrictions::{Subject, first_forbidden, is_restricted, policy_of};
+}
+
+/// Of `row_codec`, for the crates above.
+pub mod from_row_codec {
+    pub use row_codec::{Damaged, decode, key_of, kind_of};
+}
+
+/// Of `size_values`, for the crates above.
+pub mod from_size_values {
+    pub use reservations::from_size_values::{
+        Action, Amounts, Deed, Entry, EntryChange, Kind, MOMENT_LIMIT, NoMemory, ObjectKind, Or,
+        Part, Power, Seq, Text, read_truth,
+    };
+}
 
 mod changes;
 mod events;

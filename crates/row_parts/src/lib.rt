@@ -2,9 +2,27 @@
 //! spelling, is written at the end of bytes, and is read from their front.
 #![tactic(auto)]
 
-// The libraries that crates above name through this one.
-pub use records as records_crate;
-pub use records::{operations_crate, plain_lists_crate};
+/// Of `operations`, for the crates above.
+pub mod from_operations {
+    pub use records::from_operations::{
+        CancelFault, ENDED_LIMIT, EnterFault, LIVE_LIMIT, NUMBER_LIMIT, OpFault, Operation, Status,
+        drop_oldest, known_place, set_status, take_out,
+    };
+}
+
+/// Of `plain_lists`, for the crates above.
+pub mod from_plain_lists {
+    pub use records::from_plain_lists::push_reserved;
+}
+
+/// Of `records`, for the crates above.
+pub mod from_records {
+    pub use records::{
+        Body, Command, Driver, Filter, Instance, Kept, Life, LimitKeyName, Network, Notice,
+        OpFault, OpView, Origin, Pool, Profile, Project, Refusal, Reply, Row, Rule, Snapshot,
+        Status, Target, Told, Untold, UsageLine, View, Volume, What,
+    };
+}
 
 mod lists;
 mod parts;

@@ -7,8 +7,8 @@ ghost use Rattle.row_parts.specs.Reading.{devices_at, shape_at};
 
 use crate::parts::{Shape, count_at, stops_at, str_at, text_at};
 use crate::unreadable::Unreadable;
-use records::config_lists_crate::{Config, Devices};
-use records::size_values_crate::{Or, Seq, Text};
+use records::from_config_lists::{Config, Devices};
+use records::from_size_values::{Or, Seq, Text};
 use std::alloc::Global;
 
 fn add_text<'b>(

@@ -5,8 +5,8 @@ ghost use Rattle.row_parts.specs.Reading.{instance_kind_of, driver_of, text_at};
 
 use crate::unreadable::Unreadable;
 use records::Driver;
-use records::config_lists_crate::{Config, Devices};
-use records::size_values_crate::{Kind, MOMENT_LIMIT, Or, Seq, Text};
+use records::from_config_lists::{Config, Devices};
+use records::from_size_values::{Kind, MOMENT_LIMIT, Or, Seq, Text};
 use std::alloc::Global;
 
 /// The lists that instances and snapshots have in common.

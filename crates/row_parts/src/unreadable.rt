@@ -1,7 +1,7 @@
 ghost use Rattle.std.specs.Prelude.{◌≡◌};
 ghost use Rattle.records.specs.size_values.specs.declared.memory.Or.TheVariants as or;
 
-use records::size_values_crate::Or;
+use records::from_size_values::Or;
 
 /// A part that cannot be read, by how many bytes are left where it begins.
 #[derive(Clone, Copy, PartialEq, Eq)]

@@ -7,8 +7,8 @@ ghost use Rattle.row_parts.specs.Spelling.{text_bytes, number_bytes, texts_bytes
 ghost use Rattle.row_parts.specs.Spelling.{truth_byte, kind_byte, driver_byte};
 
 use records::Driver;
-use records::config_lists_crate::{Config, Devices};
-use records::size_values_crate::{Kind, NoMemory, Seq, Text};
+use records::from_config_lists::{Config, Devices};
+use records::from_size_values::{Kind, NoMemory, Seq, Text};
 use std::alloc::Global;
 
 /// A text: its length as four bytes, and its bytes.

@@ -11,10 +11,10 @@ ghost use Rattle.row_readings.specs.Loads.{AreSmall};
 
 use crate::claims::replaced_instance;
 use crate::view::View;
-use restrictions::size_values_crate::{Amounts, NoMemory, Text};
+use restrictions::from_size_values::{Amounts, NoMemory, Text};
 use row_machine::Work;
-use row_machine::operations_crate::Operation;
-use row_machine::records_crate::{Instance, Row, Volume};
+use row_machine::from_operations::Operation;
+use row_machine::from_records::{Instance, Row, Volume};
 use std::alloc::Global;
 use std::marker::Model;
 
@@ -56,7 +56,7 @@ pub fn amounts_of_instance(
     ensures { IfOk result (λ a. a ≡ amounts_of_instance view.now row.now) }
 {
     let expanded = view.expansion(alloc, row)?;
-    let amounts = row_machine::project_limits_crate::amounts_of(
+    let amounts = row_machine::from_project_limits::amounts_of(
         row.kind,
         &expanded.config,
         &expanded.devices,
@@ -71,7 +71,7 @@ fn amounts_of(alloc: Global, view: &View<'_>, row: &Row) -> Result<Amounts, NoMe
 {
     match row {
         Row::Instance(row) => amounts_of_instance(alloc, view, row),
-        Row::Volume(row) => Ok(row_machine::project_limits_crate::volume_amounts(&row.config)),
+        Row::Volume(row) => Ok(row_machine::from_project_limits::volume_amounts(&row.config)),
         Row::Project(_) | Row::Profile(_) | Row::Network(_) | Row::Pool(_) | Row::Snapshot(_) => Ok(
             Amounts::zero(),
         ),
@@ -159,7 +159,7 @@ fn add_volumes(alloc: Global, rows: &[Volume], all: &mut Vec<Load>) -> Result<()
     for row in rows {
         all.push(Load {
             project: row.project.copy(alloc)?,
-            amounts: row_machine::project_limits_crate::volume_amounts(&row.config),
+            amounts: row_machine::from_project_limits::volume_amounts(&row.config),
         })?;
     }
     Ok(())

@@ -6,7 +6,7 @@ ghost use Rattle.row_machine.specs.machine.Claims.{replaced_instance};
 
 use crate::view::View;
 use row_machine::Work;
-use row_machine::records_crate::{Instance, Row, Snapshot, Volume};
+use row_machine::from_records::{Instance, Row, Snapshot, Volume};
 
 /// The instance that a live operation would put.
 pub fn claimed_instance(work: &Work) -> Option<&Instance>

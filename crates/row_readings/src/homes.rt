@@ -5,9 +5,9 @@ ghost use Rattle.restrictions.specs.Words.{is_true};
 ghost use Rattle.row_machine.specs.machine.Homes.{is_on, has_feature, home_by, home_of};
 
 use crate::lookups::project_named;
-use restrictions::config_lists_crate::Config;
-use restrictions::size_values_crate::{ObjectKind, read_truth};
-use row_machine::records_crate::Project;
+use restrictions::from_config_lists::Config;
+use restrictions::from_size_values::{ObjectKind, read_truth};
+use row_machine::from_records::Project;
 
 /// Whether a text reads as true.
 #[tactic(auto, unfolding(restrictions::specs::Words::is_true))]

@@ -2,13 +2,61 @@
 //! names, what an instance has, and what a project uses, searched and summed anew each time. No row is copied.
 #![tactic(auto)]
 
-// The libraries that crates above name through this one.
-pub use restrictions::{config_lists_crate, size_values_crate};
-pub use row_machine as row_machine_crate;
-pub use row_machine::{
-    expansion_crate, host_model_crate, instance_states_crate, operations_crate,
-    project_limits_crate, records_crate, reservations_crate,
-};
+/// Of `config_lists`, for the crates above.
+pub mod from_config_lists {
+    pub use restrictions::from_config_lists::{Changes, Config, Device, Devices};
+}
+
+/// Of `expansion`, for the crates above.
+pub mod from_expansion {
+    pub use row_machine::from_expansion::Expanded;
+}
+
+/// Of `host_model`, for the crates above.
+pub mod from_host_model {
+    pub use row_machine::from_host_model::{Host, HostCall, Place, Report};
+}
+
+/// Of `instance_states`, for the crates above.
+pub mod from_instance_states {
+    pub use row_machine::from_instance_states::CallName;
+}
+
+/// Of `operations`, for the crates above.
+pub mod from_operations {
+    pub use row_machine::from_operations::{OpFault, Operation, Status};
+}
+
+/// Of `project_limits`, for the crates above.
+pub mod from_project_limits {
+    pub use row_machine::from_project_limits::{amounts_of, volume_amounts};
+}
+
+/// Of `records`, for the crates above.
+pub mod from_records {
+    pub use row_machine::from_records::{
+        Body, Command, Driver, Instance, Kept, LimitKeyName, Network, Origin, Pool, Profile,
+        Project, Refusal, Reply, Row, Rule, Snapshot, Target, UsageLine, View, Volume, What,
+    };
+}
+
+/// Of `reservations`, for the crates above.
+pub mod from_reservations {
+    pub use row_machine::from_reservations::{Books, Hold};
+}
+
+/// Of `row_machine`, for the crates above.
+pub mod from_row_machine {
+    pub use row_machine::{Answer, Work};
+}
+
+/// Of `size_values`, for the crates above.
+pub mod from_size_values {
+    pub use restrictions::from_size_values::{
+        Action, Amounts, Cpu, Deed, Kind, Memory, NoMemory, ObjectKind, Or, Rise, Seq, Text,
+        read_count, read_cpu, read_memory, read_size, read_truth,
+    };
+}
 
 mod amounts;
 mod claims;

@@ -10,10 +10,10 @@ ghost use Rattle.row_machine.specs.machine.StandingRules.{power_of};
 use crate::named::Names;
 use crate::places::row_named;
 use crate::view::View;
-use restrictions::size_values_crate::Power;
+use restrictions::from_size_values::Power;
 use row_machine::Work;
-use row_machine::operations_crate::Operation;
-use row_machine::records_crate::{Instance, Network, Pool, Profile, Project, Snapshot, Volume};
+use row_machine::from_operations::Operation;
+use row_machine::from_records::{Instance, Network, Pool, Profile, Project, Snapshot, Volume};
 
 /// The project of a name.
 pub fn project_named<'x>(rows: &'x [Project], name: &str) -> Option<&'x Project>

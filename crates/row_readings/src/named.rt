@@ -7,7 +7,7 @@ ghost use Rattle.row_machine.specs.machine.Rows.{instance_names, snapshot_names,
 ghost use Rattle.row_readings.specs.Rising.{names_in};
 
 use crate::view::InstancePower;
-use row_machine::records_crate::{Instance, Network, Pool, Profile, Project, Snapshot, Volume};
+use row_machine::from_records::{Instance, Network, Pool, Profile, Project, Snapshot, Volume};
 use std::cmp::Ordering;
 
 /// The names of a row, from that of its project on, lent.

@@ -8,9 +8,9 @@ ghost use Rattle.row_machine.specs.machine.Usage.{usage_of};
 use crate::amounts::{loads, usage_in};
 use crate::homes::profile_home;
 use crate::view::View;
-use restrictions::size_values_crate::{Amounts, NoMemory, Text};
-use row_machine::expansion_crate::Expanded;
-use row_machine::records_crate::{Instance, Profile};
+use restrictions::from_size_values::{Amounts, NoMemory, Text};
+use row_machine::from_expansion::Expanded;
+use row_machine::from_records::{Instance, Profile};
 use std::alloc::Global;
 
 impl View<'_> {

@@ -6,10 +6,10 @@ ghost use Rattle.row_machine.specs.instance_states.specs.Numbers.{next_name, see
 ghost use Rattle.row_machine.specs.machine.Asked.{next_snapshot};
 
 use crate::view::View;
-use restrictions::config_lists_crate::Config;
-use restrictions::size_values_crate::{NoMemory, Text};
-use row_machine::instance_states_crate::SnapshotNumbers;
-use row_machine::records_crate::{Instance, Snapshot};
+use restrictions::from_config_lists::Config;
+use restrictions::from_size_values::{NoMemory, Text};
+use row_machine::from_instance_states::SnapshotNumbers;
+use row_machine::from_records::{Instance, Snapshot};
 use std::alloc::Global;
 
 /// The pattern of an instance's snapshot names, by its expanded settings.

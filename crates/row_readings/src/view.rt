@@ -1,8 +1,8 @@
-use restrictions::size_values_crate::{Power, Text};
+use restrictions::from_size_values::{Power, Text};
 use row_machine::Work;
-use row_machine::operations_crate::Operation;
-use row_machine::records_crate::{Instance, Network, Pool, Profile, Project, Snapshot, Volume};
-use row_machine::reservations_crate::{Books, Hold};
+use row_machine::from_operations::Operation;
+use row_machine::from_records::{Instance, Network, Pool, Profile, Project, Snapshot, Volume};
+use row_machine::from_reservations::{Books, Hold};
 use std::marker::Model;
 
 /// The status of the instance of a project and name.

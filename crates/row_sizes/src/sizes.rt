@@ -5,9 +5,9 @@ ghost use Rattle.row_codec.specs.Spelling.{project_bytes, profile_bytes, network
 ghost use Rattle.row_codec.specs.Spelling.{instance_bytes, snapshot_bytes};
 ghost use Rattle.row_sizes.specs.Sizes.{capped};
 
-use row_codec::config_lists_crate::{Config, Devices};
-use row_codec::records_crate::{Instance, Network, Pool, Profile, Project, Row, Snapshot, Volume};
-use row_codec::size_values_crate::Text;
+use row_codec::from_config_lists::{Config, Devices};
+use row_codec::from_records::{Instance, Network, Pool, Profile, Project, Row, Snapshot, Volume};
+use row_codec::from_size_values::Text;
 
 /// The sum of both, or the greatest number.
 fn add_capped(a: u64, b: u64) -> u64

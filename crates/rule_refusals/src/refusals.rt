@@ -4,8 +4,8 @@ ghost use Rattle.row_machine.specs.machine.Kinds.{kind_text};
 ghost use Rattle.row_machine.specs.machine.Refusals.{nothing_told, on_name, on_number, on_object, on_held, on_project};
 ghost use Rattle.row_machine.specs.machine.Refusals.{on_key_of};
 
-use row_machine::records_crate::{Kept, Refusal, Rule};
-use row_machine::size_values_crate::{NoMemory, ObjectKind, Text};
+use row_machine::from_records::{Kept, Refusal, Rule};
+use row_machine::from_size_values::{NoMemory, ObjectKind, Text};
 use std::alloc::Global;
 
 /// The details of a refusal that tells its rule alone.

@@ -6,10 +6,10 @@ ghost use Rattle.row_machine.specs.machine.Refusals.{nothing_told};
 ghost use Rattle.row_machine.specs.machine.SettingRules.{text_at, device_at, device_fault_number, faulty_key};
 ghost use Rattle.row_machine.specs.machine.SettingRules.{setting_refusal, tables_break};
 
-use row_machine::config_lists_crate::{Config, Devices};
-use row_machine::option_tables_crate::{DeviceFault, SettingFault, check_devices};
-use row_machine::records_crate::{Kept, Refusal, Rule};
-use row_machine::size_values_crate::{NoMemory, Text};
+use row_machine::from_config_lists::{Config, Devices};
+use row_machine::from_option_tables::{DeviceFault, SettingFault, check_devices};
+use row_machine::from_records::{Kept, Refusal, Rule};
+use row_machine::from_size_values::{NoMemory, Text};
 use std::alloc::Global;
 
 /// The key of settings at a place, or nothing after all of them.

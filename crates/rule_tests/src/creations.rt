@@ -7,15 +7,15 @@ use lent_rows::{Rows, both, config, device};
 use limit_rules::{
     claim_uncounts, counts_broken, limits_broken, needs_usage, share_broken, usage_before,
 };
+use name_rules::from_row_machine::Work;
 use name_rules::names_broken;
-use name_rules::row_machine_crate::Work;
 use policy_rules::{claim_forbidden, policy_broken};
-use project_usage::operations_crate::{OpFault, Operation, Status};
-use project_usage::records_crate::{
+use project_usage::from_operations::{OpFault, Operation, Status};
+use project_usage::from_records::{
     Body, Command, Driver, Origin, Pool, Project, Refusal, Row, Rule, Target, What,
 };
-use project_usage::row_readings_crate::View;
-use project_usage::size_values_crate::{Amounts, NoMemory, ObjectKind, Or, Seq, Text};
+use project_usage::from_row_readings::View;
+use project_usage::from_size_values::{Amounts, NoMemory, ObjectKind, Or, Seq, Text};
 use project_usage::usage_of;
 use setting_rules::claim_settings_broken;
 use standing_rules::standing_broken;

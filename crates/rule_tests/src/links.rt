@@ -1,6 +1,6 @@
-use project_usage::records_crate::Target;
-use project_usage::size_values_crate::{NoMemory, ObjectKind, Text};
-use standing_rules::object_links_crate::link_of;
+use project_usage::from_records::Target;
+use project_usage::from_size_values::{NoMemory, ObjectKind, Text};
+use standing_rules::from_object_links::link_of;
 use std::alloc::Global;
 
 /// The links of objects of the name `x`: the kind, the pool or instance that it stands in, the project, and the link.

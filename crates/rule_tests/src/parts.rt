@@ -1,11 +1,11 @@
-use instance_tasks::new_rows_crate::{
+use instance_tasks::from_new_rows::{
     LARGEST_ROW, cap_of, largest_row_is_64_kib, new_config, new_description, new_devices,
     patched_config, patched_description, patched_devices,
 };
 use lent_rows::{both, config};
-use project_usage::config_lists_crate::{Changes, Device, Devices};
-use project_usage::records_crate::{Body, Origin};
-use project_usage::size_values_crate::{NoMemory, ObjectKind, Text};
+use project_usage::from_config_lists::{Changes, Device, Devices};
+use project_usage::from_records::{Body, Origin};
+use project_usage::from_size_values::{NoMemory, ObjectKind, Text};
 use std::alloc::Global;
 
 /// A part of a row that a body gives.

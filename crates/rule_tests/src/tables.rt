@@ -1,12 +1,12 @@
 use lent_rows::Rows;
-use name_rules::row_machine_crate::Work;
-use project_usage::config_lists_crate::{Config, Devices};
-use project_usage::operations_crate::{OpFault, Operation, Status};
-use project_usage::records_crate::{
+use name_rules::from_row_machine::Work;
+use project_usage::from_config_lists::{Config, Devices};
+use project_usage::from_operations::{OpFault, Operation, Status};
+use project_usage::from_records::{
     Instance, Kept, Profile, Refusal, Row, Rule, Snapshot, Target, Volume,
 };
-use project_usage::row_readings_crate::View;
-use project_usage::size_values_crate::{Deed, Kind, NoMemory, ObjectKind, Or, Seq, Text};
+use project_usage::from_row_readings::View;
+use project_usage::from_size_values::{Deed, Kind, NoMemory, ObjectKind, Or, Seq, Text};
 use std::alloc::Global;
 use table_rules::{claim_tables_broken, tables_broken};
 

@@ -7,7 +7,7 @@ ghost use Rattle.run_words.specs.Words.{bare_program, check_command, drill_comma
 ghost use Rattle.run_words.specs.Words.{run_command, run_program};
 
 use clap::{ArgMatches, Command};
-use option_words::size_values_crate::NoMemory;
+use option_words::from_size_values::NoMemory;
 use option_words::{parse_words, with_command, with_option, with_place};
 use std::alloc::Global;
 

@@ -8,7 +8,7 @@ use crate::program::parsed_command;
 use crate::values::call_numbers_said;
 use crate::words::command_words_of;
 use clap::ArgMatches;
-use option_words::size_values_crate::{NoMemory, Seq, Text};
+use option_words::from_size_values::{NoMemory, Seq, Text};
 use option_words::value_of;
 use std::alloc::Global;
 

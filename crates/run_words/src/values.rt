@@ -9,8 +9,8 @@ ghost use Rattle.run_words.specs.Values.{call_numbers_said, count_said, is_path}
 ghost use Rattle.run_words.specs.Values.{moment_said, pace_said, parts_of, seed_said};
 
 use crate::words::Pace;
+use option_words::from_size_values::{MOMENT_LIMIT, NoMemory, Seq};
 use option_words::number_said;
-use option_words::size_values_crate::{MOMENT_LIMIT, NoMemory, Seq};
 use std::alloc::Global;
 
 /// The greatest number of steps that a pace may say.

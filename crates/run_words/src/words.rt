@@ -12,7 +12,7 @@ use crate::values::{
     are_call_numbers, boot_said, count_said, is_path, moment_said, pace_said, seed_said,
 };
 use clap::ArgMatches;
-use option_words::size_values_crate::NoMemory;
+use option_words::from_size_values::NoMemory;
 use option_words::value_of;
 use std::alloc::Global;
 

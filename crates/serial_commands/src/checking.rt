@@ -2,12 +2,12 @@ ghost use Rattle.serial_commands.specs.Commands.{Checks, TellsReport};
 ghost use Rattle.serial_sessions.specs.Worlds.{outlet};
 
 use crate::telling::{OUT_OF_MEMORY, open_status, tell};
-use serial_sessions::core_turns_crate::Daemon;
-use serial_sessions::http_front_crate::Sink;
-use serial_sessions::record_keeper_crate::Keeper;
+use serial_sessions::from_core_turns::Daemon;
+use serial_sessions::from_http_front::Sink;
+use serial_sessions::from_record_keeper::Keeper;
 use std::alloc::Global;
 use store_report::check_report;
-use workload::size_values_crate::NoMemory;
+use workload::from_size_values::NoMemory;
 
 /// Tells of a server how many rows of each kind it has, and its books.
 #[tactic(auto, unfolding(store_report::specs::Report::counts_of, store_report::specs::Report::books_of))]

@@ -7,15 +7,15 @@ ghost use Rattle.serial_sessions.specs.serial_steps.specs.Steps.{hosted, site};
 ghost use Rattle.workload.specs.Stream.{stream_of};
 
 use crate::telling::{OUT_OF_MEMORY, open_status, tell};
-use serial_sessions::http_front_crate::{Buffer, ByteSink, ByteSource, Clock, Sink};
-use serial_sessions::record_keeper_crate::Keeper;
-use serial_sessions::rest_service_crate::Service;
-use serial_sessions::run_words_crate::Pace;
+use serial_sessions::from_http_front::{Buffer, ByteSink, ByteSource, Clock, Sink};
+use serial_sessions::from_record_keeper::Keeper;
+use serial_sessions::from_rest_service::Service;
+use serial_sessions::from_run_words::Pace;
 use serial_sessions::{SessionEnd, serve};
 use std::alloc::Global;
 use store_report::check_report;
-use store_report::host_model_crate::Host;
-use workload::size_values_crate::{NoMemory, Seq};
+use store_report::from_host_model::Host;
+use workload::from_size_values::{NoMemory, Seq};
 use workload::{make_stream, summary_of};
 
 /// How many bytes a source of made requests gives at once.

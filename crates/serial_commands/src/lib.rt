@@ -2,9 +2,29 @@
 //! answers made requests in memory and tells what they came to.
 #![tactic(auto)]
 
-// The libraries that crates above name through this one.
-pub use serial_sessions as serial_sessions_crate;
-pub use serial_sessions::{http_front_crate, rest_service_crate, run_words_crate};
+/// Of `http_front`, for the crates above.
+pub mod from_http_front {
+    pub use serial_sessions::from_http_front::{
+        Buffer, ByteSink, ByteSource, Clock, Sink, Source, StillClock,
+    };
+}
+
+/// Of `rest_service`, for the crates above.
+pub mod from_rest_service {
+    pub use serial_sessions::from_rest_service::Service;
+}
+
+/// Of `run_words`, for the crates above.
+pub mod from_run_words {
+    pub use serial_sessions::from_run_words::{
+        CommandWords, Pace, RunWords, Setup, read_words, setup_of, usage,
+    };
+}
+
+/// Of `serial_sessions`, for the crates above.
+pub mod from_serial_sessions {
+    pub use serial_sessions::{SessionEnd, serve};
+}
 
 mod checking;
 mod drilling;

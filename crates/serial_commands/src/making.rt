@@ -4,10 +4,10 @@ ghost use Rattle.serial_sessions.specs.Worlds.{outlet};
 ghost use Rattle.workload.specs.Stream.{stream_of};
 
 use crate::telling::{OUT_OF_MEMORY, tell};
-use serial_sessions::http_front_crate::Sink;
+use serial_sessions::from_http_front::Sink;
 use std::alloc::Global;
+use workload::from_size_values::NoMemory;
 use workload::make_stream;
-use workload::size_values_crate::NoMemory;
 
 /// Writes the requests that a number stands for: three that make a pool, a project and its profile, and so many
 /// creations of instances. It gives the exit status.

@@ -3,8 +3,8 @@ ghost use Rattle.std.specs.Prelude.{◌≡◌};
 ghost use Rattle.serial_commands.specs.Commands.{Tells, open_status};
 ghost use Rattle.serial_sessions.specs.Worlds.{outlet};
 
-use serial_sessions::core_rows_crate::OpenFault;
-use serial_sessions::http_front_crate::{Sink, SinkFailed};
+use serial_sessions::from_core_rows::OpenFault;
+use serial_sessions::from_http_front::{Sink, SinkFailed};
 
 /// The exit status where memory was refused.
 pub(crate) const OUT_OF_MEMORY: u8 = 9;

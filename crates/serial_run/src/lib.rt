@@ -1,10 +1,35 @@
 //! All that the program does: its words are read, the rows are opened, and one session follows.
 #![tactic(auto)]
 
-// The libraries that crates above name through this one.
-pub use serial_commands::{http_front_crate, run_words_crate};
-pub use start_faults as start_faults_crate;
-pub use start_faults::{host_model_crate, record_keeper_crate, size_values_crate};
+/// Of `host_model`, for the crates above.
+pub mod from_host_model {
+    pub use start_faults::from_host_model::ModelHost;
+}
+
+/// Of `http_front`, for the crates above.
+pub mod from_http_front {
+    pub use serial_commands::from_http_front::{ByteSink, ByteSource, StillClock};
+}
+
+/// Of `record_keeper`, for the crates above.
+pub mod from_record_keeper {
+    pub use start_faults::from_record_keeper::{Keeper, MapKeeper};
+}
+
+/// Of `run_words`, for the crates above.
+pub mod from_run_words {
+    pub use serial_commands::from_run_words::{Setup, setup_of, usage};
+}
+
+/// Of `size_values`, for the crates above.
+pub mod from_size_values {
+    pub use start_faults::from_size_values::{Entry, EntryChange, NoMemory, Or, Seq};
+}
+
+/// Of `start_faults`, for the crates above.
+pub mod from_start_faults {
+    pub use start_faults::StartFault;
+}
 
 mod running;
 

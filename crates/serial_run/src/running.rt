@@ -20,15 +20,15 @@ ghost use Rattle.serial_commands.specs.serial_sessions.specs.Inputs.{status_of};
 ghost use Rattle.serial_run.specs.Texts.{RunsText, is_fault};
 ghost use Rattle.serial_commands.specs.serial_sessions.specs.Worlds.{inlet, outlet, outside, world};
 
-use serial_commands::http_front_crate::{Buffer, Clock, Sink, Source, StillClock};
-use serial_commands::rest_service_crate::Service;
-use serial_commands::run_words_crate::{CommandWords, Pace, RunWords, read_words};
-use serial_commands::serial_sessions_crate::{SessionEnd, serve};
+use serial_commands::from_http_front::{Buffer, Clock, Sink, Source, StillClock};
+use serial_commands::from_rest_service::Service;
+use serial_commands::from_run_words::{CommandWords, Pace, RunWords, read_words};
+use serial_commands::from_serial_sessions::{SessionEnd, serve};
 use serial_commands::{check, drill, make};
 use start_faults::StartFault;
-use start_faults::host_model_crate::Host;
-use start_faults::record_keeper_crate::Keeper;
-use start_faults::size_values_crate::NoMemory;
+use start_faults::from_host_model::Host;
+use start_faults::from_record_keeper::Keeper;
+use start_faults::from_size_values::NoMemory;
 use std::alloc::Global;
 
 /// One session, from an empty buffer on.

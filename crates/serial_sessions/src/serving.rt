@@ -7,10 +7,10 @@ ghost use Rattle.serial_sessions.specs.Worlds.{inlet, outlet, outside, world};
 use crate::session::{MOST_REQUESTS, SessionEnd, Turn};
 use crate::turn::turn;
 use rest_service::Service;
-use rest_service::host_model_crate::Host;
-use rest_service::http_front_crate::{Buffer, Clock, Sink, Source};
-use rest_service::record_keeper_crate::Keeper;
-use rest_service::run_words_crate::Pace;
+use rest_service::from_host_model::Host;
+use rest_service::from_http_front::{Buffer, Clock, Sink, Source};
+use rest_service::from_record_keeper::Keeper;
+use rest_service::from_run_words::Pace;
 use std::alloc::Global;
 
 /// Where a session stops after the final request, with this many requests answered before it.

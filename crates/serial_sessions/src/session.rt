@@ -2,7 +2,7 @@ ghost use Rattle.std.specs.Prelude.{◌≡◌};
 ghost use Rattle.serial_sessions.specs.Inputs.{status_of};
 ghost use Rattle.serial_sessions.specs.Most.{most_requests};
 
-use rest_service::http_front_crate::HeadFault;
+use rest_service::from_http_front::HeadFault;
 
 /// The most requests that one session answers.
 pub const MOST_REQUESTS: u32 = 1_000_000;

@@ -5,14 +5,14 @@ ghost use Rattle.serial_sessions.specs.Worlds.{inlet, outlet, outside, world};
 
 use crate::session::{SessionEnd, Turn};
 use rest_service::Service;
-use rest_service::host_model_crate::Host;
-use rest_service::http_front_crate::{
+use rest_service::from_host_model::Host;
+use rest_service::from_http_front::{
     Buffer, Clock, Got, HeadFault, Sink, SinkFailed, Source, no_memory_reply, read_request,
 };
-use rest_service::record_keeper_crate::Keeper;
-use rest_service::rest_answers_crate::{Answered, print_malformed};
-use rest_service::run_words_crate::Pace;
-use rest_service::size_values_crate::NoMemory;
+use rest_service::from_record_keeper::Keeper;
+use rest_service::from_rest_answers::{Answered, print_malformed};
+use rest_service::from_run_words::Pace;
+use rest_service::from_size_values::NoMemory;
 use std::alloc::Global;
 
 /// How a turn goes on after a reply, from whether it was written and whether its request is the

@@ -9,11 +9,11 @@ ghost use Rattle.serial_steps.specs.Steps.{hosted, number_in, serial, site};
 
 use crate::worker::{facts_hold, go_on};
 use core_turns::Daemon;
-use core_turns::host_model_crate::{Host, HostCall};
-use core_turns::record_keeper_crate::Keeper;
-use core_turns::records_crate::Command;
-use core_turns::row_machine_crate::Answer;
-use core_turns::row_readings_crate::View;
+use core_turns::from_host_model::{Host, HostCall};
+use core_turns::from_record_keeper::Keeper;
+use core_turns::from_records::Command;
+use core_turns::from_row_machine::Answer;
+use core_turns::from_row_readings::View;
 use http_front::Clock;
 use std::alloc::Global;
 use std::marker::Model;

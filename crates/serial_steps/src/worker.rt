@@ -6,9 +6,9 @@ ghost use Rattle.core_turns.specs.row_machine.specs.facts.Whole.{IsWhole};
 ghost use Rattle.serial_steps.specs.Steps.{Hosted, Step, Steps, hosted, job_of, serial, site};
 
 use core_turns::Daemon;
-use core_turns::host_model_crate::{Host, HostCall, perform};
-use core_turns::record_keeper_crate::Keeper;
-use core_turns::row_machine_crate::Answer;
+use core_turns::from_host_model::{Host, HostCall, perform};
+use core_turns::from_record_keeper::Keeper;
+use core_turns::from_row_machine::Answer;
 use http_front::Clock;
 use std::alloc::Global;
 

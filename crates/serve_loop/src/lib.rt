@@ -2,9 +2,20 @@
 //! asks for events.
 #![tactic(auto)]
 
-// The libraries that crates above name through this one.
-pub use event_texts as event_texts_crate;
-pub use gate_replies::{gate_trails_crate, http_front_crate};
+/// Of `event_texts`, for the crates above.
+pub mod from_event_texts {
+    pub use event_texts::Subscription;
+}
+
+/// Of `gate_trails`, for the crates above.
+pub mod from_gate_trails {
+    pub use gate_replies::from_gate_trails::Gate;
+}
+
+/// Of `http_front`, for the crates above.
+pub mod from_http_front {
+    pub use gate_replies::from_http_front::{Clock, Sink, Source};
+}
 
 mod link;
 

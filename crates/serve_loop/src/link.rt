@@ -10,15 +10,15 @@ ghost use Rattle.serve_loop.specs.Serving.{Meets, Replies, Serving, ServingFrom,
 ghost use Rattle.serve_loop.specs.Texts.{IsFault, ServesText, sides};
 ghost use Rattle.serve_loop.specs.declared.link.LinkEnd.TheVariants as end;
 
-use event_texts::size_values_crate::NoMemory;
+use event_texts::from_size_values::NoMemory;
 use event_texts::{Subscription, subscription_of};
-use gate_replies::gate_trails_crate::Gate;
-use gate_replies::http_front_crate::{
+use gate_replies::from_gate_trails::Gate;
+use gate_replies::from_http_front::{
     Buffer, Clock, Got, HeadFault, Request, Sink, Source, read_request,
 };
+use gate_replies::from_rest_answers::{Written, answer_for, write_answer, write_refusal};
+use gate_replies::from_rest_routes::Router;
 use gate_replies::reply_to;
-use gate_replies::rest_answers_crate::{Written, answer_for, write_answer, write_refusal};
-use gate_replies::rest_routes_crate::Router;
 use std::alloc::Global;
 use std::sync::Wait;
 

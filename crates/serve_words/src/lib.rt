@@ -2,8 +2,10 @@
 //! how many workers it has, and which file keeps the rows.
 #![tactic(auto)]
 
-// The libraries that crates above name through this one.
-pub use option_words::size_values_crate;
+/// Of `size_values`, for the crates above.
+pub mod from_size_values {
+    pub use option_words::from_size_values::NoMemory;
+}
 
 mod laws;
 mod program;

@@ -5,7 +5,7 @@ ghost use Rattle.option_words.specs.Commands.{HasShape};
 ghost use Rattle.serve_words.specs.Words.{bare_program, parsed_options, serve_program};
 
 use clap::{ArgMatches, Command};
-use option_words::size_values_crate::NoMemory;
+use option_words::from_size_values::NoMemory;
 use option_words::{parse_words, with_option, with_required_option};
 use std::alloc::Global;
 

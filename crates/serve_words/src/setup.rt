@@ -7,7 +7,7 @@ ghost use Rattle.serve_words.specs.Words.{options_from, serve_setup_of, setup_wi
 use crate::program::parsed_options;
 use crate::words::options_of_matches;
 use clap::ArgMatches;
-use option_words::size_values_crate::{NoMemory, Text};
+use option_words::from_size_values::{NoMemory, Text};
 use option_words::value_of;
 use std::alloc::Global;
 

@@ -7,7 +7,7 @@ ghost use Rattle.serve_words.specs.Words.{option_numbers, options_from, serve_wo
 use crate::program::parsed_options;
 use crate::values::{connections_said, port_said, takes_path, workers_said};
 use clap::ArgMatches;
-use option_words::size_values_crate::NoMemory;
+use option_words::from_size_values::NoMemory;
 use option_words::value_of;
 use std::alloc::Global;
 

@@ -2,11 +2,11 @@ ghost use Rattle.server_jobs.specs.Jobs.{is_link};
 
 use connections::{ConnectionEnd, serve_connection};
 use gates::LockedGate;
-use gates::record_keeper_crate::Keeper;
+use gates::from_record_keeper::Keeper;
 use host_lock::LockedHost;
-use host_lock::host_model_crate::Host;
-use serving::http_front_crate::{Clock, Sink, Source};
-use serving::spawners_crate::Job;
+use host_lock::from_host_model::Host;
+use serving::from_http_front::{Clock, Sink, Source};
+use serving::from_spawners::Job;
 use std::alloc::Global;
 use std::sync::Wait;
 use std::sync::ledger::Ledger;

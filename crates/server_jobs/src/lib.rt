@@ -2,11 +2,37 @@
 //! its own, and what they share.
 #![tactic(auto)]
 
-// The libraries that crates above name through this one.
-pub use gates as gates_crate;
-pub use gates::core_turns_crate;
-pub use serving as serving_crate;
-pub use serving::{doors_crate, http_front_crate, spawners_crate};
+/// Of `core_turns`, for the crates above.
+pub mod from_core_turns {
+    pub use gates::from_core_turns::Daemon;
+}
+
+/// Of `doors`, for the crates above.
+pub mod from_doors {
+    pub use serving::from_doors::{Doors, listen};
+}
+
+/// Of `gates`, for the crates above.
+pub mod from_gates {
+    pub use gates::DaemonMachine;
+}
+
+/// Of `http_front`, for the crates above.
+pub mod from_http_front {
+    pub use serving::from_http_front::Clock;
+}
+
+/// Of `serving`, for the crates above.
+pub mod from_serving {
+    pub use serving::{Trouble, serve, status_of};
+}
+
+/// Of `spawners`, for the crates above.
+pub mod from_spawners {
+    pub use serving::from_spawners::{
+        Job, Spawner, ThreadSpawner, start_thread, start_thread_or_run,
+    };
+}
 
 mod jobs;
 mod seats;

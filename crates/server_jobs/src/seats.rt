@@ -1,15 +1,15 @@
 ghost use Rattle.std.specs.Prelude.{◌≡◌, ◌+◌, ◌≤◌, IfOk, OnErr, false, vec_len};
 
 use crate::jobs::{JobEnd, ServerJob};
-use gates::record_keeper_crate::Keeper;
-use gates::row_machine_crate::Event;
-use gates::turnstile_crate::{Pass, Turnstile};
+use gates::from_record_keeper::Keeper;
+use gates::from_row_machine::Event;
+use gates::from_turnstile::{Pass, Turnstile};
 use gates::{DaemonMachine, LockedGate};
 use host_lock::LockedHost;
-use host_lock::host_model_crate::Host;
-use host_lock::size_values_crate::NoMemory;
+use host_lock::from_host_model::Host;
+use host_lock::from_size_values::NoMemory;
 use serving::Jobs;
-use serving::http_front_crate::{Clock, Sink, Source};
+use serving::from_http_front::{Clock, Sink, Source};
 use std::alloc::Global;
 use std::sync::ledger::{Blank, Ledger};
 use std::sync::{Arc, Wait};

@@ -1,7 +1,7 @@
 ghost use Rattle.std.specs.Prelude.{◌≡◌, ℕ, ◌+◌, ◌≤◌, Bool, true, false, IfOk};
 
 use spawners::Job;
-use spawners::size_values_crate::NoMemory;
+use spawners::from_size_values::NoMemory;
 
 /// What makes the jobs of a server, and holds what they share. A job is made over a seat; there are so many.
 pub trait Jobs<J: Job> {

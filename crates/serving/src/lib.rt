@@ -2,10 +2,22 @@
 //! is served by a job of its own, and all that was started is taken in at the end.
 #![tactic(auto)]
 
-// The libraries that crates above name through this one.
-pub use doors as doors_crate;
-pub use doors::http_front_crate;
-pub use spawners as spawners_crate;
+/// Of `doors`, for the crates above.
+pub mod from_doors {
+    pub use doors::{Doors, Link, ListDoors, NetDoors, listen};
+}
+
+/// Of `http_front`, for the crates above.
+pub mod from_http_front {
+    pub use doors::from_http_front::{ByteSink, ByteSource, Clock, Sink, Source};
+}
+
+/// Of `spawners`, for the crates above.
+pub mod from_spawners {
+    pub use spawners::{
+        Job, RefusingSpawner, Spawner, ThreadSpawner, start_thread, start_thread_or_run,
+    };
+}
 
 mod ends;
 mod jobs;

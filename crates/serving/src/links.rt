@@ -4,7 +4,7 @@ ghost use Rattle.serving.specs.Serves.{AcceptsOne, BeginsLinks, GivesFirst, HasR
 
 use crate::jobs::Jobs;
 use doors::{Doors, DoorsFailed};
-use spawners::size_values_crate::Or;
+use spawners::from_size_values::Or;
 use spawners::{Job, Spawner};
 
 /// Accepts so many links, or all that there are, and begins a job for each.

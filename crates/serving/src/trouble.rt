@@ -3,7 +3,7 @@ ghost use Rattle.serving.specs.Troubles.{status_of};
 
 use doors::DoorsFailed;
 use spawners::StartFailed;
-use spawners::size_values_crate::Or;
+use spawners::from_size_values::Or;
 
 /// Why a server stopped before all of its links had come.
 #[derive(Clone, Copy, Debug, PartialEq, Eq)]

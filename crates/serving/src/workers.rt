@@ -3,7 +3,7 @@ ghost use Rattle.spawners.specs.size_values.specs.Causes.{HasCauseOrMemory};
 ghost use Rattle.serving.specs.Serves.{HasRoom, StartsWorkers};
 
 use crate::jobs::Jobs;
-use spawners::size_values_crate::Or;
+use spawners::from_size_values::Or;
 use spawners::{Job, Spawner, StartFailed};
 
 /// Starts so many workers, one after the other, and holds their tasks.

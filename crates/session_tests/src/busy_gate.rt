@@ -2,13 +2,13 @@
 ghost use Rattle.std.specs.Prelude.{None};
 
 use gates::AloneGate;
-use gates::core_turns_crate::Daemon;
-use gates::gate_trails_crate::Gate;
-use gates::host_model_crate::ModelHost;
-use gates::http_front_crate::{ByteSink, ByteSource, StillClock};
-use gates::record_keeper_crate::MapKeeper;
-use gates::row_machine_crate::{Answer, Event};
-use gates::size_values_crate::{NoMemory, Seq};
+use gates::from_core_turns::Daemon;
+use gates::from_gate_trails::Gate;
+use gates::from_host_model::ModelHost;
+use gates::from_http_front::{ByteSink, ByteSource, StillClock};
+use gates::from_record_keeper::MapKeeper;
+use gates::from_row_machine::{Answer, Event};
+use gates::from_size_values::{NoMemory, Seq};
 use serve_loop::serve_link;
 use std::alloc::Global;
 use std::sync::Wait;

@@ -1,9 +1,9 @@
 //! What a session of events sends.
 use crate::busy_gate::{BusyGate, new_gate, request};
 use event_sessions::{SessionEnd, event_session};
-use gates::http_front_crate::ByteSink;
-use gates::records_crate::Filter;
-use gates::size_values_crate::{NoMemory, Seq, Text};
+use gates::from_http_front::ByteSink;
+use gates::from_records::Filter;
+use gates::from_size_values::{NoMemory, Seq, Text};
 use std::alloc::Global;
 use std::sync::Wait;
 

@@ -6,10 +6,10 @@ ghost use Rattle.row_machine.specs.size_values.specs.Causes.{Says};
 ghost use Rattle.row_machine.specs.machine.SettingRules.{tables_break, network_missing, pool_missing, volume_missing};
 ghost use Rattle.row_machine.specs.machine.SettingRules.{disk_misses, device_misses, devices_miss};
 
-use row_machine::config_lists_crate::{Config, Device, Devices};
-use row_machine::option_tables_crate::SettingFault;
-use row_machine::records_crate::{Refusal, Rule};
-use row_machine::size_values_crate::{ObjectKind, Or};
+use row_machine::from_config_lists::{Config, Device, Devices};
+use row_machine::from_option_tables::SettingFault;
+use row_machine::from_records::{Refusal, Rule};
+use row_machine::from_size_values::{ObjectKind, Or};
 use row_readings::{View, network_home, network_named, pool_named, volume_home};
 use rule_refusals::{on_object, tables_break};
 use std::alloc::Global;

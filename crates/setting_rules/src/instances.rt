@@ -15,11 +15,11 @@ ghost use Rattle.setting_rules.specs.Named.{with_devices, where_named, where_cla
 
 use crate::devices::{devices_miss, tables_refuse};
 use row_machine::Work;
-use row_machine::config_lists_crate::{Devices, Root};
-use row_machine::operations_crate::Operation;
-use row_machine::option_tables_crate::{Scope, check_instance};
-use row_machine::records_crate::{Instance, Profile, Refusal, Rule};
-use row_machine::size_values_crate::{Kind, ObjectKind, Or, Text};
+use row_machine::from_config_lists::{Devices, Root};
+use row_machine::from_operations::Operation;
+use row_machine::from_option_tables::{Scope, check_instance};
+use row_machine::from_records::{Instance, Profile, Refusal, Rule};
+use row_machine::from_size_values::{Kind, ObjectKind, Or, Text};
 use row_readings::{View, claimed_instance, profile_home};
 use rule_refusals::{on_name, on_object};
 use std::alloc::Global;

@@ -10,11 +10,11 @@ ghost use Rattle.row_machine.specs.records.specs.declared.rows.Row.TheVariants a
 use crate::devices::{devices_miss, settings_refuse, tables_refuse};
 use crate::instances::{instance_settings, naming_settings};
 use row_machine::RowChange;
-use row_machine::option_tables_crate::{
+use row_machine::from_option_tables::{
     Scope, check_instance, check_network, check_pool, check_project, check_volume,
 };
-use row_machine::records_crate::{Profile, Project, Refusal, Row};
-use row_machine::size_values_crate::Or;
+use row_machine::from_records::{Profile, Project, Refusal, Row};
+use row_machine::from_size_values::Or;
 use row_readings::View;
 use std::alloc::Global;
 

@@ -2,8 +2,10 @@
 //! and one that runs each job when it is taken in.
 #![tactic(auto)]
 
-// The libraries that crates above name through this one.
-pub use size_values as size_values_crate;
+/// Of `size_values`, for the crates above.
+pub mod from_size_values {
+    pub use size_values::{NoMemory, Or};
+}
 
 mod job;
 mod refusing;

@@ -7,9 +7,9 @@ ghost use Rattle.sqlite_keeper.specs.Kept.{SaysWhy, after_refusal};
 ghost use Rattle.sqlite_rows.specs.sqlite_tables.specs.declared.trouble.Trouble.TheVariants.{NotLoaded};
 
 use crate::rows_file::RowsFile;
-use sqlite_rows::record_keeper_crate::{Keeper, KeeperFailed};
-use sqlite_rows::size_values_crate::{Entry, EntryChange, Or, Seq, Text};
-use sqlite_rows::sqlite_tables_crate::Trouble;
+use sqlite_rows::from_record_keeper::{Keeper, KeeperFailed};
+use sqlite_rows::from_size_values::{Entry, EntryChange, Or, Seq, Text};
+use sqlite_rows::from_sqlite_tables::Trouble;
 use std::marker::Model;
 
 /// A keeper whose entries are the rows of the table `records` of an SQLite file. It tells no entries.

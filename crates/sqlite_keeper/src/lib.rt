@@ -2,11 +2,18 @@
 //! read with the sqlite3 shell.
 #![tactic(auto)]
 
-// The libraries that crates above name through this one.
-pub use sqlite_rows::{record_keeper_crate, size_values_crate};
+/// Of `record_keeper`, for the crates above.
+pub mod from_record_keeper {
+    pub use sqlite_rows::from_record_keeper::{Keeper, KeeperFailed, MapKeeper};
+}
+
+/// Of `size_values`, for the crates above.
+pub mod from_size_values {
+    pub use sqlite_rows::from_size_values::{Entry, EntryChange, NoMemory, Or, Seq, Text};
+}
 
 mod keeper;
 mod rows_file;
 
 pub use keeper::SqliteKeeper;
-pub use sqlite_rows::sqlite_tables_crate::Trouble;
+pub use sqlite_rows::from_sqlite_tables::Trouble;

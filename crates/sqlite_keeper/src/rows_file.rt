@@ -10,8 +10,8 @@ ghost use Rattle.sqlite_rows.specs.Changes.{Leaves};
 ghost use Rattle.sqlite_rows.specs.Entries.{AreKept};
 
 use sqlite::{Connection, File, FileStore};
-use sqlite_rows::size_values_crate::{Entry, EntryChange, Or, Seq, Text};
-use sqlite_rows::sqlite_tables_crate::{Trouble, admit, trouble_of};
+use sqlite_rows::from_size_values::{Entry, EntryChange, Or, Seq, Text};
+use sqlite_rows::from_sqlite_tables::{Trouble, admit, trouble_of};
 use sqlite_rows::{change_all, entries_in};
 use std::alloc::Global;
 use std::io::Read;

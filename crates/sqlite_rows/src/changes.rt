@@ -7,7 +7,7 @@ ghost use Rattle.record_keeper.specs.size_values.specs.declared.entry.EntryChang
 ghost use Rattle.sqlite_tables.specs.Guarded.{StaysGuarded};
 ghost use Rattle.sqlite_rows.specs.Changes.{statement_of, values_of, Makes, Leaves};
 
-use record_keeper::size_values_crate::{Entry, EntryChange, Text};
+use record_keeper::from_size_values::{Entry, EntryChange, Text};
 use sqlite::{Alter, Connection, Error, ErrorCode, Transaction, params};
 
 const PUT: &str = "INSERT INTO records (kind, key, body) VALUES (?1, ?2, ?3) \

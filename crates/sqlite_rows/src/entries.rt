@@ -9,7 +9,7 @@ ghost use Rattle.sqlite_tables.specs.Troubles.{is_failure};
 ghost use Rattle.sqlite_rows.specs.Entries.{SaysKind, SaysKey, SaysBody, Says, SayEach, AreKept};
 
 use crate::order::are_ordered;
-use record_keeper::size_values_crate::{Entry, Or, Seq, Text};
+use record_keeper::from_size_values::{Entry, Or, Seq, Text};
 use sqlite::{Alter, Connection, Error, Row};
 use sqlite_tables::{Trouble, trouble_of};
 use std::alloc::Global;

@@ -2,10 +2,20 @@
 //! changes of entries do to it.
 #![tactic(auto)]
 
-// The libraries that crates above name through this one.
-pub use record_keeper as record_keeper_crate;
-pub use record_keeper::size_values_crate;
-pub use sqlite_tables as sqlite_tables_crate;
+/// Of `record_keeper`, for the crates above.
+pub mod from_record_keeper {
+    pub use record_keeper::{Keeper, KeeperFailed, MapKeeper};
+}
+
+/// Of `size_values`, for the crates above.
+pub mod from_size_values {
+    pub use record_keeper::from_size_values::{Entry, EntryChange, NoMemory, Or, Seq, Text};
+}
+
+/// Of `sqlite_tables`, for the crates above.
+pub mod from_sqlite_tables {
+    pub use sqlite_tables::{Trouble, admit, trouble_of};
+}
 
 mod changes;
 mod entries;

@@ -2,7 +2,7 @@ ghost use Rattle.std.specs.Prelude.{◌≡◌, ◌↔◌, IsTrue};
 ghost use Rattle.std.specs.Ordering.{is_lt};
 ghost use Rattle.record_keeper.specs.Entries.{IsOrderedEntries, entry_order};
 
-use record_keeper::size_values_crate::Entry;
+use record_keeper::from_size_values::Entry;
 use std::cmp::Ordering;
 
 /// Whether an entry stands before another one: by its kind, and within the kind by its key.

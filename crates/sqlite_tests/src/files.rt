@@ -1,7 +1,7 @@
 //! Rows of a file as constants, and the calls of a keeper over them.
 use sqlite_keeper::SqliteKeeper;
-use sqlite_keeper::record_keeper_crate::{Keeper, KeeperFailed};
-use sqlite_keeper::size_values_crate::{Entry, EntryChange, NoMemory, Or, Seq, Text};
+use sqlite_keeper::from_record_keeper::{Keeper, KeeperFailed};
+use sqlite_keeper::from_size_values::{Entry, EntryChange, NoMemory, Or, Seq, Text};
 use std::alloc::Global;
 use std::{fs, io};
 

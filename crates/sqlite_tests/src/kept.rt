@@ -1,6 +1,6 @@
 //! What is committed is found again, by the same keeper and by another one.
 use crate::files::{Row, commits, fails_to_commit, finds, keeper_at, renew};
-use sqlite_keeper::record_keeper_crate::Keeper;
+use sqlite_keeper::from_record_keeper::Keeper;
 use sqlite_keeper::{SqliteKeeper, Trouble};
 use std::alloc::Global;
 

@@ -1,7 +1,7 @@
 //! Files that are refused, each with its trouble, and as they were.
 use crate::files::{fails_to_load, finds, keeper_at, renew};
 use sqlite::{Connection, Error};
-use sqlite_keeper::record_keeper_crate::Keeper;
+use sqlite_keeper::from_record_keeper::Keeper;
 use sqlite_keeper::{SqliteKeeper, Trouble};
 use std::alloc::Global;
 use std::{fs, io};

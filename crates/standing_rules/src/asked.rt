@@ -6,8 +6,8 @@ ghost use Rattle.row_machine.specs.machine.Asked.{copied_from, instance_changed,
 ghost use Rattle.row_machine.specs.machine.Asked.{is_parting};
 ghost use Rattle.row_machine.specs.machine.StandingRules.{is_deletion, object_changed};
 
-use row_machine::records_crate::{Body, Origin, Target, What};
-use row_machine::size_values_crate::{ObjectKind, Text};
+use row_machine::from_records::{Body, Origin, Target, What};
+use row_machine::from_size_values::{ObjectKind, Text};
 
 /// Whether a command renames or deletes the object of its path.
 pub(crate) fn is_parting(what: &What) -> bool

@@ -6,11 +6,11 @@ ghost use Rattle.row_machine.specs.machine.Holders.{busy_with, is_about, keeps_b
 ghost use Rattle.row_machine.specs.machine.StandingRules.{named_instance_busy, instance_busy};
 
 use crate::asked::instance_changed;
-use object_users::row_readings_crate::View;
+use object_users::from_row_readings::View;
 use row_machine::Work;
-use row_machine::operations_crate::Operation;
-use row_machine::records_crate::{Command, Refusal, Rule, Target};
-use row_machine::size_values_crate::{ObjectKind, Or};
+use row_machine::from_operations::Operation;
+use row_machine::from_records::{Command, Refusal, Rule, Target};
+use row_machine::from_size_values::{ObjectKind, Or};
 use rule_refusals::on_name;
 use std::alloc::Global;
 

@@ -7,10 +7,10 @@ ghost use Rattle.row_machine.specs.machine.StandingRules.{asks_for_features, cha
 ghost use Rattle.row_machine.specs.machine.StandingRules.{feature_keys};
 
 use new_rows::{new_config, patched_config};
-use object_users::row_readings_crate::{View, is_on, project_named};
-use row_machine::config_lists_crate::Config;
-use row_machine::records_crate::{Body, Project, Target, What};
-use row_machine::size_values_crate::{NoMemory, ObjectKind, read_truth};
+use object_users::from_row_readings::{View, is_on, project_named};
+use row_machine::from_config_lists::Config;
+use row_machine::from_records::{Body, Project, Target, What};
+use row_machine::from_size_values::{NoMemory, ObjectKind, read_truth};
 use std::alloc::Global;
 
 /// A feature changes where the new value reads as another truth. A value that cannot be read changes nothing.

@@ -7,12 +7,12 @@ ghost use Rattle.row_machine.specs.machine.Holders.{claim_rows, holder_of, names
 ghost use Rattle.row_machine.specs.machine.StandingRules.{held_profile, profile_held};
 
 use crate::asked::object_changed;
+use object_users::from_row_readings::{View, claimed_instance, profile_home, replaced_instance};
 use object_users::names_profile;
-use object_users::row_readings_crate::{View, claimed_instance, profile_home, replaced_instance};
 use row_machine::Work;
-use row_machine::operations_crate::Operation;
-use row_machine::records_crate::{Command, Instance, Refusal, Rule, Target};
-use row_machine::size_values_crate::{ObjectKind, Or};
+use row_machine::from_operations::Operation;
+use row_machine::from_records::{Command, Instance, Refusal, Rule, Target};
+use row_machine::from_size_values::{ObjectKind, Or};
 use rule_refusals::on_name;
 use std::alloc::Global;
 

@@ -2,8 +2,10 @@
 //! that are not empty, and held profiles.
 #![tactic(auto)]
 
-// The libraries that crates above name through this one.
-pub use object_users::object_links_crate;
+/// Of `object_links`, for the crates above.
+pub mod from_object_links {
+    pub use object_users::from_object_links::link_of;
+}
 
 mod asked;
 mod busy;

@@ -8,13 +8,13 @@ ghost use Rattle.row_machine.specs.machine.StandingRules.{is_occupied, must_be_e
 
 use crate::asked::{is_parting, object_changed};
 use crate::features::asks_for_features;
-use object_users::row_readings_crate::View;
+use object_users::from_row_readings::View;
 use row_machine::Work;
-use row_machine::operations_crate::Operation;
-use row_machine::records_crate::{
+use row_machine::from_operations::Operation;
+use row_machine::from_records::{
     Command, Instance, Network, Profile, Refusal, Rule, Target, Volume, What,
 };
-use row_machine::size_values_crate::{NoMemory, ObjectKind, Or};
+use row_machine::from_size_values::{NoMemory, ObjectKind, Or};
 use rule_refusals::on_name;
 use std::alloc::Global;
 

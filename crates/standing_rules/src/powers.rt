@@ -8,10 +8,10 @@ ghost use Rattle.row_machine.specs.machine.StandingRules.{deed_asked, in_wrong_s
 ghost use Rattle.row_machine.specs.machine.StandingRules.{wrong_state};
 ghost use Rattle.standing_rules.specs.Deeds.{deed_of};
 
-use object_users::row_readings_crate::{View, power_of};
-use row_machine::instance_states_crate::is_allowed;
-use row_machine::records_crate::{Command, Refusal, Rule, Target, What};
-use row_machine::size_values_crate::{Deed, ObjectKind, Or, Power, Text};
+use object_users::from_row_readings::{View, power_of};
+use row_machine::from_instance_states::is_allowed;
+use row_machine::from_records::{Command, Refusal, Rule, Target, What};
+use row_machine::from_size_values::{Deed, ObjectKind, Or, Power, Text};
 use rule_refusals::on_name;
 use std::alloc::Global;
 

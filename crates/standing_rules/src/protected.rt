@@ -6,9 +6,9 @@ ghost use Rattle.standing_rules.specs.Protected.{is_kept, instance_protected, pr
 
 use crate::asked::{is_deletion, is_parting, object_changed};
 use crate::features::asks_for_features;
-use object_users::row_readings_crate::{View, is_on};
-use row_machine::records_crate::{Command, Instance, Refusal, Rule, Target, What};
-use row_machine::size_values_crate::{NoMemory, ObjectKind, Or};
+use object_users::from_row_readings::{View, is_on};
+use row_machine::from_records::{Command, Instance, Refusal, Rule, Target, What};
+use row_machine::from_size_values::{NoMemory, ObjectKind, Or};
 use rule_refusals::on_object;
 use std::alloc::Global;
 

@@ -8,9 +8,9 @@ use crate::occupied::project_occupied;
 use crate::powers::wrong_state;
 use crate::protected::object_protected;
 use crate::used::object_used;
-use object_users::row_readings_crate::View;
-use row_machine::records_crate::{Command, Refusal};
-use row_machine::size_values_crate::Or;
+use object_users::from_row_readings::View;
+use row_machine::from_records::{Command, Refusal};
+use row_machine::from_size_values::Or;
 use std::alloc::Global;
 
 /// The first rule on what stands in the way that a command breaks.

@@ -6,9 +6,9 @@ ghost use Rattle.standing_rules.specs.Protected.{on_user};
 
 use crate::asked::{is_parting, object_changed};
 use crate::users::refuse_first_user;
-use object_users::row_readings_crate::{View, home_of};
-use row_machine::records_crate::{Command, Refusal, Rule, Target};
-use row_machine::size_values_crate::{NoMemory, Or, Text};
+use object_users::from_row_readings::{View, home_of};
+use row_machine::from_records::{Command, Refusal, Rule, Target};
+use row_machine::from_size_values::{NoMemory, Or, Text};
 use rule_refusals::on_object;
 use std::alloc::Global;
 

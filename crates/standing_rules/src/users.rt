@@ -12,13 +12,13 @@ ghost use Rattle.standing_rules.specs.Users.{claim_link, first_instance_link, fi
 ghost use Rattle.standing_rules.specs.Users.{instance_link_in, naming_link, profile_link_in, volume_link_in};
 
 use crate::uses::claim_uses;
-use object_users::object_links_crate::link_of;
-use object_users::row_readings_crate::{View, project_of_row};
+use object_users::from_object_links::link_of;
+use object_users::from_row_readings::{View, project_of_row};
 use object_users::{instance_uses, names_profile, profile_uses, volume_uses};
 use row_machine::Work;
-use row_machine::operations_crate::Operation;
-use row_machine::records_crate::{Instance, Profile, Project, Target, Volume};
-use row_machine::size_values_crate::{NoMemory, ObjectKind, Or, Text};
+use row_machine::from_operations::Operation;
+use row_machine::from_records::{Instance, Profile, Project, Target, Volume};
+use row_machine::from_size_values::{NoMemory, ObjectKind, Or, Text};
 use std::alloc::Global;
 
 /// The link of a row, by its kind and names.

@@ -6,11 +6,11 @@ ghost use Rattle.row_machine.specs.size_values.specs.declared.kinds.ObjectKind.T
 ghost use Rattle.row_machine.specs.machine.Claims.{claimed_volume};
 ghost use Rattle.row_machine.specs.machine.Holders.{claim_rows, claim_uses, instance_uses, source_uses, volume_uses};
 
-use object_users::row_readings_crate::{View, claimed_instance, claimed_volume, replaced_instance};
+use object_users::from_row_readings::{View, claimed_instance, claimed_volume, replaced_instance};
 use object_users::{instance_uses, volume_uses};
 use row_machine::Work;
-use row_machine::records_crate::{Instance, Target};
-use row_machine::size_values_crate::{NoMemory, ObjectKind};
+use row_machine::from_records::{Instance, Target};
+use row_machine::from_size_values::{NoMemory, ObjectKind};
 use std::alloc::Global;
 
 /// The volume that a copy is made from names its pool and itself.

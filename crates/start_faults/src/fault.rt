@@ -1,7 +1,7 @@
 ghost use Rattle.std.specs.Prelude.{◌≡◌};
 ghost use Rattle.start_faults.specs.Starts.{Explains, start_fault, start_status};
 
-use core_rows::record_keeper_crate::Keeper;
+use core_rows::from_record_keeper::Keeper;
 use core_rows::{OpenFault, load_rows};
 use std::alloc::Global;
 

@@ -2,8 +2,20 @@
 //! status of a program that ends for it.
 #![tactic(auto)]
 
-// The libraries that crates above name through this one.
-pub use core_rows::{host_model_crate, record_keeper_crate, size_values_crate};
+/// Of `host_model`, for the crates above.
+pub mod from_host_model {
+    pub use core_rows::from_host_model::{Host, ModelHost};
+}
+
+/// Of `record_keeper`, for the crates above.
+pub mod from_record_keeper {
+    pub use core_rows::from_record_keeper::{Keeper, MapKeeper};
+}
+
+/// Of `size_values`, for the crates above.
+pub mod from_size_values {
+    pub use core_rows::from_size_values::{Entry, EntryChange, NoMemory, Or, Seq};
+}
 
 mod fault;
 

@@ -2,9 +2,20 @@
 //! line. Where there is no memory for a line, nothing is told.
 #![tactic(auto)]
 
-// The libraries that crates above name through this one.
-pub use rest_replies::{host_model_crate, http_front_crate};
-pub use start_faults as start_faults_crate;
+/// Of `host_model`, for the crates above.
+pub mod from_host_model {
+    pub use rest_replies::from_host_model::ModelHost;
+}
+
+/// Of `http_front`, for the crates above.
+pub mod from_http_front {
+    pub use rest_replies::from_http_front::{Clock, ReaderSource, SystemClock, WriterSink};
+}
+
+/// Of `start_faults`, for the crates above.
+pub mod from_start_faults {
+    pub use start_faults::StartFault;
+}
 
 mod telling;
 mod words;

@@ -1,7 +1,7 @@
-use rest_replies::http_front_crate::{Sink, WriterSink};
+use rest_replies::from_http_front::{Sink, WriterSink};
+use rest_replies::from_size_values::NoMemory;
 use rest_replies::rule_name;
-use rest_replies::size_values_crate::NoMemory;
-use start_faults::record_keeper_crate::Keeper;
+use start_faults::from_record_keeper::Keeper;
 use start_faults::{OpenFault, opening_fault};
 use std::alloc::Global;
 

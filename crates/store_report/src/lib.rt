@@ -2,8 +2,10 @@
 //! of background operations.
 #![tactic(auto)]
 
-// The libraries that crates above name through this one.
-pub use row_readings::host_model_crate;
+/// Of `host_model`, for the crates above.
+pub mod from_host_model {
+    pub use row_readings::from_host_model::Host;
+}
 
 mod report;
 

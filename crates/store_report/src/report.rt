@@ -5,8 +5,8 @@ ghost use Rattle.row_readings.specs.row_machine.specs.facts.Whole.{AreBalanced};
 ghost use Rattle.store_report.specs.Report.{amounts_line, books_of, count_line, counts_of, number_behind, report_of};
 
 use row_readings::View;
-use row_readings::reservations_crate::Books;
-use row_readings::size_values_crate::{Amounts, NoMemory, Text};
+use row_readings::from_reservations::Books;
+use row_readings::from_size_values::{Amounts, NoMemory, Text};
 use std::alloc::Global;
 
 /// Adds the line that tells how many rows of a kind there are.

@@ -1,8 +1,8 @@
 //! What entries that are kept open to: rows, the first that is damaged, or the first rule that the rows break.
-use core_objects::core_rows_crate::{OpenFault, load_rows};
-use core_objects::record_keeper_crate::{Keeper, MapKeeper};
-use core_objects::records_crate::Rule;
-use core_objects::size_values_crate::{Entry, EntryChange, NoMemory, Seq, Text};
+use core_objects::from_core_rows::{OpenFault, load_rows};
+use core_objects::from_record_keeper::{Keeper, MapKeeper};
+use core_objects::from_records::Rule;
+use core_objects::from_size_values::{Entry, EntryChange, NoMemory, Seq, Text};
 use std::alloc::Global;
 
 /// An entry by its kind, its key and its body.

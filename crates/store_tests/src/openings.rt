@@ -3,15 +3,15 @@ ghost use Rattle.std.specs.Prelude.{◌≡◌, [], true, IfOk};
 ghost use Rattle.core_objects.specs.Commands.{is_object_command};
 ghost use Rattle.core_objects.specs.records.specs.Forms.{is_formed};
 
-use core_objects::core_rows_crate::{Estate, OpenFault, load_rows};
 use core_objects::do_object;
-use core_objects::record_keeper_crate::MapKeeper;
-use core_objects::records_crate::{Body, Command, Origin, Reply, Row, Target, What};
-use core_objects::row_drafts_crate::Draft;
-use core_objects::row_machine_crate::RowChange;
-use core_objects::row_readings_crate::{profile_home, project_named};
-use core_objects::size_values_crate::{NoMemory, ObjectKind, Seq, Text};
-use core_objects::work_reports_crate::{default_profile, entry_changes};
+use core_objects::from_core_rows::{Estate, OpenFault, load_rows};
+use core_objects::from_record_keeper::MapKeeper;
+use core_objects::from_records::{Body, Command, Origin, Reply, Row, Target, What};
+use core_objects::from_row_drafts::Draft;
+use core_objects::from_row_machine::RowChange;
+use core_objects::from_row_readings::{profile_home, project_named};
+use core_objects::from_size_values::{NoMemory, ObjectKind, Seq, Text};
+use core_objects::from_work_reports::{default_profile, entry_changes};
 use std::alloc::Global;
 
 /// How many projects and profiles an opening gives, or why it was refused.

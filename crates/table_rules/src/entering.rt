@@ -10,9 +10,9 @@ ghost use Rattle.row_machine.specs.machine.TableRules.{status_text, cancel_refus
 ghost use Rattle.row_machine.specs.machine.TableRules.{entry_broken, cancel_broken};
 
 use row_readings::{View, kept_at};
-use row_sizes::operations_crate::{CancelFault, EnterFault, LIVE_LIMIT, NUMBER_LIMIT, Status};
-use row_sizes::records_crate::{Kept, Refusal, Rule, What};
-use row_sizes::size_values_crate::{NoMemory, Or, Text};
+use row_sizes::from_operations::{CancelFault, EnterFault, LIVE_LIMIT, NUMBER_LIMIT, Status};
+use row_sizes::from_records::{Kept, Refusal, Rule, What};
+use row_sizes::from_size_values::{NoMemory, Or, Text};
 use rule_refusals::on_number;
 use std::alloc::Global;
 

@@ -1,9 +1,15 @@
 //! Rules on the number of operations, O1 to O5, and on the size of tables and rows, C1 and C2.
 #![tactic(auto)]
 
-// The libraries that crates above name through this one.
-pub use new_rows as new_rows_crate;
-pub use row_sizes as row_sizes_crate;
+/// Of `new_rows`, for the crates above.
+pub mod from_new_rows {
+    pub use new_rows::{LARGEST_ROW, cap_of};
+}
+
+/// Of `row_sizes`, for the crates above.
+pub mod from_row_sizes {
+    pub use row_sizes::row_size;
+}
 
 mod entering;
 mod tables;

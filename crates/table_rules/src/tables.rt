@@ -12,10 +12,10 @@ ghost use Rattle.row_machine.specs.machine.TableRules.{count_of, row_kinds, too_
 use new_rows::{LARGEST_ROW, cap_of};
 use row_machine::{RowChange, Work};
 use row_readings::{View, claimed_instance, claimed_snapshot, claimed_volume};
-use row_sizes::operations_crate::Operation;
-use row_sizes::records_crate::{Refusal, Row, Rule};
+use row_sizes::from_operations::Operation;
+use row_sizes::from_records::{Refusal, Row, Rule};
+use row_sizes::from_size_values::{ObjectKind, Or};
 use row_sizes::row_size;
-use row_sizes::size_values_crate::{ObjectKind, Or};
 use rule_refusals::on_kind;
 use std::alloc::Global;
 

@@ -1,5 +1,5 @@
-use made_settings::config_lists_crate::Devices;
-use made_settings::size_values_crate::{NoMemory, ValueFault};
+use made_settings::from_config_lists::Devices;
+use made_settings::from_size_values::{NoMemory, ValueFault};
 use made_settings::{Settings, config_of, devices_of, set};
 use option_tables::{DeviceFault, SettingFault, check_devices};
 use std::alloc::Global;

@@ -1,5 +1,5 @@
-use made_settings::config_lists_crate::Config;
-use made_settings::size_values_crate::{NoMemory, ValueFault};
+use made_settings::from_config_lists::Config;
+use made_settings::from_size_values::{NoMemory, ValueFault};
 use made_settings::{Settings, config_of};
 use option_tables::{
     Scope, SettingFault, check_instance, check_network, check_pool, check_project, check_volume,

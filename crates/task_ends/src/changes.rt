@@ -7,8 +7,8 @@ ghost use Rattle.object_links.specs.row_machine.specs.machine.Work.{renames_inst
 
 use crate::removals::{removes_instance, removes_snapshot};
 use crate::renames::renames_instance;
-use object_links::row_machine_crate::{RowChange, Work};
-use object_links::size_values_crate::{Action, Deed, NoMemory, Seq};
+use object_links::from_row_machine::{RowChange, Work};
+use object_links::from_size_values::{Action, Deed, NoMemory, Seq};
 use row_readings::{View, claimed_instance};
 use std::alloc::Global;
 

@@ -2,8 +2,10 @@
 //! the notices that tell of it. The rows are lent.
 #![tactic(auto)]
 
-// The libraries that crates above name through this one.
-pub use row_readings as row_readings_crate;
+/// Of `row_readings`, for the crates above.
+pub mod from_row_readings {
+    pub use row_readings::{View, amounts_of_instance, claimed_instance, kept_at, project_of_row};
+}
 
 mod changes;
 mod notices;

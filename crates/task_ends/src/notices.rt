@@ -6,10 +6,10 @@ ghost use Rattle.object_links.specs.row_machine.specs.shown.Notices.{action_life
 ghost use Rattle.object_links.specs.row_machine.specs.shown.Notices.{view_of};
 ghost use Rattle.object_links.specs.row_machine.specs.shown.Links.{target_of};
 
-use object_links::operations_crate::Operation;
-use object_links::records_crate::{Life, Row, Target, Told, Untold};
-use object_links::row_machine_crate::Work;
-use object_links::size_values_crate::{Action, Deed, NoMemory, Seq};
+use object_links::from_operations::Operation;
+use object_links::from_records::{Life, Row, Target, Told, Untold};
+use object_links::from_row_machine::Work;
+use object_links::from_size_values::{Action, Deed, NoMemory, Seq};
 use object_links::{life_notice, target_of, view_of};
 use std::alloc::Global;
 

@@ -3,9 +3,9 @@ ghost use Rattle.std.specs.Prelude.{◌≡◌};
 ghost use Rattle.object_links.specs.row_machine.specs.machine.Deeds.{breaks_instance};
 ghost use Rattle.object_links.specs.row_machine.specs.machine.Work.{power_after};
 
-use object_links::instance_states_crate::after;
-use object_links::row_machine_crate::Work;
-use object_links::size_values_crate::{Deed, Power};
+use object_links::from_instance_states::after;
+use object_links::from_row_machine::Work;
+use object_links::from_size_values::{Deed, Power};
 use row_readings::{View, power_of};
 
 /// The status that the target of an operation has after its success, where the deed is a change of state that the

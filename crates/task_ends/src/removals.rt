@@ -7,9 +7,9 @@ ghost use Rattle.object_links.specs.row_machine.specs.machine.Changes.{removal};
 ghost use Rattle.object_links.specs.row_machine.specs.machine.Rows.{snapshot_named};
 ghost use Rattle.object_links.specs.row_machine.specs.machine.Work.{removes_instance};
 
-use object_links::records_crate::{Instance, Snapshot};
-use object_links::row_machine_crate::{RowChange, Work};
-use object_links::size_values_crate::{NoMemory, ObjectKind, Seq};
+use object_links::from_records::{Instance, Snapshot};
+use object_links::from_row_machine::{RowChange, Work};
+use object_links::from_size_values::{NoMemory, ObjectKind, Seq};
 use object_links::{three_names, two_names};
 use row_readings::View;
 use std::alloc::Global;

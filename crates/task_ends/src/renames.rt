@@ -6,9 +6,9 @@ ghost use Rattle.object_links.specs.row_machine.specs.declared.changes.RowChange
 ghost use Rattle.object_links.specs.row_machine.specs.machine.Work.{renames_instance};
 
 use crate::removals::{is_of, removes_instance};
-use object_links::records_crate::{Instance, Row, Snapshot};
-use object_links::row_machine_crate::{RowChange, Work};
-use object_links::size_values_crate::{NoMemory, Seq, Text};
+use object_links::from_records::{Instance, Row, Snapshot};
+use object_links::from_row_machine::{RowChange, Work};
+use object_links::from_size_values::{NoMemory, Seq, Text};
 use row_readings::View;
 use std::alloc::Global;
 

@@ -7,12 +7,12 @@ ghost use Rattle.row_machine.specs.machine.Tasks.{act_task};
 
 use crate::calls::{one_call, spec_of};
 use crate::works::{plain_task, project_and_target};
-use instance_tasks::row_readings_crate::View;
+use instance_tasks::from_row_readings::View;
 use instance_tasks::{place_of, push_clear, zip_or_drop};
 use row_machine::Work;
-use row_machine::host_model_crate::{HostCall, Place};
-use row_machine::records_crate::{Instance, Target};
-use row_machine::size_values_crate::{Action, Deed, NoMemory, Seq, Text};
+use row_machine::from_host_model::{HostCall, Place};
+use row_machine::from_records::{Instance, Target};
+use row_machine::from_size_values::{Action, Deed, NoMemory, Seq, Text};
 use std::alloc::Global;
 
 /// Then an instance is started with what it has.

@@ -4,11 +4,11 @@ ghost use Rattle.row_machine.specs.host_model.specs.declared.call.HostCall.TheVa
 ghost use Rattle.row_machine.specs.machine.Expansions.{expanded_of};
 ghost use Rattle.row_machine.specs.machine.HostCalls.{place_of, spec_of};
 
-use instance_tasks::row_readings_crate::View;
+use instance_tasks::from_row_readings::View;
 use instance_tasks::{place_of, zip_or_drop};
-use row_machine::host_model_crate::{HostCall, Place, Spec};
-use row_machine::records_crate::{Instance, Target};
-use row_machine::size_values_crate::{NoMemory, Seq, Text};
+use row_machine::from_host_model::{HostCall, Place, Spec};
+use row_machine::from_records::{Instance, Target};
+use row_machine::from_size_values::{NoMemory, Seq, Text};
 use std::alloc::Global;
 
 /// One call alone.

@@ -9,11 +9,11 @@ use crate::calls::{apply_calls, rename_calls, restore_calls};
 use crate::finds::instance_at;
 use crate::rows::{put_instance, renamed_instance, restored_instance};
 use crate::works::{replacing_task, target_and_replaced};
-use instance_tasks::row_readings_crate::View;
+use instance_tasks::from_row_readings::View;
 use instance_tasks::zip_or_drop;
 use row_machine::Work;
-use row_machine::records_crate::{Body, Instance, Snapshot, Target};
-use row_machine::size_values_crate::{Deed, NoMemory, Text};
+use row_machine::from_records::{Body, Instance, Snapshot, Target};
+use row_machine::from_size_values::{Deed, NoMemory, Text};
 use std::alloc::Global;
 
 /// The host is told what the changed instance has.

@@ -5,11 +5,11 @@ ghost use Rattle.task_plans.specs.Begun.{task_in};
 
 use crate::snapshots::plan_snapshot;
 use crate::volumes::plan_volume;
+use instance_tasks::from_row_readings::{View, volume_home};
 use instance_tasks::instance_creation;
-use instance_tasks::row_readings_crate::{View, volume_home};
 use row_machine::Work;
-use row_machine::records_crate::{Body, Target};
-use row_machine::size_values_crate::{NoMemory, ObjectKind, Text};
+use row_machine::from_records::{Body, Target};
+use row_machine::from_size_values::{NoMemory, ObjectKind, Text};
 use std::alloc::Global;
 
 /// What a creation begins: those of instances and snapshots, and of copies of volumes, are no changes at once.

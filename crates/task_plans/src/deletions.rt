@@ -7,11 +7,11 @@ ghost use Rattle.task_plans.specs.Begun.{task_in};
 use crate::calls::{clear_calls, unsnap_calls};
 use crate::finds::{instance_at, snapshot_at};
 use crate::works::{plain_task, project_and_target};
-use instance_tasks::row_readings_crate::View;
+use instance_tasks::from_row_readings::View;
 use instance_tasks::zip_or_drop;
 use row_machine::Work;
-use row_machine::records_crate::Target;
-use row_machine::size_values_crate::{Deed, NoMemory, Text};
+use row_machine::from_records::Target;
+use row_machine::from_size_values::{Deed, NoMemory, Text};
 use std::alloc::Global;
 
 /// An instance is deleted.

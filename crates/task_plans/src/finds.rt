@@ -4,9 +4,9 @@ ghost use Rattle.std.specs.Option.{option_copied};
 ghost use Rattle.row_machine.specs.machine.Plans.{row_of};
 ghost use Rattle.task_plans.specs.Begun.{instance_in, snapshot_in};
 
-use instance_tasks::row_readings_crate::View;
-use row_machine::records_crate::{Instance, Snapshot, Target};
-use row_machine::size_values_crate::{ObjectKind, Text};
+use instance_tasks::from_row_readings::View;
+use row_machine::from_records::{Instance, Snapshot, Target};
+use row_machine::from_size_values::{ObjectKind, Text};
 
 /// The instance of a path that names one.
 pub(crate) fn instance_at<'x>(view: &View<'x>, project: &Text, of: &Target) -> Option<&'x Instance>

@@ -2,10 +2,25 @@
 //! host.
 #![tactic(auto)]
 
-// The libraries that crates above name through this one.
-pub use instance_tasks::row_readings_crate;
-pub use row_machine as row_machine_crate;
-pub use row_machine::{records_crate, size_values_crate};
+/// Of `records`, for the crates above.
+pub mod from_records {
+    pub use row_machine::from_records::{Command, Reply, What};
+}
+
+/// Of `row_machine`, for the crates above.
+pub mod from_row_machine {
+    pub use row_machine::Work;
+}
+
+/// Of `row_readings`, for the crates above.
+pub mod from_row_readings {
+    pub use instance_tasks::from_row_readings::{View, kept_at};
+}
+
+/// Of `size_values`, for the crates above.
+pub mod from_size_values {
+    pub use row_machine::from_size_values::MOMENT_LIMIT;
+}
 
 mod acts;
 mod calls;

@@ -9,10 +9,10 @@ use crate::acts::act_task;
 use crate::changes::{plan_move, plan_put, plan_restore};
 use crate::creations::plan_create;
 use crate::deletions::plan_delete;
-use instance_tasks::row_readings_crate::View;
+use instance_tasks::from_row_readings::View;
 use row_machine::Work;
-use row_machine::records_crate::{Command, Target, What};
-use row_machine::size_values_crate::{Action, NoMemory, Text};
+use row_machine::from_records::{Command, Target, What};
+use row_machine::from_size_values::{Action, NoMemory, Text};
 use std::alloc::Global;
 
 /// What a change of an instance's state begins.

@@ -2,11 +2,11 @@
 ghost use Rattle.std.specs.Prelude.{◌≡◌, IfOk, [], unwrap_or};
 ghost use Rattle.row_machine.specs.machine.NewRows.{new_config, new_devices, put_instance, restored_instance};
 
-use instance_tasks::new_rows_crate::{new_config, new_description, new_devices};
+use instance_tasks::from_new_rows::{new_config, new_description, new_devices};
 use instance_tasks::{copy_texts, zip_or_drop};
-use row_machine::config_lists_crate::{Config, Devices};
-use row_machine::records_crate::{Body, Instance, Snapshot};
-use row_machine::size_values_crate::{NoMemory, Seq, Text};
+use row_machine::from_config_lists::{Config, Devices};
+use row_machine::from_records::{Body, Instance, Snapshot};
+use row_machine::from_size_values::{NoMemory, Seq, Text};
 use std::alloc::Global;
 
 /// What an instance has, and its snapshots keep: profiles, and settings and devices of its own.

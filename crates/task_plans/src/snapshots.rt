@@ -14,12 +14,12 @@ ghost use Rattle.task_plans.specs.Begun.{task_in};
 use crate::calls::{snap_calls, snapshot_place};
 use crate::rows::copied_parts;
 use crate::works::project_and_target;
-use instance_tasks::row_readings_crate::{View, next_snapshot};
+use instance_tasks::from_row_readings::{View, next_snapshot};
 use instance_tasks::zip_or_drop;
 use row_machine::Work;
-use row_machine::host_model_crate::{HostCall, Place};
-use row_machine::records_crate::{Instance, Row, Snapshot, Target};
-use row_machine::size_values_crate::{Deed, NoMemory, Seq, Text};
+use row_machine::from_host_model::{HostCall, Place};
+use row_machine::from_records::{Instance, Row, Snapshot, Target};
+use row_machine::from_size_values::{Deed, NoMemory, Seq, Text};
 use std::alloc::Global;
 
 /// A new snapshot of an instance.

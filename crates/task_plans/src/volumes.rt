@@ -10,13 +10,13 @@ ghost use Rattle.row_machine.specs.machine.Plans.{volume_creation};
 ghost use Rattle.row_machine.specs.machine.Tasks.{plain_task, volume_copy};
 ghost use Rattle.task_plans.specs.Begun.{task_in};
 
-use instance_tasks::new_rows_crate::{new_description, patched_config};
-use instance_tasks::row_readings_crate::View;
+use instance_tasks::from_new_rows::{new_description, patched_config};
+use instance_tasks::from_row_readings::View;
 use instance_tasks::{copy_calls, zip_or_drop};
 use row_machine::Work;
-use row_machine::host_model_crate::{HostCall, Place};
-use row_machine::records_crate::{Body, Origin, Row, Target, Volume};
-use row_machine::size_values_crate::{Deed, NoMemory, Seq, Text};
+use row_machine::from_host_model::{HostCall, Place};
+use row_machine::from_records::{Body, Origin, Row, Target, Volume};
+use row_machine::from_size_values::{Deed, NoMemory, Seq, Text};
 use std::alloc::Global;
 
 /// Where the root of a volume stands.

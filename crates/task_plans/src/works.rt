@@ -5,9 +5,9 @@ ghost use Rattle.row_machine.specs.machine.Tasks.{plain_task};
 
 use instance_tasks::zip_or_drop;
 use row_machine::Work;
-use row_machine::host_model_crate::HostCall;
-use row_machine::records_crate::{Instance, Row, Target};
-use row_machine::size_values_crate::{Deed, NoMemory, Seq, Text};
+use row_machine::from_host_model::HostCall;
+use row_machine::from_records::{Instance, Row, Target};
+use row_machine::from_size_values::{Deed, NoMemory, Seq, Text};
 use std::alloc::Global;
 
 /// What an operation is about: its project and its object.

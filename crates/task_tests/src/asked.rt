@@ -1,8 +1,8 @@
 //! Commands for tests, each made of a few words.
 use crate::rows::text;
-use lent_rows::config_lists_crate::{Changes, Devices};
-use lent_rows::records_crate::{Body, Command, Origin, Target, What};
-use lent_rows::size_values_crate::{Action, ObjectKind, Text};
+use lent_rows::from_config_lists::{Changes, Devices};
+use lent_rows::from_records::{Body, Command, Origin, Target, What};
+use lent_rows::from_size_values::{Action, ObjectKind, Text};
 use std::alloc::Global;
 
 /// Where a new object gets its content: a copy names the object, the snapshot or nothing, and the pool or nothing.

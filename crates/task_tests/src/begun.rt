@@ -1,11 +1,11 @@
 //! Whether an operation is the one that a table names.
 use crate::rows::Settings;
-use lent_rows::config_lists_crate::Config;
-use lent_rows::host_model_crate::{HostCall, Place};
-use lent_rows::instance_states_crate::CallName;
-use lent_rows::records_crate::{Row, Target};
-use lent_rows::size_values_crate::{Deed, Text};
-use task_plans::row_machine_crate::Work;
+use lent_rows::from_config_lists::Config;
+use lent_rows::from_host_model::{HostCall, Place};
+use lent_rows::from_instance_states::CallName;
+use lent_rows::from_records::{Row, Target};
+use lent_rows::from_size_values::{Deed, Text};
+use task_plans::from_row_machine::Work;
 
 /// A call, the name of the root that it is made on, and a text that it gives: an image, the name that a root gets, a
 /// snapshot, or how many processors a specification has.

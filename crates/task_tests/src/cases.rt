@@ -1,9 +1,9 @@
 use crate::asked::{Asked, From, command};
 use crate::begun::{Begun, Call, is_begun};
 use crate::rows::Rows;
-use lent_rows::instance_states_crate::CallName;
-use lent_rows::row_readings_crate::View;
-use lent_rows::size_values_crate::{Action, Deed, ObjectKind};
+use lent_rows::from_instance_states::CallName;
+use lent_rows::from_row_readings::View;
+use lent_rows::from_size_values::{Action, Deed, ObjectKind};
 use std::alloc::Global;
 use task_plans::plan_task;
 

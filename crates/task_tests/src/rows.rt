@@ -1,10 +1,10 @@
 //! Rows of a server for tests. Where memory is refused, a text is empty or a row is missing.
-use lent_rows::config_lists_crate::{Config, Devices};
+use lent_rows::from_config_lists::{Config, Devices};
+use lent_rows::from_records::{Instance, Profile, Project, Snapshot, Volume};
+use lent_rows::from_reservations::Books;
+use lent_rows::from_row_readings::View;
+use lent_rows::from_size_values::{Amounts, Kind, Seq, Text};
 use lent_rows::in_order;
-use lent_rows::records_crate::{Instance, Profile, Project, Snapshot, Volume};
-use lent_rows::reservations_crate::Books;
-use lent_rows::row_readings_crate::View;
-use lent_rows::size_values_crate::{Amounts, Kind, Seq, Text};
 use std::alloc::Global;
 
 /// Keys and values.

@@ -1,7 +1,7 @@
 //! A host behind a lock.
 use host_lock::LockedHost;
-use host_lock::host_model_crate::{Host, HostCall, ModelHost, Place, Report, perform};
-use host_lock::size_values_crate::{NoMemory, Seq, Text};
+use host_lock::from_host_model::{Host, HostCall, ModelHost, Place, Report, perform};
+use host_lock::from_size_values::{NoMemory, Seq, Text};
 use std::alloc::Global;
 use std::sync::Wait;
 

@@ -1,11 +1,11 @@
 //! Jobs over links and workers that meet in a few words.
 ghost use Rattle.std.specs.Prelude.{◌≡◌};
 
-use host_lock::size_values_crate::NoMemory;
+use host_lock::from_size_values::NoMemory;
 use serving::Jobs;
-use serving::doors_crate::Link;
-use serving::http_front_crate::{Sink, Source};
-use serving::spawners_crate::Job;
+use serving::from_doors::Link;
+use serving::from_http_front::{Sink, Source};
+use serving::from_spawners::Job;
 use std::alloc::Global;
 use std::marker::PhantomData;
 use std::sync::atomic::{AtomicU64, Ordering};

@@ -1,9 +1,9 @@
 //! Links in memory.
 ghost use Rattle.std.specs.Prelude.{◌≡◌, IfOk};
 
-use host_lock::size_values_crate::{NoMemory, Seq};
-use serving::doors_crate::{Doors, Link, ListDoors};
-use serving::http_front_crate::{ByteSink, ByteSource};
+use host_lock::from_size_values::{NoMemory, Seq};
+use serving::from_doors::{Doors, Link, ListDoors};
+use serving::from_http_front::{ByteSink, ByteSource};
 use std::alloc::Global;
 
 /// A link that gives so many bytes, three at most at each read.

@@ -3,10 +3,10 @@ ghost use Rattle.std.specs.Prelude.{◌≡◌};
 
 use crate::jobs::{Bench, Board, TestJob};
 use crate::links::{doors, numbers};
-use host_lock::size_values_crate::NoMemory;
-use serving::doors_crate::Doors;
-use serving::http_front_crate::{ByteSink, ByteSource};
-use serving::spawners_crate::{
+use host_lock::from_size_values::NoMemory;
+use serving::from_doors::Doors;
+use serving::from_http_front::{ByteSink, ByteSource};
+use serving::from_spawners::{
     Job, RefusingSpawner, Spawner, ThreadSpawner, start_thread, start_thread_or_run,
 };
 use serving::{serve, status_of};

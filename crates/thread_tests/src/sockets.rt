@@ -1,8 +1,8 @@
 //! Links over TCP on 127.0.0.1.
 ghost use Rattle.std.specs.Prelude.{◌≡◌, IfSome};
 
-use serving::doors_crate::{Doors, NetDoors};
-use serving::http_front_crate::{Sink, Source};
+use serving::from_doors::{Doors, NetDoors};
+use serving::from_http_front::{Sink, Source};
 use std::alloc::Global;
 use std::io::{Read, Write};
 use std::net::{Ipv4Addr, Net, OpenListener, Shutdown, SocketAddr, TcpListener, TcpStream};

@@ -2,9 +2,20 @@
 //! a file, by the clock of the system (`serve_words::serve_usage`).
 #![tactic(auto)]
 
-// The libraries that crates above name through this one.
-pub use file_telling::start_telling_crate;
-pub use server_main::{serve_words_crate, start_faults_crate};
+/// Of `serve_words`, for the crates above.
+pub mod from_serve_words {
+    pub use server_main::from_serve_words::serve_usage;
+}
+
+/// Of `start_faults`, for the crates above.
+pub mod from_start_faults {
+    pub use server_main::from_start_faults::StartFault;
+}
+
+/// Of `start_telling`, for the crates above.
+pub mod from_start_telling {
+    pub use file_telling::from_start_telling::{fault_of, tell, words_of};
+}
 
 mod listening;
 mod starting;

@@ -4,12 +4,12 @@ ghost use Rattle.server_main.specs.serve_words.specs.Words.{serve_setup_of};
 
 use crate::listening::serve_over;
 use crate::telling::PROGRAM;
-use file_telling::record_keeper_crate::MapKeeper;
-use file_telling::size_values_crate::{Seq, Text};
-use file_telling::sqlite_keeper_crate::SqliteKeeper;
+use file_telling::from_record_keeper::MapKeeper;
+use file_telling::from_size_values::{Seq, Text};
+use file_telling::from_sqlite_keeper::SqliteKeeper;
 use file_telling::tell_why;
-use server_main::serve_words_crate::serve_setup_of;
-use server_main::start_faults_crate::StartFault;
+use server_main::from_serve_words::serve_setup_of;
+use server_main::from_start_faults::StartFault;
 use std::net::{Net, TcpListener, TcpStream};
 use std::sync::Wait;
 use std::thread::Threads;

@@ -1,6 +1,6 @@
 //! What standard error tells a person of a server.
-use file_telling::size_values_crate::NoMemory;
-use file_telling::start_telling_crate::{tell, tell_line};
+use file_telling::from_size_values::NoMemory;
+use file_telling::from_start_telling::{tell, tell_line};
 use std::alloc::Global;
 
 /// The name of the program.

@@ -2,7 +2,7 @@
 ghost use Rattle.std.specs.Prelude.{◌≡◌};
 ghost use Rattle.server_main.specs.spawners.specs.Counts.{none_begun};
 
-use server_main::spawners_crate::{Job, Spawner, ThreadSpawner, start_thread, start_thread_or_run};
+use server_main::from_spawners::{Job, Spawner, ThreadSpawner, start_thread, start_thread_or_run};
 use std::thread::{JoinHandle, Threads};
 
 /// What is done with a spawner that has begun nothing.

@@ -4,8 +4,8 @@
 use crate::chance::Chance;
 use crate::judging::{PROJECTS, changes_nothing, mark_of};
 use crate::server::Server;
-use plain_sums::host_model_crate::Report;
-use plain_sums::size_values_crate::{NoMemory, Rise};
+use plain_sums::from_host_model::Report;
+use plain_sums::from_size_values::{NoMemory, Rise};
 use rest_routes::Router;
 use std::alloc::Global;
 

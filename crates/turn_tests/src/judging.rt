@@ -1,12 +1,12 @@
 //! What has to stand after each turn.
 
 use crate::server::Server;
-use plain_sums::operations_crate::Operation;
-use plain_sums::records_crate::{LimitKeyName, Project, Reply, UsageLine};
-use plain_sums::reservations_crate::Hold;
-use plain_sums::row_machine_crate::{Answer, Work};
-use plain_sums::row_readings_crate::View;
-use plain_sums::size_values_crate::{Amounts, NoMemory, read_count, read_size};
+use plain_sums::from_operations::Operation;
+use plain_sums::from_records::{LimitKeyName, Project, Reply, UsageLine};
+use plain_sums::from_reservations::Hold;
+use plain_sums::from_row_machine::{Answer, Work};
+use plain_sums::from_row_readings::View;
+use plain_sums::from_size_values::{Amounts, NoMemory, read_count, read_size};
 use plain_sums::{Sums, claim_sums, project_named, sums_of};
 use rest_routes::Router;
 use std::alloc::Global;
@@ -105,7 +105,7 @@ fn is_told(view: &View<'_>, name: &str, answer: &Option<Answer>) -> bool {
     match (project_named(view, name), answer) {
         (
             Some(project),
-            Some(Answer::Reply(Reply::One(plain_sums::records_crate::View::Usage(lines)))),
+            Some(Answer::Reply(Reply::One(plain_sums::from_records::View::Usage(lines)))),
         ) => {
             lines.len() == 8
                 && lines

@@ -4,7 +4,7 @@ use crate::chance::Chance;
 use crate::events::{SETUP, happens};
 use crate::judging::all_stands;
 use crate::server::Server;
-use plain_sums::size_values_crate::NoMemory;
+use plain_sums::from_size_values::NoMemory;
 use rest_routes::Router;
 use std::alloc::Global;
 

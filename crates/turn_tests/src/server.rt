@@ -1,14 +1,14 @@
 //! A server with its keeper, asked by requests of the REST API.
 
 use core_turns::Daemon;
-use core_turns::record_keeper_crate::MapKeeper;
-use plain_sums::host_model_crate::Report;
-use plain_sums::records_crate::{Command, What};
-use plain_sums::row_machine_crate::Answer;
-use plain_sums::row_readings_crate::View;
-use plain_sums::size_values_crate::{NoMemory, Seq, Text};
+use core_turns::from_record_keeper::MapKeeper;
+use plain_sums::from_host_model::Report;
+use plain_sums::from_records::{Command, What};
+use plain_sums::from_row_machine::Answer;
+use plain_sums::from_row_readings::View;
+use plain_sums::from_size_values::{NoMemory, Seq, Text};
 use rest_routes::Router;
-use rest_routes::http_heads_crate::Request;
+use rest_routes::from_http_heads::Request;
 use std::alloc::Global;
 
 /// The moment of every turn.

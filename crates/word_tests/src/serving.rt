@@ -1,5 +1,5 @@
 //! Lists of words of the program that serves connections, each with what it says.
-use run_words::size_values_crate::NoMemory;
+use run_words::from_size_values::NoMemory;
 use serve_words::{ServeWords, read_serve_words, serve_setup_of};
 use std::alloc::Global;
 

@@ -1,5 +1,5 @@
 //! Lists of words, each with what it says.
-use run_words::size_values_crate::NoMemory;
+use run_words::from_size_values::NoMemory;
 use run_words::{CommandWords, Pace, RunWords, read_words, setup_of};
 use std::alloc::Global;
 

@@ -9,10 +9,10 @@ ghost use Rattle.row_machine.specs.machine.Work.{after_failure, cancelled, faile
 
 use crate::turns::live_at;
 use row_drafts::Draft;
-use row_sizes::operations_crate::{OpFault, Status};
-use row_sizes::size_values_crate::Power;
+use row_sizes::from_operations::{OpFault, Status};
+use row_sizes::from_size_values::Power;
 use task_ends::breaks_instance;
-use task_ends::row_readings_crate::View;
+use task_ends::from_row_readings::View;
 
 /// Whether a failure of the live operation of a number leaves its instance in an unknown state.
 fn breaks_at(view: &View<'_>, number: u64) -> bool

@@ -6,10 +6,10 @@ ghost use Rattle.row_drafts.specs.machine_laws.specs.Entries.{number_of, entry_c
 ghost use Rattle.work_reports.specs.Entries.{HasEntry};
 
 use row_machine::RowChange;
-use row_sizes::config_lists_crate::{Config, Devices};
-use row_sizes::records_crate::Profile;
-use row_sizes::row_codec_crate::encode;
-use row_sizes::size_values_crate::{EntryChange, NoMemory, ObjectKind, Seq, Text};
+use row_sizes::from_config_lists::{Config, Devices};
+use row_sizes::from_records::Profile;
+use row_sizes::from_row_codec::encode;
+use row_sizes::from_size_values::{EntryChange, NoMemory, ObjectKind, Seq, Text};
 use std::alloc::Global;
 
 /// The number that entries of a kind have.

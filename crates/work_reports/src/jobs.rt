@@ -9,10 +9,10 @@ ghost use Rattle.work_reports.specs.Turns.{shown_as, shown_at, IsBegun};
 use crate::waiting::{Shown, Waiting};
 use row_drafts::Draft;
 use row_machine::Work;
-use row_machine::host_model_crate::HostCall;
-use row_sizes::operations_crate::{Operation, Status};
-use row_sizes::plain_lists_crate::push_reserved;
-use task_ends::row_readings_crate::{View, kept_at};
+use row_machine::from_host_model::HostCall;
+use row_sizes::from_operations::{Operation, Status};
+use row_sizes::from_plain_lists::push_reserved;
+use task_ends::from_row_readings::{View, kept_at};
 
 /// What a report comes to.
 #[derive(Drop)]

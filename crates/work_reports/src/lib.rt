@@ -2,13 +2,42 @@
 //! out the next one or ends the operation. And the notices that wait to be taken meanwhile.
 #![tactic(auto)]
 
-// The libraries that crates above name through this one.
-pub use row_drafts as row_drafts_crate;
-pub use row_drafts::record_keeper_crate;
-pub use row_machine as row_machine_crate;
-pub use row_machine::reservations_crate;
-pub use row_sizes::{operations_crate, size_values_crate};
-pub use task_ends::row_readings_crate;
+/// Of `operations`, for the crates above.
+pub mod from_operations {
+    pub use row_sizes::from_operations::{Operation, Status};
+}
+
+/// Of `record_keeper`, for the crates above.
+pub mod from_record_keeper {
+    pub use row_drafts::from_record_keeper::{Keeper, MapKeeper};
+}
+
+/// Of `reservations`, for the crates above.
+pub mod from_reservations {
+    pub use row_machine::from_reservations::Hold;
+}
+
+/// Of `row_drafts`, for the crates above.
+pub mod from_row_drafts {
+    pub use row_drafts::Draft;
+}
+
+/// Of `row_machine`, for the crates above.
+pub mod from_row_machine {
+    pub use row_machine::Work;
+}
+
+/// Of `row_readings`, for the crates above.
+pub mod from_row_readings {
+    pub use task_ends::from_row_readings::{
+        View, amounts_of_instance, claimed_instance, kept_at, project_of_row,
+    };
+}
+
+/// Of `size_values`, for the crates above.
+pub mod from_size_values {
+    pub use row_sizes::from_size_values::{Action, Amounts, Deed, NoMemory, Text};
+}
 
 mod ends;
 mod entries;

@@ -20,11 +20,11 @@ use crate::success::{carry_out, make_ending, succeed};
 use crate::turns::{Turn, live_at, turn_of};
 use crate::waiting::Waiting;
 use row_drafts::Draft;
-use row_drafts::record_keeper_crate::Keeper;
-use row_machine::host_model_crate::Report;
-use row_sizes::operations_crate::OpFault;
+use row_drafts::from_record_keeper::Keeper;
+use row_machine::from_host_model::Report;
+use row_sizes::from_operations::OpFault;
 use std::alloc::Global;
-use task_ends::row_readings_crate::View;
+use task_ends::from_row_readings::View;
 
 /// How many calls of the live operation of a number were done.
 fn calls_done(view: &View<'_>, number: u64) -> u32

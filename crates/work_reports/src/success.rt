@@ -23,14 +23,14 @@ use crate::jobs::tell;
 use crate::turns::live_at;
 use crate::waiting::Waiting;
 use row_drafts::Draft;
-use row_drafts::record_keeper_crate::Keeper;
+use row_drafts::from_record_keeper::Keeper;
 use row_machine::{RowChange, Work};
-use row_sizes::operations_crate::{OpFault, Status};
-use row_sizes::plain_lists_crate::push_reserved;
-use row_sizes::records_crate::Untold;
-use row_sizes::size_values_crate::{EntryChange, NoMemory, Or, Power, Seq};
+use row_sizes::from_operations::{OpFault, Status};
+use row_sizes::from_plain_lists::push_reserved;
+use row_sizes::from_records::Untold;
+use row_sizes::from_size_values::{EntryChange, NoMemory, Or, Power, Seq};
 use std::alloc::Global;
-use task_ends::row_readings_crate::View;
+use task_ends::from_row_readings::View;
 use task_ends::{power_after, success_changes, success_notices};
 
 /// What the success of an operation needs: the status of its target, the changes of rows with those of their entries,

@@ -7,9 +7,9 @@ ghost use Rattle.row_machine.specs.machine.Task.{Task};
 ghost use Rattle.work_reports.specs.Turns.{turn_running, turn_cancelling, turn_while, turn_of};
 
 use row_machine::Work;
-use row_machine::host_model_crate::{HostCall, Report};
-use row_sizes::operations_crate::{OpFault, Operation, Status};
-use task_ends::row_readings_crate::View;
+use row_machine::from_host_model::{HostCall, Report};
+use row_sizes::from_operations::{OpFault, Operation, Status};
+use task_ends::from_row_readings::View;
 
 /// What comes of the report of a call.
 #[derive(Clone, Copy)]

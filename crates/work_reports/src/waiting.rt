@@ -5,11 +5,11 @@ ghost use Rattle.work_reports.specs.Waiting.{told_by, project_shown, target_show
 ghost use Rattle.work_reports.specs.declared.waiting.Waiting.TheVariants as waiting_of;
 
 use row_machine::Work;
-use row_sizes::operations_crate::{OpFault, Operation, Status};
-use row_sizes::records_crate::{OpView, Target, Told, Untold};
-use row_sizes::size_values_crate::{NoMemory, ObjectKind, Text};
+use row_sizes::from_operations::{OpFault, Operation, Status};
+use row_sizes::from_records::{OpView, Target, Told, Untold};
+use row_sizes::from_size_values::{NoMemory, ObjectKind, Text};
 use std::alloc::Global;
-use task_ends::row_readings_crate::{View, kept_at};
+use task_ends::from_row_readings::{View, kept_at};
 
 /// An operation as a notice of this moment shows it. Its project and its target are read off the kept operation.
 #[derive(Clone, Copy)]

@@ -7,10 +7,10 @@ ghost use Rattle.gate_answers.specs.Answers.{IsForReporter, IsForTaker};
 ghost use Rattle.workers.specs.Work.{Gets, GoesOn, WorkBy, standing};
 ghost use Rattle.workers.specs.declared.worker.Post.TheVariants as post_of;
 
-use gate_answers::gate_trails_crate::Gate;
-use gate_answers::host_model_crate::{Host, HostCall, perform};
-use gate_answers::http_front_crate::Clock;
-use gate_answers::row_machine_crate::{Answer, Event};
+use gate_answers::from_gate_trails::Gate;
+use gate_answers::from_host_model::{Host, HostCall, perform};
+use gate_answers::from_http_front::Clock;
+use gate_answers::from_row_machine::{Answer, Event};
 use std::sync::Wait;
 
 /// What a worker has to do next.

@@ -1,8 +1,10 @@
 //! Input of any size for the programs, made from a number, and the summary of what they answered.
 #![tactic(auto)]
 
-// The libraries that crates above name through this one.
-pub use size_values as size_values_crate;
+/// Of `size_values`, for the crates above.
+pub mod from_size_values {
+    pub use size_values::{Amounts, NoMemory, Seq, Text};
+}
 
 mod replies;
 mod stream;
