@@ -10,10 +10,15 @@ The program is crates/incus_run/out/incus_run without `--program` (`bin/incus_ru
 3. `drill`, `check`: 40 creations in memory and over a file, of which a project takes 32; what is kept of them, and that by then no share
    is held. The shell `sqlite3` reads each row of the file, where it is installed.
 4. `run`: two runs over one file; and a file in a folder that is missing, which ends with status 6.
+5. a terminal as standard error: a drill tells there how many of its requests are answered, where few of the creations become instances and
+   where all of them do; standard output is what it is without one, and `make` and `run` tell nothing.
 
 It ends with status 1 where something is otherwise.
 """
 import argparse
+import os
+import pty
+import select
 import shutil
 import subprocess
 import sys
@@ -35,6 +40,7 @@ MADE = "32 32 0 77 19662897152 15400 343597383680"
 REPLIES = "requests 43\nreplies 200 3\nreplies 202 32\nreplies 403 8\n"
 DRILLED = f"{REPLIES}{COUNTS}granted {MADE}\nconverted {MADE}\nreturned {NONE}\nheld {NONE}\n"
 CHECKED = f"{COUNTS}granted {NONE}\nconverted {NONE}\nreturned {NONE}\nheld {NONE}\n"
+LONGEST = 600  # seconds that a run may take, or be silent at a terminal
 
 
 class Wrong(Exception):
@@ -47,8 +53,39 @@ def need(holds, what):
 
 
 def run(program, words, text=b""):
-    ran = subprocess.run([program, *words], input=text, capture_output=True, check=False, timeout=600)
+    ran = subprocess.run([program, *words], input=text, capture_output=True, check=False, timeout=LONGEST)
     return ran.returncode, ran.stdout, ran.stderr.decode()
+
+
+def read_terminal(leader):
+    """What is written on a terminal until nobody has it open any more."""
+    said = b""
+    while select.select([leader], [], [], LONGEST)[0]:
+        try:
+            said += os.read(leader, 65536)
+        except OSError:
+            return said.decode().replace("\r\n", "\n")
+    raise Wrong(f"the program goes on, and has told {said} at its terminal")
+
+
+def run_at_terminal(program, words, text=b""):
+    """Runs the program with a terminal as its standard error; its status, and what it writes on both outputs."""
+    leader, follower = pty.openpty()
+    try:
+        with tempfile.TemporaryFile() as given, tempfile.TemporaryFile() as written:
+            given.write(text)
+            given.seek(0)
+            with subprocess.Popen([program, *words], stdin=given, stdout=written, stderr=follower) as ran:
+                os.close(follower)
+                try:
+                    said = read_terminal(leader)
+                except Wrong:
+                    ran.kill()
+                    raise
+            written.seek(0)
+            return ran.returncode, written.read(), said
+    finally:
+        os.close(leader)
 
 
 def need_run(program, words, due, text=b""):
@@ -106,6 +143,39 @@ def two_runs(program, folder):
     return "the second has the rows of the first; status 6 in a missing folder"
 
 
+def need_told(program, words, told, due, text=b""):
+    """The words end with status 0, write what they write without a terminal, and tell this at one."""
+    status, written, said = run_at_terminal(program, words, text)
+    need((status, written, said) == (0, due, told),
+         f"{words} at a terminal: status {status}, {written[:2000]}, {said!r}; due: {due[:2000]}, {told!r}")
+
+
+def terminal(program, folder):
+    words = ["drill", "7", "2000"]
+    status, written, said = run(program, words)
+    need(status == 0 and written.startswith(b"requests 2003\nreplies 200 3\nreplies 202 32\n") and not said,
+         f"{words}: status {status}, {written}, {said}")
+    need_told(program, words, "incus_run: 1000 of 2003 requests\nincus_run: 2000 of 2003 requests\n", written)
+    need_told(program, ["drill", "7", "40"], "", DRILLED.encode())
+    _, stream, _ = run(program, ["make", "7", "1500"])
+    need_told(program, ["make", "7", "1500"], "", stream)
+    _, replies, _ = run(program, ["run", "--now", "1", "--boot", "1"], stream)
+    need_told(program, ["run", "--now", "1", "--boot", "1"], "", replies, stream)
+    return f"2 lines of 2003 requests; {all_made(program, folder)}"
+
+
+def all_made(program, folder):
+    """A drill over a project without limits, so that a worker makes an instance after each creation."""
+    file, twin = folder / "without_limits.db", folder / "twin.db"
+    need(run(program, ["run", "--db", str(file)], REQUEST)[0] == 0, "the project was not made")
+    shutil.copy(file, twin)
+    words = ["drill", "7", "1000", "--db"]
+    status, written, said = run(program, [*words, str(twin)])
+    need(status == 0 and b"replies 202 1000\n" in written and not said, f"{words}: status {status}, {written}, {said}")
+    need_told(program, [*words, str(file)], "incus_run: 1000 of 1003 requests\n", written)
+    return "1 line of 1003, of which 1000 make an instance"
+
+
 def main():
     words = argparse.ArgumentParser()
     words.add_argument("--program", default=str(TOP / "crates/incus_run/out/incus_run"))
@@ -114,7 +184,8 @@ def main():
         sys.exit(f"there is no program {program}: bin/incus_run --prove makes it")
     wrong = 0
     with tempfile.TemporaryDirectory() as folder:
-        for name, check in {"not read": not_read, "make": make, "drill, check": drill, "run": two_runs}.items():
+        checks = {"not read": not_read, "make": make, "drill, check": drill, "run": two_runs, "terminal": terminal}
+        for name, check in checks.items():
             try:
                 print(f"{name}: {check(program, Path(folder))}", flush=True)
             except (Wrong, subprocess.SubprocessError) as error:

@@ -64,7 +64,11 @@ fn origin_in(alloc: Global, body: &str) -> Result<Origin, NoMemory> {
 
 fn comes_from(alloc: Global, body: &str, name: &str, place: &str) -> bool {
     match origin_in(alloc, body) {
-        Ok(origin) => is_origin(&origin, name, place),
+        Ok(origin) => {
+            let is_so = is_origin(&origin, name, place);
+            drop(origin);
+            is_so
+        }
         Err(_) => false,
     }
 }

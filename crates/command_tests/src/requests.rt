@@ -236,7 +236,11 @@ fn changed(alloc: Global, body: &Body) -> Result<Config, NoMemory> {
     config.set("a", "0")?;
     config.set("c", "3")?;
     match &body.config {
-        Some(changes) => config.patched(changes),
+        Some(changes) => {
+            let changed = config.patched(changes);
+            drop(config);
+            changed
+        }
         None => Ok(config),
     }
 }
@@ -244,7 +248,11 @@ fn changed(alloc: Global, body: &Body) -> Result<Config, NoMemory> {
 /// Whether the changes are those of `BODY`: `a` and `b` are set, and `c` is removed.
 fn changes_config(alloc: Global, body: &Body) -> bool {
     match changed(alloc, body) {
-        Ok(config) => config.len() == 2 && config.has("a", "1") && config.has("b", "2"),
+        Ok(config) => {
+            let is_so = config.len() == 2 && config.has("a", "1") && config.has("b", "2");
+            drop(config);
+            is_so
+        }
         Err(_) => false,
     }
 }
@@ -346,10 +354,19 @@ fn is_wanted(alloc: Global, answer: &Result<Command, Or<Refusal>>, want: Want) -
 }
 
 /// The answer to a request by a new router.
+fn routed_new(alloc: Global, request: &Request) -> Result<Command, Or<Refusal>> {
+    let router = Router::new(alloc)?;
+    let answer = router.route(alloc, request, 0);
+    drop(router);
+    answer
+}
+
+/// The same, with the parts of the request.
 fn routed(alloc: Global, method: &str, target: &str, body: &str) -> Result<Command, Or<Refusal>> {
     let request = request(alloc, method, target, body)?;
-    let router = Router::new(alloc)?;
-    router.route(alloc, &request, 0)
+    let answer = routed_new(alloc, &request);
+    drop(request);
+    answer
 }
 
 /// Whether a request is answered so.

@@ -2,6 +2,7 @@
 //! memory or in a file, by the clock of the system; or writes, drills or checks (`run_words::usage`).
 #![tactic(auto)]
 
+use drill_progress::{Progress, WatchedClock, WatchedHost, drill_requests};
 use file_telling::from_host_model::ModelHost;
 use file_telling::from_http_front::{Clock, ReaderSource, SystemClock, WriterSink};
 use file_telling::from_record_keeper::{Keeper, MapKeeper};
@@ -12,10 +13,20 @@ use file_telling::tell_why;
 use serial_run::from_run_words::{Setup, setup_of, usage};
 use serial_run::from_start_faults::StartFault;
 use serial_run::run_main;
+use std::io::IsTerminal;
 use std::process::ExitCode;
 
 /// The name of the program.
 const PROGRAM: &str = "incus_run";
+
+/// How many requests are to be answered, where standard error is told how many of them are: those of a drill at a terminal.
+fn requests_to_tell(rt: HostRuntime, words: &[String]) -> Option<u64> {
+    if rt.stderr().is_terminal() {
+        drill_requests(rt.alloc(), words)
+    } else {
+        None
+    }
+}
 
 /// All that the program does, over a keeper.
 fn run_over<R: Keeper>(
@@ -24,11 +35,13 @@ fn run_over<R: Keeper>(
     fail_host: Seq<u64>,
     keeper: R,
 ) -> (u8, R) {
-    let mut host = ModelHost::new(rt.alloc(), fail_host);
+    let progress = Progress::new(rt, PROGRAM, requests_to_tell(rt, words));
+    let mut host = WatchedHost::new(&progress, ModelHost::new(rt.alloc(), fail_host));
     let mut source = ReaderSource::new(rt.stdin());
     let mut sink = WriterSink::new(rt.stdout());
     let mut clock = SystemClock::new(rt);
     let boot = clock.now();
+    let mut clock = WatchedClock::new(&progress, clock);
     run_main(
         rt.alloc(),
         words,

@@ -84,12 +84,17 @@ type OwnGate = AloneGate<MapKeeper, ModelHost, StillClock>;
 /// A gate over a new server, whose clock stands still.
 fn new_gate(alloc: Global) -> Option<OwnGate> {
     let mut keeper = MapKeeper::new(alloc, Seq::new(alloc));
-    let daemon = match Daemon::begin(alloc, &mut keeper) {
-        Ok(daemon) => daemon,
-        Err(_) => return None,
-    };
-    let host = ModelHost::new(alloc, Seq::new(alloc));
-    Some(AloneGate::new(alloc, daemon, keeper, host, StillClock::new(0)))
+    match Daemon::begin(alloc, &mut keeper) {
+        Ok(daemon) => {
+            let host = ModelHost::new(alloc, Seq::new(alloc));
+            Some(AloneGate::new(alloc, daemon, keeper, host, StillClock::new(0)))
+        }
+        Err(fault) => {
+            drop(fault);
+            drop(keeper);
+            None
+        }
+    }
 }
 
 /// Whether a link of these bytes, at most `piece` at each read, ends so and has these replies.
@@ -110,6 +115,7 @@ fn serves<T: Wait>(
     let ended = serve_link(rt, alloc, gate, &mut source, &mut sink, &mut clock, 1);
     drop(source);
     let is_so = name_of(&ended) == ends && sink.bytes() == replies.as_bytes();
+    drop(ended);
     drop(sink);
     is_so
 }

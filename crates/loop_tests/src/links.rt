@@ -24,7 +24,11 @@ pub(crate) fn new_machine(alloc: Global) -> Option<DaemonMachine<MapKeeper>> {
     let mut keeper = MapKeeper::new(alloc, Seq::new(alloc));
     match Daemon::begin(alloc, &mut keeper) {
         Ok(daemon) => Some(DaemonMachine::new(alloc, daemon, keeper)),
-        Err(_) => None,
+        Err(fault) => {
+            drop(fault);
+            drop(keeper);
+            None
+        }
     }
 }
 
@@ -67,7 +71,9 @@ pub(crate) fn replies_to<T: Wait, G: Gate>(
     let mut clock = StillClock::new(0);
     let ends = serve_link(rt, alloc, gate, &mut source, &mut sink, &mut clock, 1);
     drop(source);
-    if name_of(&ends) == "ended" {
+    let is_ended = name_of(&ends) == "ended";
+    drop(ends);
+    if is_ended {
         Some(sink)
     } else {
         drop(sink);

@@ -56,7 +56,10 @@ fn meet<L: Ledger, T: Wait + Clock + Copy>(rt: T, alloc: Global, blank: Blank) -
     let (mut first, mut second) = gates_at(rt, alloc, turnstile, passes)?;
     let made = is_answered(&rt, alloc, &mut first, TWICE, MADE_AND_TAKEN);
     let taken = is_answered(&rt, alloc, &mut second, CREATION, TAKEN);
-    Some(made && taken && first.made() == 2 && second.made() == 1)
+    let is_so = made && taken && first.made() == 2 && second.made() == 1;
+    drop(first);
+    drop(second);
+    Some(is_so)
 }
 
 #[test]

@@ -68,6 +68,7 @@ fn creates<L: Ledger, T: Wait + Clock>(floor: &Floor<L, T>, gate: &mut Locked<L,
 fn works<L: Ledger, T: Wait + Clock + Copy>(floor: &Floor<L, T>, gate: &mut Locked<L, T>) {
     if let Ok(mut host) = floor.host.share() {
         work(&floor.rt, gate, &mut host, &mut StillClock::new(0));
+        drop(host);
     }
 }
 
@@ -190,6 +191,7 @@ fn close_all<L: Ledger, T: Wait + Clock>(
     requires { L.parts ≡ 9 }
 {
     if passes.len() != 9 {
+        drop(passes);
         return None;
     }
     let made = passes

@@ -73,7 +73,11 @@ fn full_body(alloc: Global) -> Result<Body, NoMemory> {
 
 fn is_text(text: Result<Text, NoMemory>) -> bool {
     match text {
-        Ok(text) => text.view() == "new",
+        Ok(text) => {
+            let is_so = text.view() == "new";
+            drop(text);
+            is_so
+        }
         Err(_) => false,
     }
 }
@@ -81,42 +85,56 @@ fn is_text(text: Result<Text, NoMemory>) -> bool {
 /// Only `b` has a value.
 fn has_new_config(alloc: Global, body: &Body) -> bool {
     match new_config(alloc, body) {
-        Ok(config) => config.len() == 1 && config.has("b", "2"),
+        Ok(config) => {
+            let is_so = config.len() == 1 && config.has("b", "2");
+            drop(config);
+            is_so
+        }
+        Err(_) => false,
+    }
+}
+
+/// Whether there are so many devices.
+fn has_devices(devices: Result<Devices, NoMemory>, count: usize) -> bool {
+    match devices {
+        Ok(devices) => {
+            let is_so = devices.len() == count;
+            drop(devices);
+            is_so
+        }
         Err(_) => false,
     }
 }
 
 fn has_new_devices(alloc: Global, body: &Body) -> bool {
-    match new_devices(alloc, body) {
-        Ok(devices) => devices.len() == 1,
-        Err(_) => false,
-    }
+    has_devices(new_devices(alloc, body), 1)
 }
 
 /// Of the settings `a` and `c`, `a` went, and `b` came.
 fn has_patched_config(alloc: Global, body: &Body) -> bool {
-    let old = config(alloc, &[("a", "1"), ("c", "3")]);
-    let patched = match &old {
-        Ok(old) => patched_config(old, body),
-        Err(_) => return false,
+    let Ok(old) = config(alloc, &[("a", "1"), ("c", "3")]) else {
+        return false;
     };
+    let patched = patched_config(&old, body);
+    drop(old);
     match patched {
-        Ok(config) => config.len() == 2 && config.has("b", "2") && config.has("c", "3"),
+        Ok(config) => {
+            let is_so = config.len() == 2 && config.has("b", "2") && config.has("c", "3");
+            drop(config);
+            is_so
+        }
         Err(_) => false,
     }
 }
 
 /// The old device stays beside the new one.
 fn has_patched_devices(alloc: Global, body: &Body) -> bool {
-    let old = devices(alloc, "eth0");
-    let patched = match &old {
-        Ok(old) => patched_devices(old, body),
-        Err(_) => return false,
+    let Ok(old) = devices(alloc, "eth0") else {
+        return false;
     };
-    match patched {
-        Ok(devices) => devices.len() == 2,
-        Err(_) => false,
-    }
+    let patched = patched_devices(&old, body);
+    drop(old);
+    has_devices(patched, 2)
 }
 
 /// Whether a part is that of the body, over the old one where there is one.

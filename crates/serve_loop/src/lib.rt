@@ -17,6 +17,16 @@ pub mod from_http_front {
     pub use gate_replies::from_http_front::{Clock, Sink, Source};
 }
 
+/// Of `http_heads`, for the crates above.
+pub mod from_http_heads {
+    pub use event_texts::from_http_heads::Request;
+}
+
+/// Of `rest_routes`, for the crates above.
+pub mod from_rest_routes {
+    pub use gate_replies::from_rest_routes::Router;
+}
+
 mod link;
 
 pub use link::{LinkEnd, serve_link};

@@ -39,7 +39,7 @@ fn count_rows(estate: &Estate) -> (usize, usize) {
     (view.projects.len(), view.profiles.len())
 }
 
-fn fault_of(fault: OpenFault) -> Fault {
+fn fault_of(fault: &OpenFault) -> Fault {
     match fault {
         OpenFault::KeeperFailed => Fault::KeeperFailed,
         OpenFault::Damaged { .. } => Fault::Rows,
@@ -55,7 +55,11 @@ fn counted(alloc: Global, keeper: &mut MapKeeper) -> Opened {
             drop(estate);
             Ok(counts)
         }
-        Err(fault) => Err(fault_of(fault)),
+        Err(fault) => {
+            let kind = fault_of(&fault);
+            drop(fault);
+            Err(kind)
+        }
     }
 }
 
@@ -179,6 +183,18 @@ fn tells_once(alloc: Global, estate: &mut Estate, keeper: &mut MapKeeper, comman
     done && told && !more
 }
 
+/// Whether rows tell a notice of a PATCH once, and are the first ones still.
+fn tells_patch(alloc: Global, estate: &mut Estate, keeper: &mut MapKeeper) -> bool
+    requires quiet { estate.old.untold ≡ [] }
+{
+    let Ok(command) = patch(alloc) else {
+        return false;
+    };
+    let told = tells_once(alloc, estate, keeper, &command);
+    drop(command);
+    told && is_first(estate)
+}
+
 /// Whether a notice waits, which is taken.
 fn is_told(alloc: Global, estate: &mut Estate) -> bool {
     match estate.take_told(alloc) {
@@ -193,20 +209,20 @@ fn is_told(alloc: Global, estate: &mut Estate) -> bool {
 
 /// Whether the first rows are opened, tell a notice of a change once, and stay where nothing is changed.
 fn tells(alloc: Global) -> bool {
-    let Ok(command) = patch(alloc) else {
-        return false;
-    };
     let mut keeper = MapKeeper::new(alloc, Seq::new(alloc));
-    match load_rows(alloc, &mut keeper) {
+    let told = match load_rows(alloc, &mut keeper) {
         Ok(mut estate) => {
-            let told = tells_once(alloc, &mut estate, &mut keeper, &command);
-            drop(command);
-            let same = is_first(&estate);
+            let told = tells_patch(alloc, &mut estate, &mut keeper);
             drop(estate);
-            told && same
+            told
         }
-        Err(_) => false,
-    }
+        Err(fault) => {
+            drop(fault);
+            false
+        }
+    };
+    drop(keeper);
+    told
 }
 
 /// Whether a draft stays where nothing is changed, and where a change is taken back.

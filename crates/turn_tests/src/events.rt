@@ -6,7 +6,7 @@ use crate::judging::{PROJECTS, changes_nothing, mark_of};
 use crate::server::Server;
 use plain_sums::from_host_model::Report;
 use plain_sums::from_size_values::{NoMemory, Rise};
-use rest_routes::Router;
+use serve_loop::from_rest_routes::Router;
 use std::alloc::Global;
 
 /// What is there before the first event.
@@ -140,9 +140,8 @@ fn text_of(chance: &mut Chance, letter: char) -> &'static str {
     }
 }
 
-/// A request of some kind.
-fn request(alloc: Global, chance: &mut Chance) -> Result<String, NoMemory> {
-    let mut line = String::new(alloc);
+/// Writes a request of some kind into an empty line.
+fn write_request(line: &mut String, chance: &mut Chance) -> Result<(), NoMemory> {
     for piece in chance.one_of(REQUESTS).split('$') {
         let mut letters = piece.chars();
         let sign = if line.is_empty() {
@@ -158,7 +157,19 @@ fn request(alloc: Global, chance: &mut Chance) -> Result<String, NoMemory> {
             None => line.push_str(piece)?,
         }
     }
-    Ok(line)
+    Ok(())
+}
+
+/// A request of some kind.
+fn request(alloc: Global, chance: &mut Chance) -> Result<String, NoMemory> {
+    let mut line = String::new(alloc);
+    match write_request(&mut line, chance) {
+        Ok(()) => Ok(line),
+        Err(why) => {
+            drop(line);
+            Err(why)
+        }
+    }
 }
 
 /// Asks for something, and says whether nothing changed where it was refused.

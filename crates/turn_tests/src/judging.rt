@@ -8,7 +8,7 @@ use plain_sums::from_row_machine::{Answer, Work};
 use plain_sums::from_row_readings::View;
 use plain_sums::from_size_values::{Amounts, NoMemory, read_count, read_size};
 use plain_sums::{Sums, claim_sums, project_named, sums_of};
-use rest_routes::Router;
+use serve_loop::from_rest_routes::Router;
 use std::alloc::Global;
 
 /// The projects of a random run.

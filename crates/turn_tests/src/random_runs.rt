@@ -5,7 +5,7 @@ use crate::events::{SETUP, happens};
 use crate::judging::all_stands;
 use crate::server::Server;
 use plain_sums::from_size_values::NoMemory;
-use rest_routes::Router;
+use serve_loop::from_rest_routes::Router;
 use std::alloc::Global;
 
 /// The seed behind the last one.

@@ -1,14 +1,14 @@
 //! A server with its keeper, asked by requests of the REST API.
 
-use core_turns::Daemon;
-use core_turns::from_record_keeper::MapKeeper;
+use gates::from_core_turns::Daemon;
+use gates::from_record_keeper::MapKeeper;
 use plain_sums::from_host_model::Report;
 use plain_sums::from_records::{Command, What};
 use plain_sums::from_row_machine::Answer;
 use plain_sums::from_row_readings::View;
 use plain_sums::from_size_values::{NoMemory, Seq, Text};
-use rest_routes::Router;
-use rest_routes::from_http_heads::Request;
+use serve_loop::from_http_heads::Request;
+use serve_loop::from_rest_routes::Router;
 use std::alloc::Global;
 
 /// The moment of every turn.
@@ -44,7 +44,8 @@ impl Server {
         let mut keeper = MapKeeper::new(alloc, fails);
         match Daemon::begin(alloc, &mut keeper) {
             Ok(daemon) => Ok(Some(Server { daemon, keeper })),
-            Err(_) => {
+            Err(fault) => {
+                drop(fault);
                 drop(keeper);
                 Ok(None)
             }

@@ -1,5 +1,5 @@
 //! What a session of events sends.
-use crate::busy_gate::{BusyGate, new_gate, request};
+use crate::busy_gate::{BusyGate, OwnGate, new_gate, request};
 use event_sessions::{SessionEnd, event_session};
 use gates::from_http_front::ByteSink;
 use gates::from_records::Filter;
@@ -89,6 +89,20 @@ fn sent(alloc: Global, texts: &[&str]) -> Result<Vec<u8>, NoMemory> {
     Ok(bytes)
 }
 
+/// A gate to a server of which this was requested before.
+fn gate_after<T: Wait>(rt: &T, alloc: Global, before: &str) -> Result<Option<OwnGate>, NoMemory> {
+    let Some(mut gate) = new_gate(alloc) else {
+        return Ok(None);
+    };
+    match request(rt, alloc, &mut gate, before) {
+        Ok(()) => Ok(Some(gate)),
+        Err(why) => {
+            drop(gate);
+            Err(why)
+        }
+    }
+}
+
 /// How a session ends, and what it sends.
 fn listened<T: Wait + Copy>(
     rt: T,
@@ -99,10 +113,10 @@ fn listened<T: Wait + Copy>(
     op: bool,
 ) -> Result<Option<(SessionEnd, ByteSink)>, NoMemory> {
     let project = Text::from_text(alloc, "default")?;
-    let Some(mut inner) = new_gate(alloc) else {
+    let Some(inner) = gate_after(&rt, alloc, before)? else {
+        drop(project);
         return Ok(None);
     };
-    request(&rt, alloc, &mut inner, before)?;
     let mut gate = BusyGate {
         rt,
         alloc,
@@ -114,6 +128,7 @@ fn listened<T: Wait + Copy>(
     let mut sink = ByteSink::new(alloc, Seq::new(alloc));
     let filter = Filter { life, op, project };
     let ends = event_session(&rt, alloc, &mut gate, &mut sink, KEY, &filter, 1);
+    drop(filter);
     drop(gate);
     Ok(Some((ends, sink)))
 }

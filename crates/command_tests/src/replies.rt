@@ -160,10 +160,12 @@ fn prints(alloc: Global, case: Case, code: u16, location: &str, body: &str) -> b
 fn is_printed(alloc: Global, reply: &Reply, code: u16, location: &str, body: &str) -> bool {
     match print(alloc, reply, 1, true) {
         Ok(printed) => {
-            printed.code == code
+            let is_so = printed.code == code
                 && printed.location.view() == location
                 && printed.body.view() == body.as_bytes()
-                && printed.last
+                && printed.last;
+            drop(printed);
+            is_so
         }
         Err(_) => false,
     }

@@ -33,7 +33,11 @@ pub(crate) fn new_gate(alloc: Global) -> Option<OwnGate> {
             let host = ModelHost::new(alloc, Seq::new(alloc));
             Some(AloneGate::new(alloc, daemon, keeper, host, StillClock::new(0)))
         }
-        Err(_) => None,
+        Err(fault) => {
+            drop(fault);
+            drop(keeper);
+            None
+        }
     }
 }
 

@@ -647,8 +647,10 @@ fn refusal(alloc: Global, rule: Rule) -> Refusal {
 fn prints(alloc: Global, reply: &Reply, code: u16, body: &str) -> bool {
     match print(alloc, reply, 1, false) {
         Ok(printed) => {
-            printed.code == code
-                && std::str::from_utf8(printed.body.view()).is_ok_and(|told| told.contains(body))
+            let is_so = printed.code == code
+                && std::str::from_utf8(printed.body.view()).is_ok_and(|told| told.contains(body));
+            drop(printed);
+            is_so
         }
         Err(_) => false,
     }
