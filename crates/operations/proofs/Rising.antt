@@ -48,7 +48,7 @@ ranked-both a b ns = elim (cases_order a b) [
 -- what is put in stands at its place among the others
 pub rising-Puts : {n : ℕ} {ns ms : List ℕ} → Puts n ns ms → rising ms ≡ ranked n (rising ns)
 rising-Puts here = refl
-rising-Puts {n} (later {y = m} {xs = ns} p) = ap (ranked m) (rising-Puts p) ∙ ranked-both m n (rising ns)
+rising-Puts {n} (later {other = m} {rest = ns} p) = ap (ranked m) (rising-Puts p) ∙ ranked-both m n (rising ns)
 
 pub length-rising : (ns : List ℕ) → length (rising ns) ≡ length ns
 length-rising [] = refl
