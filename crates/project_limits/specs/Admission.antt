@@ -44,7 +44,8 @@ over key (Some limit) used asked =
 
 -- the first part of which that is so
 unfoldable pub first_over : Limits → Amounts → Amounts → Option Over
-first_over limits used asked = first_of (λ p. over (key_of p) (limit_on p limits) (part p used) (part p asked)) parts
+first_over limits used asked =
+    first_of (λ a_part. over (key_of a_part) (limit_on a_part limits) (part a_part used) (part a_part asked)) parts
 
 -- the same of the number of networks
 unfoldable pub networks_over : Limits → ℕ → ℕ → Option Over
