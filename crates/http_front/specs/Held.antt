@@ -95,7 +95,7 @@ StopsBefore end held ended left stop.NoMemory = Unit {0}
 
 -- the fact, where a read failed
 abbrev pub OnFault : {T : Type 0} → Result T Stop → Type 0 → Type 0
-OnFault (Ok x) P = Unit {0}
+OnFault (Ok value) P = Unit {0}
 OnFault (Err stop.ReadFault) P = P
 OnFault (Err stop.End) P = Unit {0}
 OnFault (Err (stop.Cut n)) P = Unit {0}

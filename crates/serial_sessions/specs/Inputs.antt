@@ -21,7 +21,7 @@ status_of end.Spent = 10
 
 -- the requests of these
 abbrev pub requests_of : List Exchange → List Request
-requests_of exchanges = map (λ e. e.request) exchanges
+requests_of exchanges = map (λ exchange. exchange.request) exchanges
 
 -- the requests of a text that are answered: these, and at most as many as a session may answer
 abbrev pub answered : List Request → List Request
