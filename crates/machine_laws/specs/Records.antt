@@ -20,7 +20,8 @@ use Rattle.machine_laws.specs.Entries.{entry_changes}
 -- names are good and rise after each single change
 abbrev pub StaysNamed : State → List RowChange → Type 0
 StaysNamed state [] = Unit {0}
-StaysNamed state (change ∷ row_changes) = AreNamed (changed state change) × StaysNamed (changed state change) row_changes
+StaysNamed state (change ∷ row_changes) =
+    AreNamed (changed state change) × StaysNamed (changed state change) row_changes
 
 -- The records of a state stand in the order of kind and key, each kind and key once.
 abbrev pub RecordsOrdered : Type 0
