@@ -36,9 +36,9 @@ unfoldable pub head_len : List ℕ → Option ℕ
 head_len bytes = head_end (take max_head bytes)
 
 -- the bytes from the first that is neither CR nor LF
-abbrev pub behind_blank : List ℕ → List ℕ
-behind_blank bytes = drop (blank_len bytes) bytes
+abbrev pub after_blank : List ℕ → List ℕ
+after_blank bytes = drop (blank_len bytes) bytes
 
 -- what the head of this length says, without the CR and LF bytes before it
 abbrev pub head_bytes : ℕ → List ℕ → List ℕ
-head_bytes len bytes = behind_blank (take len bytes)
+head_bytes len bytes = after_blank (take len bytes)

@@ -93,8 +93,10 @@ with_work number work kept =
 -- the live operation of this number has another status, since this moment
 abbrev pub moved : {W : Type 0} → ℕ → Status → ℕ → Kept W → Kept W
 moved number now moment kept =
-    record kept { live = changed_first (has_number number)
-        (λ operation. record operation { status = now; updated = moment }) kept.live }
+    record kept {
+      live = changed_first (has_number number)
+          (λ operation. record operation { status = now; updated = moment }) kept.live;
+    }
 
 -- The live operation of this number ended, with this status and fault, at this moment. The oldest ended one goes
 -- where there would be too many.
@@ -104,7 +106,7 @@ ends number now why moment kept =
       live = dropped (has_number number) kept.live;
       ended = option_map_or
           (λ operation.
-              ring_push most_ended (record operation { status = now; fault = why; updated = moment }) kept.ended)
+          ring_push most_ended (record operation { status = now; fault = why; updated = moment }) kept.ended)
           (live_at kept number)
           kept.ended;
     }

@@ -25,17 +25,17 @@ abbrev pub entries_before : ℕ → List ℕ → List Entry → List Entry
 entries_before kind key entries = filter (λ entry. is_lt (seen_from kind key entry)) entries
 
 -- the entries after that place
-abbrev pub entries_behind : ℕ → List ℕ → List Entry → List Entry
-entries_behind kind key entries = filter (λ entry. is_gt (seen_from kind key entry)) entries
+abbrev pub entries_after : ℕ → List ℕ → List Entry → List Entry
+entries_after kind key entries = filter (λ entry. is_gt (seen_from kind key entry)) entries
 
 -- the list with this entry at its place, instead of the one of its kind and key if there is one
 unfoldable pub put_entry : Entry → List Entry → List Entry
 put_entry entry entries =
-    entries_before entry.kind entry.key entries ++ entry ∷ entries_behind entry.kind entry.key entries
+    entries_before entry.kind entry.key entries ++ entry ∷ entries_after entry.kind entry.key entries
 
 -- the list without the entry of this kind and key
 unfoldable pub remove_entry : ℕ → List ℕ → List Entry → List Entry
-remove_entry kind key entries = entries_before kind key entries ++ entries_behind kind key entries
+remove_entry kind key entries = entries_before kind key entries ++ entries_after kind key entries
 
 -- the entry of this kind and key, if there is one
 abbrev pub entry_at : ℕ → List ℕ → List Entry → Option Entry

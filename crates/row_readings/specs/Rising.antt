@@ -42,7 +42,7 @@ names_in (names_of.Two first second) = first.now ∷ second.now ∷ []
 names_in (names_of.Three first second third) = first.now ∷ second.now ∷ third.now ∷ []
 
 -- the first row of these names stands at this place, or there is none, and its place is in front of the first row that
--- these names go before, or behind all rows
+-- these names go before, or after all rows
 abbrev pub FindsPlace : {X : Type 0} → (X → List (List ℕ)) → List (List ℕ) → List X → Result ℕ ℕ → Type 0
 FindsPlace names wanted rows (Ok place) = position (λ row. same_names (names row) wanted) rows ≡ Some place
 FindsPlace names wanted rows (Err place) =

@@ -105,24 +105,24 @@ CountsAt end.NoMemory n = n < most_requests
 
 -- After a final request a session stops as Ended, or as Spent where it is the one that fills the number, and does
 -- nothing more.
-abbrev pub StopsBehindFinal : SessionEnd → Type 0
-StopsBehindFinal end.Ended = Unit {0}
-StopsBehindFinal end.Spent = Unit {0}
-StopsBehindFinal end.Cut = ⊥
-StopsBehindFinal (end.Malformed fault) = ⊥
-StopsBehindFinal end.ReadFault = ⊥
-StopsBehindFinal end.WriteFault = ⊥
-StopsBehindFinal end.NoMemory = ⊥
+abbrev pub StopsAfterFinal : SessionEnd → Type 0
+StopsAfterFinal end.Ended = Unit {0}
+StopsAfterFinal end.Spent = Unit {0}
+StopsAfterFinal end.Cut = ⊥
+StopsAfterFinal (end.Malformed fault) = ⊥
+StopsAfterFinal end.ReadFault = ⊥
+StopsAfterFinal end.WriteFault = ⊥
+StopsAfterFinal end.NoMemory = ⊥
 
 -- A session from w to w': the requests that it answered whole, the world after them, and how it stopped there. Either
 -- none of them was the last on its connection, or the final one alone was.
 pub record Session (boot : ℕ) (pace : Pace) (world later : World) (ends : SessionEnd) : Type 0 where
   pub exchanges : List Exchange
-  pub behind : World
-  pub serves : ServesAll boot pace world exchanges behind
+  pub reached : World
+  pub serves : ServesAll boot pace world exchanges reached
   pub counted : CountsAt ends (length exchanges)
-  pub stops : (AllGoOn exchanges × Stops boot ends behind later)
-      ⊎ (OnlyFinalEnds exchanges × StopsBehindFinal ends × (later ≡ behind))
+  pub stops : (AllGoOn exchanges × Stops boot ends reached later)
+      ⊎ (OnlyFinalEnds exchanges × StopsAfterFinal ends × (later ≡ reached))
 
 -- ---- the parts of a turn, one by one
 
@@ -167,5 +167,5 @@ RefusesPlace fault end.Spent sink sink' = ⊥
 
 -- Where a session stops after a final request, with this many requests answered before it: the number may be full with
 -- it.
-abbrev pub end_behind : ℕ → SessionEnd
-end_behind done = if done + 1 == most_requests then end.Spent else end.Ended
+abbrev pub end_past : ℕ → SessionEnd
+end_past done = if done + 1 == most_requests then end.Spent else end.Ended

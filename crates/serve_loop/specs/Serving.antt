@@ -112,13 +112,13 @@ ServesAll boot line (exchange ∷ more) later =
     (next : Line) × Serves boot line next exchange × (exchange.request.last ≡ false)
     × ServesAll boot next more later
 
--- A link from w to w': the requests that it answered whole and after which it went on, the line behind them, and how it
+-- A link from w to w': the requests that it answered whole and after which it went on, the line after them, and how it
 -- ended there: by a final request, which was answered whole and is the last on its connection, or for another reason.
 pub record Serving (boot : ℕ) (line later : Line) (ends : LinkEnd) : Type 0 where
   pub exchanges : List Exchange
-  pub behind : Line
-  pub serves : ServesAll boot line exchanges behind
-  pub stops : ((ends ≡ end.Ended) × Turns boot turn.Final behind later) ⊎ Stops boot ends behind later
+  pub reached : Line
+  pub serves : ServesAll boot line exchanges reached
+  pub stops : ((ends ≡ end.Ended) × Turns boot turn.Final reached later) ⊎ Stops boot ends reached later
 
 -- A link from this line on, with the outside seen so at its end. What is still to come is what its buffer held, at most
 -- one head, one body and one piece, and what the source has left.

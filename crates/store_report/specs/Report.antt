@@ -12,21 +12,21 @@ use Rattle.row_readings.specs.row_machine.specs.machine.State.{State}
 abbrev pub count_line : List ℕ → ℕ → List ℕ
 count_line kind count = kind ++ codes " " ++ decimal count ++ codes "\n"
 
--- a number behind a space
-abbrev pub number_behind : ℕ → List ℕ
-number_behind number = codes " " ++ decimal number
+-- a number after a space
+abbrev pub number_at_end : ℕ → List ℕ
+number_at_end number = codes " " ++ decimal number
 
 -- the seven parts of an amount, in the order in which limits are judged
 abbrev pub amounts_line : List ℕ → (Part → ℕ) → List ℕ
 amounts_line name amount =
     name
-    ++ number_behind (amount Instances)
-    ++ number_behind (amount Containers)
-    ++ number_behind (amount Machines)
-    ++ number_behind (amount Cpu)
-    ++ number_behind (amount Memory)
-    ++ number_behind (amount Processes)
-    ++ number_behind (amount Disk)
+    ++ number_at_end (amount Instances)
+    ++ number_at_end (amount Containers)
+    ++ number_at_end (amount Machines)
+    ++ number_at_end (amount Cpu)
+    ++ number_at_end (amount Memory)
+    ++ number_at_end (amount Processes)
+    ++ number_at_end (amount Disk)
     ++ codes "\n"
 
 -- how many rows of each kind there are
