@@ -114,8 +114,8 @@ StopsAfterFinal end.ReadFault = ⊥
 StopsAfterFinal end.WriteFault = ⊥
 StopsAfterFinal end.NoMemory = ⊥
 
--- A session from w to w': the requests that it answered whole, the world after them, and how it stopped there. Either
--- none of them was the last on its connection, or the final one alone was.
+-- A session from one world to a later one: the requests that it answered whole, the world after them, and how it
+-- stopped there. Either none of them was the last on its connection, or the final one alone was.
 pub record Session (boot : ℕ) (pace : Pace) (world later : World) (ends : SessionEnd) : Type 0 where
   pub exchanges : List Exchange
   pub reached : World

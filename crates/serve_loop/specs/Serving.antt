@@ -112,8 +112,9 @@ ServesAll boot line (exchange ∷ more) later =
     (next : Line) × Serves boot line next exchange × (exchange.request.last ≡ false)
     × ServesAll boot next more later
 
--- A link from w to w': the requests that it answered whole and after which it went on, the line after them, and how it
--- ended there: by a final request, which was answered whole and is the last on its connection, or for another reason.
+-- A link from one line to a later one: the requests that it answered whole and after which it went on, the line after
+-- them, and how it ended there: by a final request, which was answered whole and is the last on its connection, or for
+-- another reason.
 pub record Serving (boot : ℕ) (line later : Line) (ends : LinkEnd) : Type 0 where
   pub exchanges : List Exchange
   pub reached : Line

@@ -16,8 +16,8 @@ abbrev pub and_then : Answer → State → After
 and_then answer state = record { answer = answer; state = state }
 
 -- the state after an operation took another status, with the notice of it
-abbrev pub told : State → ℕ → ℕ → State
-told state number moment = telling (operation_notice state number moment) state
+abbrev pub with_operation_notice : State → ℕ → ℕ → State
+with_operation_notice state number moment = telling (operation_notice state number moment) state
 
 abbrev pub started : State → ℕ → Reply
 started state number =
@@ -26,15 +26,15 @@ started state number =
 -- it is entered under the next number, and shown as it waits
 abbrev pub begun : State → Task → ℕ → After
 begun state task moment =
-    and_then (answer.Reply (started after state.operations.next)) (told after state.operations.next moment) where
+    and_then (answer.Reply (started after state.operations.next)) (with_operation_notice after state.operations.next moment) where
       after : State
       after = entered state task moment
 
 -- one that waits is cancelled at once, one that runs becomes Cancelling
 abbrev pub after_cancel : State → ℕ → ℕ → Result Status CancelFault → State
 after_cancel state number moment (Err why) = state
-after_cancel state number moment (Ok status.Cancelled) = told (cancelled state number moment) number moment
-after_cancel state number moment (Ok now) = told (moved number now moment state) number moment
+after_cancel state number moment (Ok status.Cancelled) = with_operation_notice (cancelled state number moment) number moment
+after_cancel state number moment (Ok now) = with_operation_notice (moved number now moment state) number moment
 
 abbrev pub cancel : State → ℕ → ℕ → After
 cancel state number moment =

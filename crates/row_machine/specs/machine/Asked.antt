@@ -65,10 +65,10 @@ instance_in of = instance of.kind where
 
 -- the instance that a creation copies from, or to which it adds a snapshot
 abbrev pub instance_made_from : Target → Body → Option (List ℕ)
-instance_made_from of body = made of.kind where
-  made : ObjectKind → Option (List ℕ)
-  made kind.Snapshot = Some of.instance
-  made kind = copied_from kind body.origin
+instance_made_from of body = source of.kind where
+  source : ObjectKind → Option (List ℕ)
+  source kind.Snapshot = Some of.instance
+  source kind = copied_from kind body.origin
 
 -- the instance that a command would change or copy from
 abbrev pub instance_changed : What → Option (List ℕ)

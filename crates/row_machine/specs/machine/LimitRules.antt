@@ -2,7 +2,7 @@
 use Rattle.std.specs.Prelude.{◌∷◌}
 use Rattle.row_machine.specs.Words.{Expanded, ℕ, List, [], filter, Option, codes, option_map, option_to_list, bytes_eq}
 use Rattle.row_machine.specs.Words.{first, first_of, amount_above, Part, LimitKey, Instances, Containers, Machines, Cpu}
-use Rattle.row_machine.specs.Words.{Memory, Processes, Disk, Networks, Over, SumKey, over, limit_on, parts}
+use Rattle.row_machine.specs.Words.{Memory, Processes, Disk, Networks, Over, SumKey, exceeded, limit_on, parts}
 use Rattle.row_machine.specs.Words.{first_uncounted, volume_uncounted, limits_of, Rule, Refusal, Rule as rule}
 use Rattle.row_machine.specs.Words.{SumKey as sum, key_of_part, Project, Volume, Instance}
 use Rattle.row_machine.specs.Estate.{Task, State, expanded_of, nothing_told, on_key_of}
@@ -85,7 +85,7 @@ over_refusal project over = record {
 -- Of one number: what is used before, and what the change asks for above it, together exceed the limit.
 abbrev pub limit_exceeded : Project → LimitKey → Option ℕ → ℕ → ℕ → Option Refusal
 limit_exceeded project key limit before after =
-    option_map (over_refusal project) (over key limit before (amount_above after before))
+    option_map (over_refusal project) (exceeded key limit before (amount_above after before))
 
 unfoldable pub part_exceeds : State → State → Part → Project → Option Refusal
 part_exceeds state after part project =

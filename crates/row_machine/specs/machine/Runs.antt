@@ -21,8 +21,8 @@ pub record Ran : Type 0 where
   pub ends : List (ℕ × Status)
   pub state : State
 
-abbrev pub behind : State → After → Ran → Ran
-behind state first rest = record {
+abbrev pub prepended : State → After → Ran → Ran
+prepended state first rest = record {
   answers = first.answer ∷ rest.answers;
   ends = ends_between state first.state ++ rest.ends;
   state = rest.state;
@@ -32,4 +32,4 @@ behind state first rest = record {
 abbrev pub run : State → List (Event × Outcome) → Option Ran
 run state [] = Some (record { answers = []; ends = []; state = state })
 run state (event ∷ events) =
-    option_and_then (λ first. option_map (behind state first) (run first.state events)) (step state event.0 event.1)
+    option_and_then (λ first. option_map (prepended state first) (run first.state events)) (step state event.0 event.1)

@@ -8,7 +8,7 @@ use Rattle.row_machine.specs.Estate.{Task, State, plain_refusal}
 use Rattle.row_machine.specs.Doings.{Plan, changes, plan_of, telling, success_notices, since, with_task, moved}
 use Rattle.row_machine.specs.Doings.{handing_out, one_more_done, undone, succeeded, failed, cancelled, success_changes}
 use Rattle.row_machine.specs.machine.Rules.{broken}
-use Rattle.row_machine.specs.machine.Accept.{After, and_then, accepted, told}
+use Rattle.row_machine.specs.machine.Accept.{After, and_then, accepted, with_operation_notice}
 
 -- What the outside made of a step: all went well, the store failed and its count rose, or memory was refused.
 pub data Outcome : Type 0 where
@@ -21,12 +21,12 @@ abbrev pub unavailable : State → Plan → Option After
 unavailable state (changes row_changes) = Some (and_then (answer.Reply (reply.Refused (plain_refusal rule.K1))) state)
 unavailable state other = None
 
-abbrev pub asked : State → Command → ℕ → Outcome → Option Refusal → Option After
-asked state command moment well (Some refusal) = Some (and_then (answer.Reply (reply.Refused refusal)) state)
-asked state command moment well None = Some (accepted state command moment)
-asked state command moment (keeper_failed rise) (Some refusal) = None
-asked state command moment (keeper_failed rise) None = unavailable state (plan_of state command moment)
-asked state command moment no_memory refused = Some (and_then answer.NoMemory state)
+abbrev pub after_command : State → Command → ℕ → Outcome → Option Refusal → Option After
+after_command state command moment well (Some refusal) = Some (and_then (answer.Reply (reply.Refused refusal)) state)
+after_command state command moment well None = Some (accepted state command moment)
+after_command state command moment (keeper_failed rise) (Some refusal) = None
+after_command state command moment (keeper_failed rise) None = unavailable state (plan_of state command moment)
+after_command state command moment no_memory refused = Some (and_then answer.NoMemory state)
 
 -- the lowest-numbered operation that waits for its first call
 abbrev pub first_pending : State → Option (Operation Task)
@@ -36,7 +36,7 @@ abbrev pub handed_out : State → Operation Task → ℕ → List HostCall → A
 handed_out state operation moment [] = and_then answer.NoJob state
 handed_out state operation moment (call ∷ rest) =
     and_then (answer.Job operation.number call)
-    (told
+    (with_operation_notice
     (with_task operation.number (handing_out operation.work rest) (moved operation.number Status.Running moment state))
     operation.number moment)
 
@@ -45,15 +45,15 @@ taken state moment (Some operation) = handed_out state operation moment operatio
 taken state moment None = and_then (if state.closed then answer.Closed else answer.NoJob) state
 
 -- an operation ended: its lifecycle notices, if it succeeded, and then itself
-abbrev pub over : State → ℕ → ℕ → After
-over state number moment = and_then (answer.Ended number) (told state number moment)
+abbrev pub after_end : State → ℕ → ℕ → After
+after_end state number moment = and_then (answer.Ended number) (with_operation_notice state number moment)
 
 abbrev pub success : State → Operation Task → ℕ → After
 success state operation moment =
-    over (telling (success_notices operation.work moment) (succeeded state operation moment)) operation.number moment
+    after_end (telling (success_notices operation.work moment) (succeeded state operation moment)) operation.number moment
 
 abbrev pub failure : State → Operation Task → OpFault → ℕ → ℕ → After
-failure state operation why done moment = over (failed state operation why done moment) operation.number moment
+failure state operation why done moment = after_end (failed state operation why done moment) operation.number moment
 
 -- The last call was done: the rows are committed. A change of state that removes nothing commits nothing.
 abbrev pub committed : State → Operation Task → ℕ → Outcome → List RowChange → Option After
@@ -87,7 +87,7 @@ abbrev pub while_cancelling : State → Operation Task → ℕ → Outcome → O
 while_cancelling state operation moment well (Some call) =
     Some (and_then (answer.Job operation.number call) (with_task operation.number (undone operation.work) state))
 while_cancelling state operation moment well None =
-    Some (over (cancelled state operation.number moment) operation.number moment)
+    Some (after_end (cancelled state operation.number moment) operation.number moment)
 while_cancelling state operation moment other undo = None
 
 -- no call of the operation is out
@@ -118,7 +118,7 @@ fetched state cursor filter no_memory = Some (and_then answer.NoMemory state)
 
 -- One step. None where an outcome is not possible with the event.
 unfoldable pub step : State → Event → Outcome → Option After
-step state (event.Ask command moment) outcome = asked state command moment outcome (broken state command moment)
+step state (event.Ask command moment) outcome = after_command state command moment outcome (broken state command moment)
 step state (event.Look number) outcome = always (and_then looked state) outcome where
   looked : Answer
   looked = if is_some (live_at state.operations number) then answer.NotYet number else answer.Ended number
