@@ -19,7 +19,7 @@ use Rattle.serial_sessions.specs.declared.session.SessionEnd.{SessionEnd}
 use Rattle.serial_sessions.specs.declared.session.SessionEnd.TheVariants as end
 use Rattle.serial_sessions.specs.Most.{most_requests}
 use Rattle.serial_sessions.specs.Sessions.{Session, Serves, ServesAll, Stops, CountsAt, StopsAfterFinal, AllGoOn}
-use Rattle.serial_sessions.specs.Sessions.{OnlyFinalEnds, end_past}
+use Rattle.serial_sessions.specs.Sessions.{OnlyFinalEnds, end_after_final}
 use Rattle.serial_sessions.specs.Inputs.{requests_of}
 use Rattle.serial_sessions.specs.Worlds.{World, input}
 
@@ -232,7 +232,7 @@ session_stops boot pace a b c count ends far few stops = record {
 -- a session stops after a final request
 pub session_final : (boot : ℕ) (pace : Pace) (a b c : World) (count : ℕ) (ends : SessionEnd)
     → ServesSoFar boot pace a b count → count < most_requests
-    → (e : Exchange) × Serves boot pace b c e × (e.request.last ≡ true) → ends ≡ end_past count
+    → (e : Exchange) × Serves boot pace b c e × (e.request.last ≡ true) → ends ≡ end_after_final count
     → Session boot pace a c ends
 session_final boot pace a b c count ends far few next is =
     subst (λ e. Session boot pace a c e) (sym is) (by (count + 1 == most_requests) refl) where
@@ -248,7 +248,7 @@ session_final boot pace a b c count ends far few next is =
       only : OnlyFinalEnds all
       only = only_final_append far.exchanges next.0 far.going next.2
 
-      by : (full : Bool) → (count + 1 == most_requests) ≡ full → Session boot pace a c (end_past count)
+      by : (full : Bool) → (count + 1 == most_requests) ≡ full → Session boot pace a c (end_after_final count)
       by true is = rw is (record {
         exchanges = all;
         reached = c;

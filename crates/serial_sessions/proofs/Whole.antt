@@ -18,7 +18,7 @@ use Rattle.serial_sessions.specs.declared.session.SessionEnd.TheVariants as end
 use Rattle.serial_sessions.specs.Inputs.{status_of}
 use Rattle.serial_sessions.specs.Sessions.{Session, Stops, CountsAt, StopsAfterFinal, AllGoOn, OnlyFinalEnds}
 use Rattle.serial_sessions.proofs.Served.{together}
-use Rattle.serial_sessions.specs.Inputs.{requests_of, answered, end_at, end_past_all, end_due}
+use Rattle.serial_sessions.specs.Inputs.{requests_of, answered, end_at, end_after, end_due}
 use Rattle.rest_service.specs.rest_answers.specs.Lasts.{has_last, through_last}
 use Rattle.serial_sessions.specs.Worlds.{World, input}
 
@@ -89,7 +89,7 @@ answered_final exchanges messages more are only few =
 
 -- the end that is due after answered requests
 due_going : (exchanges : List Exchange) (ending : Ending) → AllGoOn exchanges → length exchanges < most_requests
-    → end_past_all (requests_of exchanges) ending ≡ end_at ending
+    → end_after (requests_of exchanges) ending ≡ end_at ending
 due_going exchanges ending going few = rw (
   not_full (length (requests_of exchanges)) (omega (arith, few, length_requests exchanges)),
   has_last_going exchanges going,
@@ -97,12 +97,12 @@ due_going exchanges ending going few = rw (
 
 -- the same where they are as many as a session may answer
 due_full : (exchanges : List Exchange) (ending : Ending) → length exchanges ≡ most_requests
-    → end_past_all (requests_of exchanges) ending ≡ record { status = 10; text = [] }
+    → end_after (requests_of exchanges) ending ≡ record { status = 10; text = [] }
 due_full exchanges ending full = rw (is_full (length (requests_of exchanges)) (length_requests exchanges ∙ full)) refl
 
 -- and where the final one is the last on its connection
 due_final : (exchanges : List Exchange) (ending : Ending) → OnlyFinalEnds exchanges → length exchanges < most_requests
-    → end_past_all (requests_of exchanges) ending ≡ record { status = 0; text = [] }
+    → end_after (requests_of exchanges) ending ≡ record { status = 0; text = [] }
 due_final exchanges ending only few = rw (
   not_full (length (requests_of exchanges)) (omega (arith, few, length_requests exchanges)),
   has_last_final exchanges only,
@@ -137,11 +137,11 @@ pub record IsDue (messages : List Request) (ending : Ending) (ends : SessionEnd)
 -- the end is that of the requests that are answered
 due_by : (messages : List Request) (ending : Ending) (ends : SessionEnd) (exchanges : List Exchange)
     → answered messages ≡ requests_of exchanges
-    → end_past_all (requests_of exchanges) ending ≡ record { status = status_of ends; text = text_at ends }
+    → end_after (requests_of exchanges) ending ≡ record { status = status_of ends; text = text_at ends }
     → IsDue messages ending ends exchanges
 due_by messages ending ends exchanges are due = record {
   requests_are = sym are;
-  end_is = ap (λ ms. end_past_all ms ending) are ∙ due;
+  end_is = ap (λ ms. end_after ms ending) are ∙ due;
 }
 
 -- where the rest after the requests ends as the session stopped

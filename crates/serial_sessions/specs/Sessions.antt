@@ -167,5 +167,5 @@ RefusesPlace fault end.Spent sink sink' = ⊥
 
 -- Where a session stops after a final request, with this many requests answered before it: the number may be full with
 -- it.
-abbrev pub end_past : ℕ → SessionEnd
-end_past done = if done + 1 == most_requests then end.Spent else end.Ended
+abbrev pub end_after_final : ℕ → SessionEnd
+end_after_final done = if done + 1 == most_requests then end.Spent else end.Ended
