@@ -72,8 +72,8 @@ IsCountableVolume project volume = volume.project ≡ project.name
 -- number of its networks. Each of its instances and volumes, also those that an operation is about to put, is
 -- countable.
 pub record KeepsLimits (state : State) (project : Project) : Type 0 where
-  pub usage : (key : Part)
-      → IfSome (limit_on key (limits_of project.config)) (λ limit. part key (usage_of state project.name) ≤ limit)
+  pub usage : (a_part : Part)
+      → IfSome (limit_on a_part (limits_of project.config)) (λ limit. part a_part (usage_of state project.name) ≤ limit)
   pub networks : IfSome (limits_of project.config).networks (λ limit. networks_of state project.name ≤ limit)
   pub instances : Each (IsCountable state project) (judged_instances state)
   pub volumes : Each (IsCountableVolume project) (judged_volumes state)
@@ -106,9 +106,10 @@ pub record HasItsLayers (state : State) (instance : Instance) : Type 0 where
 
 -- the books balance: of the shares that were granted to operations each was converted, or returned, or is still held
 abbrev pub BooksBalance : State → Type 0
-BooksBalance state = (key : Part) →
-    part key state.books.granted
-    ≡ part key state.books.converted + part key state.books.returned + sum_by (λ hold. part key hold.share) state.held
+BooksBalance state = (a_part : Part) →
+    part a_part state.books.granted
+    ≡ part a_part state.books.converted + part a_part state.books.returned
+    + sum_by (λ hold. part a_part hold.share) state.held
 
 -- what stands at the end of each turn
 pub record StandsAsPromised (state : State) : Type 0 where
@@ -125,8 +126,8 @@ IsKeptAs state operation now = option_map (λ kept. kept.status) (kept_at state.
 
 -- the whole share of an operation was added to this book
 abbrev pub Takes : State → Operation Task → Amounts → Amounts → Type 0
-Takes state operation before after = (key : Part)
-    → part key after ≡ part key before + part key (share_of state operation.work)
+Takes state operation before after = (a_part : Part)
+    → part a_part after ≡ part a_part before + part a_part (share_of state operation.work)
 
 -- How an operation ended, and where its share went: the whole of it to its object, or the whole of it back.
 pub data EndsWhole (state later : State) (operation : Operation Task) : Type 0 where

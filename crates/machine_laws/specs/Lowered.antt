@@ -32,12 +32,12 @@ pub record LowersUsage (state later : State) (operation : Operation Task) : Type
   pub new : Instance
   pub stands : instance_named state.instances operation.work.project operation.work.target.name ≡ Some old
   pub claimed : claimed_instance operation.work ≡ Some new
-  pub own : (key : Part)
-      → part key (usage_of state operation.work.project)
-      ≡ part key (usage_of later operation.work.project)
-      + part key (minus_of (amounts_of_instance state old) (amounts_of_instance state new))
-  pub others : (project : List ℕ) → project ≢ operation.work.project → (key : Part)
-      → part key (usage_of later project) ≡ part key (usage_of state project)
+  pub own : (a_part : Part)
+      → part a_part (usage_of state operation.work.project)
+      ≡ part a_part (usage_of later operation.work.project)
+      + part a_part (minus_of (amounts_of_instance state old) (amounts_of_instance state new))
+  pub others : (project : List ℕ) → project ≢ operation.work.project → (a_part : Part)
+      → part a_part (usage_of later project) ≡ part a_part (usage_of state project)
 
 -- an update or a restore that succeeds
 abbrev pub UpdatesLower : Type 0
@@ -51,4 +51,5 @@ UpdatesLower =
 abbrev pub SuccessesRaiseNothing : Type 0
 SuccessesRaiseNothing = (state : State) (operation : Operation Task) (moment : ℕ) (after : After)
     → IsLastDone state operation → step state (event.Done operation.number report.Done moment) well ≡ Some after
-    → (project : List ℕ) (key : Part) → part key (usage_of after.state project) ≤ part key (usage_of state project)
+    → (project : List ℕ) (a_part : Part)
+    → part a_part (usage_of after.state project) ≤ part a_part (usage_of state project)

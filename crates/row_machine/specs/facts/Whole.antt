@@ -191,8 +191,8 @@ held_by state operation =
 
 -- each limit of a project that is set is at least what is used of it, and all that counts for it is countable
 pub record IsWithin (state : State) (project : Project) : Type 0 where
-  pub parts : (key : Part)
-      → IfSome (limit_on key (limits_of project.config)) (λ limit. used state project.name key ≤ limit)
+  pub parts : (part : Part)
+      → IfSome (limit_on part (limits_of project.config)) (λ limit. used state project.name part ≤ limit)
   pub networks : IfSome (limits_of project.config).networks (λ limit. networks_of state project.name ≤ limit)
   pub instances : Each (λ instance. instance.project ≡ project.name → instance_uncounted state project instance ≡ None)
       (judged_instances state)
@@ -218,9 +218,10 @@ pub record AreWithin (state : State) : Type 0 where
 
 -- what was granted was converted or returned or is still held
 abbrev pub AreBalanced : State → Type 0
-AreBalanced state = (key : Part)
-    → part key state.books.granted
-    ≡ part key state.books.converted + part key state.books.returned + sum_by (λ hold. part key hold.share) state.held
+AreBalanced state = (a_part : Part)
+    → part a_part state.books.granted
+    ≡ part a_part state.books.converted + part a_part state.books.returned
+    + sum_by (λ hold. part a_part hold.share) state.held
 
 -- ---- 10: sizes, and the numbers of notices
 

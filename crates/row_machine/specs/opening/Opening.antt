@@ -208,7 +208,7 @@ row_breaks state rows rule = first_of (λ row. option_map (broken_at row) (rule 
 -- a project's usage is above a limit of its own
 abbrev pub limit_breaks : State → List Row → Option Opening
 limit_breaks state rows = first
-    (first_of (λ key. first_of (λ project. at project (part_exceeds state state key project)) state.projects) parts
+    (first_of (λ part. first_of (λ project. at project (part_exceeds state state part project)) state.projects) parts
     ∷ first_of (λ project. at project (networks_exceed state state project)) state.projects
     ∷ []) where
       at : Project → Option Refusal → Option Opening

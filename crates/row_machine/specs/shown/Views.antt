@@ -100,8 +100,8 @@ line_key part_of.Disk = line.Disk
 
 -- a part of the usage of a project, with its limit
 abbrev pub usage_line : State → Project → Part → UsageLine
-usage_line state project key =
-    record { key = line_key key; used = used state project.name key; limit = limit_on key (limits_of project.config) }
+usage_line state project part = record
+    { key = line_key part; used = used state project.name part; limit = limit_on part (limits_of project.config) }
 
 -- its number of networks, with its limit
 abbrev pub networks_line : State → Project → UsageLine
