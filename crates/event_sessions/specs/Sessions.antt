@@ -34,7 +34,7 @@ pub data Place : Type 0 where
 -- where a session stands that got these events, after so many rests
 abbrev pub after_notices : List Notice → ℕ → ℕ → Place
 after_notices [] next rests = resting next rests
-after_notices (n ∷ more) next rests = asking next 0
+after_notices (notice ∷ more) next rests = asking next 0
 
 abbrev pub after_fetched : Fetched → ℕ → Place
 after_fetched (fetched.Notices notices next) rests = after_notices notices next rests
@@ -74,12 +74,12 @@ got trail = flat_map got_at trail
 
 -- events as frames, in their order
 abbrev pub frames_of : ℕ → List Notice → List ℕ
-frames_of boot notices = flat_map (λ n. text_frame (notice_text n boot)) notices
+frames_of boot notices = flat_map (λ notice. text_frame (notice_text notice boot)) notices
 
 -- The head, once something was asked.
 abbrev pub head_after : List Item → List ℕ → List ℕ
 head_after [] key = []
-head_after (i ∷ more) key = accepting_head key
+head_after (item ∷ more) key = accepting_head key
 
 -- a session that lags is closed
 abbrev pub close_at : Place → List ℕ

@@ -103,7 +103,7 @@ OnFault (Err (stop.Malformed fault)) P = Unit {0}
 OnFault (Err stop.NoMemory) P = Unit {0}
 
 -- a request of the bytes that were held and those that were taken in, and what is held after it
-pub record Takes (old new : List ℕ) (left left' : Option (List ℕ)) (m : Request) : Type 0 where
+pub record Takes (old new : List ℕ) (left left' : Option (List ℕ)) (message : Request) : Type 0 where
   pub more : List ℕ
-  pub is : IsMessage (old ++ more) m new
+  pub is : IsMessage (old ++ more) message new
   pub from : Consumes left left' more

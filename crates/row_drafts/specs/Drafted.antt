@@ -41,11 +41,11 @@ pub record CanClaim (draft : Drafted) : Type 0 where
 
 -- the status of a new instance
 abbrev pub stopped : Instance → Standing
-stopped i = record { project = i.project; name = i.name; power = Stopped }
+stopped instance = record { project = instance.project; name = instance.name; power = Stopped }
 
 -- the status that a change may need: that of the instance which it puts
 abbrev pub spares_for : RowChange → List Standing
-spares_for (change.Put (row.Instance i)) = stopped i ∷ []
+spares_for (change.Put (row.Instance instance)) = stopped instance ∷ []
 spares_for other = []
 
 -- those that changes may need, in their order

@@ -68,7 +68,7 @@ roots_by (made ∷ more) roots = roots_by more (roots_after made.0 made.1 roots)
 -- calls with these reports, one for each, made these roots of the told ones
 pub record Makes (reports : List Report) (roots roots' : Option (List HostRoot)) : Type 0 where
   pub made : List (Report × HostCall)
-  pub reports_are : map (λ (m : Report × HostCall). m.0) made ≡ reports
+  pub reports_are : map (λ (pair : Report × HostCall). pair.0) made ≡ reports
   pub roots_are : roots' ≡ roots_by made roots
 
 -- What steps came to. The clock was read once for each, in their order, before the year 10000; the host's told roots

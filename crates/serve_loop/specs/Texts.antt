@@ -46,21 +46,21 @@ end_at (malformed fault) = end.Malformed fault
 -- The requests that are answered: those up to and with the first that is the last on its connection, or before the
 -- first that subscribes to events.
 abbrev pub answered_by : Option Subscription → Request → List Request → List Request
-answered_by (Some wanted) m others = []
-answered_by None m others = m ∷ (if m.last then [] else others)
+answered_by (Some wanted) message others = []
+answered_by None message others = message ∷ (if message.last then [] else others)
 
 abbrev pub answered : List Request → List Request
 answered [] = []
-answered (m ∷ more) = answered_by (subscription_of m) m (answered more)
+answered (message ∷ more) = answered_by (subscription_of message) message (answered more)
 
 -- how a link ends over an input with these messages and this ending, where nothing fails
 abbrev pub end_by : Option Subscription → Request → LinkEnd → LinkEnd
-end_by (Some wanted) m other = end.Events wanted
-end_by None m other = if m.last then end.Ended else other
+end_by (Some wanted) message other = end.Events wanted
+end_by None message other = if message.last then end.Ended else other
 
 abbrev pub end_due : List Request → Ending → LinkEnd
 end_due [] ending = end_at ending
-end_due (m ∷ more) ending = end_by (subscription_of m) m (end_due more ending)
+end_due (message ∷ more) ending = end_by (subscription_of message) message (end_due more ending)
 
 -- the text that is written after the replies
 abbrev pub text_at : LinkEnd → List ℕ

@@ -15,7 +15,7 @@ task_in (starts task) = Some task
 
 -- the row, where it is an instance
 abbrev pub instance_in : Option Row → Option Instance
-instance_in (Some (row.Instance i)) = Some i
+instance_in (Some (row.Instance instance)) = Some instance
 instance_in other = None
 
 -- the row, where it is a snapshot

@@ -19,10 +19,10 @@ use Rattle.work_reports.specs.declared.success.Ending.{Ending}
 use Rattle.work_reports.specs.declared.waiting.Waiting.{Waiting}
 
 -- what the success of a task needs over these rows
-pub record IsEndingOf (s : State) (task : Task) (moment : ℕ) (ending : Ending) : Type 0 where
-  pub power : ending.power ≡ power_after s task
-  pub changes : ending.changes ≡ success_changes s task
-  pub entries : ending.entries ≡ entry_changes (success_changes s task)
+pub record IsEndingOf (state : State) (task : Task) (moment : ℕ) (ending : Ending) : Type 0 where
+  pub power : ending.power ≡ power_after state task
+  pub changes : ending.changes ≡ success_changes state task
+  pub entries : ending.entries ≡ entry_changes (success_changes state task)
   pub notices : ending.notices ≡ success_notices task moment
 
 -- Changes of entries were committed in one call to the store, which is not called where there are none. Or that call
