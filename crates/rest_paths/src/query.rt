@@ -132,45 +132,16 @@ fn types_of(value: &[u8]) -> Option<Types>
 /// The flags after one more pair, or none if the pair is bad. The first of equal keys counts, and keys of no meaning
 /// are passed over.
 #[tactic(auto, unfolding(crate::specs::Queries::flags_after))]
-fn flags_after(flags: Flags, key: &str, value: &str) -> Option<Flags>
+fn flags_after(mut flags: Flags, key: &str, value: &str) -> Option<Flags>
     ensures { result ≡ flags_after flags key.now value.now }
 {
-    let Flags {
-        recursion,
-        timeout,
-        types,
-    } = flags;
-    if key == "recursion" && recursion.is_none() {
-        return match recursion_of(value) {
-            Some(objects) => Some(Flags {
-                recursion: Some(objects),
-                timeout,
-                types,
-            }),
-            None => None,
-        };
-    }
-    if key == "timeout" && timeout.is_none() {
-        return match timeout_of(value) {
-            Some(time) => Some(Flags {
-                recursion,
-                timeout: Some(time),
-                types,
-            }),
-            None => None,
-        };
-    }
-    if key == "type" && types.is_none() {
-        return match types_of(value.as_bytes()) {
-            Some(types) => Some(Flags {
-                recursion,
-                timeout,
-                types: Some(types),
-            }),
-            None => None,
-        };
-    }
-    if key == "all-projects" || key == "filter" {
+    if key == "recursion" && flags.recursion.is_none() {
+        flags.recursion = Some(recursion_of(value)?);
+    } else if key == "timeout" && flags.timeout.is_none() {
+        flags.timeout = Some(timeout_of(value)?);
+    } else if key == "type" && flags.types.is_none() {
+        flags.types = Some(types_of(value.as_bytes())?);
+    } else if key == "all-projects" || key == "filter" {
         return None;
     }
     Some(flags)
