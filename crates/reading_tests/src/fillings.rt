@@ -45,7 +45,7 @@ const FILLINGS: [(&str, &[Given], &[Given]); 8] = [
         &[("a", "x", "3"), ("a", "y", "2")],
     ),
     (
-        "behind again",
+        "one in front, then one after",
         &[("b", "x", "1"), ("a", "x", "2"), ("c", "x", "3")],
         &[("a", "x", "2"), ("b", "x", "1"), ("c", "x", "3")],
     ),
