@@ -306,24 +306,24 @@ fn is_printed(alloc: Global, reply: Reply, code: u16, body: &str) -> bool {
     is_so
 }
 
-/// What follows on a text that begins so; nothing where it does not.
-fn behind<'a>(told: &'a str, begin: &str) -> &'a str {
-    told.strip_prefix(begin).unwrap_or("")
+/// What stands after the beginning of a text; nothing where it does not begin so.
+fn after<'a>(text: &'a str, begin: &str) -> &'a str {
+    text.strip_prefix(begin).unwrap_or("")
 }
 
 /// Whether this is the whole text of an event of this action and date.
-fn is_event(told: &str, action: &str, date: &str) -> bool {
-    let told = behind(told, r#"{"metadata":{"action":""#);
-    let told = behind(told, action);
-    let told = behind(
-        told,
+fn is_event(text: &str, action: &str, date: &str) -> bool {
+    let text = after(text, r#"{"metadata":{"action":""#);
+    let text = after(text, action);
+    let text = after(
+        text,
         r#"","source":"/1.0/instances/b?project=lab"},"project":"lab","timestamp":""#,
     );
-    behind(told, date) == r#"","type":"lifecycle"}"#
+    after(text, date) == r#"","type":"lifecycle"}"#
 }
 
-/// Whether an event of this action and moment is told so.
-fn tells(alloc: Global, life: Life, action: &str, moment: u64, date: &str) -> bool {
+/// Whether an event of this action and moment is printed so.
+fn prints_event(alloc: Global, life: Life, action: &str, moment: u64, date: &str) -> bool {
     let notice = Notice {
         number: 1,
         moment,
@@ -333,10 +333,10 @@ fn tells(alloc: Global, life: Life, action: &str, moment: u64, date: &str) -> bo
             source: text(alloc, "/1.0/instances/b?project=lab"),
         },
     };
-    let told = print_notice(alloc, &notice, 1);
+    let printed = print_notice(alloc, &notice, 1);
     drop(notice);
-    match told {
-        Ok(told) => is_event(told.view(), action, date),
+    match printed {
+        Ok(text) => is_event(text.view(), action, date),
         Err(_) => false,
     }
 }
@@ -400,6 +400,9 @@ fn what_no_run_reaches_has_its_text(rt: HostRuntime) {
 #[test]
 fn each_action_has_its_name(rt: HostRuntime) {
     for (life, action, moment, date) in NOTICES {
-        assert!(rt; tells(rt.alloc(), *life, action, *moment, date), "{action}");
+        assert!(rt;
+            prints_event(rt.alloc(), *life, action, *moment, date),
+            "{action}"
+        );
     }
 }
