@@ -79,7 +79,7 @@ fn push_frame(bytes: &mut Vec<u8>, text: &str) -> Result<(), NoMemory> {
 }
 
 /// The head, these messages, and a close frame.
-fn sent(alloc: Global, texts: &[&str]) -> Result<Vec<u8>, NoMemory> {
+fn message_bytes(alloc: Global, texts: &[&str]) -> Result<Vec<u8>, NoMemory> {
     let mut bytes = Vec::new(alloc);
     bytes.extend_from_slice(HEAD.as_bytes())?;
     for text in texts {
@@ -144,7 +144,7 @@ fn sends<T: Wait + Copy>(
     texts: &[&str],
     cursor: u64,
 ) -> Result<bool, NoMemory> {
-    let due = sent(alloc, texts)?;
+    let due = message_bytes(alloc, texts)?;
     let Some((ends, sink)) = listened(rt, alloc, before, requests, life, op)? else {
         return Ok(false);
     };
