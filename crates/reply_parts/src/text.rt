@@ -1,9 +1,10 @@
 //! JSON that is written as it is made, without a map of its members before it.
-ghost use Rattle.std.specs.Prelude.{◌≡◌, ◌∷◌, ◌++◌, [], IfOk};
+ghost use Rattle.std.specs.Prelude.{◌≡◌, ◌∷◌, ◌++◌, [], false, IfOk};
 ghost use Rattle.json.specs.Print.{quoted};
 ghost use Rattle.serde_json.specs.Data.{boolean};
-ghost use Rattle.serde_json.specs.Written.{comma_if, compact_text};
-
+ghost use Rattle.serde_json.specs.View.{view};
+ghost use Rattle.serde_json.specs.Written.{comma_if, compact_text, has_float};
+ghost use Rattle.reply_parts.specs.Ids.{id_text, operation_link};
 ghost use Rattle.reply_parts.specs.Moments.{moment_text};
 ghost use Rattle.reply_parts.specs.Objects.{whole};
 ghost use Rattle.reply_parts.specs.Settings.{settings_data, devices_data, texts_data};
@@ -13,6 +14,7 @@ use crate::moments::moment_text;
 use config_lists::from_size_values::{NoMemory, Seq, Text};
 use config_lists::{Config, Devices};
 use json::Writer;
+use serde_json::Value;
 use std::alloc::Global;
 use std::marker::Model;
 
@@ -57,7 +59,7 @@ impl JsonText {
     }
 
     /// With a comma, where something stands before.
-    fn comma(self, later: bool) -> Result<JsonText, NoMemory>
+    pub fn comma(self, later: bool) -> Result<JsonText, NoMemory>
         ensures { IfOk result (λ t. t ≡ self ++ comma_if later) }
     {
         if later {
@@ -110,7 +112,33 @@ impl JsonText {
         self.string(text.view())
     }
 
-    /// With a text in a list or an object that has more before it, or not.
+    /// With the id of an operation.
+    pub fn id(self, boot: u64, number: u64) -> Result<JsonText, NoMemory>
+        ensures { IfOk result (λ t. t ≡ self ++ quoted (id_text boot number)) }
+    {
+        let text = id_text(self.alloc, boot, number)?;
+        self.string(text.view())
+    }
+
+    /// With the link of an operation.
+    pub fn link(self, boot: u64, number: u64) -> Result<JsonText, NoMemory>
+        ensures { IfOk result (λ t. t ≡ self ++ quoted (operation_link boot number)) }
+    {
+        let link = operation_link(self.alloc, boot, number)?;
+        self.string(link.view())
+    }
+
+    /// With a value that was made before.
+    pub fn value(mut self, value: &Value) -> Result<JsonText, NoMemory>
+        requires { has_float (view value.now) ≡ false }
+        ensures { IfOk result (λ t. t ≡ self ++ compact_text (view value.now)) }
+    {
+        let text = value.to_vec(self.alloc)?;
+        self.bytes.extend_from_slice(&text)?;
+        Ok(self)
+    }
+
+    /// With a member whose value is a text, and a comma before it where another member stands there.
     fn member(self, later: bool, key: &str, value: &str) -> Result<JsonText, NoMemory>
         ensures { IfOk result (λ t. t ≡ self
             ++ (comma_if later ++ (quoted key.now ++ 58 ∷ quoted value.now))) }
