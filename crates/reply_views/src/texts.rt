@@ -23,7 +23,9 @@ use std::alloc::Global;
 fn write_server(text: JsonText) -> Result<JsonText, NoMemory>
     ensures { IfOk result (λ t. t ≡ text ++ compact_text server_data) }
 {
-    text.plain("{\"api_extensions\":[],\"api_status\":\"stable\",\"api_version\":\"1.0\",\"auth\":\"trusted\",\"public\":false}")
+    text.plain(
+        "{\"api_extensions\":[],\"api_status\":\"stable\",\"api_version\":\"1.0\",\"auth\":\"trusted\",\"public\":false}",
+    )
 }
 
 /// A project, with the links of what it has.
@@ -204,11 +206,7 @@ fn write_power(text: JsonText, power: Power) -> Result<JsonText, NoMemory>
 
 /// The state of a project.
 #[tactic(auto, using(crate::proofs::ViewsPlain::usage_plain))]
-fn write_usage(
-    text: JsonText,
-    alloc: Global,
-    lines: &Seq<UsageLine>,
-) -> Result<JsonText, NoMemory>
+fn write_usage(text: JsonText, alloc: Global, lines: &Seq<UsageLine>) -> Result<JsonText, NoMemory>
     ensures { IfOk result (λ t. t ≡ text ++ compact_text (usage_data lines.now)) }
 {
     let value = usage_value(alloc, lines)?;

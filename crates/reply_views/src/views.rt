@@ -66,4 +66,3 @@ pub(crate) fn usage_value(alloc: Global, lines: &Seq<UsageLine>) -> Result<Value
     let object = Object::new(alloc).with("resources", lines)?;
     Ok(object.into_value())
 }
-

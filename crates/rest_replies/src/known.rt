@@ -1,5 +1,5 @@
 //! Replies that depend on nothing: they are sent as they stand here, and not made anew.
-ghost use Rattle.std.specs.Prelude.{◌≡◌, ◌∷◌, [], ℕ, true, false, codes, IfSome};
+ghost use Rattle.std.specs.Prelude.{◌≡◌, ◌∷◌, [], ℕ, true, codes, IfSome};
 ghost use Rattle.http_front.specs.Replies.{reply_text};
 ghost use Rattle.rest_replies.specs.Replies.{printed_of};
 
@@ -28,15 +28,25 @@ fn are_versions(links: &Seq<Text>) -> bool
     }
 }
 
-/// The whole text of a reply that depends on nothing, and after which the connection stays.
-pub fn known_reply(reply: &Reply) -> Option<&'static [u8]>
+/// The whole text of a reply that depends on nothing, where the connection stays behind it.
+#[tactic(auto, unfolding(crate::specs::Replies::printed_of, crate::specs::Replies::success_data, http_front::specs::Replies::reply_text, json::specs::Print::escape_byte, std::specs::Fmt::digits))]
+pub fn known_reply(reply: &Reply, last: bool) -> Option<&'static [u8]>
     ensures { IfSome result (λ text. (boot : ℕ)
-        → text.now ≡ reply_text (printed_of reply.now boot false)) }
+        → text.now ≡ reply_text (printed_of reply.now boot last)) }
 {
+    if last {
+        return None;
+    }
     match reply {
         Reply::Empty => Some(EMPTY),
         Reply::One(View::Server) => Some(SERVER),
-        Reply::Links(links) => { if are_versions(links) { Some(ROOT) } else { None } }
+        Reply::Links(links) => {
+            if are_versions(links) {
+                Some(ROOT)
+            } else {
+                None
+            }
+        }
         _ => None,
     }
 }

@@ -23,6 +23,7 @@ use std::alloc::Global;
 
 /// What stands in a reply before what it tells, and behind that where the command was carried out at once.
 const FRONT: &str = "{\"metadata\":";
+
 const BACK: &str = ",\"status\":\"Success\",\"status_code\":200,\"type\":\"sync\"}";
 
 /// The reply to a command that was carried out at once, with what it tells.
