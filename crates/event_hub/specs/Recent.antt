@@ -26,7 +26,8 @@ abbrev pub pushed : Untold → Recent → Recent
 pushed notice recent =
     if recent.next == 2 ^ 64 - 1 then recent
     else record {
-      notices = ring_push kept_notices (numbered recent.next notice) recent.notices; next = recent.next + 1
+      notices = ring_push kept_notices (numbered recent.next notice) recent.notices;
+      next = recent.next + 1;
     }
 
 -- several notices, in their order

@@ -88,5 +88,5 @@ device_fault name settings = if is_device_name name
 unfoldable pub devices_fault : NamedDevices → Option SettingFault
 devices_fault devices =
     first_of (λ (device : ℕ × (List ℕ × Settings)).
-        option_map (told.Device device.0) (device_fault device.1.0 device.1.1))
+    option_map (told.Device device.0) (device_fault device.1.0 device.1.1))
     (enumerate_from 0 devices)

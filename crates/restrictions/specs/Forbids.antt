@@ -120,7 +120,7 @@ lowest (found ∷ rest) = earlier found (lowest rest)
 unfoldable pub broken_settings : Restrictions → Subject → Settings → List (Option Forbidden)
 broken_settings policy subject config =
     map (λ (setting : ℕ × (List ℕ × List ℕ)).
-        forbidden_at setting.0 (setting_rule policy subject setting.1.0 setting.1.1))
+    forbidden_at setting.0 (setting_rule policy subject setting.1.0 setting.1.1))
     (enumerate_from 0 config)
 
 -- a demanded key that is not set, after all settings

@@ -31,7 +31,7 @@ volume_link of volume = user_link (volume_uses of volume) (row.Volume volume)
 abbrev pub claim_link : State → List ℕ → Target → List ℕ → Operation Task → Option (List ℕ)
 claim_link state home of project operation =
     if option_map_or (λ new. bytes_eq (project_of_row new) project) operation.work.claim false
-        && claim_uses state home of operation.work
+    && claim_uses state home of operation.work
     then Some (work_link operation.work)
     else None
 
