@@ -27,7 +27,6 @@ const FRONT: &str = "{\"metadata\":";
 const BACK: &str = ",\"status\":\"Success\",\"status_code\":200,\"type\":\"sync\"}";
 
 /// The reply to a command that was carried out at once, with what it tells.
-#[tactic(auto, unfolding(crate::specs::Replies::success_data, json::specs::Print::escape_byte, std::specs::Fmt::digits))]
 fn told_body(alloc: Global, told: &Value) -> Result<Seq<u8>, NoMemory>
     requires { has_float (view told.now) ≡ false }
     ensures { IfOk result (λ b. b ≡ compact_text (success_data (view told.now))) }
@@ -40,7 +39,6 @@ fn told_body(alloc: Global, told: &Value) -> Result<Seq<u8>, NoMemory>
 }
 
 /// The reply to a command that tells nothing.
-#[tactic(auto, unfolding(crate::specs::Replies::success_data, json::specs::Print::escape_byte, std::specs::Fmt::digits))]
 fn empty_body(alloc: Global) -> Result<Seq<u8>, NoMemory>
     ensures { IfOk result (λ b. b ≡ compact_text (success_data (object no_members))) }
 {
@@ -52,7 +50,6 @@ fn empty_body(alloc: Global) -> Result<Seq<u8>, NoMemory>
 }
 
 /// The reply that tells links.
-#[tactic(auto, unfolding(crate::specs::Replies::success_data, json::specs::Print::escape_byte, std::specs::Fmt::digits))]
 fn links_body(alloc: Global, links: &Seq<Text>) -> Result<Seq<u8>, NoMemory>
     ensures { IfOk result (λ b. b ≡ compact_text (success_data (texts_data links.now))) }
 {
@@ -64,7 +61,6 @@ fn links_body(alloc: Global, links: &Seq<Text>) -> Result<Seq<u8>, NoMemory>
 }
 
 /// The reply that tells of one object.
-#[tactic(auto, unfolding(crate::specs::Replies::success_data, json::specs::Print::escape_byte, std::specs::Fmt::digits))]
 fn one_body(alloc: Global, boot: u64, shown: &View) -> Result<Seq<u8>, NoMemory>
     ensures { IfOk result (λ b. b ≡ compact_text (success_data (view_data boot shown.now))) }
 {
@@ -93,7 +89,6 @@ fn write_views(
 }
 
 /// The reply that tells of objects.
-#[tactic(auto, unfolding(crate::specs::Replies::success_data, json::specs::Print::escape_byte, std::specs::Fmt::digits))]
 fn many_body(alloc: Global, boot: u64, views: &Seq<View>) -> Result<Seq<u8>, NoMemory>
     ensures { IfOk result
         (λ b. b ≡ compact_text (success_data (list_of (map (view_data boot) views.now)))) }
@@ -104,7 +99,6 @@ fn many_body(alloc: Global, boot: u64, views: &Seq<View>) -> Result<Seq<u8>, NoM
 }
 
 /// The reply to a command that began an operation.
-#[tactic(auto, unfolding(crate::specs::Replies::started_data, json::specs::Print::escape_byte, std::specs::Fmt::digits))]
 fn started_body(alloc: Global, boot: u64, operation: &OpView) -> Result<Seq<u8>, NoMemory>
     ensures { IfOk result (λ b. b ≡ compact_text (started_data boot operation.now)) }
 {
