@@ -1,4 +1,5 @@
 pub mod Calendar
 pub mod Floatless
 pub mod ReadBack
+pub mod Rising
 pub mod Walked

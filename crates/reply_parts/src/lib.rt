@@ -17,9 +17,11 @@ mod laws;
 mod moments;
 mod object;
 mod settings;
+mod text;
 
 pub use ids::{id_text, number_of, operation_link};
 pub use laws::ids_read_back;
 pub use moments::moment_text;
 pub use object::Object;
 pub use settings::texts_value;
+pub use text::JsonText;

@@ -15,7 +15,9 @@ pub mod from_records {
 
 /// Of `reply_parts`, for the crates above.
 pub mod from_reply_parts {
-    pub use reply_parts::{Object, id_text, ids_read_back, number_of, operation_link, texts_value};
+    pub use reply_parts::{
+        JsonText, Object, id_text, ids_read_back, number_of, operation_link, texts_value,
+    };
 }
 
 /// Of `row_machine`, for the crates above.
@@ -24,9 +26,10 @@ pub mod from_row_machine {
 }
 
 mod operation;
+mod texts;
 mod views;
 mod words;
 
 pub use operation::operation_value;
-pub use views::view_value;
+pub use texts::{write_operation, write_view};
 pub use words::status_key;

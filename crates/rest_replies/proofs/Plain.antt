@@ -1,11 +1,9 @@
--- No reply and no notice has a number with a fraction, so each has the compact text.
+-- What is made before it is written, and notices, have no number with a fraction, so each has the compact text.
 use Rattle.std.proofs.Common.{◌≡◌, ℕ, List, [], ◌∷◌, false, codes, refl}
 use Rattle.reply_views.specs.operations.specs.declared.status.Status.{Status}
 use Rattle.reply_views.specs.records.specs.declared.refusals.Kept.{Kept}
 use Rattle.reply_views.specs.records.specs.declared.refusals.Refusal.{Refusal}
 use Rattle.reply_views.specs.records.specs.declared.replies.OpView.{OpView}
-use Rattle.reply_views.specs.records.specs.declared.replies.Reply.{Reply}
-use Rattle.reply_views.specs.records.specs.declared.replies.Reply.TheVariants as reply
 use Rattle.reply_views.specs.records.specs.declared.notices.Told.{Told}
 use Rattle.reply_views.specs.records.specs.declared.notices.Told.TheVariants as told
 use Rattle.reply_views.specs.records.specs.declared.notices.Notice.{Notice}
@@ -16,12 +14,11 @@ use Rattle.rest_replies.specs.declared.refusals.Part.TheVariants as part
 use Rattle.reply_views.specs.Words.{status_key}
 use Rattle.reply_views.specs.reply_parts.specs.Ids.{operation_link}
 use Rattle.reply_views.specs.Operations.{operation_data}
-use Rattle.reply_views.specs.Views.{view_data}
 use Rattle.rest_replies.specs.Refusals.{rule_name, kept_parts, part_key, part_data, put_parts, kept_data, refusal_data}
-use Rattle.rest_replies.specs.Replies.{success_data, started_data, links_data, put_links, by_status, operations_data, put_operations, whole_by_status, no_memory_refusal, reply_data}
+use Rattle.rest_replies.specs.Replies.{links_data, put_links, by_status, operations_data, put_operations, whole_by_status}
 use Rattle.rest_replies.specs.Notices.{life_data, told_data, notice_data}
-use Rattle.reply_views.specs.reply_parts.proofs.Floatless.{put_plain, items_plain, texts_plain}
-use Rattle.reply_views.proofs.ViewsPlain.{operation_plain, view_plain}
+use Rattle.reply_views.specs.reply_parts.proofs.Floatless.{put_plain, items_plain}
+use Rattle.reply_views.proofs.ViewsPlain.{operation_plain}
 
 -- ---- refusals
 
@@ -43,19 +40,11 @@ kept_plain : (r : Refusal) → has_float (kept_data r) ≡ false
 unfolding kept_data
 kept_plain r = put_parts_plain r.kept (kept_parts r.rule) (put (codes "rule") (string (rule_name r.rule)) no_members) refl
 
-refusal_plain : (r : Refusal) → has_float (refusal_data r) ≡ false
+pub refusal_plain : (r : Refusal) → has_float (refusal_data r) ≡ false
 unfolding refusal_data
 refusal_plain r = rw (kept_plain r) refl
 
 -- ---- replies
-
-success_plain : (d : Data) → has_float d ≡ false → has_float (success_data d) ≡ false
-unfolding success_data
-success_plain d plain = rw plain refl
-
-started_plain : (boot : ℕ) (v : OpView) → has_float (started_data boot v) ≡ false
-unfolding started_data
-started_plain boot v = rw (operation_plain boot v) refl
 
 links_plain : (boot : ℕ) (numbers : List ℕ) → has_float (links_data boot numbers) ≡ false
 unfolding links_data
@@ -65,7 +54,7 @@ put_links_plain : (boot : ℕ) (groups : List (Status × List ℕ)) (ms : Member
 put_links_plain boot [] ms all = all
 put_links_plain boot (x ∷ xs) ms all = put_links_plain boot xs (put (status_key x.0) (links_data boot x.1) ms) (put_plain (status_key x.0) (links_data boot x.1) ms (links_plain boot x.1) all)
 
-by_status_plain : (boot : ℕ) (groups : List (Status × List ℕ)) → has_float (by_status boot groups) ≡ false
+pub by_status_plain : (boot : ℕ) (groups : List (Status × List ℕ)) → has_float (by_status boot groups) ≡ false
 unfolding by_status
 by_status_plain boot groups = put_links_plain boot groups no_members refl
 
@@ -77,20 +66,9 @@ put_operations_plain : (boot : ℕ) (groups : List (Status × List OpView)) (ms 
 put_operations_plain boot [] ms all = all
 put_operations_plain boot (x ∷ xs) ms all = put_operations_plain boot xs (put (status_key x.0) (operations_data boot x.1) ms) (put_plain (status_key x.0) (operations_data boot x.1) ms (operations_plain boot x.1) all)
 
-whole_by_status_plain : (boot : ℕ) (groups : List (Status × List OpView)) → has_float (whole_by_status boot groups) ≡ false
+pub whole_by_status_plain : (boot : ℕ) (groups : List (Status × List OpView)) → has_float (whole_by_status boot groups) ≡ false
 unfolding whole_by_status
 whole_by_status_plain boot groups = put_operations_plain boot groups no_members refl
-
-pub reply_plain : (boot : ℕ) (r : Reply) → has_float (reply_data boot r) ≡ false
-reply_plain boot reply.Empty = success_plain _ refl
-reply_plain boot (reply.Links links) = success_plain _ (texts_plain links)
-reply_plain boot (reply.One v) = success_plain _ (view_plain boot v)
-reply_plain boot (reply.Many views) = success_plain _ (items_plain (view_data boot) views (view_plain boot))
-reply_plain boot (reply.OpLinks groups) = success_plain _ (by_status_plain boot groups)
-reply_plain boot (reply.OpMany groups) = success_plain _ (whole_by_status_plain boot groups)
-reply_plain boot (reply.Started operation) = started_plain boot operation
-reply_plain boot (reply.Refused refusal) = refusal_plain refusal
-reply_plain boot reply.NoMemory = refusal_plain no_memory_refusal
 
 -- ---- notices
 

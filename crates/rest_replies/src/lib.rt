@@ -35,11 +35,13 @@ pub mod from_size_values {
     pub use http_front::from_size_values::{NoMemory, Seq};
 }
 
+mod known;
 mod laws;
 mod notices;
 mod printing;
 mod refusals;
 
+pub use known::known_reply;
 pub use laws::no_memory_is_known;
 pub use notices::print_notice;
 pub use printing::print;

@@ -1,11 +1,13 @@
 //! Replies: the code, the Location and the body of each.
-ghost use Rattle.std.specs.Prelude.{◌≡◌, [], false, map, IfOk, IsTrue};
+ghost use Rattle.std.specs.Prelude.{◌≡◌, ◌++◌, [], false, map, IfOk, IsTrue};
 ghost use Rattle.http_front.specs.Replies.{is_reply_code};
 ghost use Rattle.serde_json.specs.Data.{object, no_members};
 ghost use Rattle.serde_json.specs.View.{view};
 ghost use Rattle.serde_json.specs.Written.{has_float, compact_text};
 ghost use Rattle.reply_views.specs.reply_parts.specs.Objects.{list_of};
+ghost use Rattle.reply_views.specs.reply_parts.specs.Settings.{texts_data};
 ghost use Rattle.reply_views.specs.Views.{view_data};
+ghost use Rattle.rest_replies.specs.Refusals.{refusal_data};
 ghost use Rattle.rest_replies.specs.Replies.{success_data, started_data, links_data, by_status, operations_data};
 ghost use Rattle.rest_replies.specs.Replies.{whole_by_status, no_memory_refusal, reply_data, reply_code};
 ghost use Rattle.rest_replies.specs.Replies.{reply_location, printed_of};
@@ -14,48 +16,98 @@ use crate::refusals::{refusal_value, rule_code};
 use http_front::Printed;
 use http_front::from_size_values::{NoMemory, Seq, Text};
 use reply_views::from_records::{Kept, OpView, Refusal, Reply, Rule, Status, View};
-use reply_views::from_reply_parts::{Object, operation_link, texts_value};
-use reply_views::{operation_value, status_key, view_value};
-use serde_json::{Map, Value};
+use reply_views::from_reply_parts::{JsonText, Object, operation_link};
+use reply_views::{operation_value, status_key, write_operation, write_view};
+use serde_json::Value;
 use std::alloc::Global;
 
+/// What stands in a reply before what it tells, and behind that where the command was carried out at once.
+const FRONT: &str = "{\"metadata\":";
+
+const BACK: &str = ",\"status\":\"Success\",\"status_code\":200,\"type\":\"sync\"}";
+
 /// The reply to a command that was carried out at once, with what it tells.
-#[tactic(auto, unfolding(crate::specs::Replies::success_data))]
-fn success_value(alloc: Global, told: Value) -> Result<Value, NoMemory>
-    ensures { IfOk result (λ v. view v ≡ success_data (view told)) }
+fn told_body(alloc: Global, told: &Value) -> Result<Seq<u8>, NoMemory>
+    requires { has_float (view told.now) ≡ false }
+    ensures { IfOk result (λ b. b ≡ compact_text (success_data (view told.now))) }
 {
-    let object = Object::new(alloc)
-        .with("metadata", told)?
-        .with_text("status", "Success")?
-        .with_number("status_code", 200)?
-        .with_text("type", "sync")?;
-    Ok(object.into_value())
+    let text = JsonText::new(alloc, 1_024)?
+        .plain(FRONT)?
+        .value(told)?
+        .plain(BACK)?;
+    Ok(text.into_bytes())
+}
+
+/// The reply to a command that tells nothing.
+fn empty_body(alloc: Global) -> Result<Seq<u8>, NoMemory>
+    ensures { IfOk result (λ b. b ≡ compact_text (success_data (object no_members))) }
+{
+    let text = JsonText::new(alloc, 128)?
+        .plain(FRONT)?
+        .plain("{}")?
+        .plain(BACK)?;
+    Ok(text.into_bytes())
+}
+
+/// The reply that tells links.
+fn links_body(alloc: Global, links: &Seq<Text>) -> Result<Seq<u8>, NoMemory>
+    ensures { IfOk result (λ b. b ≡ compact_text (success_data (texts_data links.now))) }
+{
+    let text = JsonText::new(alloc, 1_024)?
+        .plain(FRONT)?
+        .texts(links)?
+        .plain(BACK)?;
+    Ok(text.into_bytes())
+}
+
+/// The reply that tells of one object.
+fn one_body(alloc: Global, boot: u64, shown: &View) -> Result<Seq<u8>, NoMemory>
+    ensures { IfOk result (λ b. b ≡ compact_text (success_data (view_data boot shown.now))) }
+{
+    let front = JsonText::new(alloc, 1_024)?.plain(FRONT)?;
+    let text = write_view(front, alloc, boot, shown)?.plain(BACK)?;
+    Ok(text.into_bytes())
+}
+
+/// Objects of any kind, as a list.
+fn write_views(
+    text: JsonText,
+    alloc: Global,
+    boot: u64,
+    views: &Seq<View>,
+) -> Result<JsonText, NoMemory>
+    ensures { IfOk result
+        (λ t. t ≡ text ++ compact_text (list_of (map (view_data boot) views.now))) }
+{
+    let mut written = text.plain("[")?;
+    let mut later = false;
+    for shown in views.view() {
+        written = write_view(written.comma(later)?, alloc, boot, shown)?;
+        later = true;
+    }
+    written.plain("]")
+}
+
+/// The reply that tells of objects.
+fn many_body(alloc: Global, boot: u64, views: &Seq<View>) -> Result<Seq<u8>, NoMemory>
+    ensures { IfOk result
+        (λ b. b ≡ compact_text (success_data (list_of (map (view_data boot) views.now)))) }
+{
+    let front = JsonText::new(alloc, 1_024)?.plain(FRONT)?;
+    let text = write_views(front, alloc, boot, views)?.plain(BACK)?;
+    Ok(text.into_bytes())
 }
 
 /// The reply to a command that began an operation.
-#[tactic(auto, unfolding(crate::specs::Replies::started_data))]
-fn started_value(alloc: Global, boot: u64, operation: &OpView) -> Result<Value, NoMemory>
-    ensures { IfOk result (λ v. view v ≡ started_data boot operation.now) }
+fn started_body(alloc: Global, boot: u64, operation: &OpView) -> Result<Seq<u8>, NoMemory>
+    ensures { IfOk result (λ b. b ≡ compact_text (started_data boot operation.now)) }
 {
-    let started = operation_value(alloc, boot, operation)?;
-    let object = Object::new(alloc)
-        .with("metadata", started)?
-        .with_link("operation", boot, operation.number)?
-        .with_text("status", "Operation created")?
-        .with_number("status_code", 100)?
-        .with_text("type", "async")?;
-    Ok(object.into_value())
-}
-
-/// Objects of any kind.
-fn views_value(alloc: Global, boot: u64, views: &Seq<View>) -> Result<Value, NoMemory>
-    ensures { IfOk result (λ v. view v ≡ list_of (map (view_data boot) views.now)) }
-{
-    let mut values = Vec::new(alloc);
-    for shown in views.view() {
-        values.push(view_value(alloc, boot, shown)?)?;
-    }
-    Ok(Value::Array(values))
+    let front = JsonText::new(alloc, 1_024)?.plain(FRONT)?;
+    let text = write_operation(front, alloc, boot, operation)?
+        .plain(",\"operation\":")?
+        .link(boot, operation.number)?
+        .plain(",\"status\":\"Operation created\",\"status_code\":100,\"type\":\"async\"}")?;
+    Ok(text.into_bytes())
 }
 
 /// Operations by their links.
@@ -133,20 +185,57 @@ fn no_memory_refusal(alloc: Global) -> Refusal
     }
 }
 
-/// The body of a reply.
-fn reply_value(alloc: Global, boot: u64, reply: &Reply) -> Result<Value, NoMemory>
-    ensures { IfOk result (λ v. view v ≡ reply_data boot reply.now) }
+/// The reply that tells operations by status, by their links.
+#[tactic(auto, using(crate::proofs::Plain::by_status_plain))]
+fn by_status_body(
+    alloc: Global,
+    boot: u64,
+    groups: &Seq<(Status, Seq<u64>)>,
+) -> Result<Seq<u8>, NoMemory>
+    ensures { IfOk result (λ b. b ≡ compact_text (success_data (by_status boot groups.now))) }
+{
+    let told = by_status(alloc, boot, groups)?;
+    told_body(alloc, &told)
+}
+
+/// The reply that tells operations by status.
+#[tactic(auto, using(crate::proofs::Plain::whole_by_status_plain))]
+fn whole_by_status_body(
+    alloc: Global,
+    boot: u64,
+    groups: &Seq<(Status, Seq<OpView>)>,
+) -> Result<Seq<u8>, NoMemory>
+    ensures { IfOk result
+        (λ b. b ≡ compact_text (success_data (whole_by_status boot groups.now))) }
+{
+    let told = whole_by_status(alloc, boot, groups)?;
+    told_body(alloc, &told)
+}
+
+/// The reply that refuses a command.
+#[tactic(auto, using(crate::proofs::Plain::refusal_plain))]
+fn refused_body(alloc: Global, refusal: &Refusal) -> Result<Seq<u8>, NoMemory>
+    ensures { IfOk result (λ b. b ≡ compact_text (refusal_data refusal.now)) }
+{
+    let value = refusal_value(alloc, refusal)?;
+    let text = JsonText::new(alloc, 256)?.value(&value)?;
+    Ok(text.into_bytes())
+}
+
+/// The body of a reply as its bytes.
+fn reply_body(alloc: Global, boot: u64, reply: &Reply) -> Result<Seq<u8>, NoMemory>
+    ensures { IfOk result (λ b. b ≡ compact_text (reply_data boot reply.now)) }
 {
     match reply {
-        Reply::Empty => success_value(alloc, Value::Object(Map::new(alloc))),
-        Reply::Links(links) => success_value(alloc, texts_value(alloc, links)?),
-        Reply::One(shown) => success_value(alloc, view_value(alloc, boot, shown)?),
-        Reply::Many(views) => success_value(alloc, views_value(alloc, boot, views)?),
-        Reply::OpLinks(groups) => success_value(alloc, by_status(alloc, boot, groups)?),
-        Reply::OpMany(groups) => success_value(alloc, whole_by_status(alloc, boot, groups)?),
-        Reply::Started(operation) => started_value(alloc, boot, operation),
-        Reply::Refused(refusal) => refusal_value(alloc, refusal),
-        Reply::NoMemory => refusal_value(alloc, &no_memory_refusal(alloc)),
+        Reply::Empty => empty_body(alloc),
+        Reply::Links(links) => links_body(alloc, links),
+        Reply::One(shown) => one_body(alloc, boot, shown),
+        Reply::Many(views) => many_body(alloc, boot, views),
+        Reply::OpLinks(groups) => by_status_body(alloc, boot, groups),
+        Reply::OpMany(groups) => whole_by_status_body(alloc, boot, groups),
+        Reply::Started(operation) => started_body(alloc, boot, operation),
+        Reply::Refused(refusal) => refused_body(alloc, refusal),
+        Reply::NoMemory => refused_body(alloc, &no_memory_refusal(alloc)),
     }
 }
 
@@ -183,16 +272,6 @@ fn reply_location(alloc: Global, boot: u64, reply: &Reply) -> Result<Text, NoMem
         | Reply::Refused(_)
         | Reply::NoMemory => Ok(Text::new(alloc)),
     }
-}
-
-/// The body of a reply as its bytes.
-fn reply_body(alloc: Global, boot: u64, reply: &Reply) -> Result<Seq<u8>, NoMemory>
-    ensures { IfOk result (λ b. b ≡ compact_text (reply_data boot reply.now)) }
-{
-    let value = reply_value(alloc, boot, reply)?;
-    let text = value.to_string(alloc);
-    drop(value);
-    Ok(Seq::from_vec(text?.into_bytes()))
 }
 
 /// A reply as it is printed: its code, its body as JSON, and its Location. The boot word is that of the ids of

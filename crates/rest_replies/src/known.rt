@@ -1,0 +1,40 @@
+//! Replies that depend on nothing: they are sent as they stand here, and not made anew.
+ghost use Rattle.std.specs.Prelude.{◌≡◌, ℕ, true, IfSome};
+ghost use Rattle.http_front.specs.Replies.{reply_text};
+ghost use Rattle.reply_views.specs.records.specs.declared.replies.View.TheVariants as view_of;
+ghost use Rattle.rest_replies.specs.Replies.{printed_of};
+
+use reply_views::from_records::{Reply, View};
+
+/// The reply to a command that was carried out and tells nothing.
+const EMPTY: &[u8] =
+    b"HTTP/1.1 200 OK\r\nContent-Type: application/json\r\nContent-Length: 66\r\n\r\n{\"metadata\":{},\"status\":\"Success\",\"status_code\":200,\"type\":\"sync\"}";
+
+/// The reply that tells of the server.
+const SERVER: &[u8] =
+    b"HTTP/1.1 200 OK\r\nContent-Type: application/json\r\nContent-Length: 159\r\n\r\n{\"metadata\":{\"api_extensions\":[],\"api_status\":\"stable\",\"api_version\":\"1.0\",\"auth\":\"trusted\",\"public\":false},\"status\":\"Success\",\"status_code\":200,\"type\":\"sync\"}";
+
+/// Whether the server is shown.
+fn is_server(shown: &View) -> bool
+    ensures { result ≡ true → shown.now ≡ view_of.Server }
+{
+    match shown {
+        View::Server => true,
+        _ => false,
+    }
+}
+
+/// The whole text of a reply that depends on nothing, where the connection stays behind it.
+pub fn known_reply(reply: &Reply, last: bool) -> Option<&'static [u8]>
+    ensures { IfSome result (λ text. (boot : ℕ)
+        → text.now ≡ reply_text (printed_of reply.now boot last)) }
+{
+    if last {
+        return None;
+    }
+    match reply {
+        Reply::Empty => Some(EMPTY),
+        Reply::One(shown) => { if is_server(shown) { Some(SERVER) } else { None } }
+        _ => None,
+    }
+}
