@@ -1,15 +1,13 @@
 //! What is committed is found again, by the same keeper and by another one.
-use crate::files::{Row, commits, fails_to_commit, finds, keeper_at, renew};
-use sqlite_keeper::from_record_keeper::Keeper;
-use sqlite_keeper::{SqliteKeeper, Trouble};
-use std::alloc::Global;
+use crate::files::{Row, Step, all_go_at, renew};
+use sqlite_keeper::Trouble;
 
 const FOLDER: &str = "sqlite_tests_kept";
 
 const FILE: &str = "sqlite_tests_kept/rows.db";
 
 /// Commits one after the other, and the rows that they leave.
-const COMMITS: [(&str, &[&[Row]], &[Row]); 10] = [
+const COMMITS: &[(&str, &[&[Row]], &[Row])] = &[
     ("nothing", &[], &[]),
     ("no changes", &[&[]], &[]),
     ("a put", &[&[(1, "a", Some(b"x"))]], &[(1, "a", Some(b"x"))]),
@@ -73,59 +71,32 @@ const COMMITS: [(&str, &[&[Row]], &[Row]); 10] = [
     ),
 ];
 
-/// Whether a keeper commits these changes after its first load, and then has these rows.
-fn takes(alloc: Global, keeper: &mut SqliteKeeper, made: &[&[Row]], kept: &[Row]) -> bool {
-    let mut done = finds(keeper, &[]);
-    for rows in made {
-        done = done && commits(alloc, keeper, rows);
-    }
-    done && finds(keeper, kept) && keeper.faults() == 0 && keeper.trouble().is_none()
-}
+/// A commit before the first load fails and is counted, and leaves no trace in the file.
+const EARLY: &[Step<'static>] = &[
+    Step::FailsToCommit(&[(1, "a", Some(b"x"))]),
+    Step::HasFailed(1, Some(Trouble::NotLoaded)),
+    Step::Finds(&[]),
+    Step::Commits(&[&[(1, "a", Some(b"x"))]]),
+    Step::Finds(&[(1, "a", Some(b"x"))]),
+    Step::HasFailed(1, Some(Trouble::NotLoaded)),
+];
 
-/// Whether a keeper of a new file takes these changes.
-fn takes_in_new_file(rt: &HostRuntime, made: &[&[Row]], kept: &[Row]) -> bool {
-    let Ok(mut keeper) = keeper_at(rt, FILE) else {
-        return false;
-    };
-    let same = takes(rt.alloc(), &mut keeper, made, kept);
-    drop(keeper);
-    same
-}
-
-/// Whether another keeper of the file has these rows.
-fn finds_again(rt: &HostRuntime, kept: &[Row]) -> bool {
-    let Ok(mut keeper) = keeper_at(rt, FILE) else {
-        return false;
-    };
-    let same = finds(&mut keeper, kept);
-    drop(keeper);
-    same
-}
-
-/// Whether a commit before a load fails, is counted, and leaves no trace in the file.
-fn fails_early(rt: &HostRuntime) -> bool {
-    let Ok(mut keeper) = keeper_at(rt, FILE) else {
-        return false;
-    };
-    let rows: &[Row] = &[(1, "a", Some(b"x"))];
-    let failed = fails_to_commit(rt.alloc(), &mut keeper, rows)
-        && keeper.faults() == 1
-        && keeper.trouble() == Some(&Trouble::NotLoaded);
-    let taken = finds(&mut keeper, &[])
-        && commits(rt.alloc(), &mut keeper, rows)
-        && finds(&mut keeper, rows)
-        && keeper.faults() == 1;
-    drop(keeper);
-    failed && taken
+/// Whether a keeper of a new file commits these changes after its first load, and then has these rows, as another keeper
+/// of the file has.
+fn keeps(rt: &HostRuntime, made: &'static [&'static [Row]], kept: &'static [Row]) -> bool {
+    let first = [
+        Step::Finds(&[]),
+        Step::Commits(made),
+        Step::Finds(kept),
+        Step::HasFailed(0, None),
+    ];
+    renew(rt, FOLDER) && all_go_at(rt, FILE, &first) && all_go_at(rt, FILE, &[Step::Finds(kept)])
 }
 
 #[test]
 fn what_is_committed_is_found_again(rt: HostRuntime) {
     for (case, made, kept) in COMMITS {
-        assert!(rt; renew(&rt, FOLDER).is_ok(), "{case}");
-        assert!(rt; takes_in_new_file(&rt, made, kept), "{case}");
-        assert!(rt; finds_again(&rt, kept), "{case}, again");
+        assert!(rt; keeps(&rt, made, kept), "{case}");
     }
-    assert!(rt; renew(&rt, FOLDER).is_ok());
-    assert!(rt; fails_early(&rt));
+    assert!(rt; renew(&rt, FOLDER) && all_go_at(&rt, FILE, EARLY));
 }
