@@ -14,11 +14,11 @@ use Rattle.machine_laws.specs.row_machine.specs.machine.Work.{claiming, project_
 -- Where all facts hold, a rule on what is counted (L0), on policy (F1 to F7) or on limits (L1 to L8) that the state with one
 -- more operation breaks is one that the claimed row breaks alone: of the limits, what its project uses before it and its share
 -- decide.
-pub record IsJudgedAlone (s : State) (task : Task) (moment : ℕ) : Type 0 where
-  pub counts : counts_broken (claiming s task moment) ≡ claim_uncounts s task
-  pub policy : policy_broken (claiming s task moment) ≡ claim_forbidden s task
-  pub limits : limits_broken s (claiming s task moment)
-      ≡ share_broken s.projects (project_of_task task) (usage_of s (project_of_task task)) (share_of s task)
+pub record IsJudgedAlone (state : State) (task : Task) (moment : ℕ) : Type 0 where
+  pub counts : counts_broken (claiming state task moment) ≡ claim_uncounts state task
+  pub policy : policy_broken (claiming state task moment) ≡ claim_forbidden state task
+  pub limits : limits_broken state (claiming state task moment)
+      ≡ share_broken state.projects (project_of_task task) (usage_of state (project_of_task task)) (share_of state task)
 
 abbrev pub ClaimsAreJudgedAlone : Type 0
-ClaimsAreJudgedAlone = (s : State) (task : Task) (moment : ℕ) → IsWhole s → IsJudgedAlone s task moment
+ClaimsAreJudgedAlone = (state : State) (task : Task) (moment : ℕ) → IsWhole state → IsJudgedAlone state task moment

@@ -7,7 +7,7 @@ use Rattle.config_lists.specs.Settings.{Settings}
 -- what every `Changes` is: keys rise, and none is empty
 pub record IsChanges (changes : Settings) : Type 0 where
   pub rising : KeysRise changes
-  pub named : All (λ e. e.0 ≢ []) changes
+  pub named : All (λ change. change.0 ≢ []) changes
 
 -- whether a change has a value, and so sets its key
 abbrev pub has_value : List ℕ × List ℕ → Bool
@@ -30,4 +30,4 @@ patched config (change ∷ changes) = patched (changed config change) changes
 abbrev pub value_after : Option (List ℕ) → Option (List ℕ) → Option (List ℕ)
 value_after None old = old
 value_after (Some []) old = None
-value_after (Some (b ∷ bs)) old = Some (b ∷ bs)
+value_after (Some (byte ∷ rest)) old = Some (byte ∷ rest)

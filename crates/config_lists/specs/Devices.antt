@@ -24,7 +24,8 @@ is_root_disk disk = has_setting disk (codes "type") (codes "disk") && has_settin
 -- the places of the root disks, the first of the list at `place`
 abbrev pub root_places : ℕ → NamedDevices → List ℕ
 root_places place [] = []
-root_places place (d ∷ ds) = if is_root_disk d.1 then place ∷ root_places (place + 1) ds else root_places (place + 1) ds
+root_places place (device ∷ rest) =
+    if is_root_disk device.1 then place ∷ root_places (place + 1) rest else root_places (place + 1) rest
 
 -- the place of the one root disk, or that there is none, or that there are several
 abbrev pub one_of : List ℕ → Root

@@ -19,7 +19,7 @@ put entries key value = insert_entry (slice_cmp nat_cmp) entries key value
 
 -- the entries of all other keys
 unfoldable pub without : {V : Type 0} → List (List ℕ × V) → List ℕ → List (List ℕ × V)
-without entries key = filter (λ e. not (bytes_eq key e.0)) entries
+without entries key = filter (λ entry. not (bytes_eq key entry.0)) entries
 
 -- the keys rise by their bytes, so that none comes twice
 unfoldable pub KeysRise : {V : Type 0} → List (List ℕ × V) → Type 0
@@ -33,10 +33,10 @@ replaced entries (new ∷ by) = replaced (put entries new.0 new.1) by
 -- the key stands at this place
 pub record IsAt {V : Type 0} (entries : List (List ℕ × V)) (key : List ℕ) (place : ℕ) : Type 0 where
   pub within : place < length entries
-  pub same : HoldsAt (λ e. slice_cmp nat_cmp e.0 key ≡ Equal) entries place
+  pub same : HoldsAt (λ entry. slice_cmp nat_cmp entry.0 key ≡ Equal) entries place
 
 -- no entry has the key, which would stand at this place: after each key below it, before each key above it
 pub record IsGap {V : Type 0} (entries : List (List ℕ × V)) (key : List ℕ) (place : ℕ) : Type 0 where
   pub within : place ≤ length entries
-  pub between : IsPartitionPoint (λ e. slice_cmp nat_cmp e.0 key ≡ Less) (λ e. slice_cmp nat_cmp e.0 key
+  pub between : IsPartitionPoint (λ entry. slice_cmp nat_cmp entry.0 key ≡ Less) (λ entry. slice_cmp nat_cmp entry.0 key
       ≡ Greater) entries place

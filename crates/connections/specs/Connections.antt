@@ -18,16 +18,16 @@ IsNoSubscription (end.Events wanted) = ⊥
 IsNoSubscription other = Unit {0}
 
 -- a link that ended at a subscription, and then a session of this subscription
-pub record Subscribes (boot : ℕ) (w : Line) (source : Inlet) (sink : Outlet) (gate : Seen) (clock : Readings)
+pub record Subscribes (boot : ℕ) (start : Line) (source : Inlet) (sink : Outlet) (gate : Seen) (clock : Readings)
     (ends : SessionEnd) : Type 0 where
   pub wanted : Subscription
   pub sink_between : Outlet
   pub gate_between : Seen
-  pub link : ServingFrom boot w source sink_between gate_between clock (end.Events wanted)
+  pub link : ServingFrom boot start source sink_between gate_between clock (end.Events wanted)
   pub session : Session boot wanted.key wanted.filter gate_between sink_between gate sink ends
 
 -- A connection from this line on, with the outside seen so at its end.
 abbrev pub Connects : ℕ → Line → Inlet → Outlet → Seen → Readings → ConnectionEnd → Type 0
-Connects boot w source sink gate clock (ended.Link ends) =
-    IsNoSubscription ends × ServingFrom boot w source sink gate clock ends
-Connects boot w source sink gate clock (ended.Session ends) = Subscribes boot w source sink gate clock ends
+Connects boot start source sink gate clock (ended.Link ends) =
+    IsNoSubscription ends × ServingFrom boot start source sink gate clock ends
+Connects boot start source sink gate clock (ended.Session ends) = Subscribes boot start source sink gate clock ends

@@ -15,7 +15,7 @@ use Rattle.task_plans.specs.row_machine.specs.machine.Accept.{After, accepted, b
 use Rattle.task_plans.specs.row_machine.specs.machine.Plans.{starts, plan_of}
 use Rattle.task_plans.specs.row_machine.specs.machine.Rules.{broken, names_broken, standing_broken}
 use Rattle.task_plans.specs.row_machine.specs.machine.State.{State}
-use Rattle.task_plans.specs.row_machine.specs.machine.Step.{Outcome, well, keeper_failed, no_memory, asked, step, unavailable}
+use Rattle.task_plans.specs.row_machine.specs.machine.Step.{Outcome, well, keeper_failed, no_memory, after_command, step, unavailable}
 use Rattle.task_plans.specs.row_machine.specs.machine.Task.{Task}
 use Rattle.task_plans.specs.row_machine.specs.machine.Work.{entered}
 use Rattle.task_plans.specs.row_machine.specs.opening.Records.{records_of}
@@ -51,7 +51,7 @@ abbrev records_after : State → Option After → List Entry
 records_after s found = option_map_or (λ (a : After). records_of a.state) found (records_of s)
 
 module _ (s : State) (c : Command) (moment : ℕ) (task : Task) (plan : plan_of s c moment ≡ starts task) where
-  asked-same : (outcome : Outcome) (breaks : Option Refusal) → records_after s (asked s c moment outcome breaks) ≡ records_of s
+  asked-same : (outcome : Outcome) (breaks : Option Refusal) → records_after s (after_command s c moment outcome breaks) ≡ records_of s
   unfolding accepted
   asked-same well (Some r) = refl
   asked-same well None = ap (λ p. records_of (carried_out s c moment p).state) plan ∙ records-begun s task moment

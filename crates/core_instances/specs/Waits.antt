@@ -12,5 +12,5 @@ is_zero (negsuc n) = false
 
 -- whether its answer is held back: it waits for a live operation, for some time
 abbrev pub is_held : State → What → Bool
-is_held s (what.Wait op timeout) = is_some (live_at s.operations op) && not (is_zero timeout)
-is_held s other = false
+is_held state (what.Wait op timeout) = is_some (live_at state.operations op) && not (is_zero timeout)
+is_held state other = false

@@ -19,7 +19,7 @@ use Rattle.name_rules.specs.row_machine.specs.shown.Notices.{telling}
 use Rattle.name_rules.specs.row_machine.specs.machine.Plans.{nothing, plan_of}
 use Rattle.name_rules.specs.row_machine.specs.machine.Rules.{broken, plan_broken}
 use Rattle.name_rules.specs.row_machine.specs.machine.Rules.{standing_broken}
-use Rattle.name_rules.specs.row_machine.specs.machine.Step.{well, asked, step}
+use Rattle.name_rules.specs.row_machine.specs.machine.Step.{well, after_command, step}
 use Rattle.name_rules.specs.row_machine.specs.machine.TableRules.{cancel_broken}
 use Rattle.name_rules.specs.row_machine.specs.shown.Views.{read}
 use Rattle.core_rows.specs.Asked.{answered, changes_of, unless_refused}
@@ -75,7 +75,7 @@ module _ (s : State) (c : Command) (moment : ℕ) (h : ReadsOnly s c moment) whe
   -- its step
   read-step : broken s c moment ≡ None → step s (event.Ask c moment) well ≡ Some (and_then (answer.Reply (read s c.project c.what)) s)
   unfolding step accepted
-  read-step unbroken = ap (asked s c moment well) unbroken ∙ ap (λ p. Some (carried_out s c moment p)) h.plan ∙ ap Some h.answers
+  read-step unbroken = ap (after_command s c moment well) unbroken ∙ ap (λ p. Some (carried_out s c moment p)) h.plan ∙ ap Some h.answers
 
 -- a read that breaks no rule was answered
 module _ (s : State) (c : Command) (moment : ℕ) (untold : List Untold) (store : Store) (h : ReadsOnly s c moment) (free : broken s c moment ≡ None) (none : untold ≡ []) where

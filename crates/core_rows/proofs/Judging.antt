@@ -16,7 +16,7 @@ use Rattle.opening_rules.specs.row_machine.specs.machine.Task.{Task}
 use Rattle.opening_rules.specs.row_machine.specs.machine.Rows.{instance_named}
 use Rattle.opening_rules.specs.row_machine.specs.machine.Changes.{applied, rows_put}
 use Rattle.opening_rules.specs.row_machine.specs.machine.Asked.{with_name}
-use Rattle.opening_rules.specs.row_machine.specs.machine.Plans.{changes, starts, if_there, plan_of}
+use Rattle.opening_rules.specs.row_machine.specs.machine.Plans.{changes, starts, plan_of}
 use Rattle.opening_rules.specs.row_machine.specs.machine.Tasks.{snapshot_creation}
 use Rattle.opening_rules.specs.row_machine.specs.machine.Rules.{standing_broken}
 use Rattle.opening_rules.specs.row_machine.specs.machine.SettingRules.{settings_broken}

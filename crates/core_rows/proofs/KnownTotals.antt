@@ -13,7 +13,6 @@ use Rattle.opening_rules.specs.operations.specs.Kept.{live_at, kept_at}
 use Rattle.opening_rules.specs.operations.specs.Statuses.{is_pending}
 use Rattle.judged_changes.specs.record_keeper.specs.Store.{Store}
 use Rattle.opening_rules.specs.records.specs.declared.notices.Untold.{Untold}
-use Rattle.opening_rules.specs.row_machine.specs.declared.events.Answer.{Answer}
 use Rattle.opening_rules.specs.row_machine.specs.declared.events.Answer.TheVariants as answer
 use Rattle.opening_rules.specs.row_machine.specs.machine.State.{State}
 use Rattle.opening_rules.specs.row_machine.specs.machine.Task.{Task}

@@ -8,7 +8,7 @@ pub still-quiet : {X Y : Type 0} (f g : X → Y) (xs : List X) → map f xs ≡ 
 still-quiet f g [] e = refl
 still-quiet f g (x ∷ xs) e = cc
 
--- one that waits behind none is the only one
+-- one that waits after none is the only one
 pub only-one : {X Y : Type 0} (f g : X → Y) (xs ys : List X) (x : X) → map f xs ≡ [] → ys ≡ xs ++ x ∷ []
     → map g ys ≡ g x ∷ []
 only-one f g [] ys x e is = ap (map g) is

@@ -38,7 +38,7 @@ use Rattle.opening_rules.specs.row_machine.specs.machine.PolicyRules.{policy_bro
 use Rattle.opening_rules.specs.row_machine.specs.machine.Rules.{broken, plan_broken, standing_broken}
 use Rattle.opening_rules.specs.row_machine.specs.machine.SettingRules.{settings_broken}
 use Rattle.opening_rules.specs.row_machine.specs.machine.State.{State}
-use Rattle.opening_rules.specs.row_machine.specs.machine.Step.{well, asked, step}
+use Rattle.opening_rules.specs.row_machine.specs.machine.Step.{well, after_command, step}
 use Rattle.opening_rules.specs.row_machine.specs.machine.TableRules.{enter_refusal, entry_broken, tables_broken}
 use Rattle.opening_rules.specs.row_machine.specs.machine.Task.{Task}
 use Rattle.opening_rules.specs.row_machine.specs.machine.Claims.{share_of}
@@ -219,7 +219,7 @@ begun-is s task moment kept = ap (begun_by (entered s task moment) moment) (foun
 start-step : (s : State) (c : Command) (moment : ℕ) (task : Task) → IsAccepted s c moment (starts task)
     → step s (event.Ask c moment) well ≡ Some (begun s task moment)
 unfolding step accepted
-start-step s c moment task h = ap (asked s c moment well) h.unbroken ∙ ap (λ p. Some (carried_out s c moment p)) h.plan
+start-step s c moment task h = ap (after_command s c moment well) h.unbroken ∙ ap (λ p. Some (carried_out s c moment p)) h.plan
 
 -- the operation was entered, and is told
 pub start-made : (s : State) (c : Command) (moment : ℕ) (task : Task) (s' : State) (untold : List Untold) (r : Reply) (store : Store)

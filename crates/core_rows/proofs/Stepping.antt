@@ -15,30 +15,30 @@ use Rattle.opening_rules.specs.row_machine.specs.machine.Plans.{changes, plan_of
 use Rattle.opening_rules.specs.row_machine.specs.machine.Rules.{broken}
 use Rattle.opening_rules.specs.row_machine.specs.shown.Notices.{telling, change_notices}
 use Rattle.opening_rules.specs.row_machine.specs.machine.Accept.{and_then, accepted, carried_out}
-use Rattle.opening_rules.specs.row_machine.specs.machine.Step.{well, keeper_failed, no_memory, asked, unavailable, step}
+use Rattle.opening_rules.specs.row_machine.specs.machine.Step.{well, keeper_failed, no_memory, after_command, unavailable, step}
 
 -- a request that breaks no rule and makes changes at once
 pub changes-step : (s : State) (c : Command) (moment : ℕ) (cs : List RowChange) → plan_of s c moment ≡ changes cs → broken s c moment ≡ None
     → step s (event.Ask c moment) well ≡ Some (and_then (answer.Reply reply.Empty) (telling (change_notices s c moment) (applied s cs)))
 unfolding step accepted
-changes-step s c moment cs plan unbroken = ap (asked s c moment well) unbroken ∙ ap (λ p. Some (carried_out s c moment p)) plan
+changes-step s c moment cs plan unbroken = ap (after_command s c moment well) unbroken ∙ ap (λ p. Some (carried_out s c moment p)) plan
 
 -- a request that breaks a rule
 pub refused-step : (s : State) (c : Command) (moment : ℕ) (r : Refusal) → broken s c moment ≡ Some r
     → step s (event.Ask c moment) well ≡ Some (and_then (answer.Reply (reply.Refused r)) s)
 unfolding step
-refused-step s c moment r is = ap (asked s c moment well) is
+refused-step s c moment r is = ap (after_command s c moment well) is
 
 -- the store failed
 pub failed-step : (s : State) (c : Command) (moment : ℕ) (cs : List RowChange) (rise : Rise) → plan_of s c moment ≡ changes cs → broken s c moment ≡ None
     → step s (event.Ask c moment) (keeper_failed rise) ≡ Some (and_then (answer.Reply (reply.Refused (plain_refusal rule.K1))) s)
 unfolding step
-failed-step s c moment cs rise plan unbroken = ap (asked s c moment (keeper_failed rise)) unbroken ∙ ap (unavailable s) plan
+failed-step s c moment cs rise plan unbroken = ap (after_command s c moment (keeper_failed rise)) unbroken ∙ ap (unavailable s) plan
 
 -- memory was refused
 pub no_memory-step : (s : State) (c : Command) (moment : ℕ) → step s (event.Ask c moment) no_memory ≡ Some (and_then answer.NoMemory s)
 unfolding step
 no_memory-step s c moment = at (broken s c moment) where
-  at : (o : Option Refusal) → asked s c moment no_memory o ≡ Some (and_then answer.NoMemory s)
+  at : (o : Option Refusal) → after_command s c moment no_memory o ≡ Some (and_then answer.NoMemory s)
   at None = refl
   at (Some r) = refl

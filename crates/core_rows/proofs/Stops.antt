@@ -26,12 +26,12 @@ use Rattle.opening_rules.specs.records.specs.declared.replies.Reply.TheVariants 
 use Rattle.opening_rules.specs.row_machine.specs.declared.events.Answer.TheVariants as answer
 use Rattle.opening_rules.specs.row_machine.specs.declared.events.Event.TheVariants as event
 use Rattle.opening_rules.specs.row_machine.specs.facts.Whole.{IsWhole}
-use Rattle.opening_rules.specs.row_machine.specs.machine.Accept.{and_then, accepted, after_cancel, cancel, cancel_or_read, carried_out, told}
+use Rattle.opening_rules.specs.row_machine.specs.machine.Accept.{and_then, accepted, after_cancel, cancel, cancel_or_read, carried_out, with_operation_notice}
 use Rattle.opening_rules.specs.row_machine.specs.machine.NameRules.{missing_unless, what_is_missing}
 use Rattle.opening_rules.specs.row_machine.specs.machine.Plans.{nothing, plan_of}
 use Rattle.opening_rules.specs.row_machine.specs.machine.Rules.{broken, names_broken, plan_broken, standing_broken}
 use Rattle.opening_rules.specs.row_machine.specs.machine.State.{State}
-use Rattle.opening_rules.specs.row_machine.specs.machine.Step.{asked, step, well}
+use Rattle.opening_rules.specs.row_machine.specs.machine.Step.{after_command, step, well}
 use Rattle.opening_rules.specs.row_machine.specs.machine.TableRules.{cancel_broken, cancel_refusal}
 use Rattle.opening_rules.specs.row_machine.specs.machine.Task.{Task}
 use Rattle.opening_rules.specs.row_machine.specs.machine.Work.{cancelled, moved}
@@ -113,7 +113,7 @@ module _ (s : State) (number moment : ℕ) (s' : State) (old waiting : List Wait
     (early : moment < moment_limit) (none : old ≡ []) (tells : waiting ≡ old ++ shown_at s'.operations number moment) where
   -- it is told as it is kept
   told-left : (now : Operation Task) → now.number ≡ number → kept_at s'.operations number ≡ Some now
-      → told s' number moment ≡ telling (map (told_by s'.operations) waiting) s'
+      → with_operation_notice s' number moment ≡ telling (map (told_by s'.operations) waiting) s'
   told-left now numbered kept =
       told-kept s' now number moment kept
       ∙ ap (λ ns. telling ns s')
@@ -128,7 +128,7 @@ module _ (s : State) (number moment : ℕ) (s' : State) (old waiting : List Wait
   ended-stopped l may made = record {
     after =
         ap (after_cancel s number moment) (stops-answer s number status.Pending l may)
-        ∙ ap (λ t. told t number moment) (sym made)
+        ∙ ap (λ t. with_operation_notice t number moment) (sym made)
         ∙ told-left (as_ended o status.Cancelled fault.None moment) l.numbered kept;
     whole = subst IsWhole (sym made_own) (cancelled-keeps s o moment early h own);
     silent = subst IsSilent (sym made) (cancelled-silent s number moment quiet);
@@ -158,7 +158,7 @@ module _ (s : State) (number moment : ℕ) (s' : State) (old waiting : List Wait
   turned-stopped l may made = record {
     after =
         ap (after_cancel s number moment) (stops-answer s number status.Running l may)
-        ∙ ap (λ t. told t number moment) (sym made)
+        ∙ ap (λ t. with_operation_notice t number moment) (sym made)
         ∙ told-left now l.numbered kept;
     whole = subst IsWhole (sym made_own)
         (cancels-keep s o moment early (record { whole = h; live = own; status = l.status }) may);
@@ -267,7 +267,7 @@ module _ (s : State) (c : Command) (number moment : ℕ) (asks : c.what ≡ what
   cancel-step : broken s c moment ≡ None → step s (event.Ask c moment) well ≡ Some (cancel s number moment)
   unfolding step accepted
   cancel-step free =
-      ap (asked s c moment well) free
+      ap (after_command s c moment well) free
       ∙ ap (λ p. Some (carried_out s c moment p)) plans
       ∙ ap (λ w. Some (cancel_or_read s c moment w)) asks
 

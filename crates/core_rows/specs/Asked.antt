@@ -26,7 +26,7 @@ answered other = answer.Reply other
 -- the changes of rows that a plan makes at once
 abbrev pub changes_at_once : Plan → List RowChange
 changes_at_once nothing = []
-changes_at_once (changes cs) = cs
+changes_at_once (changes row_changes) = row_changes
 changes_at_once (starts task) = []
 
 -- of a command that breaks a rule none, and else those of its plan
@@ -36,13 +36,14 @@ unless_refused (Some refusal) plan = []
 
 -- the changes that a command is to commit in this state: those that its plan makes at once, and none where it breaks a rule
 unfoldable pub changes_of : State → Command → ℕ → List RowChange
-changes_of s c moment = unless_refused (broken s c moment) (plan_of s c moment)
+changes_of state command moment = unless_refused (broken state command moment) (plan_of state command moment)
 
 -- A command was carried out as one step of the machine, with an outcome that the keeper's count bears out: its changes went to
 -- the store, its reply is the answer of the step, and the state of the step is the state afterwards with the notices told that
 -- are left untold.
-pub record IsAsked (s : State) (c : Command) (moment : ℕ) (s' : State) (untold : List Untold) (r : Reply) (store store' : Store) : Type 0 where
+pub record IsAsked (state : State) (command : Command) (moment : ℕ) (later : State) (untold : List Untold)
+    (reply : Reply) (store store' : Store) : Type 0 where
   pub outcome : Outcome
   pub caused : IsCaused outcome store.failures store'.failures
-  pub stored : Stores (changes_of s c moment) outcome store store'
-  pub is : step s (event.Ask c moment) outcome ≡ Some (and_then (answered r) (telling untold s'))
+  pub stored : Stores (changes_of state command moment) outcome store store'
+  pub is : step state (event.Ask command moment) outcome ≡ Some (and_then (answered reply) (telling untold later))

@@ -9,9 +9,9 @@ use Rattle.opening_rules.specs.row_machine.specs.machine.Work.{cancelled, moved}
 
 -- whether the live operation of a number waits for its first call
 abbrev pub waits : State → ℕ → Bool
-waits s number = option_map_or (λ o. is_pending o.status) (live_at s.operations number) false
+waits state number = option_map_or (λ operation. is_pending operation.status) (live_at state.operations number) false
 
 -- one that waits has ended as cancelled, and another is being cancelled
 abbrev pub stopped : State → ℕ → ℕ → Bool → State
-stopped s number moment true = cancelled s number moment
-stopped s number moment false = moved number Cancelling moment s
+stopped state number moment true = cancelled state number moment
+stopped state number moment false = moved number Cancelling moment state

@@ -20,6 +20,7 @@ after_turn other kept counted totals = totals
 
 -- after the cancel of an operation, by the rows before it: one that waits ends
 abbrev pub counted_out : State → ℕ → List Total → List Total
-counted_out s number totals = option_map_or
-    (λ o. if is_pending o.status then given_back o.work (held_share s number) totals else totals)
-    (live_at s.operations number) totals
+counted_out state number totals = option_map_or
+    (λ operation.
+    if is_pending operation.status then given_back operation.work (held_share state number) totals else totals)
+    (live_at state.operations number) totals

@@ -28,7 +28,7 @@ AreTold entries store = IfSome store.told (λ told. told ≡ entries)
 
 -- whether entries that open so give no state: one of them is damaged, or their rows break a rule
 abbrev pub is_refused : Opening → Bool
-is_refused (opened s) = false
+is_refused (opened state) = false
 is_refused (damaged kind key) = true
 is_refused (broken rule kind key) = true
 
@@ -48,12 +48,12 @@ GivesRows (Err why) entries = Tells why (opening_by (rows_in entries))
 
 -- rows may stand, so that this state is what they open to; or a fault tells why not
 abbrev pub Judges : {T : Type 0} → Result T OpenFault → State → Opening → Type 0
-Judges (Ok u) s opening = opening ≡ opened s
-Judges (Err why) s opening = Tells why opening
+Judges (Ok unit) state opening = opening ≡ opened state
+Judges (Err why) state opening = Tells why opening
 
 -- settled rows in which no operation ever held a share are what entries open to; or a fault tells why there are none
 abbrev pub GivesDraft : Result Drafted OpenFault → Opening → Type 0
-GivesDraft (Ok d) opening = (opening ≡ opened d.state) × (d.log ≡ []) × (d.backing.greatest ≡ 0)
+GivesDraft (Ok draft) opening = (opening ≡ opened draft.state) × (draft.log ≡ []) × (draft.backing.greatest ≡ 0)
 GivesDraft (Err why) opening = Tells why opening
 
 -- the rows of the server are what entries open to, and nothing waits to be told; or a fault tells why there are none
@@ -73,7 +73,7 @@ Loads (Err other) store store' = ⊥
 
 -- these changes were committed in one call, or that call failed or was out of memory
 abbrev pub Commits : {T : Type 0} → Result T OpenFault → List EntryChange → Store → Store → Type 0
-Commits (Ok u) changes store store' = store' ≡ after_commit changes store
+Commits (Ok unit) changes store store' = store' ≡ after_commit changes store
 Commits (Err fault.KeeperFailed) changes store store' = FailsAtCall 1 store store'
 Commits (Err fault.NoMemory) changes store store' = store' ≡ after_calls 1 store
 Commits (Err other) changes store store' = ⊥
@@ -89,29 +89,29 @@ Begins (Err other) store store' = ⊥
 -- after the load: without entries the first rows are committed, and else the entries are opened without a call
 abbrev pub GoesOn : Result Kept OpenFault → List Entry → Store → Store → Type 0
 GoesOn result [] store store' = Begins result store store'
-GoesOn result (e ∷ es) store store' = Gives result (opening_of (e ∷ es)) × (store' ≡ store)
+GoesOn result (entry ∷ entries) store store' = Gives result (opening_of (entry ∷ entries)) × (store' ≡ store)
 
 -- ---- an opening
 
 -- the calls of an opening: one load, and one commit of the first rows where there were no entries
 abbrev pub opening_calls : List Entry → ℕ
 opening_calls [] = 2
-opening_calls (e ∷ es) = 1
+opening_calls (entry ∷ entries) = 1
 
 -- a store after its entries were opened to this state: they are the records of the state
 abbrev pub opened_store : List Entry → State → Store → Store
-opened_store entries s store = record {
-  told = option_map (λ _. records_of s) store.told;
+opened_store entries state store = record {
+  told = option_map (λ _. records_of state) store.told;
   calls = called (opening_calls entries) store.calls;
   failures = store.failures;
 }
 
 -- the entries of the store open to this state, and are its records now
-pub record OpensTo (s : State) (store store' : Store) : Type 0 where
+pub record OpensTo (state : State) (store store' : Store) : Type 0 where
   pub entries : List Entry
   pub told : AreTold entries store
-  pub opens : opening_of entries ≡ opened s
-  pub after : store' ≡ opened_store entries s store
+  pub opens : opening_of entries ≡ opened state
+  pub after : store' ≡ opened_store entries state store
 
 -- the entries of the store open to no state, and it is as it was but for the load
 pub record OpensToNone (opening : Opening) (store store' : Store) : Type 0 where

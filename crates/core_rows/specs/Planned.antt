@@ -18,24 +18,26 @@ use Rattle.judged_changes.specs.work_reports.specs.Stores.{KeepsRecords}
 
 -- A command that a client can give, before the year 10000, which breaks no rule on names and on what stands in the way, with the
 -- changes that it is to make at once and the notice of them.
-pub record IsToDo (s : State) (c : Command) (moment : ℕ) (cs : List RowChange) (n : Untold) : Type 0 where
-  pub formed : is_formed c ≡ true
+pub record IsToDo (state : State) (command : Command) (moment : ℕ) (row_changes : List RowChange)
+    (untold : Untold) : Type 0 where
+  pub formed : is_formed command ≡ true
   pub early : moment < moment_limit
-  pub names : names_broken s c ≡ None
-  pub standing : standing_broken s c ≡ None
-  pub plan : plan_of s c moment ≡ changes cs
-  pub notice : change_notices s c moment ≡ n ∷ []
+  pub names : names_broken state command ≡ None
+  pub standing : standing_broken state command ≡ None
+  pub plan : plan_of state command moment ≡ changes row_changes
+  pub notice : change_notices state command moment ≡ untold ∷ []
 
 -- A command that a client can give, before the year 10000, which breaks no rule on names and on what stands in the way, with the
 -- background operation that it is to begin.
-pub record IsToStart (s : State) (c : Command) (moment : ℕ) (task : Task) : Type 0 where
-  pub formed : is_formed c ≡ true
+pub record IsToStart (state : State) (command : Command) (moment : ℕ) (task : Task) : Type 0 where
+  pub formed : is_formed command ≡ true
   pub early : moment < moment_limit
-  pub names : names_broken s c ≡ None
-  pub standing : standing_broken s c ≡ None
-  pub plan : plan_of s c moment ≡ starts task
+  pub names : names_broken state command ≡ None
+  pub standing : standing_broken state command ≡ None
+  pub plan : plan_of state command moment ≡ starts task
 
 -- A command was carried out as one step of the machine, and entries that were the records of the rows are so afterwards.
-pub record Follows (s : State) (c : Command) (moment : ℕ) (s' : State) (untold : List Untold) (r : Reply) (store store' : Store) : Type 0 where
-  pub asked : IsAsked s c moment s' untold r store store'
-  pub kept : KeepsRecords store.told s store'.told s'
+pub record Follows (state : State) (command : Command) (moment : ℕ) (later : State) (untold : List Untold)
+    (reply : Reply) (store store' : Store) : Type 0 where
+  pub asked : IsAsked state command moment later untold reply store store'
+  pub kept : KeepsRecords store.told state store'.told later

@@ -9,14 +9,15 @@ use Rattle.judged_changes.specs.work_reports.specs.Waiting.{told_by}
 
 -- the state, and the notices that wait
 abbrev pub kept : Inside → Kept
-kept e = record { state = e.draft.state; untold = map (told_by e.draft.state.operations) e.untold.items }
+kept estate =
+    record { state = estate.draft.state; untold = map (told_by estate.draft.state.operations) estate.untold.items }
 
 -- the facts hold of the state, in which nothing was told; no change of it is left unsettled; there is room for the notices of
 -- a step; each operation that ever held a share is below the next one; and what is known of projects is what they use
-pub record IsEstate (e : Inside) : Type 0 where
-  pub whole : IsWhole e.draft.state
-  pub silent : IsSilent e.draft.state
-  pub settled : e.draft.log ≡ []
-  pub room : untold_limit ≤ vec_capacity e.untold
-  pub above : e.draft.backing.greatest < e.draft.state.operations.next
-  pub totals : AreTotals e.draft.state e.totals
+pub record IsEstate (estate : Inside) : Type 0 where
+  pub whole : IsWhole estate.draft.state
+  pub silent : IsSilent estate.draft.state
+  pub settled : estate.draft.log ≡ []
+  pub room : untold_limit ≤ vec_capacity estate.untold
+  pub above : estate.draft.backing.greatest < estate.draft.state.operations.next
+  pub totals : AreTotals estate.draft.state estate.totals

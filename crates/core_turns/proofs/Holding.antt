@@ -21,7 +21,7 @@ use Rattle.notice_laws.specs.row_machine.specs.machine.Plans.{nothing, plan_of}
 use Rattle.notice_laws.specs.row_machine.specs.machine.Rules.{broken, names_broken, plan_broken, standing_broken}
 use Rattle.notice_laws.specs.row_machine.specs.machine.StandingRules.{instance_busy, wrong_state, object_protected, object_used, project_occupied, profile_held}
 use Rattle.notice_laws.specs.row_machine.specs.machine.State.{State}
-use Rattle.notice_laws.specs.row_machine.specs.machine.Step.{well, asked, step}
+use Rattle.notice_laws.specs.row_machine.specs.machine.Step.{well, after_command, step}
 use Rattle.notice_laws.specs.row_machine.specs.machine.TableRules.{cancel_broken}
 use Rattle.notice_laws.specs.row_machine.specs.machine.Task.{Task}
 use Rattle.notice_laws.specs.row_machine.specs.shown.Views.{read}
@@ -89,7 +89,7 @@ held-step : (s : State) (project : List ℕ) (op : ℕ) (timeout : ℤ) (moment 
 unfolding step accepted
 held-step s project op timeout moment o live held =
     let c = command_of project (what.Wait op timeout) in
-    ap (asked s c moment well) (wait-free s project op timeout moment o live)
+    ap (after_command s c moment well) (wait-free s project op timeout moment o live)
     ∙ ap (λ p. Some (carried_out s c moment p)) (wait-plans s project op timeout moment)
     ∙ ap Some (held-answer s project op timeout moment held)
 

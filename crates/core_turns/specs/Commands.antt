@@ -7,5 +7,5 @@ use Rattle.core_instances.specs.Waits.{is_held}
 
 -- the live operation for which a command is to wait
 abbrev pub held_for : State → What → Option ℕ
-held_for s (what.Wait op timeout) = if is_held s (what.Wait op timeout) then Some op else None
-held_for s other = None
+held_for state (what.Wait op timeout) = if is_held state (what.Wait op timeout) then Some op else None
+held_for state other = None

@@ -7,5 +7,5 @@ use Rattle.core_instances.specs.core_rows.specs.declared.opening.OpenFault.{Open
 
 -- The entries of the keeper open to this state, and are its records now; or the opening was refused.
 abbrev pub Opens : Result State OpenFault → Store → Store → Type 0
-Opens (Ok s) store store' = OpensTo s store store'
+Opens (Ok state) store store' = OpensTo state store store'
 Opens (Err why) store store' = Refuses why store store'

@@ -21,32 +21,35 @@ IsServed = IsPossible
 
 -- the state without its notices
 abbrev pub without_notices : State → State
-without_notices s = record s { notices = []; next_notice = 1 }
+without_notices state = record state { notices = []; next_notice = 1 }
 
 -- the changes of rows that an event is to commit
 abbrev pub changes_by : State → Event → List RowChange
-changes_by s (event.Ask c moment) = changes_of s c moment
-changes_by s (event.Done number report moment) = changes_reported s number report
-changes_by s other = []
+changes_by state (event.Ask command moment) = changes_of state command moment
+changes_by state (event.Done number report moment) = changes_reported state number report
+changes_by state other = []
 
 -- An event with its outcome led to this answer, and from one state and store to the next: its changes went to the store in one
 -- call, and without changes the keeper was not called.
-pub record Turns (s : State) (store : Store) (e : Event) (outcome : Outcome) (a : Answer) (s' : State) (store' : Store) : Type 0 where
-  pub is : step s e outcome ≡ Some (and_then a s')
-  pub stored : Stores (changes_by s e) outcome store store'
+pub record Turns (state : State) (store : Store) (event : Event) (outcome : Outcome) (answer : Answer)
+    (later : State) (store' : Store) : Type 0 where
+  pub is : step state event outcome ≡ Some (and_then answer later)
+  pub stored : Stores (changes_by state event) outcome store store'
 
 -- An event was answered, with an outcome that the keeper's count bears out. Entries that were the records of the rows are so
 -- afterwards.
-pub record IsTurn (s : State) (store : Store) (e : Event) (a : Answer) (s' : State) (store' : Store) : Type 0 where
+pub record IsTurn (state : State) (store : Store) (event : Event) (answer : Answer) (later : State)
+    (store' : Store) : Type 0 where
   pub outcome : Outcome
-  pub turns : Turns s store e outcome a s' store'
+  pub turns : Turns state store event outcome answer later store'
   pub caused : IsCaused outcome store.failures store'.failures
-  pub kept : KeepsRecords store.told s store'.told s'
+  pub kept : KeepsRecords store.told state store'.told later
 
 -- An event was answered as one step of the machine, and these notices are left untold: a turn before they go to the hub.
-pub record Comes (s : State) (store : Store) (e : Event) (a : Answer) (s' : State) (untold : List Untold) (store' : Store) : Type 0 where
+pub record Comes (state : State) (store : Store) (event : Event) (answer : Answer) (later : State)
+    (untold : List Untold) (store' : Store) : Type 0 where
   pub outcome : Outcome
-  pub is : step s e outcome ≡ Some (and_then a (telling untold s'))
-  pub stored : Stores (changes_by s e) outcome store store'
+  pub is : step state event outcome ≡ Some (and_then answer (telling untold later))
+  pub stored : Stores (changes_by state event) outcome store store'
   pub caused : IsCaused outcome store.failures store'.failures
-  pub kept : KeepsRecords store.told s store'.told s'
+  pub kept : KeepsRecords store.told state store'.told later

@@ -9,11 +9,11 @@ use Rattle.core_turns.specs.declared.daemon.Daemon.TheInside.{Inside}
 
 -- the state of the machine that its rows are, with the notices that the hub keeps
 abbrev pub state_in : Inside → State
-state_in d = with_recent d.hub d.estate.state
+state_in daemon = with_recent daemon.hub daemon.estate.state
 
 -- all notices are in the hub, and none waits to be taken; the facts hold of the whole; and the texts of operations are short
-pub record IsDaemon (d : Inside) : Type 0 where
-  pub quiet : d.estate.untold ≡ []
-  pub silent : IsSilent d.estate.state
-  pub whole : IsWhole (state_in d)
-  pub short : AreShort d.estate.state
+pub record IsDaemon (daemon : Inside) : Type 0 where
+  pub quiet : daemon.estate.untold ≡ []
+  pub silent : IsSilent daemon.estate.state
+  pub whole : IsWhole (state_in daemon)
+  pub short : AreShort daemon.estate.state

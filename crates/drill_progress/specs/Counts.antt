@@ -16,27 +16,27 @@ after_reading_at Report answered = record { answered = answered; last = Reading 
 
 -- after one more reading of the clock
 abbrev pub after_reading : Counts → Counts
-after_reading c = after_reading_at c.last c.answered
+after_reading counts = after_reading_at counts.last counts.answered
 
 -- after one more call of the host
 abbrev pub after_call : Counts → Counts
-after_call c = record { answered = c.answered; last = Call }
+after_call counts = record { answered = counts.answered; last = Call }
 
 -- after so many calls of the host, each with the reading for its report
 abbrev pub after_calls : ℕ → Counts → Counts
-after_calls zero c = c
-after_calls (suc calls) c = after_calls calls (after_reading (after_call c))
+after_calls zero counts = counts
+after_calls (suc calls) counts = after_calls calls (after_reading (after_call counts))
 
 -- After a command, for which the clock is read. One that begins an operation is followed by the worker's steps: the
 -- clock is read for its first call, and that call is made, and so many more.
 abbrev pub after_command : Option ℕ → Counts → Counts
-after_command None c = after_reading c
-after_command (Some more) c = after_calls (suc more) (after_reading (after_reading c))
+after_command None counts = after_reading counts
+after_command (Some more) counts = after_calls (suc more) (after_reading (after_reading counts))
 
 -- after some commands, one after the other
 abbrev pub after_commands : List (Option ℕ) → Counts → Counts
-after_commands [] c = c
-after_commands (command ∷ commands) c = after_commands commands (after_command command c)
+after_commands [] counts = counts
+after_commands (command ∷ commands) counts = after_commands commands (after_command command counts)
 
 -- At the reading that follows some commands, these are answered.
 abbrev pub EachCommandCounts : Type 0

@@ -8,15 +8,15 @@ use Rattle.config_lists.specs.size_values.specs.declared.kinds.ObjectKind.TheVar
 
 -- letters, digits and '-'
 abbrev pub is_instance_byte : ℕ → Bool
-is_instance_byte c = is_ascii_alphanumeric c || c == 45
+is_instance_byte byte = is_ascii_alphanumeric byte || byte == 45
 
 -- letters, digits, '-' and '.'
 abbrev pub is_project_byte : ℕ → Bool
-is_project_byte c = is_instance_byte c || c == 46
+is_project_byte byte = is_instance_byte byte || byte == 46
 
 -- letters, digits, '-', '.' and '_'
 abbrev pub is_object_byte : ℕ → Bool
-is_object_byte c = is_project_byte c || c == 95
+is_object_byte byte = is_project_byte byte || byte == 95
 
 -- there is a first byte, and it passes the test
 abbrev pub begins_by : (ℕ → Bool) → List ℕ → Bool
@@ -33,7 +33,9 @@ is_word_of test least most name = nat_le least (length name) && nat_le (length n
 -- a name of up to 63 bytes that can be a host name: it begins with a letter and does not end with a dash
 unfoldable pub is_instance_name : List ℕ → Bool
 is_instance_name name =
-    is_word_of is_instance_byte 1 63 name && begins_by is_ascii_alphabetic name && ends_by (λ c. not (c == 45)) name
+    is_word_of is_instance_byte 1 63 name
+    && begins_by is_ascii_alphabetic name
+    && ends_by (λ byte. not (byte == 45)) name
 
 -- a name of up to 63 bytes that begins with a letter or a digit
 unfoldable pub is_project_name : List ℕ → Bool

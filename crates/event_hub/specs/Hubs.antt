@@ -6,8 +6,8 @@ use Rattle.event_hub.specs.Recent.{Recent}
 
 -- the notices, and the next number
 abbrev pub recent_in : Inside → Recent
-recent_in h = record { notices = h.ring.items; next = h.next }
+recent_in hub = record { notices = hub.ring.items; next = hub.next }
 
 -- there is room for the notices that are kept
 abbrev pub IsHub : Inside → Type 0
-IsHub h = h.ring.capacity ≡ kept_notices
+IsHub hub = hub.ring.capacity ≡ kept_notices

@@ -18,39 +18,43 @@ nothing_told = record { notices = []; next = 1 }
 
 -- a notice under a number
 abbrev pub numbered : ℕ → Untold → Notice
-numbered number n = record { number = number; moment = n.moment; project = n.project; told = n.told }
+numbered number notice =
+    record { number = number; moment = notice.moment; project = notice.project; told = notice.told }
 
 -- a notice gets the next number; where the numbers have come to their end it is dropped
 abbrev pub pushed : Untold → Recent → Recent
-pushed n r =
-    if r.next == 2 ^ 64 - 1 then r
-    else record { notices = ring_push kept_notices (numbered r.next n) r.notices; next = r.next + 1 }
+pushed notice recent =
+    if recent.next == 2 ^ 64 - 1 then recent
+    else record {
+      notices = ring_push kept_notices (numbered recent.next notice) recent.notices;
+      next = recent.next + 1;
+    }
 
 -- several notices, in their order
 abbrev pub all_pushed : List Untold → Recent → Recent
-all_pushed [] r = r
-all_pushed (n ∷ ns) r = all_pushed ns (pushed n r)
+all_pushed [] recent = recent
+all_pushed (notice ∷ rest) recent = all_pushed rest (pushed notice recent)
 
 -- the state of the machine that has these notices
 abbrev pub with_recent : Recent → State → State
-with_recent r s = record s { notices = r.notices; next_notice = r.next }
+with_recent recent state = record state { notices = recent.notices; next_notice = recent.next }
 
 -- the one that has nothing else
 abbrev pub as_state : Recent → State
-as_state r = with_recent r empty_state
+as_state recent = with_recent recent empty_state
 
 -- the notices of a state of the machine
 abbrev pub recent_of : State → Recent
-recent_of s = record { notices = s.notices; next = s.next_notice }
+recent_of state = record { notices = state.notices; next = state.next_notice }
 
 -- a listener that asks from a number on takes the notice
 abbrev pub is_wanted : ℕ → Filter → Notice → Bool
-is_wanted cursor filter n = nat_le cursor n.number && takes filter n
+is_wanted cursor filter notice = nat_le cursor notice.number && takes filter notice
 
 -- the number of the oldest notice, or the next one where there is none
 abbrev pub oldest_or : ℕ → List Notice → ℕ
 oldest_or next [] = next
-oldest_or next (n ∷ ns) = n.number
+oldest_or next (notice ∷ rest) = notice.number
 
 abbrev pub oldest_in : Recent → ℕ
-oldest_in r = oldest_or r.next r.notices
+oldest_in recent = oldest_or recent.next recent.notices

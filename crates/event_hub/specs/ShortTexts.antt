@@ -6,9 +6,9 @@ use Rattle.event_hub.specs.Short.{most_bytes}
 
 -- its first bytes
 abbrev pub bytes_in : Inside → List ℕ
-bytes_in t = take t.len t.bytes
+bytes_in text = take text.len text.bytes
 
 -- there are no more bytes than that, and they spell a text
-pub record IsShortText (t : Inside) : Type 0 where
-  pub few : t.len ≤ most_bytes
-  pub utf8 : IsUtf8 (bytes_in t)
+pub record IsShortText (text : Inside) : Type 0 where
+  pub few : text.len ≤ most_bytes
+  pub utf8 : IsUtf8 (bytes_in text)

@@ -35,31 +35,31 @@ notices_in (fetched.Notices notices next) = notices
 notices_in (fetched.Lagged cursor oldest) = []
 
 -- the events of this filter were asked for once, from this number on
-pub record Asks (filter : Filter) (cursor : ℕ) (a : Answer) (before after : Seen) : Type 0 where
+pub record Asks (filter : Filter) (cursor : ℕ) (answer : Answer) (before after : Seen) : Type 0 where
   pub outcome : Outcome
-  pub gate : Between (turn (event.Fetch cursor filter) outcome a ∷ []) before after
+  pub gate : Between (turn (event.Fetch cursor filter) outcome answer ∷ []) before after
 
 -- from one moment to another, what was still to be sent at first, and then what was heard, was sent
-pub record Hears (boot : ℕ) (filter : Filter) (owed : List Notice) (w w' : Ear) : Type 0 where
+pub record Hears (boot : ℕ) (filter : Filter) (owed : List Notice) (listener later : Ear) : Type 0 where
   pub trail : List Item
-  pub gate : Between trail w.gate w'.gate
-  pub due : Chain (ListenAt filter) trail w.place w'.place
-  pub sent : Takes w.sink w'.sink (frames_of boot (owed ++ got trail))
+  pub gate : Between trail listener.gate later.gate
+  pub due : Chain (ListenAt filter) trail listener.place later.place
+  pub sent : Takes listener.sink later.sink (frames_of boot (owed ++ got trail))
 
 -- from this moment on, with so much still to be sent at first, a session ended so
-pub record Leaves (boot : ℕ) (filter : Filter) (owed : List Notice) (w : Ear) (gate : Seen) (sink : Outlet)
+pub record Leaves (boot : ℕ) (filter : Filter) (owed : List Notice) (listener : Ear) (gate : Seen) (sink : Outlet)
     (ends : SessionEnd) : Type 0 where
   pub trail : List Item
   pub place : Place
-  pub gate_is : Between trail w.gate gate
-  pub due : Chain (ListenAt filter) trail w.place place
-  pub ended : Ends ends place w.sink sink (frames_of boot (owed ++ got trail) ++ close_at place)
+  pub gate_is : Between trail listener.gate gate
+  pub due : Chain (ListenAt filter) trail listener.place place
+  pub ended : Ends ends place listener.sink sink (frames_of boot (owed ++ got trail) ++ close_at place)
 
 -- from this moment on, a session goes on to ask, or has ended
 abbrev pub GoesOn : ℕ → Filter → List Notice → Ear → Post → Seen → Outlet → Type 0
-GoesOn boot filter owed w (post.Asking cursor rests) gate sink =
-    (rests < most_rests) × Hears boot filter owed w (ear (asking cursor rests) gate sink)
-GoesOn boot filter owed w (post.Over ends) gate sink = Leaves boot filter owed w gate sink ends
+GoesOn boot filter owed listener (post.Asking cursor rests) gate sink =
+    (rests < most_rests) × Hears boot filter owed listener (ear (asking cursor rests) gate sink)
+GoesOn boot filter owed listener (post.Over ends) gate sink = Leaves boot filter owed listener gate sink ends
 
 -- what a session has to do next after events were sent
 abbrev pub after_sending : Written → ℕ → Post

@@ -34,7 +34,7 @@ pub data Place : Type 0 where
 -- where a session stands that got these events, after so many rests
 abbrev pub after_notices : List Notice → ℕ → ℕ → Place
 after_notices [] next rests = resting next rests
-after_notices (n ∷ more) next rests = asking next 0
+after_notices (notice ∷ more) next rests = asking next 0
 
 abbrev pub after_fetched : Fetched → ℕ → Place
 after_fetched (fetched.Notices notices next) rests = after_notices notices next rests
@@ -42,9 +42,9 @@ after_fetched (fetched.Lagged cursor oldest) rests = lagged cursor oldest
 
 -- where a session stands after this answer
 abbrev pub Brings : Answer → ℕ → Place → Type 0
-Brings (answer.Fetched got) rests p = p ≡ after_fetched got rests
-Brings answer.NoMemory rests p = p ≡ refused
-Brings other rests p = ⊥
+Brings (answer.Fetched got) rests place = place ≡ after_fetched got rests
+Brings answer.NoMemory rests place = place ≡ refused
+Brings other rests place = ⊥
 
 -- where a session stands after so many rests without an event
 abbrev pub after_rest : ℕ → ℕ → Place
@@ -52,9 +52,10 @@ after_rest next rests = if rests == most_rests then rested else asking next rest
 
 -- what is done in a session where it stands
 abbrev pub ListenAt : Filter → Place → Item → Place → Type 0
-ListenAt filter (asking cursor rests) (turn e outcome a) p = (e ≡ event.Fetch cursor filter) × Brings a rests p
-ListenAt filter (resting next rests) (rest events) p = p ≡ after_rest next (rests + 1)
-ListenAt filter other item p = ⊥
+ListenAt filter (asking cursor rests) (turn an_event outcome answer) later =
+    (an_event ≡ event.Fetch cursor filter) × Brings answer rests later
+ListenAt filter (resting next rests) (rest events) later = later ≡ after_rest next (rests + 1)
+ListenAt filter other item later = ⊥
 
 -- ---- what is written
 
@@ -64,7 +65,7 @@ got_in (answer.Fetched (fetched.Notices notices next)) = notices
 got_in other = []
 
 abbrev pub got_at : Item → List Notice
-got_at (turn e outcome a) = got_in a
+got_at (turn event outcome answer) = got_in answer
 got_at (rest events) = []
 
 -- the events that were got, in their order
@@ -73,12 +74,12 @@ got trail = flat_map got_at trail
 
 -- events as frames, in their order
 abbrev pub frames_of : ℕ → List Notice → List ℕ
-frames_of boot notices = flat_map (λ n. text_frame (notice_text n boot)) notices
+frames_of boot notices = flat_map (λ notice. text_frame (notice_text notice boot)) notices
 
 -- The head, once something was asked.
 abbrev pub head_after : List Item → List ℕ → List ℕ
 head_after [] key = []
-head_after (i ∷ more) key = accepting_head key
+head_after (item ∷ more) key = accepting_head key
 
 -- a session that lags is closed
 abbrev pub close_at : Place → List ℕ
@@ -87,7 +88,7 @@ close_at other = []
 
 -- all that is written in a session that stands here, by what was done so far
 abbrev pub session_text : ℕ → List ℕ → List Item → Place → List ℕ
-session_text boot key trail p = head_after trail key ++ frames_of boot (got trail) ++ close_at p
+session_text boot key trail place = head_after trail key ++ frames_of boot (got trail) ++ close_at place
 
 -- the sink took some first bytes of this text, and no others
 pub record TakesFront (sink sink' : Outlet) (text : List ℕ) : Type 0 where
@@ -101,10 +102,10 @@ pub record TakesFront (sink sink' : Outlet) (text : List ℕ) : Type 0 where
 
 -- a session that stands here may end so, and what its sink took of the text
 abbrev pub Ends : SessionEnd → Place → Outlet → Outlet → List ℕ → Type 0
-Ends (end.Lagged cursor oldest) p sink sink' text = (p ≡ lagged cursor oldest) × Takes sink sink' text
-Ends end.Rested p sink sink' text = (p ≡ rested) × Takes sink sink' text
-Ends end.WriteFault p sink sink' text = TakesFront sink sink' text × Rose sink.failures sink'.failures
-Ends end.NoMemory p sink sink' text = TakesFront sink sink' text
+Ends (end.Lagged cursor oldest) place sink sink' text = (place ≡ lagged cursor oldest) × Takes sink sink' text
+Ends end.Rested place sink sink' text = (place ≡ rested) × Takes sink sink' text
+Ends end.WriteFault place sink sink' text = TakesFront sink sink' text × Rose sink.failures sink'.failures
+Ends end.NoMemory place sink sink' text = TakesFront sink sink' text
 
 -- A session of this key and this filter: what was done at the gate, where it stands then, and how it ended there. The
 -- boot word is that of the ids of operations.

@@ -11,7 +11,7 @@ use Rattle.rest_routes.specs.row_machine.specs.machine.State.{State}
 use Rattle.rest_routes.specs.row_machine.specs.machine.Plans.{Plan, nothing, changes, starts, plan_of}
 use Rattle.rest_routes.specs.row_machine.specs.machine.Rules.{broken}
 use Rattle.rest_routes.specs.row_machine.specs.machine.Accept.{accepted, cancel_or_read, carried_out}
-use Rattle.rest_routes.specs.row_machine.specs.machine.Step.{Outcome, well, keeper_failed, no_memory, step, asked}
+use Rattle.rest_routes.specs.row_machine.specs.machine.Step.{Outcome, well, keeper_failed, no_memory, step, after_command}
 use Rattle.rest_routes.specs.row_machine.specs.machine.Step.{unavailable}
 use Rattle.rest_routes.specs.row_machine.specs.shown.Views.{read}
 use Rattle.gate_answers.specs.gate_trails.specs.Trails.{MayAnswer}
@@ -67,7 +67,7 @@ unavailable_holds s c (changes cs) = tt
 unavailable_holds s c (starts task) = tt
 
 asked_holds : (s : State) (c : Command) (moment : ℕ) (outcome : Outcome) (refusal : Option Refusal)
-    → Speaks (IsHeldFor c) (asked s c moment outcome refusal)
+    → Speaks (IsHeldFor c) (after_command s c moment outcome refusal)
 unfolding accepted
 asked_holds s c moment well (Some refusal) = tt
 asked_holds s c moment well None = plan_holds s c moment (plan_of s c moment)

@@ -28,7 +28,7 @@ wait_in project (what.Wait op timeout) = Some (record { project = project; timeo
 wait_in project other = None
 
 abbrev pub wait_of : Command → Option Waiting
-wait_of c = wait_in c.project c.what
+wait_of command = wait_in command.project command.what
 
 -- Where a command stands: it is not asked yet; its answer is held back, and its operation is to be looked at, with this
 -- deadline and so many rests made; the operation was live, and a rest is due; the wait is over, and the operation is to
@@ -50,10 +50,10 @@ stand place clock = record { place = place; clock = clock }
 
 -- where a command stands that was asked at this moment, after this answer
 abbrev pub Brings : What → ℕ → Answer → Place → Type 0
-Brings asked moment (answer.Reply r) p = p ≡ replied r
-Brings asked moment answer.NoMemory p = p ≡ replied reply.NoMemory
-Brings asked moment (answer.Hold op) p = p ≡ looking op (deadline_by moment asked) 0
-Brings asked moment other p = ⊥
+Brings asked moment (answer.Reply a_reply) place = place ≡ replied a_reply
+Brings asked moment answer.NoMemory place = place ≡ replied reply.NoMemory
+Brings asked moment (answer.Hold op) place = place ≡ looking op (deadline_by moment asked) 0
+Brings asked moment other place = ⊥
 
 -- whether the operation that was looked at is live
 abbrev pub Looked : Answer → Bool → Type 0
@@ -63,50 +63,53 @@ Looked other live = ⊥
 
 -- where a wait stands after a look at its operation
 abbrev pub Sees : ℕ → Option ℕ → ℕ → Answer → Place → Type 0
-Sees op deadline rests (answer.NotYet number) p = p ≡ waiting op deadline rests
-Sees op deadline rests (answer.Ended number) p = p ≡ due op
-Sees op deadline rests other p = ⊥
+Sees op deadline rests (answer.NotYet number) place = place ≡ waiting op deadline rests
+Sees op deadline rests (answer.Ended number) place = place ≡ due op
+Sees op deadline rests other place = ⊥
 
 -- where a wait stands after so many rests: it is over where its deadline is reached, and after the most rests
 abbrev pub after_rest : ℕ → Option ℕ → ℕ → Bool → Place
 after_rest op deadline rests late = if late || rests == most_rests then due op else looking op deadline rests
 
 -- a command was asked, at the clock's next reading
-pub record Asks (c : Command) (s : Stand) (e : Event) (a : Answer) (s' : Stand) : Type 0 where
+pub record Asks (command : Command) (stand : Stand) (an_event : Event) (answer : Answer) (next : Stand) : Type 0 where
   pub moment : ℕ
-  pub asks : e ≡ event.Ask c moment
-  pub clock : IsRead s.clock moment s'.clock
-  pub brings : Brings c.what moment a s'.place
+  pub asks : an_event ≡ event.Ask command moment
+  pub clock : IsRead stand.clock moment next.clock
+  pub brings : Brings command.what moment answer next.place
 
 -- an operation was looked at
-pub record Looks (op : ℕ) (deadline : Option ℕ) (rests : ℕ) (s : Stand) (e : Event) (a : Answer) (s' : Stand) : Type 0 where
-  pub looks : e ≡ event.Look op
-  pub clock : s'.clock ≡ s.clock
-  pub sees : Sees op deadline rests a s'.place
+pub record Looks (op : ℕ) (deadline : Option ℕ) (rests : ℕ) (stand : Stand) (an_event : Event) (answer : Answer)
+    (next : Stand) : Type 0 where
+  pub looks : an_event ≡ event.Look op
+  pub clock : next.clock ≡ stand.clock
+  pub sees : Sees op deadline rests answer next.place
 
 -- one rest more was made, and then the deadline was looked at
-pub record Rests (op : ℕ) (deadline : Option ℕ) (rests : ℕ) (s s' : Stand) : Type 0 where
+pub record Rests (op : ℕ) (deadline : Option ℕ) (rests : ℕ) (stand next : Stand) : Type 0 where
   pub late : Bool
-  pub clock : IsLate deadline s.clock late s'.clock
-  pub place : s'.place ≡ after_rest op deadline (rests + 1) late
+  pub clock : IsLate deadline stand.clock late next.clock
+  pub place : next.place ≡ after_rest op deadline (rests + 1) late
 
 -- an operation was asked for in the project of the command, at the clock's next reading
-pub record Shows (c : Command) (op : ℕ) (s : Stand) (e : Event) (a : Answer) (s' : Stand) : Type 0 where
+pub record Shows (command : Command) (op : ℕ) (stand : Stand) (an_event : Event) (answer : Answer)
+    (next : Stand) : Type 0 where
   pub moment : ℕ
   pub reply : Reply
-  pub asks : e ≡ event.Ask (showing op c) moment
-  pub clock : IsRead s.clock moment s'.clock
-  pub answers : answered reply ≡ a
-  pub place : s'.place ≡ replied reply
+  pub asks : an_event ≡ event.Ask (showing op command) moment
+  pub clock : IsRead stand.clock moment next.clock
+  pub answers : answered reply ≡ answer
+  pub place : next.place ≡ replied reply
 
 -- what is done for a command where it stands
 abbrev pub DoneFor : Command → Place → Stand → Item → Stand → Type 0
-DoneFor c unasked s (turn e outcome a) s' = Asks c s e a s'
-DoneFor c (looking op deadline rests) s (turn e outcome a) s' = Looks op deadline rests s e a s'
-DoneFor c (waiting op deadline rests) s (rest events) s' = Rests op deadline rests s s'
-DoneFor c (due op) s (turn e outcome a) s' = Shows c op s e a s'
-DoneFor c other s item s' = ⊥
+DoneFor command unasked stand (turn event outcome answer) next = Asks command stand event answer next
+DoneFor command (looking op deadline rests) stand (turn event outcome answer) next =
+    Looks op deadline rests stand event answer next
+DoneFor command (waiting op deadline rests) stand (rest events) next = Rests op deadline rests stand next
+DoneFor command (due op) stand (turn event outcome answer) next = Shows command op stand event answer next
+DoneFor command other stand item next = ⊥
 
 -- one thing that is done for a command
 abbrev pub ServeBy : Command → Stand → Item → Stand → Type 0
-ServeBy c s item s' = DoneFor c s.place s item s'
+ServeBy command stand item next = DoneFor command stand.place stand item next

@@ -61,7 +61,7 @@ failures_of events = sum_by (λ (e : Event × Outcome). failed_commits e.1) even
 events-bear : {events : List (Event × Outcome)} {s t : Told} → Chain EventBy events s t
     → RoseBy (failures_of events) s.store.failures t.store.failures
 events-bear none = omega arith
-events-bear {events = e ∷ es} {s = s} {t = t} (more {m = m} first others) =
+events-bear {events = e ∷ es} {s = s} {t = t} (more {between = m} first others) =
     subst (λ n. RoseBy n s.store.failures t.store.failures)
     (sym (sum_by-cons (λ (e : Event × Outcome). failed_commits e.1) e es))
     (rose-twice (failed_commits e.1) (failures_of es) s.store.failures m.store.failures t.store.failures

@@ -25,22 +25,22 @@ told_as state store = record { state = state; store = store }
 
 -- An event with its outcome was answered so, and led from one moment to the next. The keeper's count bears the outcome
 -- out, and entries that were the records of the rows are so afterwards.
-pub record TurnBy (s : Told) (e : Event) (outcome : Outcome) (a : Answer) (s' : Told) : Type 0 where
-  pub turns : Turns s.state s.store e outcome a s'.state s'.store
-  pub caused : IsCaused outcome s.store.failures s'.store.failures
-  pub kept : KeepsRecords s.store.told s.state s'.store.told s'.state
+pub record TurnBy (server : Told) (event : Event) (outcome : Outcome) (answer : Answer) (later : Told) : Type 0 where
+  pub turns : Turns server.state server.store event outcome answer later.state later.store
+  pub caused : IsCaused outcome server.store.failures later.store.failures
+  pub kept : KeepsRecords server.store.told server.state later.store.told later.state
 
 -- an event was taken, whatever it was answered
 abbrev pub EventBy : Told → Event × Outcome → Told → Type 0
-EventBy s e s' = (a : Answer) × TurnBy s e.0 e.1 a s'
+EventBy server event later = (answer : Answer) × TurnBy server event.0 event.1 answer later
 
 -- from some moment whose rows have their facts the server may answer this event so
-pub record MayAnswer (e : Event) (a : Answer) : Type 0 where
+pub record MayAnswer (event : Event) (answer : Answer) : Type 0 where
   pub from : Told
   pub to : Told
   pub outcome : Outcome
   pub whole : IsWhole from.state
-  pub by : TurnBy from e outcome a to
+  pub by : TurnBy from event outcome answer to
 
 -- ---- trails
 
@@ -52,18 +52,18 @@ pub data Item : Type 0 where
 
 -- an item leads from one moment to the next
 abbrev pub ItemBy : Told → Item → Told → Type 0
-ItemBy s (turn e outcome a) s' = TurnBy s e outcome a s'
-ItemBy s (rest events) s' = Chain EventBy events s s'
+ItemBy server (turn event outcome answer) later = TurnBy server event outcome answer later
+ItemBy server (rest events) later = Chain EventBy events server later
 
 -- The same of a gate: one that tells its server goes on to tell it, and one that doesn't never tells.
 abbrev pub ToldBy : Option Told → Item → Option Told → Type 0
-ToldBy None i new = new ≡ None
-ToldBy (Some s) i new = (s' : Told) × (new ≡ Some s') × ItemBy s i s'
+ToldBy None item new = new ≡ None
+ToldBy (Some server) item new = (later : Told) × (new ≡ Some later) × ItemBy server item later
 
 -- one turn at a gate
-pub record TurnsTold (old : Option Told) (e : Event) (a : Answer) (new : Option Told) : Type 0 where
+pub record TurnsTold (old : Option Told) (event : Event) (answer : Answer) (new : Option Told) : Type 0 where
   pub outcome : Outcome
-  pub by : ToldBy old (turn e outcome a) new
+  pub by : ToldBy old (turn event outcome answer) new
 
 -- one rest at a gate
 pub record RestsTold (old new : Option Told) : Type 0 where
@@ -73,17 +73,17 @@ pub record RestsTold (old new : Option Told) : Type 0 where
 -- ---- what a trail counts
 
 abbrev pub turn_at : Item → ℕ
-turn_at (turn e outcome a) = 1
+turn_at (turn event outcome answer) = 1
 turn_at (rest events) = 0
 
 abbrev pub rest_at : Item → ℕ
-rest_at (turn e outcome a) = 0
+rest_at (turn event outcome answer) = 0
 rest_at (rest events) = 1
 
 -- how often the keeper failed
 abbrev pub failures_at : Item → ℕ
-failures_at (turn e outcome a) = failed_commits outcome
-failures_at (rest events) = sum_by (λ (e : Event × Outcome). failed_commits e.1) events
+failures_at (turn event outcome answer) = failed_commits outcome
+failures_at (rest events) = sum_by (λ (event : Event × Outcome). failed_commits event.1) events
 
 abbrev pub turns_in : List Item → ℕ
 turns_in trail = sum_by turn_at trail
@@ -104,6 +104,6 @@ Counts n before now = now < 2 ^ 64 - 1 → now ≡ before + n
 
 -- a told keeper's count rose by this number at least, or stands at its last value
 abbrev pub Bears : ℕ → Option Told → Option Told → Type 0
-Bears n (Some s) (Some s') = RoseBy n s.store.failures s'.store.failures
+Bears n (Some server) (Some later) = RoseBy n server.store.failures later.store.failures
 Bears n None new = Unit {0}
-Bears n (Some s) None = ⊥
+Bears n (Some server) None = ⊥

@@ -11,9 +11,9 @@ use Rattle.gates.specs.declared.alone.AloneGate.{AloneGate}
 -- keeper, host and clock tell
 abbrev pub site_of : {R H C : Type 0} → (R → Store) → (H → Option (List HostRoot)) → (H → ℕ) → (C → Readings)
     → AloneGate R H C → Site
-site_of store told failures readings g =
-    site (serial g.daemon g.hand) (store g.keeper) (hosted told failures g.host) (readings g.clock)
+site_of store told failures readings gate =
+    site (serial gate.daemon gate.hand) (store gate.keeper) (hosted told failures gate.host) (readings gate.clock)
 
 -- what is told of it
 abbrev pub told_at : Site → Told
-told_at w = told_as w.serial.state w.store
+told_at site = told_as site.serial.state site.store

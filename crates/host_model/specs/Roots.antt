@@ -11,8 +11,11 @@ use mathlib.Core.Bool.{beq}
 
 -- whether both are the same place
 abbrev pub same_place : Place → Place → Bool
-same_place a b = beq a.volume b.volume && bytes_eq a.project b.project && bytes_eq a.pool b.pool
-    && bytes_eq a.name b.name
+same_place place other =
+    beq place.volume other.volume
+    && bytes_eq place.project other.project
+    && bytes_eq place.pool other.pool
+    && bytes_eq place.name other.name
 
 -- nothing applied
 abbrev pub no_spec : Spec
@@ -44,11 +47,11 @@ without_root at roots = dropped (is_at at) roots
 
 -- the snapshots of other names
 abbrev pub others : List ℕ → List (List ℕ × List ℕ) → List (List ℕ × List ℕ)
-others name snapshots = filter (λ s. not (bytes_eq s.0 name)) snapshots
+others name snapshots = filter (λ snapshot. not (bytes_eq snapshot.0 name)) snapshots
 
 -- the content of the snapshot of this name
 abbrev pub snapshot_of : List ℕ → HostRoot → Option (List ℕ)
-snapshot_of name root = option_map (λ s. s.1) (find (λ s. bytes_eq s.0 name) root.snapshots)
+snapshot_of name root = option_map (λ snapshot. snapshot.1) (find (λ snapshot. bytes_eq snapshot.0 name) root.snapshots)
 
 -- the content of a root, or of its named snapshot, which is empty where it has none of that name
 abbrev pub content_in : List ℕ → HostRoot → List ℕ

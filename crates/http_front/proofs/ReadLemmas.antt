@@ -15,7 +15,7 @@ use Rattle.http_front.specs.Reading.{IsUnfinished, KeepsHeld, ReadsNext}
 use Rattle.http_front.proofs.StreamLemmas.{consumes_twice}
 use Rattle.http_heads.specs.declared.head.Head.{Head}
 use Rattle.http_heads.specs.declared.request.Request.{Request}
-use Rattle.http_heads.specs.Heads.{head_len, behind_blank, head_bytes}
+use Rattle.http_heads.specs.Heads.{head_len, after_blank, head_bytes}
 use Rattle.http_heads.specs.Messages.{HasHead, IsMessage, IsBlank, IsCut, IsMalformed}
 use Rattle.http_heads.specs.Readings.{Says}
 use Rattle.http_heads.proofs.LengthLemmas.{head_len-append}
@@ -59,7 +59,7 @@ pub Says-taken : {old new : List ℕ} {l m : Option (List ℕ)} {head : Head} (l
     → Says (head_bytes len old) head → Says (head_bytes len new) head
 Says-taken {old} {new} {head} len h within says =
     let front : take len new ≡ take len old = ap (take len) h.grown ∙ take-append-le len old h.more within in
-    subst (λ f. Says (behind_blank f) head) (sym front) says
+    subst (λ f. Says (after_blank f) head) (sym front) says
 
 -- a head with its fields, as the definitions have it
 pub HasHead-says : {bytes : List ℕ} {head : Head} (len : ℕ) → head_len bytes ≡ Some len → (says : Says (head_bytes len bytes) head) → HasHead bytes len says.head

@@ -95,7 +95,7 @@ StopsBefore end held ended left stop.NoMemory = Unit {0}
 
 -- the fact, where a read failed
 abbrev pub OnFault : {T : Type 0} → Result T Stop → Type 0 → Type 0
-OnFault (Ok x) P = Unit {0}
+OnFault (Ok value) P = Unit {0}
 OnFault (Err stop.ReadFault) P = P
 OnFault (Err stop.End) P = Unit {0}
 OnFault (Err (stop.Cut n)) P = Unit {0}
@@ -103,7 +103,7 @@ OnFault (Err (stop.Malformed fault)) P = Unit {0}
 OnFault (Err stop.NoMemory) P = Unit {0}
 
 -- a request of the bytes that were held and those that were taken in, and what is held after it
-pub record Takes (old new : List ℕ) (left left' : Option (List ℕ)) (m : Request) : Type 0 where
+pub record Takes (old new : List ℕ) (left left' : Option (List ℕ)) (message : Request) : Type 0 where
   pub more : List ℕ
-  pub is : IsMessage (old ++ more) m new
+  pub is : IsMessage (old ++ more) message new
   pub from : Consumes left left' more

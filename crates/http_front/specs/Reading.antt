@@ -11,7 +11,7 @@ IsUnfinished bytes = IsBlank bytes ⊎ IsCut bytes
 
 -- What was answered of the bytes to come, which of them are still to come, and which of these are held.
 abbrev pub ReadsNext : List ℕ → Option (List ℕ) → List ℕ → Got → Type 0
-ReadsNext old new held (got.Request m) = (rest : List ℕ) × IsMessage old m rest × (new ≡ Some rest)
+ReadsNext old new held (got.Request message) = (rest : List ℕ) × IsMessage old message rest × (new ≡ Some rest)
 ReadsNext old new held got.End = IsBlank old × (new ≡ Some old) × (held ≡ old)
 ReadsNext old new held (got.Cut n) = IsCut old × (new ≡ Some old) × (held ≡ old) × (n ≡ length old)
 ReadsNext old new held (got.Malformed fault) = IsMalformed old fault × (new ≡ Some old)
@@ -21,7 +21,7 @@ ReadsNext old new held got.NoMemory = new ≡ Some old
 -- What was answered of the bytes held, over any source: they and some more bytes, which the source gave, are what is
 -- held afterwards, and before it the message that was answered.
 abbrev pub KeepsHeld : List ℕ → List ℕ → Got → Type 0
-KeepsHeld old new (got.Request m) = (more : List ℕ) × IsMessage (old ++ more) m new
+KeepsHeld old new (got.Request message) = (more : List ℕ) × IsMessage (old ++ more) message new
 KeepsHeld old new got.End = (more : List ℕ) × (new ≡ old ++ more) × IsBlank new
 KeepsHeld old new (got.Cut n) = (more : List ℕ) × (new ≡ old ++ more) × IsCut new × (n ≡ length new)
 KeepsHeld old new (got.Malformed fault) = (more : List ℕ) × (new ≡ old ++ more) × IsMalformed new fault
@@ -31,7 +31,7 @@ KeepsHeld old new got.NoMemory = (more : List ℕ) × (new ≡ old ++ more)
 -- the fact, where a read failed
 abbrev pub OnReadFault : Got → Type 0 → Type 0
 OnReadFault got.ReadFault P = P
-OnReadFault (got.Request m) P = Unit {0}
+OnReadFault (got.Request message) P = Unit {0}
 OnReadFault got.End P = Unit {0}
 OnReadFault (got.Cut n) P = Unit {0}
 OnReadFault (got.Malformed fault) P = Unit {0}
@@ -41,7 +41,7 @@ OnReadFault got.NoMemory P = Unit {0}
 abbrev pub OnEnd : Got → Type 0 → Type 0
 OnEnd got.End P = P
 OnEnd (got.Cut n) P = P
-OnEnd (got.Request m) P = Unit {0}
+OnEnd (got.Request message) P = Unit {0}
 OnEnd (got.Malformed fault) P = Unit {0}
 OnEnd got.ReadFault P = Unit {0}
 OnEnd got.NoMemory P = Unit {0}
@@ -55,5 +55,6 @@ answer_of (malformed fault) = got.Malformed fault
 -- calls of `read_request`, one after the other, answer these messages of the bytes to come, and then this ending
 abbrev pub Answers : List ℕ → List Request → Ending → Type 0
 Answers bytes [] ending = (new : Option (List ℕ)) × (held : List ℕ) × ReadsNext bytes new held (answer_of ending)
-Answers bytes (m ∷ messages) ending =
-    (rest : List ℕ) × (held : List ℕ) × ReadsNext bytes (Some rest) held (got.Request m) × Answers rest messages ending
+Answers bytes (message ∷ messages) ending =
+    (rest : List ℕ) × (held : List ℕ) × ReadsNext bytes (Some rest) held (got.Request message)
+    × Answers rest messages ending

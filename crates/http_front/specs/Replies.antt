@@ -35,17 +35,17 @@ last_line last = if last then line (codes "Connection: close") else []
 
 -- the head of a reply, up to and with the empty line
 abbrev pub head_text : Printed → List ℕ
-head_text p =
-    status_line p.code
+head_text printed =
+    status_line printed.code
     ++ line (codes "Content-Type: application/json")
-    ++ length_line (length p.body)
-    ++ location_line p.location
-    ++ last_line p.last
+    ++ length_line (length printed.body)
+    ++ location_line printed.location
+    ++ last_line printed.last
     ++ line []
 
 -- the head and the body
 unfoldable pub reply_text : Printed → List ℕ
-reply_text p = head_text p ++ p.body
+reply_text printed = head_text printed ++ printed.body
 
 -- the body of the reply where there is no memory
 abbrev pub no_memory_body : List ℕ

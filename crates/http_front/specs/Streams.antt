@@ -7,17 +7,17 @@ use Rattle.http_heads.specs.size_values.specs.Calls.{Calls, is_next_failing, aft
 -- A read gave the first of the bytes that the source had left, and those are gone; a read that failed took none.
 abbrev pub Delivers : {E : Type 0} → Option (List ℕ) → Option (List ℕ) → Result ℕ E → List ℕ → Type 0
 Delivers old new (Ok n) buf = (n ≤ length buf) × Consumes old new (take n buf)
-Delivers old new (Err e) buf = Keeps old new
+Delivers old new (Err error) buf = Keeps old new
 
 -- A source ends at the read that answers 0, and only there.
 abbrev pub Ends : {E : Type 0} → Bool → Bool → Result ℕ E → Type 0
 Ends old new (Ok n) = new ≡ (old || n == 0)
-Ends old new (Err e) = new ≡ old
+Ends old new (Err error) = new ≡ old
 
 -- A write appended all of its bytes; one that failed appended some of the first.
 abbrev pub Writes : {E : Type 0} → Option (List ℕ) → Option (List ℕ) → Result (Unit {0}) E → List ℕ → Type 0
-Writes old new (Ok u) bytes = Appends old new bytes
-Writes old new (Err e) bytes = (n : ℕ) × Appends old new (take n bytes)
+Writes old new (Ok unit) bytes = Appends old new bytes
+Writes old new (Err error) bytes = (n : ℕ) × Appends old new (take n bytes)
 
 -- A source in memory: the bytes to come, the most that one read gives, the calls of read, and whether it has ended.
 pub record Tape : Type 0 where
@@ -40,17 +40,17 @@ pub record Paper : Type 0 where
 
 -- how many writes failed, at a listed call or for lack of memory
 abbrev pub faults_of : Paper → ℕ
-faults_of p = min (p.calls.failed + p.refused) last_number
+faults_of paper = min (paper.calls.failed + paper.refused) last_number
 
 -- A write to a sink in memory. A listed call fails, and no bytes are taken. Another call takes all of the bytes, or is
 -- refused memory, which is counted apart, and takes none.
 abbrev pub WritesToPaper : {E : Type 0} → Paper → Paper → Result (Unit {0}) E → List ℕ → Type 0
-WritesToPaper p p' (Ok u) bytes = (is_next_failing p.calls ≡ false)
-    × (p' ≡ record p { held = p.held ++ bytes; calls = after_call p.calls })
-WritesToPaper p p' (Err e) bytes =
-    ((is_next_failing p.calls ≡ true) × (p' ≡ record p { calls = after_call p.calls }))
-    ⊎ ((is_next_failing p.calls ≡ false)
-    × (p' ≡ record p { calls = after_call p.calls; refused = min (p.refused + 1) last_number }))
+WritesToPaper paper later (Ok unit) bytes = (is_next_failing paper.calls ≡ false)
+    × (later ≡ record paper { held = paper.held ++ bytes; calls = after_call paper.calls })
+WritesToPaper paper later (Err error) bytes =
+    ((is_next_failing paper.calls ≡ true) × (later ≡ record paper { calls = after_call paper.calls }))
+    ⊎ ((is_next_failing paper.calls ≡ false)
+    × (later ≡ record paper { calls = after_call paper.calls; refused = min (paper.refused + 1) last_number }))
 
 -- A source over a reader: the bytes to come, where the reader tells them, whether the source has ended, and how many
 -- reads failed.

@@ -9,7 +9,7 @@ use Rattle.httparse.specs.Grammar.{is_token_byte, is_uri_byte, is_value_byte, Al
 use Rattle.httparse.specs.Pieces.{Piece, Begins, Then, Stops, is_newline, Newline, Word, Target, Version, Text, FieldLine, FieldLines, Section, RequestStart}
 use Rattle.httparse.proofs.GrammarLemmas.{request_head, request_pieces, request_from_pieces, request_unique}
 use Rattle.http_heads.specs.Limits.{max_fields}
-use Rattle.http_heads.specs.Heads.{is_line_byte, behind_blank}
+use Rattle.http_heads.specs.Heads.{is_line_byte, after_blank}
 use Rattle.http_heads.specs.Messages.{IsHead}
 use Rattle.httparse.proofs.PieceLemmas.{IsDeterministic, Name_deterministic, FieldLine_parts, print_field-append, Section_skip, Section_line, Word_deterministic, Method_deterministic, Blank_deterministic, RequestStart_deterministic, Target_deterministic, Version_deterministic, space_ends_token, colon_ends_token}
 
@@ -270,18 +270,18 @@ no_head_in_nothing head h = let x = request_pieces [] head [] h.reads in refute 
     refute [] (c ∷ middle) e stops = cc
     refute (f ∷ front) middle e stops = cc
 
-behind_blank-begins : (bytes : List ℕ) → (behind_blank bytes ≡ []) ⊎ Stops is_newline (behind_blank bytes)
-behind_blank-begins [] = inl refl
-behind_blank-begins (b ∷ bytes) = by_test (is_line_byte b) refl (behind_blank-begins bytes)
+after_blank-begins : (bytes : List ℕ) → (after_blank bytes ≡ []) ⊎ Stops is_newline (after_blank bytes)
+after_blank-begins [] = inl refl
+after_blank-begins (b ∷ bytes) = by_test (is_line_byte b) refl (after_blank-begins bytes)
   where
-    by_test : (t : Bool) → is_line_byte b ≡ t → (behind_blank bytes ≡ []) ⊎ Stops is_newline (behind_blank bytes)
-        → (behind_blank (b ∷ bytes) ≡ []) ⊎ Stops is_newline (behind_blank (b ∷ bytes))
+    by_test : (t : Bool) → is_line_byte b ≡ t → (after_blank bytes ≡ []) ⊎ Stops is_newline (after_blank bytes)
+        → (after_blank (b ∷ bytes) ≡ []) ⊎ Stops is_newline (after_blank (b ∷ bytes))
     by_test true is later = rw is later
     by_test false is later = rw is (inr is)
 
-pub head_or_not : (bytes : List ℕ) → HeadOrNot (behind_blank bytes)
-head_or_not bytes = by_front (behind_blank-begins bytes)
+pub head_or_not : (bytes : List ℕ) → HeadOrNot (after_blank bytes)
+head_or_not bytes = by_front (after_blank-begins bytes)
   where
-    by_front : (behind_blank bytes ≡ []) ⊎ Stops is_newline (behind_blank bytes) → HeadOrNot (behind_blank bytes)
+    by_front : (after_blank bytes ≡ []) ⊎ Stops is_newline (after_blank bytes) → HeadOrNot (after_blank bytes)
     by_front (inl nothing) = subst HeadOrNot (sym nothing) (inr no_head_in_nothing)
-    by_front (inr stops) = head_at (behind_blank bytes) stops
+    by_front (inr stops) = head_at (after_blank bytes) stops

@@ -7,7 +7,7 @@ use Rattle.std.proofs.lemmas.List.{take-append-le, take_all, drop_all}
 use Rattle.std.proofs.Math.Seq.{take-append-add}
 use Rattle.http_heads.specs.Limits.{max_head}
 use Rattle.http_heads.specs.Heads.{is_line_byte, blank_len, line_end, empty_line_end, head_end, head_len}
-use Rattle.http_heads.proofs.SearchLemmas.{head_end-blank, head_end-begins, end_behind}
+use Rattle.http_heads.proofs.SearchLemmas.{head_end-blank, head_end-begins, end_past}
 
 -- the first n bytes of a text and more
 pub take-append : (n : ℕ) (bytes more : List ℕ) → length bytes ≤ n → take n (bytes ++ more) ≡ bytes ++ take (n - length bytes) more
@@ -55,22 +55,22 @@ line_end-told (b ∷ []) more n e f = by_test (b == 10) refl
     by_test false is = let g : option_map suc (option_or (cond false None None) None) ≡ Some n = rw is at f in cc
 line_end-told (b ∷ c ∷ bytes) more n e f = e
 
-end_behind-append : (b : ℕ) (bytes more : List ℕ) (n : ℕ) → end_behind b bytes ≡ Some n → end_behind b (bytes ++ more) ≡ Some n
-end_behind-append b bytes more n e = by_test (b == 10) refl
+end_past-append : (b : ℕ) (bytes more : List ℕ) (n : ℕ) → end_past b bytes ≡ Some n → end_past b (bytes ++ more) ≡ Some n
+end_past-append b bytes more n e = by_test (b == 10) refl
   where
-    by_test : (t : Bool) → (b == 10) ≡ t → end_behind b (bytes ++ more) ≡ Some n
+    by_test : (t : Bool) → (b == 10) ≡ t → end_past b (bytes ++ more) ≡ Some n
     by_test true is = let f : line_end bytes ≡ Some n = rw is at e in rw is (line_end-append bytes more n f)
     by_test false is = let f : None ≡ Some n = rw is at e in cc
 
-end_behind-told : (b : ℕ) (bytes more : List ℕ) (n : ℕ) → end_behind b bytes ≡ None → empty_line_end bytes ≡ Some n → end_behind b (bytes ++ more) ≡ None
-end_behind-told b bytes more n e f = by_test (b == 10) refl
+end_past-told : (b : ℕ) (bytes more : List ℕ) (n : ℕ) → end_past b bytes ≡ None → empty_line_end bytes ≡ Some n → end_past b (bytes ++ more) ≡ None
+end_past-told b bytes more n e f = by_test (b == 10) refl
   where
-    by_test : (t : Bool) → (b == 10) ≡ t → end_behind b (bytes ++ more) ≡ None
+    by_test : (t : Bool) → (b == 10) ≡ t → end_past b (bytes ++ more) ≡ None
     by_test true is = let g : line_end bytes ≡ None = rw is at e in rw is (line_end-told bytes more n g f)
     by_test false is = rw is refl
 
-end_behind-le : (b : ℕ) (bytes : List ℕ) (n : ℕ) → end_behind b bytes ≡ Some n → n ≤ length bytes
-end_behind-le b bytes n e = by_test (b == 10) refl
+end_past-le : (b : ℕ) (bytes : List ℕ) (n : ℕ) → end_past b bytes ≡ Some n → n ≤ length bytes
+end_past-le b bytes n e = by_test (b == 10) refl
   where
     by_test : (t : Bool) → (b == 10) ≡ t → n ≤ length bytes
     by_test true is = let f : line_end bytes ≡ Some n = rw is at e in line_end-le bytes n f
@@ -82,26 +82,26 @@ end_or o bytes = option_map suc (option_or o (empty_line_end bytes))
 
 pub empty_line_end-append : (bytes more : List ℕ) (n : ℕ) → empty_line_end bytes ≡ Some n → empty_line_end (bytes ++ more) ≡ Some n
 empty_line_end-append [] more n e = cc
-empty_line_end-append (b ∷ bytes) more n e = by_end (end_behind b bytes) refl (λ k. empty_line_end-append bytes more k)
+empty_line_end-append (b ∷ bytes) more n e = by_end (end_past b bytes) refl (λ k. empty_line_end-append bytes more k)
   where
-    by_end : (o : Option ℕ) → end_behind b bytes ≡ o
+    by_end : (o : Option ℕ) → end_past b bytes ≡ o
         → ((k : ℕ) → empty_line_end bytes ≡ Some k → empty_line_end (bytes ++ more) ≡ Some k)
         → empty_line_end (b ∷ bytes ++ more) ≡ Some n
     by_end (Some k) is later =
-        ap (λ o. end_or o (bytes ++ more)) (end_behind-append b bytes more k is) ∙ sym (ap (λ o. end_or o bytes) is) ∙ e
+        ap (λ o. end_or o (bytes ++ more)) (end_past-append b bytes more k is) ∙ sym (ap (λ o. end_or o bytes) is) ∙ e
     by_end None is later =
         let m = mapped suc (empty_line_end bytes) n (sym (ap (λ o. end_or o bytes) is) ∙ e) in
-        ap (λ o. end_or o (bytes ++ more)) (end_behind-told b bytes more m.0 is m.1) ∙ ap (option_map suc) (later m.0 m.1) ∙ ap Some m.2
+        ap (λ o. end_or o (bytes ++ more)) (end_past-told b bytes more m.0 is m.1) ∙ ap (option_map suc) (later m.0 m.1) ∙ ap Some m.2
 
 pub empty_line_end-le : (bytes : List ℕ) (n : ℕ) → empty_line_end bytes ≡ Some n → n ≤ length bytes
 empty_line_end-le [] n e = cc
-empty_line_end-le (b ∷ bytes) n e = by_end (end_behind b bytes) refl (λ k. empty_line_end-le bytes k)
+empty_line_end-le (b ∷ bytes) n e = by_end (end_past b bytes) refl (λ k. empty_line_end-le bytes k)
   where
-    by_end : (o : Option ℕ) → end_behind b bytes ≡ o → ((k : ℕ) → empty_line_end bytes ≡ Some k → k ≤ length bytes)
+    by_end : (o : Option ℕ) → end_past b bytes ≡ o → ((k : ℕ) → empty_line_end bytes ≡ Some k → k ≤ length bytes)
         → n ≤ length (b ∷ bytes)
     by_end (Some k) is later =
         let f : suc k ≡ n = same_Some (suc k) n (sym (ap (λ o. end_or o bytes) is) ∙ e) in
-        omega (arith, end_behind-le b bytes k is)
+        omega (arith, end_past-le b bytes k is)
     by_end None is later =
         let m = mapped suc (empty_line_end bytes) n (sym (ap (λ o. end_or o bytes) is) ∙ e) in omega (arith, m.2, later m.0 m.1)
 

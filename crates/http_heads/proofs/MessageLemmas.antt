@@ -9,7 +9,7 @@ use Rattle.http_heads.specs.Limits.{max_head}
 use Rattle.http_heads.specs.declared.request.Request.{Request}
 use Rattle.http_heads.specs.declared.request.HeadFault.{HeadFault}
 use Rattle.http_heads.specs.declared.request.HeadFault.TheVariants.{H1, H2, H3, H4}
-use Rattle.http_heads.specs.Heads.{blank_len, head_len, behind_blank, head_bytes}
+use Rattle.http_heads.specs.Heads.{blank_len, head_len, after_blank, head_bytes}
 use Rattle.http_heads.specs.Fields.{fields_of, framing, is_last}
 use Rattle.http_heads.specs.Upgrades.{upgrade_key}
 use Rattle.http_heads.specs.Messages.{IsHead, HasHead, IsMessage, IsBlank, IsCut, IsNoHead, IsTooLong, IsFramedBadly, IsMalformed, Ending, ended, cut, malformed, EndsAs, Begins, Splits}
@@ -21,7 +21,7 @@ use Rattle.http_heads.proofs.LengthLemmas.{head_end-all_blank, head_len-short, h
 pub HasHead-append : {bytes : List ℕ} {len : ℕ} {head : RequestHead} (more : List ℕ) → HasHead bytes len head → HasHead (bytes ++ more) len head
 HasHead-append {bytes} {len} {head} more h = record {
   ends = head_len-append bytes more len h.ends;
-  is = subst (λ l. IsHead (behind_blank l) head) (sym (take-append-le len bytes more (head_len-le bytes len h.ends).1)) h.is;
+  is = subst (λ l. IsHead (after_blank l) head) (sym (take-append-le len bytes more (head_len-le bytes len h.ends).1)) h.is;
 }
 
 pub IsMessage-append : {bytes rest : List ℕ} {m : Request} (more : List ℕ) → IsMessage bytes m rest → IsMessage (bytes ++ more) m (rest ++ more)
@@ -53,7 +53,7 @@ IsNoHead-append {bytes} more h =
     record {
       len = h.len;
       ends = head_len-append bytes more h.len h.ends;
-      refuted = λ head is. h.refuted head (subst (λ l. IsHead (behind_blank l) head) front is);
+      refuted = λ head is. h.refuted head (subst (λ l. IsHead (after_blank l) head) front is);
     }
 
 IsTooLong-append : {bytes : List ℕ} (more : List ℕ) → IsTooLong bytes → IsTooLong (bytes ++ more)

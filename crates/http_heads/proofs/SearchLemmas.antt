@@ -49,17 +49,17 @@ begin_step n b bytes at is =
     ∙ ap (λ l. option_map (λ k. n + k) (empty_line_end l)) (sym at)
 
 -- what stands after a byte, if it is an LF
-abbrev pub end_behind : ℕ → List ℕ → Option ℕ
-end_behind b bytes = cond (b == 10) (line_end bytes) None
+abbrev pub end_past : ℕ → List ℕ → Option ℕ
+end_past b bytes = cond (b == 10) (line_end bytes) None
 
-pub line_step : (n b : ℕ) (bytes : List ℕ) → drop n bytes ≡ b ∷ drop (n + 1) bytes → end_behind b (drop (n + 1) bytes) ≡ None
+pub line_step : (n b : ℕ) (bytes : List ℕ) → drop n bytes ≡ b ∷ drop (n + 1) bytes → end_past b (drop (n + 1) bytes) ≡ None
     → resumed (Lines n) bytes ≡ resumed (Lines (n + 1)) bytes
 line_step n b bytes at none =
     ap (λ l. option_map (λ k. n + k) (empty_line_end l)) at
     ∙ ap (λ o. option_map (λ k. n + k) (option_map suc (option_or o (empty_line_end (drop (n + 1) bytes))))) none
     ∙ suc_after n (empty_line_end (drop (n + 1) bytes))
 
-pub found_step : (n b len : ℕ) (bytes : List ℕ) → drop n bytes ≡ b ∷ drop (n + 1) bytes → end_behind b (drop (n + 1) bytes) ≡ Some len
+pub found_step : (n b len : ℕ) (bytes : List ℕ) → drop n bytes ≡ b ∷ drop (n + 1) bytes → end_past b (drop (n + 1) bytes) ≡ Some len
     → resumed (Lines n) bytes ≡ Some (n + 1 + len)
 found_step n b len bytes at some =
     ap (λ l. option_map (λ k. n + k) (empty_line_end l)) at
@@ -105,8 +105,8 @@ pub StandsAt-follows : (bytes : List ℕ) (at : ℕ) (after : After) → at < le
     → Follows (drop (at + 1) bytes) after → StandsAt bytes at after
 StandsAt-follows bytes at after h is follows = by_case after follows
   where
-    behind : (more : List ℕ) → drop (at + 1) (bytes ++ more) ≡ drop (at + 1) bytes ++ more
-    behind more = drop-append-le (at + 1) bytes more (omega arith)
+    following : (more : List ℕ) → drop (at + 1) (bytes ++ more) ≡ drop (at + 1) bytes ++ more
+    following more = drop-append-le (at + 1) bytes more (omega arith)
 
     at_front : (more : List ℕ) → drop at (bytes ++ more) ≡ 10 ∷ drop (at + 1) (bytes ++ more)
     at_front more = drop_front at bytes more h ∙ ap (λ b. b ∷ drop (at + 1) (bytes ++ more)) is
@@ -120,7 +120,7 @@ StandsAt-follows bytes at after h is follows = by_case after follows
       found_step at 10 n bytes here (ap line_end (sym (append-nil (drop (at + 1) bytes))) ∙ f.1 []),
     )
     by_case Other f = record {
-      with = λ more. line_step at 10 (bytes ++ more) (at_front more) (ap line_end (behind more) ∙ f more);
+      with = λ more. line_step at 10 (bytes ++ more) (at_front more) (ap line_end (following more) ∙ f more);
     }
     by_case Open f =
         ap (λ l. option_map (λ k. at + k) (empty_line_end l)) here ∙ ap (option_map (λ k. at + k)) f

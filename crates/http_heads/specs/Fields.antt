@@ -17,7 +17,7 @@ fields_of head = map name_and_value head.fields
 
 -- the values of the headers of this name, in any ASCII case
 abbrev pub values_of : List ℕ → List (List ℕ × List ℕ) → List (List ℕ)
-values_of name fields = map (λ f. f.1) (filter (λ f. str_eq_ignore_ascii_case f.0 name) fields)
+values_of name fields = map (λ field. field.1) (filter (λ field. str_eq_ignore_ascii_case field.0 name) fields)
 
 -- 1 to 19 digits
 abbrev pub is_length : List ℕ → Bool
@@ -45,7 +45,7 @@ framing fields =
 -- one of the parts between commas is the word, in any ASCII case and without the blanks and tabs at its ends
 unfoldable pub lists_word : List ℕ → List ℕ → Bool
 lists_word word value =
-    list_any (λ part. str_eq_ignore_ascii_case (trim_ows part) word) (slice_split (λ b. b == 44) value)
+    list_any (λ part. str_eq_ignore_ascii_case (trim_ows part) word) (slice_split (λ byte. byte == 44) value)
 
 -- some header of this name lists the word
 abbrev pub some_lists : List ℕ → List ℕ → List (List ℕ × List ℕ) → Bool

@@ -6,24 +6,25 @@ use Rattle.http_heads.specs.Limits.{max_head}
 
 -- CR and LF
 abbrev pub is_line_byte : ℕ → Bool
-is_line_byte b = b == 13 || b == 10
+is_line_byte byte = byte == 13 || byte == 10
 
 -- how many CR and LF bytes a text begins with
 abbrev pub blank_len : List ℕ → ℕ
 blank_len [] = 0
-blank_len (b ∷ bytes) = if is_line_byte b then suc (blank_len bytes) else 0
+blank_len (byte ∷ bytes) = if is_line_byte byte then suc (blank_len bytes) else 0
 
 -- the length of the line end that a text begins with: LF is one byte, CR LF are two
 abbrev pub line_end : List ℕ → Option ℕ
 line_end [] = None
-line_end (b ∷ []) = if b == 10 then Some 1 else None
-line_end (b ∷ c ∷ bytes) = if b == 10 then Some 1 else (if b == 13 then (if c == 10 then Some 2 else None) else None)
+line_end (byte ∷ []) = if byte == 10 then Some 1 else None
+line_end (byte ∷ next ∷ bytes) =
+    if byte == 10 then Some 1 else (if byte == 13 then (if next == 10 then Some 2 else None) else None)
 
 -- the length up to and with the first empty line: an LF, and the line end that follows it
 abbrev pub empty_line_end : List ℕ → Option ℕ
 empty_line_end [] = None
-empty_line_end (b
-    ∷ bytes) = option_map suc (option_or (if b == 10 then line_end bytes else None) (empty_line_end bytes))
+empty_line_end (byte
+    ∷ bytes) = option_map suc (option_or (if byte == 10 then line_end bytes else None) (empty_line_end bytes))
 
 -- the length up to and with the first empty line after the first byte that is neither CR nor LF
 abbrev pub head_end : List ℕ → Option ℕ
@@ -35,9 +36,9 @@ unfoldable pub head_len : List ℕ → Option ℕ
 head_len bytes = head_end (take max_head bytes)
 
 -- the bytes from the first that is neither CR nor LF
-abbrev pub behind_blank : List ℕ → List ℕ
-behind_blank bytes = drop (blank_len bytes) bytes
+abbrev pub after_blank : List ℕ → List ℕ
+after_blank bytes = drop (blank_len bytes) bytes
 
 -- what the head of this length says, without the CR and LF bytes before it
 abbrev pub head_bytes : ℕ → List ℕ → List ℕ
-head_bytes len bytes = behind_blank (take len bytes)
+head_bytes len bytes = after_blank (take len bytes)

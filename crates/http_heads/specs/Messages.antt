@@ -20,18 +20,18 @@ pub record HasHead (bytes : List ℕ) (len : ℕ) (head : RequestHead) : Type 0 
   pub is : IsHead (head_bytes len bytes) head
 
 -- the text begins with this message, and then has the rest
-pub record IsMessage (bytes : List ℕ) (m : Request) (rest : List ℕ) : Type 0 where
+pub record IsMessage (bytes : List ℕ) (message : Request) (rest : List ℕ) : Type 0 where
   pub len : ℕ
   pub head : RequestHead
   pub body : ℕ
   pub has : HasHead bytes len head
   pub framed : framing (fields_of head) ≡ Ok body
   pub whole : len + body ≤ length bytes
-  pub method_is : m.method ≡ head.method
-  pub target_is : m.target ≡ head.target
-  pub body_is : m.body ≡ take body (drop len bytes)
-  pub last_is : m.last ≡ is_last head
-  pub upgrade_is : m.upgrade ≡ upgrade_key head
+  pub method_is : message.method ≡ head.method
+  pub target_is : message.target ≡ head.target
+  pub body_is : message.body ≡ take body (drop len bytes)
+  pub last_is : message.last ≡ is_last head
+  pub upgrade_is : message.upgrade ≡ upgrade_key head
   pub rest_is : rest ≡ drop (len + body) bytes
 
 -- only CR and LF stand here, too few to be a head that is too long
@@ -98,7 +98,8 @@ EndsAs bytes (malformed fault) = IsMalformed bytes fault
 -- the text begins with these messages, one after the other, and then has the rest
 abbrev pub Begins : List ℕ → List Request → List ℕ → Type 0
 Begins bytes [] rest = rest ≡ bytes
-Begins bytes (m ∷ messages) rest = (middle : List ℕ) × IsMessage bytes m middle × Begins middle messages rest
+Begins bytes (message ∷ messages) rest =
+    (middle : List ℕ) × IsMessage bytes message middle × Begins middle messages rest
 
 -- the text is these messages, and ends so
 pub record Splits (text : List ℕ) (messages : List Request) (ending : Ending) : Type 0 where

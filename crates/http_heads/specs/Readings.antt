@@ -14,14 +14,14 @@ use Rattle.http_heads.specs.Messages.{IsHead}
 use Rattle.http_heads.specs.Upgrades.{upgrade_key}
 
 -- the text is a head, and this is what it says
-pub record Says (text : List ℕ) (h : Head) : Type 0 where
+pub record Says (text : List ℕ) (said : Head) : Type 0 where
   pub head : RequestHead
   pub is : IsHead text head
-  pub framed : framing (fields_of head) ≡ Ok h.body
-  pub method_is : h.method ≡ head.method
-  pub target_is : h.target ≡ head.target
-  pub last_is : h.last ≡ is_last head
-  pub upgrade_is : h.upgrade ≡ upgrade_key head
+  pub framed : framing (fields_of head) ≡ Ok said.body
+  pub method_is : said.method ≡ head.method
+  pub target_is : said.target ≡ head.target
+  pub last_is : said.last ≡ is_last head
+  pub upgrade_is : said.upgrade ≡ upgrade_key head
 
 -- the text is a head with this fault in its headers
 pub record IsHeadWith (text : List ℕ) (fault : HeadFault) : Type 0 where

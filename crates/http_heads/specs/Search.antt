@@ -14,17 +14,18 @@ place_of (Lines n) = n
 
 -- where the head ends, searched from there on
 abbrev pub resumed : Search → List ℕ → Option ℕ
-resumed (Blank n) bytes = option_map (λ k. n + k) (head_end (drop n bytes))
-resumed (Lines n) bytes = option_map (λ k. n + k) (empty_line_end (drop n bytes))
+resumed (Blank n) bytes = option_map (λ count. n + count) (head_end (drop n bytes))
+resumed (Lines n) bytes = option_map (λ count. n + count) (empty_line_end (drop n bytes))
 
 -- whatever follows these bytes, the one search finds what the other does
-pub record FindsSame (s t : Search) (bytes : List ℕ) : Type 0 where
-  pub with : (more : List ℕ) → resumed s (bytes ++ more) ≡ resumed t (bytes ++ more)
+pub record FindsSame (search other : Search) (bytes : List ℕ) : Type 0 where
+  pub with : (more : List ℕ) → resumed search (bytes ++ more) ≡ resumed other (bytes ++ more)
 
 -- the rest of a search finds where the head ends, or it goes on to another place and finds nothing on the way
 abbrev pub GoesOn : List ℕ → Search → Result ℕ Search → Type 0
-GoesOn bytes s (Ok len) = resumed s bytes ≡ Some len
-GoesOn bytes s (Err reached) = (resumed s bytes ≡ None) × (place_of reached ≤ length bytes) × FindsSame s reached bytes
+GoesOn bytes search (Ok len) = resumed search bytes ≡ Some len
+GoesOn bytes search (Err reached) =
+    (resumed search bytes ≡ None) × (place_of reached ≤ length bytes) × FindsSame search reached bytes
 
 -- the search has come to a place in these bytes, and lost nothing on the way
 pub record HasSearched (search : Search) (bytes : List ℕ) : Type 0 where

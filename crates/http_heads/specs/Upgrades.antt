@@ -9,7 +9,7 @@ use Rattle.http_heads.specs.Fields.{fields_of, values_of, some_lists}
 
 -- a letter, a digit, `+` or `/`
 abbrev pub is_base64 : ℕ → Bool
-is_base64 b = is_ascii_alphanumeric b || b == 43 || b == 47
+is_base64 byte = is_ascii_alphanumeric byte || byte == 43 || byte == 47
 
 -- 22 characters of base64 and `==`, as 16 bytes are spelled (RFC 4648, section 4)
 unfoldable pub is_key : List ℕ → Bool

@@ -1,7 +1,7 @@
 ghost use Rattle.std.specs.Prelude.{◌≡◌, ◌≤◌, ℕ, length, take, map, All, IfOk, IfErr, IfSome, IfNone, IsUtf8};
 ghost use Rattle.httparse.specs.Grammar.{RequestHead};
 ghost use Rattle.httparse.specs.Spans.{IsWithin, IsHeaderWithin, span_bytes, header_bytes};
-ghost use Rattle.http_heads.specs.Heads.{behind_blank};
+ghost use Rattle.http_heads.specs.Heads.{after_blank};
 ghost use Rattle.http_heads.specs.Limits.{max_body, max_fields};
 ghost use Rattle.http_heads.specs.Messages.{IsHead};
 ghost use Rattle.http_heads.specs.Readings.{Says, HasReason, AreParts};
@@ -29,9 +29,9 @@ pub struct Head {
 
 /// Reads a whole head, with the CR and LF bytes before it. A fault is H1, H3 or H4, the first that stands.
 pub fn read_head(alloc: Global, bytes: &[u8]) -> Result<Head, Or<HeadFault>>
-    ensures ok { IfOk result (Says (behind_blank bytes.now)) }
+    ensures ok { IfOk result (Says (after_blank bytes.now)) }
     ensures small { IfOk result (λ head. head.body ≤ max_body) }
-    ensures err { IfErr result (HasReason (behind_blank bytes.now)) }
+    ensures err { IfErr result (HasReason (after_blank bytes.now)) }
 {
     let text = &bytes[leading_line_bytes(bytes)..];
     let mut headers = [EMPTY_HEADER_SPAN; MAX_FIELDS];

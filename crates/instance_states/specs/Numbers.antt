@@ -8,19 +8,19 @@ use Rattle.std.specs.Fmt.{decimal}
 
 -- whether two bytes are `%d`
 abbrev pub is_hole : ℕ → ℕ → Bool
-is_hole a b = a == 37 && b == 100
+is_hole first second = first == 37 && second == 100
 
 -- the text before the first `%d`
 abbrev pub before_hole : List ℕ → List ℕ
 before_hole [] = []
-before_hole (a ∷ []) = a ∷ []
-before_hole (a ∷ b ∷ rest) = if is_hole a b then [] else a ∷ before_hole (b ∷ rest)
+before_hole (first ∷ []) = first ∷ []
+before_hole (first ∷ second ∷ rest) = if is_hole first second then [] else first ∷ before_hole (second ∷ rest)
 
 -- the text after the first `%d`
 abbrev pub after_hole : List ℕ → List ℕ
 after_hole [] = []
-after_hole (a ∷ []) = []
-after_hole (a ∷ b ∷ rest) = if is_hole a b then rest else after_hole (b ∷ rest)
+after_hole (first ∷ []) = []
+after_hole (first ∷ second ∷ rest) = if is_hole first second then rest else after_hole (second ∷ rest)
 
 -- the numbers that were seen in names: the text before and after the number, and the greatest
 pub record Numbering : Type 0 where
@@ -56,9 +56,9 @@ number_in numbers name = option_and_then number_of (text_between numbers.before 
 
 -- the greater of two numbers, if there are any
 abbrev pub greater_number : Option ℕ → Option ℕ → Option ℕ
-greater_number None n = n
-greater_number (Some m) None = Some m
-greater_number (Some m) (Some n) = Some (max m n)
+greater_number None other = other
+greater_number (Some number) None = Some number
+greater_number (Some number) (Some other) = Some (max number other)
 
 -- after one more name
 abbrev pub seen : List ℕ → Numbering → Numbering
@@ -66,7 +66,7 @@ seen name numbers = record numbers { greatest = greater_number numbers.greatest 
 
 -- the next number is one more than the greatest, or 0
 abbrev pub next_number : Numbering → ℕ
-next_number numbers = option_map_or (λ n. n + 1) numbers.greatest 0
+next_number numbers = option_map_or (λ number. number + 1) numbers.greatest 0
 
 -- the name with the next number
 abbrev pub next_name : Numbering → List ℕ

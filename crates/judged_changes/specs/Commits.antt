@@ -10,6 +10,6 @@ use Rattle.setting_rules.specs.row_machine.specs.machine.Refusals.{plain_refusal
 
 -- Entries were changed in one call to the store; or that call failed, which is told; or memory was refused, before it or in it.
 abbrev pub Commits : {T : Type 0} → Result T (Or Refusal) → List EntryChange → Store → Store → Type 0
-Commits (Ok u) changes before now = now ≡ after_commit changes before
-Commits (Err (or.Why r)) changes before now = (r ≡ plain_refusal rule.K1) × FailsAtCall 1 before now
+Commits (Ok unit) changes before now = now ≡ after_commit changes before
+Commits (Err (or.Why refusal)) changes before now = (refusal ≡ plain_refusal rule.K1) × FailsAtCall 1 before now
 Commits (Err or.NoMemory) changes before now = IsAfterUpTo 1 before now

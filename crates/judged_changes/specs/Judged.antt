@@ -22,21 +22,21 @@ use Rattle.kept_totals.specs.policy_rules.specs.Alone.{claim_forbidden}
 
 -- the first rule that changes break which put these rows, judged over the state after them
 unfoldable pub changes_judged : State → State → List Row → Option Refusal
-changes_judged s later rows = first
+changes_judged state later rows = first
     (settings_broken later rows
     ∷ policy_broken later
     ∷ counts_broken later
-    ∷ limits_broken s later
+    ∷ limits_broken state later
     ∷ tables_broken later rows
     ∷ [])
 
 -- The first rule that a new operation breaks, judged over the state with it, by what it claims alone: by why it could not be
 -- entered, and by what the project of its share uses beside it.
 unfoldable pub claim_judged : Command → State → Option EnterFault → List ℕ → Amounts → Amounts → Task → Option Refusal
-claim_judged c later fault project used share task = first
+claim_judged command later fault project used share task = first
     (settings_broken later (option_to_list task.claim)
     ∷ claim_forbidden later task
-    ∷ snapshot_blocked later c
+    ∷ snapshot_blocked later command
     ∷ claim_uncounts later task
     ∷ share_broken later.projects project used share
     ∷ option_map enter_refusal fault

@@ -60,7 +60,7 @@ fn counted_project(work: &Work) -> &str
 }
 
 /// How an operation is shown that waits for its first call.
-fn shown(alloc: Global, number: u64, work: &Work, moment: u64) -> Result<OpView, NoMemory>
+fn pending_view(alloc: Global, number: u64, work: &Work, moment: u64) -> Result<OpView, NoMemory>
     ensures { IfOk result (λ v. v ≡ view_of (pending_of number work.now moment)) }
 {
     let project = work.project.copy(alloc)?;
@@ -78,11 +78,11 @@ fn shown(alloc: Global, number: u64, work: &Work, moment: u64) -> Result<OpView,
 }
 
 /// The notice of an operation that waits for its first call.
-fn notice(alloc: Global, number: u64, work: &Work, moment: u64) -> Result<Untold, NoMemory>
+fn pending_notice(alloc: Global, number: u64, work: &Work, moment: u64) -> Result<Untold, NoMemory>
     ensures { IfOk result (λ n. n ≡ record { moment = moment; project = work.now.project; told = told_of.Op (view_of (pending_of number work.now moment)) }) }
 {
     let project = work.project.copy(alloc)?;
-    let shown = shown(alloc, number, work, moment)?;
+    let shown = pending_view(alloc, number, work, moment)?;
     Ok(Untold {
         moment,
         project,
@@ -91,13 +91,18 @@ fn notice(alloc: Global, number: u64, work: &Work, moment: u64) -> Result<Untold
 }
 
 /// What is told of an operation that waits for its first call: how it is shown, and the notice of it.
-fn told(alloc: Global, number: u64, work: &Work, moment: u64) -> Result<(OpView, Untold), NoMemory>
+fn pending_view_and_notice(
+    alloc: Global,
+    number: u64,
+    work: &Work,
+    moment: u64,
+) -> Result<(OpView, Untold), NoMemory>
     ensures shown { IfOk result (λ t. t.0 ≡ view_of (pending_of number work.now moment)) }
     ensures notice { IfOk result
         (λ t. t.1 ≡ record { moment = moment; project = work.now.project; told = told_of.Op (view_of (pending_of number work.now moment)) }) }
 {
-    let shown = shown(alloc, number, work, moment)?;
-    let notice = notice(alloc, number, work, moment)?;
+    let shown = pending_view(alloc, number, work, moment)?;
+    let notice = pending_notice(alloc, number, work, moment)?;
     Ok((shown, notice))
 }
 
@@ -129,7 +134,7 @@ fn beginning_of(
     let share = share_of(alloc, view, work)?;
     let used = totals.used_beside(alloc, view, counted_project(work), &share)?;
     let project = Text::from_text(alloc, counted_project(work))?;
-    let (shown, notice) = told(alloc, view.next, work, moment)?;
+    let (shown, notice) = pending_view_and_notice(alloc, view.next, work, moment)?;
     Ok(Beginning {
         used,
         fault,

@@ -12,7 +12,7 @@ pub(crate) struct Header<'a> {
     pub settings: &'a str,
 }
 
-/// The header that a line says, behind its `~`.
+/// The header that a line says, after its `~`.
 pub(crate) fn header_of(line: &str) -> Header<'_> {
     let (run, settings) = line.split_once(" / ").unwrap_or((line, ""));
     let (words, end) = run.split_once(" = ").unwrap_or((run, ""));

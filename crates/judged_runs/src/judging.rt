@@ -50,7 +50,7 @@ impl Tally {
     }
 }
 
-/// What is left of the bytes that were written behind what is due for a line; none where that does
+/// What is left of the bytes that were written after what is due for a line; none where that does
 /// not stand there.
 fn after_due<'a>(alloc: Global, left: &'a [u8], line: &str) -> Result<Option<&'a [u8]>, NoMemory> {
     let mut due = Vec::new(alloc);
@@ -88,7 +88,7 @@ fn clipped(text: &str) -> &str {
 }
 
 /// The first bytes of what was written, as text.
-fn shown(bytes: &[u8]) -> &str {
+fn readable(bytes: &[u8]) -> &str {
     let (text, _) = bytes.split_at(bytes.len().min(MOST_SHOWN));
     std::str::from_utf8(text).unwrap_or("other bytes than text")
 }
@@ -134,7 +134,7 @@ fn report_wrong(
     let end = run.header.end;
     match first_wrong(alloc, run.script, written)? {
         Some((line, left)) => {
-            let parts = ["due: ", clipped(line), "written: ", shown(left)];
+            let parts = ["due: ", clipped(line), "written: ", readable(left)];
             push_report(report, run, parts)?;
             Ok(true)
         }
@@ -172,7 +172,7 @@ fn script_of(alloc: Global, header: Header<'_>, lines: &str) -> Result<String, N
     script
 }
 
-/// The lines of the first run of a text that has some, with the line break behind its header.
+/// The lines of the first run of a text that has some, with the line break after its header.
 fn first_lines(text: &str) -> &str {
     for run in text.split(MARK) {
         if let Some((header, _)) = run.split_once('\n') {

@@ -61,7 +61,7 @@ fn push_request(alloc: Global, bytes: &mut Vec<u8>, line: &str) -> Result<(), No
     pushed
 }
 
-/// The location and the body of what stands behind a reply's code.
+/// The location and the body of what stands after a reply's code.
 fn parts_of(rest: &str) -> (&str, &str) {
     if rest.starts_with('/') {
         rest.split_once(' ').unwrap_or(("", rest))
@@ -106,7 +106,7 @@ fn push_breaks(bytes: &mut Vec<u8>, text: &str) -> Result<(), NoMemory> {
     Ok(())
 }
 
-/// Appends a line as it stands behind its sign.
+/// Appends a line as it stands after its sign.
 fn push_raw(bytes: &mut Vec<u8>, line: &str, sign: char) -> Result<(), NoMemory> {
     let Some(rest) = line.strip_prefix(sign) else {
         return Ok(());

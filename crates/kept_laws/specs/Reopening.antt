@@ -13,19 +13,19 @@ use Rattle.machine_laws.specs.row_machine.specs.facts.Whole.{IsWhole}
 
 -- a stopped instance
 abbrev pub stopped : Instance → Standing
-stopped i = record { project = i.project; name = i.name; power = Stopped }
+stopped instance = record { project = instance.project; name = instance.name; power = Stopped }
 
 -- a server that was ended and opened again: the same rows, every instance stopped, no operations and no notices
 abbrev pub reopened : State → State
-reopened s = record {
-  projects = s.projects;
-  profiles = s.profiles;
-  networks = s.networks;
-  pools = s.pools;
-  volumes = s.volumes;
-  instances = s.instances;
-  snapshots = s.snapshots;
-  powers = map stopped s.instances;
+reopened state = record {
+  projects = state.projects;
+  profiles = state.profiles;
+  networks = state.networks;
+  pools = state.pools;
+  volumes = state.volumes;
+  instances = state.instances;
+  snapshots = state.snapshots;
+  powers = map stopped state.instances;
   operations = no_operations;
   held = [];
   books = no_books;
@@ -37,4 +37,5 @@ reopened s = record {
 -- The records of a state in which all facts hold open to its rows. That texts are UTF-8 and settings rise by their keys
 -- is what the rows of the program have by their types.
 abbrev pub KeptRowsOpen : Type 0
-KeptRowsOpen = (s : State) → IsWhole s → Each HasTypedParts (rows_of s) → opening_of (records_of s) ≡ opened (reopened s)
+KeptRowsOpen = (state : State) → IsWhole state → Each HasTypedParts (rows_of state)
+    → opening_of (records_of state) ≡ opened (reopened state)

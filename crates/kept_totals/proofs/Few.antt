@@ -1,5 +1,5 @@
 -- No part of what a project uses is great.
-use Rattle.std.proofs.Common.{◌≡◌, ℕ, ◌+◌, ◌≤◌, ◌<◌, ◌^◌, List, length, refl, inl, inr, arith}
+use Rattle.std.proofs.Common.{ℕ, ◌+◌, ◌≤◌, ◌^◌, List, length, refl, inl, inr, arith}
 use Rattle.work_reports.specs.size_values.specs.Amounts.{part}
 use Rattle.work_reports.specs.size_values.specs.declared.amounts.Part.{Part}
 use Rattle.work_reports.specs.size_values.specs.declared.kinds.ObjectKind.TheVariants as kind

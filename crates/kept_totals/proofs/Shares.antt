@@ -1,5 +1,5 @@
 -- What is known of projects where an operation is entered, and where it ends and all rows stay.
-use Rattle.std.proofs.Common.{◌≡◌, ◌≢◌, ℕ, ◌+◌, ◌-◌, ◌≤◌, Bool, true, false, cond, Option, Some, None, List, map, refl, sym, ◌∙◌, ap, subst, arith}
+use Rattle.std.proofs.Common.{◌≡◌, ◌≢◌, ℕ, ◌+◌, ◌-◌, cond, Option, Some, None, List, refl, sym, ◌∙◌, ap, subst, arith}
 use Rattle.std.specs.List.{find}
 use Rattle.std.specs.Option.{option_map, option_map_or}
 use Rattle.std.specs.Str.{bytes_eq}
@@ -15,8 +15,8 @@ use Rattle.work_reports.specs.reservations.specs.declared.books.Hold.{Hold}
 use Rattle.work_reports.specs.row_machine.specs.machine.Claims.{share_of, project_of_row, amounts_of_instance}
 use Rattle.work_reports.specs.row_machine.specs.machine.State.{State}
 use Rattle.work_reports.specs.row_machine.specs.machine.Task.{Task}
-use Rattle.work_reports.specs.row_machine.specs.machine.Usage.{Load, loads, used, usage_of, amount_for}
-use Rattle.work_reports.specs.row_machine.specs.machine.Work.{is_held_by, held_share, claiming, entered, project_of_task}
+use Rattle.work_reports.specs.row_machine.specs.machine.Usage.{loads, used, usage_of, amount_for}
+use Rattle.work_reports.specs.row_machine.specs.machine.Work.{is_held_by, held_share, entered, project_of_task}
 use Rattle.work_reports.specs.row_machine.specs.facts.Whole.{IsWhole, held_by}
 use Rattle.claim_laws.specs.machine_laws.proofs.EndsLive.{find-map}
 use Rattle.claim_laws.specs.machine_laws.proofs.ExpansionsApart.{fails-by}

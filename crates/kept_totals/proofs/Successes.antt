@@ -1,5 +1,5 @@
 -- What projects use after the success of each deed.
-use Rattle.std.proofs.Common.{◌≡◌, ◌≢◌, ℕ, ◌+◌, ◌-◌, ◌≤◌, ◌⊎◌, inl, inr, ◌&&◌, Bool, true, false, cond, Option, Some, None, List, [], ◌∷◌, ◌++◌, refl, sym, ◌∙◌, ap, subst, arith}
+use Rattle.std.proofs.Common.{◌≡◌, ◌≢◌, ℕ, ◌+◌, ◌-◌, ◌⊎◌, inl, inr, ◌&&◌, Bool, true, false, cond, Option, Some, None, List, [], ◌∷◌, ◌++◌, refl, sym, ◌∙◌, ap, subst, arith}
 use Rattle.std.specs.Prelude.{map, if◌then◌else◌}
 use Rattle.std.specs.List.{find, sum_by}
 use Rattle.std.specs.Option.{option_map, option_map_or, option_and_then, option_to_list}
@@ -18,11 +18,9 @@ use Rattle.work_reports.specs.size_values.specs.Amounts.{part, nothing, excess_o
 use Rattle.work_reports.specs.size_values.specs.declared.amounts.Amounts.{Amounts}
 use Rattle.work_reports.specs.size_values.specs.declared.amounts.Part.{Part}
 use Rattle.work_reports.specs.size_values.proofs.AmountParts.{same-parts, part-excess, part-minus}
-use Rattle.work_reports.specs.size_values.specs.declared.kinds.Action.{Action}
 use Rattle.work_reports.specs.size_values.specs.declared.kinds.Action.TheVariants as action
 use Rattle.work_reports.specs.size_values.specs.declared.kinds.Deed.{Deed}
 use Rattle.work_reports.specs.size_values.specs.declared.kinds.Deed.TheVariants as deed
-use Rattle.work_reports.specs.size_values.specs.declared.kinds.ObjectKind.{ObjectKind}
 use Rattle.work_reports.specs.size_values.specs.declared.kinds.ObjectKind.TheVariants as kind
 use Rattle.work_reports.specs.operations.specs.declared.operation.Operation.{Operation}
 use Rattle.work_reports.specs.operations.specs.declared.operation.OpFault.TheVariants as fault
@@ -59,7 +57,7 @@ use Rattle.claim_laws.specs.machine_laws.proofs.LoweredUsage.{lowers}
 use Rattle.claim_laws.specs.machine_laws.proofs.SharesApart.{new-no_row, instance-so, instance-key, instance-row}
 use Rattle.claim_laws.specs.machine_laws.proofs.SharesSuccess.{share-done, done-projects, amounts-tables}
 use Rattle.kept_totals.specs.Ends.{leaves_usage, has_fall, fall_of}
-use Rattle.kept_totals.proofs.Usage.{SameUsage, part-used, usage-parts, usage-telling, told-usage}
+use Rattle.kept_totals.proofs.Usage.{SameUsage, part-used, usage-parts, usage-telling}
 
 -- ---- what deeds are
 

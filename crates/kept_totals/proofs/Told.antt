@@ -1,5 +1,5 @@
 -- What is known of projects after totals were changed.
-use Rattle.std.proofs.Common.{◌≡◌, ◌≢◌, ℕ, ◌+◌, ◌-◌, ◌≤◌, ◌<◌, ◌^◌, Bool, true, false, cond, Option, Some, None, List, [], ◌∷◌, ◌++◌, refl, sym, ◌∙◌, ap, subst, arith}
+use Rattle.std.proofs.Common.{◌≡◌, ◌≢◌, ℕ, ◌+◌, ◌-◌, Bool, true, false, cond, Option, Some, None, List, [], ◌∷◌, ◌++◌, refl, sym, ◌∙◌, ap, subst, arith}
 use Rattle.std.specs.Prelude.{IfSome}
 use Rattle.std.specs.List.{find}
 use Rattle.std.specs.Option.{option_map, option_or}
@@ -7,14 +7,13 @@ use Rattle.std.specs.Str.{bytes_eq}
 use Rattle.std.proofs.lemmas.Bool.{false≢true}
 use Rattle.std.proofs.lemmas.List.Folds.{find-append}
 use Rattle.work_reports.specs.config_lists.proofs.Keys.{same, bytes_eq-itself}
-use Rattle.work_reports.specs.size_values.specs.Amounts.{part, plus_of, excess_of}
+use Rattle.work_reports.specs.size_values.specs.Amounts.{excess_of}
 use Rattle.work_reports.specs.size_values.specs.declared.amounts.Amounts.{Amounts}
-use Rattle.work_reports.specs.size_values.specs.declared.amounts.Part.{Part}
-use Rattle.work_reports.specs.size_values.proofs.AmountParts.{same-parts, part-plus, part-excess}
+use Rattle.work_reports.specs.size_values.proofs.AmountParts.{same-parts, part-excess}
 use Rattle.work_reports.specs.row_machine.specs.machine.State.{State}
 use Rattle.work_reports.specs.row_machine.specs.machine.Usage.{usage_of}
 use Rattle.kept_totals.specs.declared.totals.Total.{Total}
-use Rattle.kept_totals.specs.Totals.{AreTotals, is_of, known, changed, grown, lowered}
+use Rattle.kept_totals.specs.Totals.{AreTotals, is_of, known, changed, lowered}
 use Rattle.kept_totals.proofs.Usage.{SameUsage}
 use Rattle.kept_totals.proofs.Successes.{Falls}
 

@@ -1,20 +1,14 @@
 -- What projects use after each kind of step.
-use Rattle.std.proofs.Common.{◌≡◌, ℕ, ◌+◌, ◌≤◌, ◌<◌, ◌^◌, Bool, true, false, cond, Option, Some, None, List, [], ◌∷◌, ◌++◌, length, refl, sym, ◌∙◌, ap, subst, arith}
+use Rattle.std.proofs.Common.{◌≡◌, ℕ, ◌+◌, true, Some, None, List, ◌++◌, refl, sym, ◌∙◌, ap, arith}
 use Rattle.std.specs.Prelude.{map}
-use Rattle.std.specs.List.{find, sum_by}
-use Rattle.std.specs.Option.{option_map, option_map_or, option_and_then, option_to_list}
-use Rattle.work_reports.specs.plain_lists.specs.Members.{Mem, Each}
+use Rattle.std.specs.List.{sum_by}
 use Rattle.work_reports.specs.plain_lists.specs.Edits.{dropped}
 use Rattle.work_reports.specs.plain_lists.proofs.PutsLemmas.{sum_by-Puts}
 use Rattle.work_reports.specs.plain_lists.proofs.EditLemmas.{dropped-Puts}
 use Rattle.work_reports.specs.plain_lists.proofs.Readings.{sum_by-same}
-use Rattle.work_reports.specs.plain_lists.proofs.Searches.{find-some}
-use Rattle.work_reports.specs.size_values.specs.Amounts.{part, nothing}
+use Rattle.work_reports.specs.size_values.specs.Amounts.{part}
 use Rattle.work_reports.specs.size_values.specs.declared.amounts.Part.{Part}
 use Rattle.work_reports.specs.size_values.proofs.AmountParts.{same-parts}
-use Rattle.work_reports.specs.size_values.specs.declared.kinds.Deed.{Deed}
-use Rattle.work_reports.specs.size_values.specs.declared.kinds.Deed.TheVariants as deed
-use Rattle.work_reports.specs.size_values.specs.declared.kinds.ObjectKind.TheVariants as kind
 use Rattle.work_reports.specs.operations.specs.declared.operation.Operation.{Operation}
 use Rattle.work_reports.specs.operations.specs.declared.operation.OpFault.{OpFault}
 use Rattle.work_reports.specs.operations.specs.declared.operation.OpFault.TheVariants as fault
@@ -22,30 +16,18 @@ use Rattle.work_reports.specs.operations.specs.declared.status.Status.{Status}
 use Rattle.work_reports.specs.operations.specs.declared.status.Status.TheVariants as status
 use Rattle.work_reports.specs.operations.specs.Kept.{Kept, has_number, live_at}
 use Rattle.work_reports.specs.records.specs.declared.notices.Untold.{Untold}
-use Rattle.work_reports.specs.records.specs.declared.rows.Instance.{Instance}
-use Rattle.work_reports.specs.records.specs.declared.rows.Row.{Row}
-use Rattle.work_reports.specs.records.specs.declared.rows.Row.TheVariants as row
-use Rattle.work_reports.specs.row_machine.specs.declared.changes.RowChange.TheVariants as change
 use Rattle.work_reports.specs.row_machine.specs.machine.Task.{Task}
 use Rattle.work_reports.specs.row_machine.specs.machine.State.{State}
-use Rattle.work_reports.specs.row_machine.specs.machine.Rows.{is_instance, instance_named, instance_names, with_instance, texts_before}
-use Rattle.work_reports.specs.row_machine.specs.machine.Changes.{applied}
-use Rattle.work_reports.specs.row_machine.specs.machine.Claims.{claimed_instance, replaced_instance, amounts_of, amounts_of_instance, share_of, share_over, project_of_row}
-use Rattle.work_reports.specs.row_machine.specs.machine.Deeds.{claim_kind, replaces_target}
-use Rattle.work_reports.specs.row_machine.specs.shown.Links.{target_of}
+use Rattle.work_reports.specs.row_machine.specs.machine.Claims.{amounts_of_instance, share_of}
 use Rattle.work_reports.specs.row_machine.specs.shown.Notices.{telling}
 use Rattle.work_reports.specs.row_machine.specs.machine.Usage.{Load, loads, used, usage_of, amount_for, claim_load, instance_load, volume_load}
-use Rattle.work_reports.specs.row_machine.specs.machine.Work.{returned, converted, ended, succeeded, failed, cancelled, success_changes, with_power_after, power_after, after_failure}
-use Rattle.work_reports.specs.row_machine.specs.facts.Whole.{IsWhole, IsByDeed, new_instance}
-use Rattle.claim_laws.specs.machine_laws.proofs.BooksSteps.{applied-same, power-keeps, failure-keeps, telling-keeps}
-use Rattle.claim_laws.specs.machine_laws.proofs.Found.{instance-found}
+use Rattle.work_reports.specs.row_machine.specs.machine.Work.{returned, ended, failed, cancelled}
+use Rattle.claim_laws.specs.machine_laws.proofs.BooksSteps.{failure-keeps, telling-keeps}
 use Rattle.claim_laws.specs.machine_laws.proofs.LimitsEnds.{claims-same}
-use Rattle.claim_laws.specs.machine_laws.proofs.LimitsRows.{Tables, tables, IsDone, with-instance}
-use Rattle.claim_laws.specs.machine_laws.proofs.LimitsSuccess.{success-rows, power-tables, ClaimsInstance, none, some, claims-instance}
-use Rattle.claim_laws.specs.machine_laws.proofs.LimitsSums.{instance_part, volume_part, claim_part, used-split, sum-more}
-use Rattle.claim_laws.specs.machine_laws.proofs.SharesApart.{new-no_row}
+use Rattle.claim_laws.specs.machine_laws.proofs.LimitsRows.{Tables, tables}
+use Rattle.claim_laws.specs.machine_laws.proofs.LimitsSums.{instance_part, volume_part, claim_part, used-split}
 use Rattle.claim_laws.specs.machine_laws.proofs.SharesCores.{cores, core_of, of_cores}
-use Rattle.claim_laws.specs.machine_laws.proofs.SharesSuccess.{share-done, amounts-tables}
+use Rattle.claim_laws.specs.machine_laws.proofs.SharesSuccess.{amounts-tables}
 
 -- ---- the usage of all projects
 

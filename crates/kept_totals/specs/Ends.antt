@@ -21,7 +21,7 @@ use Rattle.kept_totals.specs.Totals.{lowered}
 
 -- what was claimed counts no more
 abbrev pub given_back : Task → Amounts → List Total → List Total
-given_back task share totals = option_map_or (λ r. lowered (project_of_row r) share totals) task.claim totals
+given_back task share totals = option_map_or (λ row. lowered (project_of_row row) share totals) task.claim totals
 
 -- whether the success of a deed makes its project use just what was claimed for it, and what it used before
 abbrev pub leaves_usage : Deed → Bool
@@ -43,19 +43,20 @@ has_fall other = false
 
 -- by how much that lowers what its project uses: by the parts in which the claimed row, or none, lies below the target
 abbrev pub fall_of : State → Task → Amounts
-fall_of s task = option_map_or
-    (λ old. excess_of (amounts_of_instance s old) (option_map_or (amounts_of_instance s) (claimed_instance task) nothing))
-    (instance_named s.instances task.project task.target.name) nothing
+fall_of state task = option_map_or
+    (λ old. excess_of (amounts_of_instance state old)
+    (option_map_or (amounts_of_instance state) (claimed_instance task) nothing))
+    (instance_named state.instances task.project task.target.name) nothing
 
 -- an operation that has such a fall
 abbrev pub HasFall : State → Option (Operation Task) → Amounts → Type 0
-HasFall s None fall = Unit {0}
-HasFall s (Some o) fall = (has_fall o.work.deed ≡ true) × (fall ≡ fall_of s o.work)
+HasFall state None fall = Unit {0}
+HasFall state (Some operation) fall = (has_fall operation.work.deed ≡ true) × (fall ≡ fall_of state operation.work)
 
 -- what the operation of a number counts for: the share that it holds, and the fall of its success, where that is known
-pub record IsCounted (s : State) (number : ℕ) (counted : Counted) : Type 0 where
-  pub share : counted.share ≡ held_share s number
-  pub fall : IfSome counted.fall (HasFall s (live_at s.operations number))
+pub record IsCounted (state : State) (number : ℕ) (counted : Counted) : Type 0 where
+  pub share : counted.share ≡ held_share state number
+  pub fall : IfSome counted.fall (HasFall state (live_at state.operations number))
 
 -- after a success
 abbrev pub after_success : Task → Option Amounts → List Total → List Total
@@ -70,9 +71,9 @@ after_status status.Success task counted totals = after_success task counted.fal
 after_status other task counted totals = []
 
 abbrev pub after_end_of : Operation Task → Counted → List Total → List Total
-after_end_of o counted totals = after_status o.status o.work counted totals
+after_end_of operation counted totals = after_status operation.status operation.work counted totals
 
 -- of the operation that is kept
 abbrev pub after_end : Option (Operation Task) → Counted → List Total → List Total
 after_end None counted totals = []
-after_end (Some o) counted totals = after_end_of o counted totals
+after_end (Some operation) counted totals = after_end_of operation counted totals

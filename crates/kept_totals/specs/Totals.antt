@@ -16,20 +16,20 @@ is_of project total = bytes_eq total.project project
 
 -- what is known of a project: its first total
 abbrev pub known : List Total → List ℕ → Option Amounts
-known totals project = option_map (λ t. t.amounts) (find (is_of project) totals)
+known totals project = option_map (λ total. total.amounts) (find (is_of project) totals)
 
 -- what is known of each project is what it uses
-pub record AreTotals (s : State) (totals : List Total) : Type 0 where
-  pub known : (project : List ℕ) → IfSome (known totals project) (λ amounts. amounts ≡ usage_of s project)
+pub record AreTotals (state : State) (totals : List Total) : Type 0 where
+  pub known : (project : List ℕ) → IfSome (known totals project) (λ amounts. amounts ≡ usage_of state project)
 
 -- other amounts of a project
 abbrev pub changed : List ℕ → (Amounts → Amounts) → List Total → List Total
-changed project f totals = changed_first (is_of project) (λ t. record t { amounts = f t.amounts }) totals
+changed project f totals = changed_first (is_of project) (λ total. record total { amounts = f total.amounts }) totals
 
 -- a project uses this share more
 abbrev pub grown : List ℕ → Amounts → List Total → List Total
-grown project share totals = changed project (λ a. plus_of a share) totals
+grown project share totals = changed project (λ amounts. plus_of amounts share) totals
 
 -- or less
 abbrev pub lowered : List ℕ → Amounts → List Total → List Total
-lowered project share totals = changed project (λ a. excess_of a share) totals
+lowered project share totals = changed project (λ amounts. excess_of amounts share) totals

@@ -1,8 +1,6 @@
 -- A share of a project without a limit exceeds none, whatever is used beside it.
-use Rattle.std.proofs.Common.{◌≡◌, ℕ, ◌+◌, ◌&&◌, Bool, true, false, cond, None, List, [], ◌∷◌, Option, Some, refl, sym, ap, ◌∙◌}
+use Rattle.std.proofs.Common.{◌≡◌, ℕ, ◌+◌, ◌&&◌, Bool, true, false, cond, None, List, refl, sym, ap, ◌∙◌}
 use Rattle.std.specs.Str.{bytes_eq}
-use Rattle.row_machine.specs.plain_lists.specs.Members.{Each}
-use Rattle.row_machine.specs.plain_lists.specs.Firsts.{first_of}
 use Rattle.row_machine.specs.plain_lists.proofs.FirstLemmas.{none-first_of}
 use Rattle.row_machine.specs.plain_lists.proofs.Searches.{any-none}
 use Rattle.row_machine.specs.project_limits.specs.Admission.{key_of, limit_on, parts}

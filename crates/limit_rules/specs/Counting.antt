@@ -12,12 +12,12 @@ pub record Counts : Type 0 where
 
 -- what counts in a state
 abbrev pub counts_in : State → Counts
-counts_in s = record { loads = loads s; networks = map (λ n. n.project) s.networks }
+counts_in state = record { loads = loads state; networks = map (λ network. network.project) state.networks }
 
 -- what contracts see of it
 abbrev pub counts_of : Inside → Counts
-counts_of u = record { loads = u.loads.items; networks = u.networks.items }
+counts_of counting = record { loads = counting.loads.items; networks = counting.networks.items }
 
 -- no part of what counts reaches 2^63, so that sums of it stay in range
 abbrev pub AreLow : Inside → Type 0
-AreLow u = AreSmall u.loads.items
+AreLow counting = AreSmall counting.loads.items

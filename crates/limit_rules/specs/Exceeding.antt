@@ -22,40 +22,47 @@ use Rattle.limit_rules.specs.Counting.{Counts, counts_in}
 
 -- one part of what a project uses
 abbrev pub part_over : List Load → List Load → Part → Project → Option Refusal
-part_over before after k p =
-    limit_exceeded p (key_of k) (limit_on k (limits_of p.config)) (sum_by (amount_for p.name k) before)
-    (sum_by (amount_for p.name k) after)
+part_over before after a_part project =
+    limit_exceeded project (key_of a_part) (limit_on a_part (limits_of project.config))
+    (sum_by (amount_for project.name a_part) before)
+    (sum_by (amount_for project.name a_part) after)
 
 -- the first part, and the first project at which it is exceeded
 abbrev pub parts_over : List Load → List Load → List Project → Option Refusal
-parts_over before after projects = first_of (λ k. first_of (part_over before after k) projects) parts
+parts_over before after projects = first_of (λ a_part. first_of (part_over before after a_part) projects) parts
 
 -- its number of networks
 abbrev pub networks_over : List (List ℕ) → List Network → Project → Option Refusal
-networks_over before after p =
-    limit_exceeded p Networks (limits_of p.config).networks (length (filter (λ name. bytes_eq name p.name) before))
-    (length (filter (λ n. bytes_eq n.project p.name) after))
+networks_over before after project =
+    limit_exceeded project Networks (limits_of project.config).networks
+    (length (filter (λ name. bytes_eq name project.name) before))
+    (length (filter (λ network. bytes_eq network.project project.name) after))
 
 -- whether one of the sums is limited to which settings of instances and volumes give the numbers
 abbrev pub limits_sum : Limits → Bool
-limits_sum l = is_some l.cpu || is_some l.memory || is_some l.processes || is_some l.disk
+limits_sum limits = is_some limits.cpu || is_some limits.memory || is_some limits.processes || is_some limits.disk
 
 -- whether there is any limit
 abbrev pub limits_any : Limits → Bool
-limits_any l = is_some l.instances || is_some l.containers || is_some l.machines || is_some l.networks || limits_sum l
+limits_any limits =
+    is_some limits.instances
+    || is_some limits.containers
+    || is_some limits.machines
+    || is_some limits.networks
+    || limits_sum limits
 
 -- whether one of the projects has a limit
 abbrev pub is_any_limited : List Project → Bool
-is_any_limited projects = list_any (λ p. limits_any (limits_of p.config)) projects
+is_any_limited projects = list_any (λ project. limits_any (limits_of project.config)) projects
 
 -- whether a row is a project with a limit
 abbrev pub is_limited_row : Row → Bool
-is_limited_row (row.Project p) = limits_any (limits_of p.config)
+is_limited_row (row.Project project) = limits_any (limits_of project.config)
 is_limited_row other = false
 
 -- whether a change puts a project with a limit
 abbrev pub sets_limit : RowChange → Bool
-sets_limit (change.Put r) = is_limited_row r
+sets_limit (change.Put row) = is_limited_row row
 sets_limit (change.Remove of key) = false
 
 -- What was counted serves to judge the limits of a later state: it is what counted in the state before, or no project

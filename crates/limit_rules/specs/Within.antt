@@ -11,16 +11,17 @@ use Rattle.row_machine.specs.machine.LimitRules.{instance_uncounted, volume_unco
 
 -- an instance of the project
 abbrev pub own_instance : State → Project → Instance → Option Refusal
-own_instance s p i = if bytes_eq i.project p.name then instance_uncounted s p i else None
+own_instance state project instance =
+    if bytes_eq instance.project project.name then instance_uncounted state project instance else None
 
 -- a volume of the project
 abbrev pub own_volume : Project → Volume → Option Refusal
-own_volume p v = if bytes_eq v.project p.name then volume_uncounts p v else None
+own_volume project volume = if bytes_eq volume.project project.name then volume_uncounts project volume else None
 
 -- instances, then volumes, then claims
 abbrev pub own_objects : State → Project → Option Refusal
-own_objects s p = first
-    (first_of (own_instance s p) s.instances
-    ∷ first_of (own_volume p) s.volumes
-    ∷ first_of (λ o. claim_uncounted s p o.work) s.operations.live
+own_objects state project = first
+    (first_of (own_instance state project) state.instances
+    ∷ first_of (own_volume project) state.volumes
+    ∷ first_of (λ operation. claim_uncounted state project operation.work) state.operations.live
     ∷ [])

@@ -25,7 +25,7 @@ use Rattle.row_machine.specs.machine.Rules.{standing_broken}
 use Rattle.row_machine.specs.machine.Plans.{plan_of}
 use Rattle.row_machine.specs.machine.Rules.{broken, plan_broken}
 use Rattle.row_machine.specs.machine.Accept.{and_then}
-use Rattle.row_machine.specs.machine.Step.{step, well, asked}
+use Rattle.row_machine.specs.machine.Step.{step, well, after_command}
 use Rattle.machine_laws.proofs.Found.{there-is}
 use Rattle.machine_laws.specs.Again.{StandsAlready, SentAgain}
 
@@ -96,9 +96,9 @@ its-rule s project of refusal good is = at (is_there s project of) refl where
 -- ---- the whole answer
 
 refused : (s : State) (c : Command) (moment : ℕ) (r : Option Refusal) → broken s c moment ≡ r → is_some r ≡ true
-    → (refusal : Refusal) × ((broken s c moment ≡ Some refusal) × (asked s c moment well (broken s c moment) ≡ Some (and_then (answer.Reply (reply.Refused refusal)) s)))
+    → (refusal : Refusal) × ((broken s c moment ≡ Some refusal) × (after_command s c moment well (broken s c moment) ≡ Some (and_then (answer.Reply (reply.Refused refusal)) s)))
 refused s c moment None is some = cc
-refused s c moment (Some refusal) is some = (refusal, (is, ap (asked s c moment well) is))
+refused s c moment (Some refusal) is some = (refusal, (is, ap (after_command s c moment well) is))
 
 -- the rules on names, where those before the name are not broken
 by-name : (s : State) (c : Command) (of : Target) (x : Refusal) → named_anew s c.project c.what ≡ Some of → name_broken s c.project of ≡ Some x
@@ -134,7 +134,7 @@ sent-again s c moment of body is named stands = record { refusal = answered.0; a
   some : is_some (name_broken s c.project of) ≡ true
   some = stands-broken s c.project of stands
 
-  answered : (refusal : Refusal) × ((broken s c moment ≡ Some refusal) × (asked s c moment well (broken s c moment) ≡ Some (and_then (answer.Reply (reply.Refused refusal)) s)))
+  answered : (refusal : Refusal) × ((broken s c moment ≡ Some refusal) × (after_command s c moment well (broken s c moment) ≡ Some (and_then (answer.Reply (reply.Refused refusal)) s)))
   answered = refused s c moment (broken s c moment) refl (broken-names s c moment (name-broken s c of given some))
 
   some-is : {x y : Refusal} → Some x ≡ Some y → x ≡ y

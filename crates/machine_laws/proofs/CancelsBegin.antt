@@ -32,8 +32,8 @@ use Rattle.row_machine.specs.machine.Plans.{plan_of}
 use Rattle.row_machine.specs.shown.Notices.{telling, operation_notice}
 use Rattle.row_machine.specs.machine.Rules.{broken, plan_broken}
 use Rattle.row_machine.specs.machine.Work.{moved}
-use Rattle.row_machine.specs.machine.Accept.{and_then, accepted, told, after_cancel}
-use Rattle.row_machine.specs.machine.Step.{step, well, asked}
+use Rattle.row_machine.specs.machine.Accept.{and_then, accepted, with_operation_notice, after_cancel}
+use Rattle.row_machine.specs.machine.Step.{step, well, after_command}
 use Rattle.row_machine.specs.facts.Whole.{IsUnderWay}
 use Rattle.machine_laws.specs.Cancels.{RunningIsCancelled}
 use Rattle.machine_laws.proofs.Base.{live-mem}
@@ -81,7 +81,7 @@ unbroken s project o moment live running may =
 
 -- the state with the operation Cancelling
 abbrev pub turned : State → Operation Task → ℕ → State
-turned s o moment = told (moved o.number status.Cancelling moment s) o.number moment
+turned s o moment = with_operation_notice (moved o.number status.Cancelling moment s) o.number moment
 
 carried : (s : State) (project : List ℕ) (o : Operation Task) (moment : ℕ) → live_at s.operations o.number ≡ Some o → o.status ≡ status.Running → o.may_cancel ≡ true
     → accepted s (command_of project (what.Cancel o.number)) moment ≡ and_then (answer.Reply reply.Empty) (turned s o moment)
@@ -93,7 +93,7 @@ stepped : (s : State) (project : List ℕ) (o : Operation Task) (moment : ℕ) �
     → step s (event.Ask (command_of project (what.Cancel o.number)) moment) well ≡ Some (and_then (answer.Reply reply.Empty) (turned s o moment))
 unfolding step
 stepped s project o moment live running may =
-    ap (asked s (command_of project (what.Cancel o.number)) moment well) (unbroken s project o moment live running may)
+    ap (after_command s (command_of project (what.Cancel o.number)) moment well) (unbroken s project o moment live running may)
     ∙ ap Some (carried s project o moment live running may)
 
 -- ---- the state after it

@@ -25,7 +25,7 @@ use Rattle.row_machine.specs.machine.Changes.{applied}
 use Rattle.row_machine.specs.shown.Notices.{telling, operation_notice}
 use Rattle.row_machine.specs.machine.Work.{entered, with_task, moved, handing_out, undone, cancelled, failed, succeeded}
 use Rattle.row_machine.specs.machine.Accept.{and_then}
-use Rattle.row_machine.specs.machine.Step.{step, well, done, reported, while_cancelling, over}
+use Rattle.row_machine.specs.machine.Step.{step, well, done, reported, while_cancelling, after_end}
 use Rattle.row_machine.specs.facts.Whole.{IsWhole}
 use Rattle.machine_laws.specs.Headline.{IsKeptAs}
 use Rattle.machine_laws.specs.Cancels.{CancellingGoesOn, CancellingStays, StaysCancelling}
@@ -81,7 +81,7 @@ cancelling-goes s o report moment h live is = record {
     ),
   );
   second = λ none. (
-    over (cancelled s o.number moment) o.number moment,
+    after_end (cancelled s o.number moment) o.number moment,
     (
       reports s o report moment live is ∙ ap (while_cancelling s o moment well) none,
       record {

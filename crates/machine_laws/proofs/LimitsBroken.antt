@@ -17,7 +17,7 @@ use Rattle.record_keeper.specs.size_values.specs.declared.amounts.Part.TheVarian
 use Rattle.row_machine.specs.project_limits.specs.declared.admission.LimitKey.{LimitKey}
 use Rattle.row_machine.specs.project_limits.specs.declared.admission.LimitKey.TheVariants as limit_key
 use Rattle.row_machine.specs.project_limits.specs.declared.admission.Over.{Over}
-use Rattle.row_machine.specs.project_limits.specs.Admission.{over, limit_on, key_of, parts}
+use Rattle.row_machine.specs.project_limits.specs.Admission.{exceeded, limit_on, key_of, parts}
 use Rattle.row_machine.specs.project_limits.specs.Limits.{limits_of}
 use Rattle.row_machine.specs.operations.specs.declared.operation.Operation.{Operation}
 use Rattle.row_machine.specs.records.specs.declared.rows.Project.{Project}
@@ -50,7 +50,7 @@ Mem-filter {X} p x (y ∷ ys) m is = at (p y) refl m (λ n. Mem-filter p x ys n 
 exceeds-not : (p : Project) (key : LimitKey) (limit : Option ℕ) (before after : ℕ) → limit_exceeded p key limit before after ≡ None → IfSome limit (λ l. after ≤ l)
 exceeds-not p key None before after h = tt
 exceeds-not p key (Some l) before after h =
-    at (nat_lt l (before + amount_above after before)) refl (not_mapped (over_refusal p) (over key (Some l) before (amount_above after before)) h) where
+    at (nat_lt l (before + amount_above after before)) refl (not_mapped (over_refusal p) (exceeded key (Some l) before (amount_above after before)) h) where
       within : nat_lt l (before + amount_above after before) ≡ false → after ≤ l
       within e = grind (arith, nat_tests)
 

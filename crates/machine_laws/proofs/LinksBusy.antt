@@ -18,8 +18,8 @@ use Rattle.machine_laws.proofs.ExpansionsApart.{fails-by}
 -- one more that passes
 filter-more : {X : Type 0} (p : X → Bool) {x : X} {xs ys : List X} → Puts x xs ys → p x ≡ true
     → length (filter p ys) ≡ length (filter p xs) + 1
-filter-more p {x} (here {xs}) e = ap (λ b. length (cond b (x ∷ filter p xs) (filter p xs))) e ∙ omega arith
-filter-more {X} p (later {y} {xs} {ys} put) e = at (p y) (filter-more p put e) where
+filter-more p {x} (here {rest = xs}) e = ap (λ b. length (cond b (x ∷ filter p xs) (filter p xs))) e ∙ omega arith
+filter-more {X} p (later {other = y} {rest = xs} {whole = ys} put) e = at (p y) (filter-more p put e) where
   at : (b : Bool) → length (filter p ys) ≡ length (filter p xs) + 1
       → length (cond b (y ∷ filter p ys) (filter p ys)) ≡ length (cond b (y ∷ filter p xs) (filter p xs)) + 1
   at true more = omega arith

@@ -23,14 +23,14 @@ use Rattle.machine_laws.proofs.RecordsRows.{project-section, project-gone, profi
 
 -- ---- among entries of other kinds
 
-put-behind : (e : Entry) (es new back : List Entry) → Each (λ x. e.kind < x.kind) back → put_entry e es ≡ new → put_entry e (es ++ back) ≡ new ++ back
-put-behind e es new back high is = put-back e es back high ∙ ap (λ z. z ++ back) is
+put-past : (e : Entry) (es new back : List Entry) → Each (λ x. e.kind < x.kind) back → put_entry e es ≡ new → put_entry e (es ++ back) ≡ new ++ back
+put-past e es new back high is = put-back e es back high ∙ ap (λ z. z ++ back) is
 
 put-after : (e : Entry) (front es new : List Entry) → Each (λ x. x.kind < e.kind) front → put_entry e es ≡ new → put_entry e (front ++ es) ≡ front ++ new
 put-after e front es new low is = put-front e front es low ∙ ap (λ z. front ++ z) is
 
-remove-behind : (k : ℕ) (key : List ℕ) (es new back : List Entry) → Each (λ x. k < x.kind) back → remove_entry k key es ≡ new → remove_entry k key (es ++ back) ≡ new ++ back
-remove-behind k key es new back high is = remove-back k key es back high ∙ ap (λ z. z ++ back) is
+remove-past : (k : ℕ) (key : List ℕ) (es new back : List Entry) → Each (λ x. k < x.kind) back → remove_entry k key es ≡ new → remove_entry k key (es ++ back) ≡ new ++ back
+remove-past k key es new back high is = remove-back k key es back high ∙ ap (λ z. z ++ back) is
 
 remove-after : (k : ℕ) (key : List ℕ) (front es new : List Entry) → Each (λ x. x.kind < k) front → remove_entry k key es ≡ new → remove_entry k key (front ++ es) ≡ front ++ new
 remove-after k key front es new low is = remove-front k key front es low ∙ ap (λ z. front ++ z) is
@@ -40,12 +40,12 @@ remove-after k key front es new low is = remove-front k key front es low ∙ ap 
 pub put-all : (r : Row) (s : State) → AreNamed s → AreNamed (with_row r s)
     → put_entry (entry_of r) (all_of (sections_of s)) ≡ all_of (sections_of (with_row r s))
 put-all (row.Project r) s h after =
-    put-behind (project_entry r) (up_to_instances t) (up_to_instances new) t.snapshots (above 7 1 (omega arith) kinds.snapshots)
-    (put-behind (project_entry r) (up_to_volumes t) (up_to_volumes new) t.instances (above 6 1 (omega arith) kinds.instances)
-    (put-behind (project_entry r) (up_to_pools t) (up_to_pools new) t.volumes (above 5 1 (omega arith) kinds.volumes)
-    (put-behind (project_entry r) (up_to_networks t) (up_to_networks new) t.pools (above 4 1 (omega arith) kinds.pools)
-    (put-behind (project_entry r) (up_to_profiles t) (up_to_profiles new) t.networks (above 3 1 (omega arith) kinds.networks)
-    (put-behind (project_entry r) t.projects new.projects t.profiles (above 2 1 (omega arith) kinds.profiles)
+    put-past (project_entry r) (up_to_instances t) (up_to_instances new) t.snapshots (above 7 1 (omega arith) kinds.snapshots)
+    (put-past (project_entry r) (up_to_volumes t) (up_to_volumes new) t.instances (above 6 1 (omega arith) kinds.instances)
+    (put-past (project_entry r) (up_to_pools t) (up_to_pools new) t.volumes (above 5 1 (omega arith) kinds.volumes)
+    (put-past (project_entry r) (up_to_networks t) (up_to_networks new) t.pools (above 4 1 (omega arith) kinds.pools)
+    (put-past (project_entry r) (up_to_profiles t) (up_to_profiles new) t.networks (above 3 1 (omega arith) kinds.networks)
+    (put-past (project_entry r) t.projects new.projects t.profiles (above 2 1 (omega arith) kinds.profiles)
     (project-section s r h after))))))
   where
     t : Sections
@@ -57,11 +57,11 @@ put-all (row.Project r) s h after =
     kinds : AreOfKinds t
     kinds = of-kinds s
 put-all (row.Profile r) s h after =
-    put-behind (profile_entry r) (up_to_instances t) (up_to_instances new) t.snapshots (above 7 2 (omega arith) kinds.snapshots)
-    (put-behind (profile_entry r) (up_to_volumes t) (up_to_volumes new) t.instances (above 6 2 (omega arith) kinds.instances)
-    (put-behind (profile_entry r) (up_to_pools t) (up_to_pools new) t.volumes (above 5 2 (omega arith) kinds.volumes)
-    (put-behind (profile_entry r) (up_to_networks t) (up_to_networks new) t.pools (above 4 2 (omega arith) kinds.pools)
-    (put-behind (profile_entry r) (up_to_profiles t) (up_to_profiles new) t.networks (above 3 2 (omega arith) kinds.networks)
+    put-past (profile_entry r) (up_to_instances t) (up_to_instances new) t.snapshots (above 7 2 (omega arith) kinds.snapshots)
+    (put-past (profile_entry r) (up_to_volumes t) (up_to_volumes new) t.instances (above 6 2 (omega arith) kinds.instances)
+    (put-past (profile_entry r) (up_to_pools t) (up_to_pools new) t.volumes (above 5 2 (omega arith) kinds.volumes)
+    (put-past (profile_entry r) (up_to_networks t) (up_to_networks new) t.pools (above 4 2 (omega arith) kinds.pools)
+    (put-past (profile_entry r) (up_to_profiles t) (up_to_profiles new) t.networks (above 3 2 (omega arith) kinds.networks)
     (put-after (profile_entry r) t.projects t.profiles new.profiles (below 1 2 (omega arith) kinds.projects)
     (profile-section s r h after))))))
   where
@@ -74,10 +74,10 @@ put-all (row.Profile r) s h after =
     kinds : AreOfKinds t
     kinds = of-kinds s
 put-all (row.Network r) s h after =
-    put-behind (network_entry r) (up_to_instances t) (up_to_instances new) t.snapshots (above 7 3 (omega arith) kinds.snapshots)
-    (put-behind (network_entry r) (up_to_volumes t) (up_to_volumes new) t.instances (above 6 3 (omega arith) kinds.instances)
-    (put-behind (network_entry r) (up_to_pools t) (up_to_pools new) t.volumes (above 5 3 (omega arith) kinds.volumes)
-    (put-behind (network_entry r) (up_to_networks t) (up_to_networks new) t.pools (above 4 3 (omega arith) kinds.pools)
+    put-past (network_entry r) (up_to_instances t) (up_to_instances new) t.snapshots (above 7 3 (omega arith) kinds.snapshots)
+    (put-past (network_entry r) (up_to_volumes t) (up_to_volumes new) t.instances (above 6 3 (omega arith) kinds.instances)
+    (put-past (network_entry r) (up_to_pools t) (up_to_pools new) t.volumes (above 5 3 (omega arith) kinds.volumes)
+    (put-past (network_entry r) (up_to_networks t) (up_to_networks new) t.pools (above 4 3 (omega arith) kinds.pools)
     (put-after (network_entry r) (up_to_profiles t) t.networks new.networks (below_profiles t 3 (omega arith) kinds)
     (network-section s r h after)))))
   where
@@ -90,9 +90,9 @@ put-all (row.Network r) s h after =
     kinds : AreOfKinds t
     kinds = of-kinds s
 put-all (row.Pool r) s h after =
-    put-behind (pool_entry r) (up_to_instances t) (up_to_instances new) t.snapshots (above 7 4 (omega arith) kinds.snapshots)
-    (put-behind (pool_entry r) (up_to_volumes t) (up_to_volumes new) t.instances (above 6 4 (omega arith) kinds.instances)
-    (put-behind (pool_entry r) (up_to_pools t) (up_to_pools new) t.volumes (above 5 4 (omega arith) kinds.volumes)
+    put-past (pool_entry r) (up_to_instances t) (up_to_instances new) t.snapshots (above 7 4 (omega arith) kinds.snapshots)
+    (put-past (pool_entry r) (up_to_volumes t) (up_to_volumes new) t.instances (above 6 4 (omega arith) kinds.instances)
+    (put-past (pool_entry r) (up_to_pools t) (up_to_pools new) t.volumes (above 5 4 (omega arith) kinds.volumes)
     (put-after (pool_entry r) (up_to_networks t) t.pools new.pools (below_networks t 4 (omega arith) kinds)
     (pool-section s r h after))))
   where
@@ -105,8 +105,8 @@ put-all (row.Pool r) s h after =
     kinds : AreOfKinds t
     kinds = of-kinds s
 put-all (row.Volume r) s h after =
-    put-behind (volume_entry r) (up_to_instances t) (up_to_instances new) t.snapshots (above 7 5 (omega arith) kinds.snapshots)
-    (put-behind (volume_entry r) (up_to_volumes t) (up_to_volumes new) t.instances (above 6 5 (omega arith) kinds.instances)
+    put-past (volume_entry r) (up_to_instances t) (up_to_instances new) t.snapshots (above 7 5 (omega arith) kinds.snapshots)
+    (put-past (volume_entry r) (up_to_volumes t) (up_to_volumes new) t.instances (above 6 5 (omega arith) kinds.instances)
     (put-after (volume_entry r) (up_to_pools t) t.volumes new.volumes (below_pools t 5 (omega arith) kinds)
     (volume-section s r h after)))
   where
@@ -119,7 +119,7 @@ put-all (row.Volume r) s h after =
     kinds : AreOfKinds t
     kinds = of-kinds s
 put-all (row.Instance r) s h after =
-    put-behind (instance_entry r) (up_to_instances t) (up_to_instances new) t.snapshots (above 7 6 (omega arith) kinds.snapshots)
+    put-past (instance_entry r) (up_to_instances t) (up_to_instances new) t.snapshots (above 7 6 (omega arith) kinds.snapshots)
     (put-after (instance_entry r) (up_to_volumes t) t.instances new.instances (below_volumes t 6 (omega arith) kinds)
     (instance-section s r h after))
   where
@@ -147,12 +147,12 @@ put-all (row.Snapshot r) s h after =
 pub remove-all : (of : ObjectKind) (key : List ℕ) (s : State) → AreNamed s → AreNamed (without_row of key s)
     → remove_entry (number_of of) key (all_of (sections_of s)) ≡ all_of (sections_of (without_row of key s))
 remove-all kind.Project key s h after =
-    remove-behind 1 key (up_to_instances t) (up_to_instances new) t.snapshots (above 7 1 (omega arith) kinds.snapshots)
-    (remove-behind 1 key (up_to_volumes t) (up_to_volumes new) t.instances (above 6 1 (omega arith) kinds.instances)
-    (remove-behind 1 key (up_to_pools t) (up_to_pools new) t.volumes (above 5 1 (omega arith) kinds.volumes)
-    (remove-behind 1 key (up_to_networks t) (up_to_networks new) t.pools (above 4 1 (omega arith) kinds.pools)
-    (remove-behind 1 key (up_to_profiles t) (up_to_profiles new) t.networks (above 3 1 (omega arith) kinds.networks)
-    (remove-behind 1 key t.projects new.projects t.profiles (above 2 1 (omega arith) kinds.profiles)
+    remove-past 1 key (up_to_instances t) (up_to_instances new) t.snapshots (above 7 1 (omega arith) kinds.snapshots)
+    (remove-past 1 key (up_to_volumes t) (up_to_volumes new) t.instances (above 6 1 (omega arith) kinds.instances)
+    (remove-past 1 key (up_to_pools t) (up_to_pools new) t.volumes (above 5 1 (omega arith) kinds.volumes)
+    (remove-past 1 key (up_to_networks t) (up_to_networks new) t.pools (above 4 1 (omega arith) kinds.pools)
+    (remove-past 1 key (up_to_profiles t) (up_to_profiles new) t.networks (above 3 1 (omega arith) kinds.networks)
+    (remove-past 1 key t.projects new.projects t.profiles (above 2 1 (omega arith) kinds.profiles)
     (project-gone s key h after))))))
   where
     t : Sections
@@ -164,11 +164,11 @@ remove-all kind.Project key s h after =
     kinds : AreOfKinds t
     kinds = of-kinds s
 remove-all kind.Profile key s h after =
-    remove-behind 2 key (up_to_instances t) (up_to_instances new) t.snapshots (above 7 2 (omega arith) kinds.snapshots)
-    (remove-behind 2 key (up_to_volumes t) (up_to_volumes new) t.instances (above 6 2 (omega arith) kinds.instances)
-    (remove-behind 2 key (up_to_pools t) (up_to_pools new) t.volumes (above 5 2 (omega arith) kinds.volumes)
-    (remove-behind 2 key (up_to_networks t) (up_to_networks new) t.pools (above 4 2 (omega arith) kinds.pools)
-    (remove-behind 2 key (up_to_profiles t) (up_to_profiles new) t.networks (above 3 2 (omega arith) kinds.networks)
+    remove-past 2 key (up_to_instances t) (up_to_instances new) t.snapshots (above 7 2 (omega arith) kinds.snapshots)
+    (remove-past 2 key (up_to_volumes t) (up_to_volumes new) t.instances (above 6 2 (omega arith) kinds.instances)
+    (remove-past 2 key (up_to_pools t) (up_to_pools new) t.volumes (above 5 2 (omega arith) kinds.volumes)
+    (remove-past 2 key (up_to_networks t) (up_to_networks new) t.pools (above 4 2 (omega arith) kinds.pools)
+    (remove-past 2 key (up_to_profiles t) (up_to_profiles new) t.networks (above 3 2 (omega arith) kinds.networks)
     (remove-after 2 key t.projects t.profiles new.profiles (below 1 2 (omega arith) kinds.projects)
     (profile-gone s key h after))))))
   where
@@ -181,10 +181,10 @@ remove-all kind.Profile key s h after =
     kinds : AreOfKinds t
     kinds = of-kinds s
 remove-all kind.Network key s h after =
-    remove-behind 3 key (up_to_instances t) (up_to_instances new) t.snapshots (above 7 3 (omega arith) kinds.snapshots)
-    (remove-behind 3 key (up_to_volumes t) (up_to_volumes new) t.instances (above 6 3 (omega arith) kinds.instances)
-    (remove-behind 3 key (up_to_pools t) (up_to_pools new) t.volumes (above 5 3 (omega arith) kinds.volumes)
-    (remove-behind 3 key (up_to_networks t) (up_to_networks new) t.pools (above 4 3 (omega arith) kinds.pools)
+    remove-past 3 key (up_to_instances t) (up_to_instances new) t.snapshots (above 7 3 (omega arith) kinds.snapshots)
+    (remove-past 3 key (up_to_volumes t) (up_to_volumes new) t.instances (above 6 3 (omega arith) kinds.instances)
+    (remove-past 3 key (up_to_pools t) (up_to_pools new) t.volumes (above 5 3 (omega arith) kinds.volumes)
+    (remove-past 3 key (up_to_networks t) (up_to_networks new) t.pools (above 4 3 (omega arith) kinds.pools)
     (remove-after 3 key (up_to_profiles t) t.networks new.networks (below_profiles t 3 (omega arith) kinds)
     (network-gone s key h after)))))
   where
@@ -197,9 +197,9 @@ remove-all kind.Network key s h after =
     kinds : AreOfKinds t
     kinds = of-kinds s
 remove-all kind.Pool key s h after =
-    remove-behind 4 key (up_to_instances t) (up_to_instances new) t.snapshots (above 7 4 (omega arith) kinds.snapshots)
-    (remove-behind 4 key (up_to_volumes t) (up_to_volumes new) t.instances (above 6 4 (omega arith) kinds.instances)
-    (remove-behind 4 key (up_to_pools t) (up_to_pools new) t.volumes (above 5 4 (omega arith) kinds.volumes)
+    remove-past 4 key (up_to_instances t) (up_to_instances new) t.snapshots (above 7 4 (omega arith) kinds.snapshots)
+    (remove-past 4 key (up_to_volumes t) (up_to_volumes new) t.instances (above 6 4 (omega arith) kinds.instances)
+    (remove-past 4 key (up_to_pools t) (up_to_pools new) t.volumes (above 5 4 (omega arith) kinds.volumes)
     (remove-after 4 key (up_to_networks t) t.pools new.pools (below_networks t 4 (omega arith) kinds)
     (pool-gone s key h after))))
   where
@@ -212,8 +212,8 @@ remove-all kind.Pool key s h after =
     kinds : AreOfKinds t
     kinds = of-kinds s
 remove-all kind.Volume key s h after =
-    remove-behind 5 key (up_to_instances t) (up_to_instances new) t.snapshots (above 7 5 (omega arith) kinds.snapshots)
-    (remove-behind 5 key (up_to_volumes t) (up_to_volumes new) t.instances (above 6 5 (omega arith) kinds.instances)
+    remove-past 5 key (up_to_instances t) (up_to_instances new) t.snapshots (above 7 5 (omega arith) kinds.snapshots)
+    (remove-past 5 key (up_to_volumes t) (up_to_volumes new) t.instances (above 6 5 (omega arith) kinds.instances)
     (remove-after 5 key (up_to_pools t) t.volumes new.volumes (below_pools t 5 (omega arith) kinds)
     (volume-gone s key h after)))
   where
@@ -226,7 +226,7 @@ remove-all kind.Volume key s h after =
     kinds : AreOfKinds t
     kinds = of-kinds s
 remove-all kind.Instance key s h after =
-    remove-behind 6 key (up_to_instances t) (up_to_instances new) t.snapshots (above 7 6 (omega arith) kinds.snapshots)
+    remove-past 6 key (up_to_instances t) (up_to_instances new) t.snapshots (above 7 6 (omega arith) kinds.snapshots)
     (remove-after 6 key (up_to_volumes t) t.instances new.instances (below_volumes t 6 (omega arith) kinds)
     (instance-gone s key h after))
   where

@@ -155,9 +155,9 @@ all_from_each P [] each = tt
 all_from_each P (x ∷ xs) each = (Each-head each, all_from_each P xs (Each-tail each))
 
 -- entries of lower kinds, and then those of one kind
-ordered-behind : (k : ℕ) (front es : List Entry) → IsOrderedEntries front → Each (λ e. e.kind < k) front
+ordered-after : (k : ℕ) (front es : List Entry) → IsOrderedEntries front → Each (λ e. e.kind < k) front
     → IsOrderedEntries es → Each (λ e. e.kind ≡ k) es → IsOrderedEntries (front ++ es)
-ordered-behind k front es low lower ordered kinds =
+ordered-after k front es low lower ordered kinds =
     sorted-append entry_order front es low ordered
     (all_from_each _ front (record { at = λ a m. all_from_each _ es (record { at = λ b n. less a b (lower.at a m) (kinds.at b n) }) }))
   where
@@ -180,30 +180,30 @@ records-ordered s h = subst IsOrderedEntries (sym (records-are s)) seven where
 
   two : IsOrderedEntries (up_to_profiles t)
   two =
-      ordered-behind 2 t.projects t.profiles one (below 1 2 (omega arith) kinds.projects)
+      ordered-after 2 t.projects t.profiles one (below 1 2 (omega arith) kinds.projects)
       (section_ordered profile_entry 2 (λ r. refl) s.profiles keys.profiles) kinds.profiles
 
   three : IsOrderedEntries (up_to_networks t)
   three =
-      ordered-behind 3 (up_to_profiles t) t.networks two (below_profiles t 3 (omega arith) kinds)
+      ordered-after 3 (up_to_profiles t) t.networks two (below_profiles t 3 (omega arith) kinds)
       (section_ordered network_entry 3 (λ r. refl) s.networks keys.networks) kinds.networks
 
   four : IsOrderedEntries (up_to_pools t)
   four =
-      ordered-behind 4 (up_to_networks t) t.pools three (below_networks t 4 (omega arith) kinds)
+      ordered-after 4 (up_to_networks t) t.pools three (below_networks t 4 (omega arith) kinds)
       (section_ordered pool_entry 4 (λ r. refl) s.pools keys.pools) kinds.pools
 
   five : IsOrderedEntries (up_to_volumes t)
   five =
-      ordered-behind 5 (up_to_pools t) t.volumes four (below_pools t 5 (omega arith) kinds)
+      ordered-after 5 (up_to_pools t) t.volumes four (below_pools t 5 (omega arith) kinds)
       (section_ordered volume_entry 5 (λ r. refl) s.volumes keys.volumes) kinds.volumes
 
   six : IsOrderedEntries (up_to_instances t)
   six =
-      ordered-behind 6 (up_to_volumes t) t.instances five (below_volumes t 6 (omega arith) kinds)
+      ordered-after 6 (up_to_volumes t) t.instances five (below_volumes t 6 (omega arith) kinds)
       (section_ordered instance_entry 6 (λ r. refl) s.instances keys.instances) kinds.instances
 
   seven : IsOrderedEntries (all_of t)
   seven =
-      ordered-behind 7 (up_to_instances t) t.snapshots six (below_instances t 7 (omega arith) kinds)
+      ordered-after 7 (up_to_instances t) t.snapshots six (below_instances t 7 (omega arith) kinds)
       (section_ordered snapshot_entry 7 (λ r. refl) s.snapshots keys.snapshots) kinds.snapshots

@@ -9,7 +9,7 @@ use Rattle.std.proofs.lemmas.List.Elements.{filter-append}
 use Rattle.row_machine.specs.plain_lists.specs.Members.{Each}
 use Rattle.row_machine.specs.plain_lists.proofs.Elements.{Each-head, Each-tail, Each-map}
 use Rattle.record_keeper.specs.size_values.specs.declared.entry.Entry.{Entry}
-use Rattle.record_keeper.specs.Entries.{seen_from, entries_before, entries_behind, put_entry, remove_entry}
+use Rattle.record_keeper.specs.Entries.{seen_from, entries_before, entries_after, put_entry, remove_entry}
 
 -- ---- what is seen from a place
 
@@ -33,10 +33,10 @@ module _ (k : ℕ) (key : List ℕ) where
       filter-append (λ x. is_lt (seen_from k key x)) front es
       ∙ ap (λ xs. xs ++ entries_before k key es) (filter-all (λ x. is_lt (seen_from k key x)) front (Each-map (λ x lt. ap is_lt (seen_low k key x lt)) low))
 
-  behind_front : (front es : List Entry) → Each (λ x. x.kind < k) front → entries_behind k key (front ++ es) ≡ entries_behind k key es
-  behind_front front es low =
+  after_front : (front es : List Entry) → Each (λ x. x.kind < k) front → entries_after k key (front ++ es) ≡ entries_after k key es
+  after_front front es low =
       filter-append (λ x. is_gt (seen_from k key x)) front es
-      ∙ ap (λ xs. xs ++ entries_behind k key es) (filter-none (λ x. is_gt (seen_from k key x)) front (Each-map (λ x lt. ap is_gt (seen_low k key x lt)) low))
+      ∙ ap (λ xs. xs ++ entries_after k key es) (filter-none (λ x. is_gt (seen_from k key x)) front (Each-map (λ x lt. ap is_gt (seen_low k key x lt)) low))
 
   before_back : (es back : List Entry) → Each (λ x. k < x.kind) back → entries_before k key (es ++ back) ≡ entries_before k key es
   before_back es back high =
@@ -44,24 +44,24 @@ module _ (k : ℕ) (key : List ℕ) where
       ∙ ap (λ xs. entries_before k key es ++ xs) (filter-none (λ x. is_lt (seen_from k key x)) back (Each-map (λ x lt. ap is_lt (seen_high k key x lt)) high))
       ∙ append-nil (entries_before k key es)
 
-  behind_back : (es back : List Entry) → Each (λ x. k < x.kind) back → entries_behind k key (es ++ back) ≡ entries_behind k key es ++ back
-  behind_back es back high =
+  after_back : (es back : List Entry) → Each (λ x. k < x.kind) back → entries_after k key (es ++ back) ≡ entries_after k key es ++ back
+  after_back es back high =
       filter-append (λ x. is_gt (seen_from k key x)) es back
-      ∙ ap (λ xs. entries_behind k key es ++ xs) (filter-all (λ x. is_gt (seen_from k key x)) back (Each-map (λ x lt. ap is_gt (seen_high k key x lt)) high))
+      ∙ ap (λ xs. entries_after k key es ++ xs) (filter-all (λ x. is_gt (seen_from k key x)) back (Each-map (λ x lt. ap is_gt (seen_high k key x lt)) high))
 
   -- ---- a removal
 
   pub remove-front : (front es : List Entry) → Each (λ x. x.kind < k) front → remove_entry k key (front ++ es) ≡ front ++ remove_entry k key es
   unfolding remove_entry
   remove-front front es low =
-      (λ i. before_front front es low i ++ behind_front front es low i)
-      ∙ append_assoc front (entries_before k key es) (entries_behind k key es)
+      (λ i. before_front front es low i ++ after_front front es low i)
+      ∙ append_assoc front (entries_before k key es) (entries_after k key es)
 
   pub remove-back : (es back : List Entry) → Each (λ x. k < x.kind) back → remove_entry k key (es ++ back) ≡ remove_entry k key es ++ back
   unfolding remove_entry
   remove-back es back high =
-      (λ i. before_back es back high i ++ behind_back es back high i)
-      ∙ sym (append_assoc (entries_before k key es) (entries_behind k key es) back)
+      (λ i. before_back es back high i ++ after_back es back high i)
+      ∙ sym (append_assoc (entries_before k key es) (entries_after k key es) back)
 
   pub remove-none : remove_entry k key [] ≡ []
   unfolding remove_entry
@@ -72,11 +72,11 @@ module _ (k : ℕ) (key : List ℕ) where
 pub put-front : (e : Entry) (front es : List Entry) → Each (λ x. x.kind < e.kind) front → put_entry e (front ++ es) ≡ front ++ put_entry e es
 unfolding put_entry
 put-front e front es low =
-    (λ i. before_front e.kind e.key front es low i ++ e ∷ behind_front e.kind e.key front es low i)
-    ∙ append_assoc front (entries_before e.kind e.key es) (e ∷ entries_behind e.kind e.key es)
+    (λ i. before_front e.kind e.key front es low i ++ e ∷ after_front e.kind e.key front es low i)
+    ∙ append_assoc front (entries_before e.kind e.key es) (e ∷ entries_after e.kind e.key es)
 
 pub put-back : (e : Entry) (es back : List Entry) → Each (λ x. e.kind < x.kind) back → put_entry e (es ++ back) ≡ put_entry e es ++ back
 unfolding put_entry
 put-back e es back high =
-    (λ i. before_back e.kind e.key es back high i ++ e ∷ behind_back e.kind e.key es back high i)
-    ∙ sym (append_assoc (entries_before e.kind e.key es) (e ∷ entries_behind e.kind e.key es) back)
+    (λ i. before_back e.kind e.key es back high i ++ e ∷ after_back e.kind e.key es back high i)
+    ∙ sym (append_assoc (entries_before e.kind e.key es) (e ∷ entries_after e.kind e.key es) back)

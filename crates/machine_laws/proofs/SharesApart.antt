@@ -39,10 +39,10 @@ use Rattle.row_machine.specs.machine.Deeds.{replaces_target, target_kind, has_ta
 -- ---- lists
 
 filter-Puts : {X : Type 0} (p : X → Bool) {x : X} {xs ys : List X} → Puts x xs ys → p x ≡ true → length (filter p ys) ≡ length (filter p xs) + 1
-filter-Puts p {x} (here {xs}) is =
+filter-Puts p {x} (here {rest = xs}) is =
     let e : length (filter p (x ∷ xs)) ≡ length (x ∷ filter p xs) = ap (λ b. length (cond b (x ∷ filter p xs) (filter p xs))) is in
     omega (arith, e)
-filter-Puts {X} p (later {y} {xs} {ys} q) is = at (p y) (filter-Puts p q is) where
+filter-Puts {X} p (later {other = y} {rest = xs} {whole = ys} q) is = at (p y) (filter-Puts p q is) where
   at : (b : Bool) → length (filter p ys) ≡ length (filter p xs) + 1 → length (cond b (y ∷ filter p ys) (filter p ys)) ≡ length (cond b (y ∷ filter p xs) (filter p xs)) + 1
   at true more = omega (arith, more)
   at false more = more

@@ -31,8 +31,8 @@ use Rattle.row_machine.specs.machine.Plans.{Plan, nothing, changes, starts, plan
 use Rattle.row_machine.specs.machine.Work.{entered, moved, with_task, handing_out, one_more_done, undone, succeeded, failed, cancelled, success_changes}
 use Rattle.row_machine.specs.shown.Notices.{telling, operation_notice, change_notices, success_notices}
 use Rattle.row_machine.specs.machine.Rules.{broken}
-use Rattle.row_machine.specs.machine.Accept.{After, accepted, carried_out, told, after_cancel, cancel_or_read}
-use Rattle.row_machine.specs.machine.Step.{Outcome, well, keeper_failed, no_memory, step, asked, unavailable, taken, handed_out, first_pending, done, reported, while_running, while_cancelling, call_done, call_failed, committed, stray, always, fetched}
+use Rattle.row_machine.specs.machine.Accept.{After, accepted, carried_out, with_operation_notice, after_cancel, cancel_or_read}
+use Rattle.row_machine.specs.machine.Step.{Outcome, well, keeper_failed, no_memory, step, after_command, unavailable, taken, handed_out, first_pending, done, reported, while_running, while_cancelling, call_done, call_failed, committed, stray, always, fetched}
 use Rattle.row_machine.specs.facts.Whole.{IsWhole}
 use Rattle.machine_laws.specs.Possible.{IsPossible}
 use Rattle.machine_laws.proofs.Cases.{IsAccepted, IsLiveAs}
@@ -153,7 +153,7 @@ module _ (Q : Command → Type 0) where
   unavailable-alters s (starts task) h = none-reached s
 
   asked-alters : (s : State) (c : Command) (moment : ℕ) (outcome : Outcome) (r : Option Refusal) → Q c → IsWhole s → is_formed c ≡ true → moment < moment_limit
-      → broken s c moment ≡ r → Reaches s (asked s c moment outcome r)
+      → broken s c moment ≡ r → Reaches s (after_command s c moment outcome r)
   asked-alters s c moment well (Some refusal) q h formed early is = reached s _ stays
   asked-alters s c moment well None q h formed early is = reached s _ (accepted-alters s c moment q h formed early is)
   asked-alters s c moment (keeper_failed rise) (Some refusal) q h formed early is = none-reached s
@@ -175,11 +175,11 @@ module _ (Q : Command → Type 0) where
   -- ---- a worker reports
 
   failure-alters : (s : State) (o : Operation Task) (why : OpFault) (n moment : ℕ) → moment < moment_limit → IsLiveAs s o status.Running
-      → AltersBy Q s (told (failed s o why n moment) o.number moment)
+      → AltersBy Q s (with_operation_notice (failed s o why n moment) o.number moment)
   failure-alters s o why n moment early l = fails o why n moment (operation_notice (failed s o why n moment) o.number moment) early l
 
   success-alters : (s : State) (o : Operation Task) (moment : ℕ) → moment < moment_limit → IsLiveAs s o status.Running → o.work.calls ≡ []
-      → AltersBy Q s (told (telling (success_notices o.work moment) (succeeded s o moment)) o.number moment)
+      → AltersBy Q s (with_operation_notice (telling (success_notices o.work moment) (succeeded s o moment)) o.number moment)
   success-alters s o moment early l none = succeeds o moment (success_notices o.work moment) (operation_notice (telling (success_notices o.work moment) (succeeded s o moment)) o.number moment) early l none
 
   committed-alters : (s : State) (o : Operation Task) (moment : ℕ) (outcome : Outcome) (cs : List RowChange) → moment < moment_limit → IsLiveAs s o status.Running

@@ -20,8 +20,8 @@ use Rattle.row_machine.specs.machine.Task.{Task}
 use Rattle.row_machine.specs.machine.State.{State}
 use Rattle.row_machine.specs.machine.Work.{with_task, moved, handing_out, one_more_done, undone, succeeded, failed, cancelled, success_changes}
 use Rattle.row_machine.specs.shown.Notices.{telling, operation_notice, success_notices}
-use Rattle.row_machine.specs.machine.Accept.{After, and_then, told}
-use Rattle.row_machine.specs.machine.Step.{Outcome, well, keeper_failed, no_memory, step, success, failure, over, taken, handed_out, first_pending, done, reported, while_running, while_cancelling, call_done, call_failed, committed, always}
+use Rattle.row_machine.specs.machine.Accept.{After, and_then, with_operation_notice}
+use Rattle.row_machine.specs.machine.Step.{Outcome, well, keeper_failed, no_memory, step, success, failure, after_end, taken, handed_out, first_pending, done, reported, while_running, while_cancelling, call_done, call_failed, committed, always}
 use Rattle.row_machine.specs.facts.Whole.{IsWhole}
 use Rattle.machine_laws.specs.Waits.{Round, Served, served, hand_of, IsAlone}
 use Rattle.machine_laws.proofs.Base.{live-number}
@@ -62,7 +62,7 @@ takes-first : (s : State) (o : Operation Task) (moment : ℕ) (calls : List Host
     → Does s None (with_hand (handed_out s o moment calls))
 takes-first s o moment [] first is = idles_on o first is
 takes-first s o moment (call ∷ rest) first is =
-    takes o call rest (told (with_task o.number (handing_out o.work rest) (moved o.number Running moment s)) o.number moment) moment first is
+    takes o call rest (with_operation_notice (with_task o.number (handing_out o.work rest) (moved o.number Running moment s)) o.number moment) moment first is
     (told-same (operation_notice (with_task o.number (handing_out o.work rest) (moved o.number Running moment s)) o.number moment)
     (with_task o.number (handing_out o.work rest) (moved o.number Running moment s))).operations
 
@@ -81,17 +81,17 @@ always-does s hand a no_memory h = none-done s hand
 -- ---- a call is reported of
 
 -- an end, with the notices of it
-told-end : (s t : State) (number moment : ℕ) → (told t number moment).operations.live ≡ t.operations.live
+told-end : (s t : State) (number moment : ℕ) → (with_operation_notice t number moment).operations.live ≡ t.operations.live
 told-end s t number moment = ap (λ k. k.live) (told-same (operation_notice t number moment) t).operations
 
 failure-does : (s : State) (o : Operation Task) (why : OpFault) (n moment : ℕ) → live_at s.operations o.number ≡ Some o
-    → Does s (Some o.number) (record { state = told (failed s o why n moment) o.number moment; hand = None })
-failure-does s o why n moment live = ends o (told (failed s o why n moment) o.number moment) live (told-end s (failed s o why n moment) o.number moment ∙ failed-left s o why n moment)
+    → Does s (Some o.number) (record { state = with_operation_notice (failed s o why n moment) o.number moment; hand = None })
+failure-does s o why n moment live = ends o (with_operation_notice (failed s o why n moment) o.number moment) live (told-end s (failed s o why n moment) o.number moment ∙ failed-left s o why n moment)
 
 success-does : (s : State) (o : Operation Task) (moment : ℕ) → live_at s.operations o.number ≡ Some o
-    → Does s (Some o.number) (record { state = told (telling (success_notices o.work moment) (succeeded s o moment)) o.number moment; hand = None })
+    → Does s (Some o.number) (record { state = with_operation_notice (telling (success_notices o.work moment) (succeeded s o moment)) o.number moment; hand = None })
 success-does s o moment live =
-    ends o (told (telling (success_notices o.work moment) (succeeded s o moment)) o.number moment) live
+    ends o (with_operation_notice (telling (success_notices o.work moment) (succeeded s o moment)) o.number moment) live
     (told-end s (telling (success_notices o.work moment) (succeeded s o moment)) o.number moment
     ∙ ap (λ k. k.live) (told-same (success_notices o.work moment) (succeeded s o moment)).operations ∙ succeeded-left s o moment)
 
@@ -134,8 +134,8 @@ cancelling-does : (s : State) (o : Operation Task) (moment : ℕ) (outcome : Out
     → o.status ≡ Cancelling → o.work.undo ≡ undo → Doing s (Some o.number) (while_cancelling s o moment outcome undo)
 cancelling-does s o moment well (Some call) live now is =
     does s (Some o.number) (and_then (answer.Job o.number call) (with_task o.number (undone o.work) s)) (takes_back o call live now is)
-cancelling-does s o moment well None live now is = does s (Some o.number) (over (cancelled s o.number moment) o.number moment)
-    (ends o (told (cancelled s o.number moment) o.number moment) live (told-end s (cancelled s o.number moment) o.number moment ∙ cancelled-left s o.number moment))
+cancelling-does s o moment well None live now is = does s (Some o.number) (after_end (cancelled s o.number moment) o.number moment)
+    (ends o (with_operation_notice (cancelled s o.number moment) o.number moment) live (told-end s (cancelled s o.number moment) o.number moment ∙ cancelled-left s o.number moment))
 cancelling-does s o moment (keeper_failed rise) None live now is = none-done s (Some o.number)
 cancelling-does s o moment (keeper_failed rise) (Some call) live now is = none-done s (Some o.number)
 cancelling-does s o moment no_memory None live now is = none-done s (Some o.number)

@@ -13,15 +13,15 @@ use Rattle.row_machine.specs.machine.Rules.{broken}
 use Rattle.row_machine.specs.facts.Whole.{IsWhole}
 
 -- a command that a client can give, at a moment before the year 10000, which breaks no rule, and what is planned for it
-pub record IsAccepted (s : State) (c : Command) (moment : ℕ) (p : Plan) : Type 0 where
-  pub whole : IsWhole s
-  pub formed : is_formed c ≡ true
+pub record IsAccepted (state : State) (command : Command) (moment : ℕ) (planned : Plan) : Type 0 where
+  pub whole : IsWhole state
+  pub formed : is_formed command ≡ true
   pub early : moment < moment_limit
-  pub unbroken : broken s c moment ≡ None
-  pub plan : plan_of s c moment ≡ p
+  pub unbroken : broken state command moment ≡ None
+  pub plan : plan_of state command moment ≡ planned
 
 -- a live operation of this status
-pub record IsLiveAs (s : State) (o : Operation Task) (now : Status) : Type 0 where
-  pub whole : IsWhole s
-  pub live : live_at s.operations o.number ≡ Some o
-  pub status : o.status ≡ now
+pub record IsLiveAs (state : State) (operation : Operation Task) (now : Status) : Type 0 where
+  pub whole : IsWhole state
+  pub live : live_at state.operations operation.number ≡ Some operation
+  pub status : operation.status ≡ now

@@ -18,18 +18,18 @@ use Rattle.row_machine.specs.machine.Step.{step, well}
 
 -- the row under the name of the object, or a live claim of it, stands
 abbrev pub StandsAlready : State → List ℕ → Target → Type 0
-StandsAlready s project of = (is_there s project of ≡ true) ⊎ (is_some (name_held s project of) ≡ true)
+StandsAlready state project of = (is_there state project of ≡ true) ⊎ (is_some (name_held state project of) ≡ true)
 
 -- The creation is refused, and changes nothing. Where no earlier rule is broken the refusal is N4 or N5.
-pub record IsRefusedAgain (s : State) (c : Command) (moment : ℕ) (of : Target) : Type 0 where
+pub record IsRefusedAgain (state : State) (command : Command) (moment : ℕ) (of : Target) : Type 0 where
   pub refusal : Refusal
-  pub answer : step s (event.Ask c moment) well ≡ Some (and_then (answer.Reply (reply.Refused refusal)) s)
-  pub rule : project_missing s c ≡ None → what_is_missing s c.project c.what ≡ None
+  pub answer : step state (event.Ask command moment) well ≡ Some (and_then (answer.Reply (reply.Refused refusal)) state)
+  pub rule : project_missing state command ≡ None → what_is_missing state command.project command.what ≡ None
       → good_name_of of.kind of.name ≡ true
       → (refusal.rule ≡ rule.N4) ⊎ (refusal.rule ≡ rule.N5)
 
 -- A new snapshot may be made without a name, and then gets one of its own; every other creation names its object.
 abbrev pub SentAgain : Type 0
-SentAgain = (s : State) (c : Command) (moment : ℕ) (of : Target) (body : Body) →
-    c.what ≡ what.Create of body → (of.kind ≡ kind.Snapshot → of.name ≢ []) → StandsAlready s c.project of
-    → IsRefusedAgain s c moment of
+SentAgain = (state : State) (command : Command) (moment : ℕ) (of : Target) (body : Body) →
+    command.what ≡ what.Create of body → (of.kind ≡ kind.Snapshot → of.name ≢ [])
+    → StandsAlready state command.project of → IsRefusedAgain state command moment of

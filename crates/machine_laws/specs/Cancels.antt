@@ -27,61 +27,68 @@ use Rattle.machine_laws.specs.Headline.{IsKeptAs}
 -- ---- the cancel
 
 -- The operation is Cancelling, with the call that takes its deed back still to be handed out. No row changed.
-pub record IsBeingCancelled (s : State) (o : Operation Task) (moment : ℕ) (a : After) : Type 0 where
-  pub answer : a.answer ≡ answer.Reply reply.Empty
-  pub cancelling : live_at a.state.operations o.number
-      ≡ Some (record o { status = status.Cancelling; updated = moment })
-  pub undo : option_map name_of o.work.undo ≡ undo_of o.work.deed
-  pub undoable : is_some o.work.undo ≡ true
-  pub rows : rows_of a.state ≡ rows_of s
+pub record IsBeingCancelled (state : State) (operation : Operation Task) (moment : ℕ) (after : After) : Type 0 where
+  pub answer : after.answer ≡ answer.Reply reply.Empty
+  pub cancelling : live_at after.state.operations operation.number
+      ≡ Some (record operation { status = status.Cancelling; updated = moment })
+  pub undo : option_map name_of operation.work.undo ≡ undo_of operation.work.deed
+  pub undoable : is_some operation.work.undo ≡ true
+  pub rows : rows_of after.state ≡ rows_of state
 
 -- a cancel of an operation that runs and may be cancelled, by a client of any project, is accepted
 abbrev pub RunningIsCancelled : Type 0
-RunningIsCancelled = (s : State) (c : Command) (o : Operation Task) (moment : ℕ) →
-    IsWhole s → live_at s.operations o.number ≡ Some o → o.status ≡ status.Running → o.may_cancel ≡ true
-    → c.what ≡ what.Cancel o.number →
-    (a : After) × ((step s (event.Ask c moment) well ≡ Some a) × IsBeingCancelled s o moment a)
+RunningIsCancelled = (state : State) (command : Command) (operation : Operation Task) (moment : ℕ) →
+    IsWhole state → live_at state.operations operation.number ≡ Some operation → operation.status ≡ status.Running
+    → operation.may_cancel ≡ true → command.what ≡ what.Cancel operation.number →
+    (after : After)
+    × ((step state (event.Ask command moment) well ≡ Some after) × IsBeingCancelled state operation moment after)
 
 -- ---- what follows
 
 -- the deed is taken back: whatever is reported of the call that was out, the worker gets the call that does it
-pub record IsTakenBack (s : State) (o : Operation Task) (call : HostCall) (a : After) : Type 0 where
-  pub answer : a.answer ≡ answer.Job o.number call
-  pub cancelling : live_at a.state.operations o.number ≡ Some (record o { work = undone o.work })
-  pub rows : rows_of a.state ≡ rows_of s
+pub record IsTakenBack (state : State) (operation : Operation Task) (call : HostCall) (after : After) : Type 0 where
+  pub answer : after.answer ≡ answer.Job operation.number call
+  pub cancelling : live_at after.state.operations operation.number
+      ≡ Some (record operation { work = undone operation.work })
+  pub rows : rows_of after.state ≡ rows_of state
 
 -- the operation is Cancelled: whatever is reported of that call, it is over
-pub record IsCancelled (s : State) (o : Operation Task) (a : After) : Type 0 where
-  pub answer : a.answer ≡ answer.Ended o.number
-  pub kept : IsKeptAs a.state o status.Cancelled
-  pub over : live_at a.state.operations o.number ≡ None
-  pub rows : rows_of a.state ≡ rows_of s
+pub record IsCancelled (state : State) (operation : Operation Task) (after : After) : Type 0 where
+  pub answer : after.answer ≡ answer.Ended operation.number
+  pub kept : IsKeptAs after.state operation status.Cancelled
+  pub over : live_at after.state.operations operation.number ≡ None
+  pub rows : rows_of after.state ≡ rows_of state
 
 -- the two reports that follow the cancel
-pub record CancelGoesOn (s : State) (o : Operation Task) (report : Report) (moment : ℕ) : Type 0 where
-  pub first : (call : HostCall) → o.work.undo ≡ Some call
-      → (a : After) × ((step s (event.Done o.number report moment) well ≡ Some a) × IsTakenBack s o call a)
-  pub second : o.work.undo ≡ None
-      → (a : After) × ((step s (event.Done o.number report moment) well ≡ Some a) × IsCancelled s o a)
+pub record CancelGoesOn (state : State) (operation : Operation Task) (report : Report) (moment : ℕ) : Type 0 where
+  pub first : (call : HostCall) → operation.work.undo ≡ Some call
+      → (after : After)
+      × ((step state (event.Done operation.number report moment) well ≡ Some after)
+      × IsTakenBack state operation call after)
+  pub second : operation.work.undo ≡ None
+      → (after : After)
+      × ((step state (event.Done operation.number report moment) well ≡ Some after) × IsCancelled state operation after)
 
 abbrev pub CancellingGoesOn : Type 0
-CancellingGoesOn = (s : State) (o : Operation Task) (report : Report) (moment : ℕ) →
-    IsWhole s → live_at s.operations o.number ≡ Some o → o.status ≡ status.Cancelling → CancelGoesOn s o report moment
+CancellingGoesOn = (state : State) (operation : Operation Task) (report : Report) (moment : ℕ) →
+    IsWhole state → live_at state.operations operation.number ≡ Some operation → operation.status ≡ status.Cancelling
+    → CancelGoesOn state operation report moment
 
 -- ---- nothing else happens to it
 
 -- it is as it was, or its deed is taken back, or it is Cancelled
-pub data StaysCancelling (s t : State) (o : Operation Task) : Type 0 where
-  as_it_was : live_at t.operations o.number ≡ Some o → StaysCancelling s t o
-  taken_back : (call : HostCall) → o.work.undo ≡ Some call
-      → live_at t.operations o.number ≡ Some (record o { work = undone o.work })
-      → rows_of t ≡ rows_of s → StaysCancelling s t o
-  cancelled : o.work.undo ≡ None → IsKeptAs t o status.Cancelled → live_at t.operations o.number ≡ None
-      → rows_of t ≡ rows_of s → StaysCancelling s t o
+pub data StaysCancelling (state later : State) (operation : Operation Task) : Type 0 where
+  as_it_was : live_at later.operations operation.number ≡ Some operation → StaysCancelling state later operation
+  taken_back : (call : HostCall) → operation.work.undo ≡ Some call
+      → live_at later.operations operation.number ≡ Some (record operation { work = undone operation.work })
+      → rows_of later ≡ rows_of state → StaysCancelling state later operation
+  cancelled : operation.work.undo ≡ None → IsKeptAs later operation status.Cancelled
+      → live_at later.operations operation.number ≡ None → rows_of later ≡ rows_of state
+      → StaysCancelling state later operation
 
 -- whatever other requests and reports come between
 abbrev pub CancellingStays : Type 0
-CancellingStays = (s : State) (e : Event) (outcome : Outcome) (after : After) (o : Operation Task) →
-    IsWhole s → IsPossible e → step s e outcome ≡ Some after → live_at s.operations o.number ≡ Some o
-    → o.status ≡ status.Cancelling →
-    StaysCancelling s after.state o
+CancellingStays = (state : State) (event : Event) (outcome : Outcome) (after : After) (operation : Operation Task) →
+    IsWhole state → IsPossible event → step state event outcome ≡ Some after
+    → live_at state.operations operation.number ≡ Some operation → operation.status ≡ status.Cancelling →
+    StaysCancelling state after.state operation

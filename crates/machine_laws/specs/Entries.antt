@@ -21,9 +21,9 @@ number_of kind.Operation = 0
 
 -- a change of a row as the change of its entry
 abbrev pub entry_change : RowChange → EntryChange
-entry_change (change.Put r) = Put (entry_of r)
+entry_change (change.Put row) = Put (entry_of row)
 entry_change (change.Remove of key) = Remove (number_of of) key
 
 -- changes of rows as changes of their entries, in their order
 abbrev pub entry_changes : List RowChange → List EntryChange
-entry_changes cs = map entry_change cs
+entry_changes changes = map entry_change changes

@@ -50,101 +50,118 @@ use Rattle.machine_laws.specs.Sorted.{AreSortedEvents}
 
 -- what an instance has, by its profiles and by itself
 abbrev pub has : State → Instance → Expanded
-has s i = expanded_of s.projects s.profiles i
+has state instance = expanded_of state.projects state.profiles instance
 
 -- the layers of an instance: its profiles in their order, and then what it has itself
 abbrev pub layers_of : State → Instance → List Expanded
-layers_of s i = layers_by (profile_named s.profiles (home_of s.projects i.project kind.Profile)) i
+layers_of state instance =
+    layers_by (profile_named state.profiles (home_of state.projects instance.project kind.Profile)) instance
 
 -- whether an instance, or a volume, of a project gives a number for each sum that the project limits
 abbrev pub IsCountable : State → Project → Instance → Type 0
-IsCountable s p i =
-    i.project ≡ p.name → first_uncounted (limits_of p.config) i.kind (has s i).config (has s i).devices ≡ None
+IsCountable state project instance =
+    instance.project ≡ project.name
+    → first_uncounted (limits_of project.config) instance.kind (has state instance).config (has state instance).devices
+    ≡ None
 
 abbrev pub IsCountableVolume : Project → Volume → Type 0
-IsCountableVolume p v = v.project ≡ p.name → volume_uncounted (limits_of p.config) v.config ≡ None
+IsCountableVolume project volume = volume.project ≡ project.name
+    → volume_uncounted (limits_of project.config) volume.config ≡ None
 
 -- Each part of a project's usage, claims included, is at most the limit on it that the project sets, and so is the
 -- number of its networks. Each of its instances and volumes, also those that an operation is about to put, is
 -- countable.
-pub record KeepsLimits (s : State) (p : Project) : Type 0 where
-  pub usage : (k : Part) → IfSome (limit_on k (limits_of p.config)) (λ limit. part k (usage_of s p.name) ≤ limit)
-  pub networks : IfSome (limits_of p.config).networks (λ limit. networks_of s p.name ≤ limit)
-  pub instances : Each (IsCountable s p) (judged_instances s)
-  pub volumes : Each (IsCountableVolume p) (judged_volumes s)
+pub record KeepsLimits (state : State) (project : Project) : Type 0 where
+  pub usage : (a_part : Part)
+      → IfSome (limit_on a_part (limits_of project.config)) (λ limit. part a_part (usage_of state project.name) ≤ limit)
+  pub networks : IfSome (limits_of project.config).networks (λ limit. networks_of state project.name ≤ limit)
+  pub instances : Each (IsCountable state project) (judged_instances state)
+  pub volumes : Each (IsCountableVolume project) (judged_volumes state)
 
 -- the policy of a project forbids nothing that its profile has, or that its instance has
 abbrev pub IsAllowedProfile : Project → Profile → Type 0
-IsAllowedProfile p r =
-    r.project ≡ p.name → first_forbidden (policy_of p.config) subject.Profile r.config r.devices ≡ None
+IsAllowedProfile project profile =
+    profile.project ≡ project.name
+    → first_forbidden (policy_of project.config) subject.Profile profile.config profile.devices ≡ None
 
 abbrev pub IsAllowedInstance : State → Project → Instance → Type 0
-IsAllowedInstance s p i =
-    i.project ≡ p.name
-    → first_forbidden (policy_of p.config) (subject_of i.kind) (has s i).config (has s i).devices ≡ None
+IsAllowedInstance state project instance =
+    instance.project ≡ project.name
+    → first_forbidden
+    (policy_of project.config) (subject_of instance.kind) (has state instance).config (has state instance).devices
+    ≡ None
 
 -- a project's policy forbids nothing in it, nor what an operation is about to put
-pub record KeepsPolicy (s : State) (p : Project) : Type 0 where
-  pub profiles : Each (IsAllowedProfile p) s.profiles
-  pub instances : Each (IsAllowedInstance s p) (judged_instances s)
+pub record KeepsPolicy (state : State) (project : Project) : Type 0 where
+  pub profiles : Each (IsAllowedProfile project) state.profiles
+  pub instances : Each (IsAllowedInstance state project) (judged_instances state)
 
 -- An instance has of each key the value that the last of its layers with this key has, and of each name the device that
 -- the last of its layers with this name has, whole.
-pub record HasItsLayers (s : State) (i : Instance) : Type 0 where
-  pub settings : (key : List ℕ) → setting (has s i).config key ≡ expanded_setting (layers_of s i) key
-  pub devices : (name : List ℕ) → device (has s i).devices name ≡ expanded_device (layers_of s i) name
+pub record HasItsLayers (state : State) (instance : Instance) : Type 0 where
+  pub settings : (key : List ℕ)
+      → setting (has state instance).config key ≡ expanded_setting (layers_of state instance) key
+  pub devices : (name : List ℕ)
+      → device (has state instance).devices name ≡ expanded_device (layers_of state instance) name
 
 -- the books balance: of the shares that were granted to operations each was converted, or returned, or is still held
 abbrev pub BooksBalance : State → Type 0
-BooksBalance s = (k : Part) →
-    part k s.books.granted ≡ part k s.books.converted + part k s.books.returned + sum_by (λ h. part k h.share) s.held
+BooksBalance state = (a_part : Part) →
+    part a_part state.books.granted
+    ≡ part a_part state.books.converted + part a_part state.books.returned
+    + sum_by (λ hold. part a_part hold.share) state.held
 
 -- what stands at the end of each turn
-pub record StandsAsPromised (s : State) : Type 0 where
-  pub limits : Each (KeepsLimits s) s.projects
-  pub policy : Each (KeepsPolicy s) s.projects
-  pub instances : Each (HasItsLayers s) (judged_instances s)
-  pub books : BooksBalance s
+pub record StandsAsPromised (state : State) : Type 0 where
+  pub limits : Each (KeepsLimits state) state.projects
+  pub policy : Each (KeepsPolicy state) state.projects
+  pub instances : Each (HasItsLayers state) (judged_instances state)
+  pub books : BooksBalance state
 
 -- ---- over each turn
 
 -- the status with which an operation is kept
 abbrev pub IsKeptAs : State → Operation Task → Status → Type 0
-IsKeptAs s o now = option_map (λ kept. kept.status) (kept_at s.operations o.number) ≡ Some now
+IsKeptAs state operation now = option_map (λ kept. kept.status) (kept_at state.operations operation.number) ≡ Some now
 
 -- the whole share of an operation was added to this book
 abbrev pub Takes : State → Operation Task → Amounts → Amounts → Type 0
-Takes s o before after = (k : Part) → part k after ≡ part k before + part k (share_of s o.work)
+Takes state operation before after = (a_part : Part)
+    → part a_part after ≡ part a_part before + part a_part (share_of state operation.work)
 
 -- How an operation ended, and where its share went: the whole of it to its object, or the whole of it back.
-pub data EndsWhole (s t : State) (o : Operation Task) : Type 0 where
-  became_its_objects : IsKeptAs t o status.Success
-      → Takes s o s.books.converted t.books.converted → t.books.returned ≡ s.books.returned → EndsWhole s t o
-  went_back : IsKeptAs t o status.Failure ⊎ IsKeptAs t o status.Cancelled
-      → Takes s o s.books.returned t.books.returned → t.books.converted ≡ s.books.converted → EndsWhole s t o
+pub data EndsWhole (state later : State) (operation : Operation Task) : Type 0 where
+  became_its_objects : IsKeptAs later operation status.Success
+      → Takes state operation state.books.converted later.books.converted → later.books.returned ≡ state.books.returned
+      → EndsWhole state later operation
+  went_back : IsKeptAs later operation status.Failure ⊎ IsKeptAs later operation status.Cancelled
+      → Takes state operation state.books.returned later.books.returned → later.books.converted ≡ state.books.converted
+      → EndsWhole state later operation
 
 -- each operation that is live before a turn and not after it ended so
 abbrev pub SharesGoWhole : State → State → Type 0
-SharesGoWhole s t =
-    (o : Operation Task) → Mem o s.operations.live → live_at t.operations o.number ≡ None → EndsWhole s t o
+SharesGoWhole state later =
+    (operation : Operation Task) → Mem operation state.operations.live
+    → live_at later.operations operation.number ≡ None → EndsWhole state later operation
 
 -- ---- over all turns
 
 -- each turn of a run, from the state before it to the state after it
 abbrev pub EachTurn : (State → State → Type 0) → State → List (Event × Outcome) → Type 0
-EachTurn fact s [] = Unit {0}
-EachTurn fact s (e ∷ events) =
-    (after : After) → step s e.0 e.1 ≡ Some after → fact s after.state × EachTurn fact after.state events
+EachTurn fact state [] = Unit {0}
+EachTurn fact state (event ∷ events) =
+    (after : After) → step state event.0 event.1 ≡ Some after
+    → fact state after.state × EachTurn fact after.state events
 
-pub record KeepsItsPromise (s : State) (events : List (Event × Outcome)) (r : Ran) : Type 0 where
-  pub turns : EachTurn (λ before after. StandsAsPromised after × SharesGoWhole before after) s events
-  pub ends : Distinct (λ (end : ℕ × Status). end.0) r.ends
+pub record KeepsItsPromise (state : State) (events : List (Event × Outcome)) (ran : Ran) : Type 0 where
+  pub turns : EachTurn (λ before after. StandsAsPromised after × SharesGoWhole before after) state events
+  pub ends : Distinct (λ (end : ℕ × Status). end.0) ran.ends
 
 -- The store may hold anything that opening takes, or nothing: then the server is new. Requests may come in any order,
 -- with any reports of calls between them, and the outside may fail as it likes. Settings and devices of a request stand
 -- in the order of their keys, as the program's types keep them.
 abbrev pub TheHeadline : Type 0
-TheHeadline = (entries : List Entry) (s : State) (events : List (Event × Outcome)) (r : Ran) →
-    Each HasBytes entries → opening_of entries ≡ opened s →
-    ArePossible events → AreSortedEvents events → run s events ≡ Some r →
-    KeepsItsPromise s events r
+TheHeadline = (entries : List Entry) (state : State) (events : List (Event × Outcome)) (ran : Ran) →
+    Each HasBytes entries → opening_of entries ≡ opened state →
+    ArePossible events → AreSortedEvents events → run state events ≡ Some ran →
+    KeepsItsPromise state events ran

@@ -27,55 +27,61 @@ use Rattle.machine_laws.specs.Accepted.{IsAccepted, IsLiveAs}
 
 -- an accepted command that puts or removes rows at once, about an object of this kind
 abbrev pub RowsKeep : ObjectKind → Type 0
-RowsKeep kind = (s : State) (c : Command) (of : Target) (moment : ℕ) (cs : List RowChange) →
-    object_of c.what ≡ Some of → of.kind ≡ kind → IsAccepted s c moment (changes cs) → IsWhole (applied s cs)
+RowsKeep kind = (state : State) (command : Command) (of : Target) (moment : ℕ) (row_changes : List RowChange) →
+    object_of command.what ≡ Some of → of.kind ≡ kind → IsAccepted state command moment (changes row_changes)
+    → IsWhole (applied state row_changes)
 
 -- ---- operations
 
 -- an operation is entered
 abbrev pub EntriesKeep : Type 0
-EntriesKeep = (s : State) (c : Command) (moment : ℕ) (task : Task) → IsAccepted s c moment (starts task)
-    → IsWhole (entered s task moment)
+EntriesKeep = (state : State) (command : Command) (moment : ℕ) (task : Task)
+    → IsAccepted state command moment (starts task) → IsWhole (entered state task moment)
 
 -- the first call of the first that waits is handed out, and it runs
 abbrev pub FirstCallsKeep : Type 0
-FirstCallsKeep = (s : State) (o : Operation Task) (call : HostCall) (rest : List HostCall) (moment : ℕ) →
-    moment < moment_limit → IsWhole s → first_pending s ≡ Some o → o.work.calls ≡ call ∷ rest →
-    IsWhole (with_task o.number (handing_out o.work rest) (moved o.number Running moment s))
+FirstCallsKeep = (state : State) (operation : Operation Task) (call : HostCall) (rest : List HostCall) (moment : ℕ) →
+    moment < moment_limit → IsWhole state → first_pending state ≡ Some operation → operation.work.calls ≡ call ∷ rest →
+    IsWhole (with_task operation.number (handing_out operation.work rest) (moved operation.number Running moment state))
 
 -- the next call of one that runs is handed out
 abbrev pub NextCallsKeep : Type 0
-NextCallsKeep = (s : State) (o : Operation Task) (call : HostCall) (rest : List HostCall) →
-    IsLiveAs s o Running → o.work.calls ≡ call ∷ rest → IsWhole (with_task o.number (one_more_done o.work rest) s)
+NextCallsKeep = (state : State) (operation : Operation Task) (call : HostCall) (rest : List HostCall) →
+    IsLiveAs state operation Running → operation.work.calls ≡ call ∷ rest
+    → IsWhole (with_task operation.number (one_more_done operation.work rest) state)
 
 -- one that runs and may be cancelled becomes Cancelling
 abbrev pub CancelsKeep : Type 0
-CancelsKeep = (s : State) (o : Operation Task) (moment : ℕ) →
-    moment < moment_limit → IsLiveAs s o Running → o.may_cancel ≡ true → IsWhole (moved o.number Cancelling moment s)
+CancelsKeep = (state : State) (operation : Operation Task) (moment : ℕ) →
+    moment < moment_limit → IsLiveAs state operation Running → operation.may_cancel ≡ true
+    → IsWhole (moved operation.number Cancelling moment state)
 
 -- the call that takes its deed back is handed out
 abbrev pub UndoCallsKeep : Type 0
-UndoCallsKeep = (s : State) (o : Operation Task) (call : HostCall) →
-    IsLiveAs s o Cancelling → o.work.undo ≡ Some call → IsWhole (with_task o.number (undone o.work) s)
+UndoCallsKeep = (state : State) (operation : Operation Task) (call : HostCall) →
+    IsLiveAs state operation Cancelling → operation.work.undo ≡ Some call
+    → IsWhole (with_task operation.number (undone operation.work) state)
 
 -- ---- ends
 
 abbrev pub CancelledKeeps : Type 0
-CancelledKeeps = (s : State) (o : Operation Task) (moment : ℕ) →
-    moment < moment_limit → IsWhole s → live_at s.operations o.number ≡ Some o → IsWhole (cancelled s o.number moment)
+CancelledKeeps = (state : State) (operation : Operation Task) (moment : ℕ) →
+    moment < moment_limit → IsWhole state → live_at state.operations operation.number ≡ Some operation
+    → IsWhole (cancelled state operation.number moment)
 
 abbrev pub FailureKeeps : Type 0
-FailureKeeps = (s : State) (o : Operation Task) (why : OpFault) (done moment : ℕ) →
-    moment < moment_limit → IsLiveAs s o Running → IsWhole (failed s o why done moment)
+FailureKeeps = (state : State) (operation : Operation Task) (why : OpFault) (done moment : ℕ) →
+    moment < moment_limit → IsLiveAs state operation Running → IsWhole (failed state operation why done moment)
 
 abbrev pub SuccessKeeps : Type 0
-SuccessKeeps = (s : State) (o : Operation Task) (moment : ℕ) →
-    moment < moment_limit → IsLiveAs s o Running → o.work.calls ≡ [] → IsWhole (succeeded s o moment)
+SuccessKeeps = (state : State) (operation : Operation Task) (moment : ℕ) →
+    moment < moment_limit → IsLiveAs state operation Running → operation.work.calls ≡ []
+    → IsWhole (succeeded state operation moment)
 
 -- ---- notices, and the end of all work
 
 abbrev pub NoticesKeep : Type 0
-NoticesKeep = (s : State) (notices : List Untold) → IsWhole s → IsWhole (telling notices s)
+NoticesKeep = (state : State) (notices : List Untold) → IsWhole state → IsWhole (telling notices state)
 
 abbrev pub ClosingKeeps : Type 0
-ClosingKeeps = (s : State) → IsWhole s → IsWhole (record s { closed = true })
+ClosingKeeps = (state : State) → IsWhole state → IsWhole (record state { closed = true })

@@ -11,15 +11,15 @@ use Rattle.machine_laws.specs.Possible.{IsPossible, ArePossible}
 
 -- a possible event, with any outcome that it can have, leaves a whole state whole
 abbrev pub StepKeeps : Type 0
-StepKeeps = (s : State) (e : Event) (outcome : Outcome) (after : After) →
-    IsWhole s → IsPossible e → step s e outcome ≡ Some after → IsWhole after.state
+StepKeeps = (state : State) (event : Event) (outcome : Outcome) (after : After) →
+    IsWhole state → IsPossible event → step state event outcome ≡ Some after → IsWhole after.state
 
 -- and so does each list of possible events, with any outcomes that they can have
 abbrev pub RunKeeps : Type 0
-RunKeeps = (s : State) (events : List (Event × Outcome)) (r : Ran) → IsWhole s → ArePossible events
-    → run s events ≡ Some r → IsWhole r.state
+RunKeeps = (state : State) (events : List (Event × Outcome)) (ran : Ran) → IsWhole state → ArePossible events
+    → run state events ≡ Some ran → IsWhole ran.state
 
 -- from a new server on
 abbrev pub NewRunKeeps : Type 0
-NewRunKeeps = (events : List (Event × Outcome)) (r : Ran) → ArePossible events
-    → run (with_rows first_rows) events ≡ Some r → IsWhole r.state
+NewRunKeeps = (events : List (Event × Outcome)) (ran : Ran) → ArePossible events
+    → run (with_rows first_rows) events ≡ Some ran → IsWhole ran.state

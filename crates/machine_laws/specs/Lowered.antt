@@ -19,34 +19,37 @@ use Rattle.row_machine.specs.facts.Whole.{IsWhole}
 use Rattle.row_machine.specs.machine.Deeds.{keeps_name}
 
 -- a running operation whose last call is reported as done
-pub record IsLastDone (s : State) (o : Operation Task) : Type 0 where
-  pub whole : IsWhole s
-  pub live : live_at s.operations o.number ≡ Some o
-  pub running : o.status ≡ status.Running
-  pub calls : o.work.calls ≡ []
+pub record IsLastDone (state : State) (operation : Operation Task) : Type 0 where
+  pub whole : IsWhole state
+  pub live : live_at state.operations operation.number ≡ Some operation
+  pub running : operation.status ≡ status.Running
+  pub calls : operation.work.calls ≡ []
 
 -- The target of an operation stands, and a changed row of it is claimed. Between these states the usage of its project
 -- falls by exactly the parts in which the new row lies below the old one, and that of every other project stays.
-pub record LowersUsage (s later : State) (o : Operation Task) : Type 0 where
+pub record LowersUsage (state later : State) (operation : Operation Task) : Type 0 where
   pub old : Instance
   pub new : Instance
-  pub stands : instance_named s.instances o.work.project o.work.target.name ≡ Some old
-  pub claimed : claimed_instance o.work ≡ Some new
-  pub own : (k : Part)
-      → part k (usage_of s o.work.project)
-      ≡ part k (usage_of later o.work.project)
-      + part k (minus_of (amounts_of_instance s old) (amounts_of_instance s new))
-  pub others : (project : List ℕ) → project ≢ o.work.project → (k : Part)
-      → part k (usage_of later project) ≡ part k (usage_of s project)
+  pub stands : instance_named state.instances operation.work.project operation.work.target.name ≡ Some old
+  pub claimed : claimed_instance operation.work ≡ Some new
+  pub own : (a_part : Part)
+      → part a_part (usage_of state operation.work.project)
+      ≡ part a_part (usage_of later operation.work.project)
+      + part a_part (minus_of (amounts_of_instance state old) (amounts_of_instance state new))
+  pub others : (project : List ℕ) → project ≢ operation.work.project → (a_part : Part)
+      → part a_part (usage_of later project) ≡ part a_part (usage_of state project)
 
 -- an update or a restore that succeeds
 abbrev pub UpdatesLower : Type 0
 UpdatesLower =
-    (s : State) (o : Operation Task) (moment : ℕ) (after : After) → IsLastDone s o → keeps_name o.work.deed ≡ true
-    → step s (event.Done o.number report.Done moment) well ≡ Some after → LowersUsage s after.state o
+    (state : State) (operation : Operation Task) (moment : ℕ) (after : After) →
+    IsLastDone state operation → keeps_name operation.work.deed ≡ true
+    → step state (event.Done operation.number report.Done moment) well ≡ Some after
+    → LowersUsage state after.state operation
 
 -- whatever succeeds raises no part of the usage of any project
 abbrev pub SuccessesRaiseNothing : Type 0
-SuccessesRaiseNothing = (s : State) (o : Operation Task) (moment : ℕ) (after : After) → IsLastDone s o
-    → step s (event.Done o.number report.Done moment) well ≡ Some after
-    → (project : List ℕ) (k : Part) → part k (usage_of after.state project) ≤ part k (usage_of s project)
+SuccessesRaiseNothing = (state : State) (operation : Operation Task) (moment : ℕ) (after : After)
+    → IsLastDone state operation → step state (event.Done operation.number report.Done moment) well ≡ Some after
+    → (project : List ℕ) (a_part : Part)
+    → part a_part (usage_of after.state project) ≤ part a_part (usage_of state project)

@@ -9,7 +9,7 @@ use Rattle.row_machine.specs.machine.Step.{Outcome}
 
 -- A request is one that a client can give, and each moment lies before the year 10000.
 abbrev pub IsPossible : Event → Type 0
-IsPossible (event.Ask c moment) = (is_formed c ≡ true) × (moment < moment_limit)
+IsPossible (event.Ask command moment) = (is_formed command ≡ true) × (moment < moment_limit)
 IsPossible (event.Look number) = Unit {0}
 IsPossible (event.Take moment) = moment < moment_limit
 IsPossible (event.Done number report moment) = moment < moment_limit
@@ -18,4 +18,4 @@ IsPossible event.Close = Unit {0}
 
 -- each event of a list, with whatever outcome
 abbrev pub ArePossible : List (Event × Outcome) → Type 0
-ArePossible events = Each (λ e. IsPossible e.0) events
+ArePossible events = Each (λ event. IsPossible event.0) events

@@ -19,27 +19,30 @@ use Rattle.machine_laws.specs.Entries.{entry_changes}
 
 -- names are good and rise after each single change
 abbrev pub StaysNamed : State → List RowChange → Type 0
-StaysNamed s [] = Unit {0}
-StaysNamed s (c ∷ cs) = AreNamed (changed s c) × StaysNamed (changed s c) cs
+StaysNamed state [] = Unit {0}
+StaysNamed state (change ∷ row_changes) =
+    AreNamed (changed state change) × StaysNamed (changed state change) row_changes
 
 -- The records of a state stand in the order of kind and key, each kind and key once.
 abbrev pub RecordsOrdered : Type 0
-RecordsOrdered = (s : State) → AreNamed s → IsOrderedEntries (records_of s)
+RecordsOrdered = (state : State) → AreNamed state → IsOrderedEntries (records_of state)
 
 -- Changes of rows, committed as changes of their entries to the records of a state, make them the records of the state
 -- after these changes.
 abbrev pub RecordsFollow : Type 0
-RecordsFollow = (s : State) (cs : List RowChange) → AreNamed s → StaysNamed s cs →
-    after_changes (entry_changes cs) (records_of s) ≡ records_of (applied s cs)
+RecordsFollow = (state : State) (row_changes : List RowChange) → AreNamed state → StaysNamed state row_changes →
+    after_changes (entry_changes row_changes) (records_of state) ≡ records_of (applied state row_changes)
 
 -- The changes at once of a command that breaks no rule, committed, make the records of the state after them.
 abbrev pub CommandsFollow : Type 0
-CommandsFollow = (s : State) (c : Command) (moment : ℕ) (cs : List RowChange) →
-    IsWhole s → is_formed c ≡ true → moment < moment_limit → broken s c moment ≡ None
-    → plan_of s c moment ≡ changes cs →
-    after_changes (entry_changes cs) (records_of s) ≡ records_of (applied s cs)
+CommandsFollow = (state : State) (command : Command) (moment : ℕ) (row_changes : List RowChange) →
+    IsWhole state → is_formed command ≡ true → moment < moment_limit → broken state command moment ≡ None
+    → plan_of state command moment ≡ changes row_changes →
+    after_changes (entry_changes row_changes) (records_of state) ≡ records_of (applied state row_changes)
 
 -- The changes at the success of a live operation, committed, make the records of the state after it.
 abbrev pub SuccessesFollow : Type 0
-SuccessesFollow = (s : State) (o : Operation Task) (moment : ℕ) → IsWhole s → live_at s.operations o.number ≡ Some o →
-    after_changes (entry_changes (success_changes s o.work)) (records_of s) ≡ records_of (succeeded s o moment)
+SuccessesFollow = (state : State) (operation : Operation Task) (moment : ℕ) →
+    IsWhole state → live_at state.operations operation.number ≡ Some operation →
+    after_changes (entry_changes (success_changes state operation.work)) (records_of state)
+    ≡ records_of (succeeded state operation moment)

@@ -34,27 +34,27 @@ IsSortedRequest (what.Patch of body) = IsSortedBody body
 IsSortedRequest other = Unit {0}
 
 abbrev pub IsSortedEvent : Event → Type 0
-IsSortedEvent (event.Ask c moment) = IsSortedRequest c.what
+IsSortedEvent (event.Ask command moment) = IsSortedRequest command.what
 IsSortedEvent other = Unit {0}
 
 abbrev pub AreSortedEvents : List (Event × Outcome) → Type 0
-AreSortedEvents events = Each (λ e. IsSortedEvent e.0) events
+AreSortedEvents events = Each (λ event. IsSortedEvent event.0) events
 
 -- ---- rows
 
 -- what a profile, an instance or a snapshot has itself
 abbrev pub IsSortedRow : Row → Type 0
-IsSortedRow (row.Profile r) = IsLayer (layer_of (Some r))
-IsSortedRow (row.Instance i) = IsLayer (own_layer i)
-IsSortedRow (row.Snapshot r) = IsLayer (record { config = r.config; devices = r.devices })
+IsSortedRow (row.Profile profile) = IsLayer (layer_of (Some profile))
+IsSortedRow (row.Instance instance) = IsLayer (own_layer instance)
+IsSortedRow (row.Snapshot snapshot) = IsLayer (record { config = snapshot.config; devices = snapshot.devices })
 IsSortedRow other = Unit {0}
 
 -- rows, and those that live operations would put
 abbrev pub AreSortedRows : State → Type 0
-AreSortedRows s = Each IsSortedRow (rows_of s ++ claims_of s)
+AreSortedRows state = Each IsSortedRow (rows_of state ++ claims_of state)
 
 -- each step keeps this
 abbrev pub StepsKeepOrder : Type 0
-StepsKeepOrder = (s : State) (e : Event) (outcome : Outcome) (after : After) →
-    IsWhole s → IsPossible e → IsSortedEvent e → AreSortedRows s → step s e outcome ≡ Some after
+StepsKeepOrder = (state : State) (event : Event) (outcome : Outcome) (after : After) →
+    IsWhole state → IsPossible event → IsSortedEvent event → AreSortedRows state → step state event outcome ≡ Some after
     → AreSortedRows after.state

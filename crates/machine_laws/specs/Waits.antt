@@ -45,29 +45,32 @@ pub record Served : Type 0 where
 
 -- after one step; none where the outcome is not possible
 abbrev pub served : State → Option ℕ → Round → Option Served
-served s hand round = option_map (λ (a : After). record { state = a.state; hand = hand_of a.answer })
-    (step s (event_of hand round) round.outcome)
+served state hand round = option_map (λ (after : After). record { state = after.state; hand = hand_of after.answer })
+    (step state (event_of hand round) round.outcome)
 
 -- after several
 abbrev pub serves : State → Option ℕ → List Round → Option Served
-serves s hand [] = Some (record { state = s; hand = hand })
-serves s hand (round ∷ rounds) = option_and_then (λ next. serves next.state next.hand rounds) (served s hand round)
+serves state hand [] = Some (record { state = state; hand = hand })
+serves state hand (round ∷ rounds) =
+    option_and_then (λ next. serves next.state next.hand rounds) (served state hand round)
 
 -- ---- the worker is alone
 
 -- all live operations wait but for the one whose call the worker has in hand, and that one does not wait
-pub record IsAlone (s : State) (hand : Option ℕ) : Type 0 where
-  pub others : Each (λ o. (o.status ≡ status.Pending) ⊎ (hand ≡ Some o.number)) s.operations.live
-  pub own : (n : ℕ) → hand ≡ Some n
-      → (o : Operation Task) × ((live_at s.operations n ≡ Some o) × (o.status ≢ status.Pending))
+pub record IsAlone (state : State) (hand : Option ℕ) : Type 0 where
+  pub others : Each (λ operation. (operation.status ≡ status.Pending) ⊎ (hand ≡ Some operation.number))
+      state.operations.live
+  pub own : (number : ℕ) → hand ≡ Some number
+      → (operation : Operation Task)
+      × ((live_at state.operations number ≡ Some operation) × (operation.status ≢ status.Pending))
 
 -- After four steps for each live operation none is live, whatever the host reports and however the store fails.
 abbrev pub WaitsEnd : Type 0
-WaitsEnd = (s : State) (hand : Option ℕ) (rounds : List Round) (after : Served) →
-    IsWhole s → IsAlone s hand → Each (λ round. round.moment < moment_limit) rounds
-    → 4 * length s.operations.live ≤ length rounds →
-    serves s hand rounds ≡ Some after → after.state.operations.live ≡ []
+WaitsEnd = (state : State) (hand : Option ℕ) (rounds : List Round) (after : Served) →
+    IsWhole state → IsAlone state hand → Each (λ round. round.moment < moment_limit) rounds
+    → 4 * length state.operations.live ≤ length rounds →
+    serves state hand rounds ≡ Some after → after.state.operations.live ≡ []
 
 -- and these are at most 4,096
 abbrev pub FewSteps : Type 0
-FewSteps = (s : State) → IsWhole s → 4 * length s.operations.live ≤ 4096
+FewSteps = (state : State) → IsWhole state → 4 * length state.operations.live ≤ 4096

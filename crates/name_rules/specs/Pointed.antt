@@ -6,7 +6,8 @@ use Rattle.name_rules.specs.declared.places.Place.{Place}
 
 -- the target
 abbrev pub target_at : Place → Target
-target_at p = record { kind = p.kind; pool = p.pool.now; instance = p.instance.now; name = p.name.now }
+target_at place =
+    record { kind = place.kind; pool = place.pool.now; instance = place.instance.now; name = place.name.now }
 
 -- whether an object has these names
 abbrev pub has_names : List ℕ → List ℕ → List ℕ → Target → Bool

@@ -13,11 +13,12 @@ use Rattle.row_machine.specs.machine.NameRules.{missing_unless, snapshot_missing
 
 -- the instance that a copy is made from is missing, or the snapshot of it where one is named
 abbrev pub instance_source_missing : State → List ℕ → List ℕ → List ℕ → Option Refusal
-instance_source_missing s project from snapshot = first
-    (missing_unless (is_some (instance_named s.instances project from)) kind.Instance from
-    ∷ (if length snapshot == 0 then None else snapshot_missing s project from snapshot)
+instance_source_missing state project from snapshot = first
+    (missing_unless (is_some (instance_named state.instances project from)) kind.Instance from
+    ∷ (if length snapshot == 0 then None else snapshot_missing state project from snapshot)
     ∷ [])
 
 -- what is wrong with the name of a new object
 abbrev pub new_name_broken : State → List ℕ → Target → Body → Option Refusal
-new_name_broken s project of body = option_and_then (name_broken s project) (named_anew s project (what.Create of body))
+new_name_broken state project of body =
+    option_and_then (name_broken state project) (named_anew state project (what.Create of body))

@@ -30,14 +30,14 @@ use Rattle.event_hub.specs.row_machine.specs.declared.events.Answer.{Answer}
 use Rattle.event_hub.specs.row_machine.specs.declared.events.Answer.TheVariants as answer
 use Rattle.event_hub.specs.row_machine.specs.declared.events.Event.{Event}
 use Rattle.event_hub.specs.row_machine.specs.declared.events.Event.TheVariants as event
-use Rattle.event_hub.specs.row_machine.specs.machine.Accept.{After, accepted, after_cancel, and_then, begun, cancel_or_read, carried_out, started, told, wait_or_read}
+use Rattle.event_hub.specs.row_machine.specs.machine.Accept.{After, accepted, after_cancel, and_then, begun, cancel_or_read, carried_out, started, with_operation_notice, wait_or_read}
 use Rattle.event_hub.specs.row_machine.specs.machine.Changes.{applied}
 use Rattle.event_hub.specs.row_machine.specs.machine.Claims.{amounts_of_instance, share_of}
 use Rattle.event_hub.specs.row_machine.specs.machine.Deeds.{breaks_instance}
 use Rattle.event_hub.specs.row_machine.specs.machine.Plans.{Plan, nothing, changes, starts, plan_of}
 use Rattle.event_hub.specs.row_machine.specs.machine.Rules.{broken}
 use Rattle.event_hub.specs.row_machine.specs.machine.State.{State}
-use Rattle.event_hub.specs.row_machine.specs.machine.Step.{Outcome, well, keeper_failed, no_memory, step, asked, unavailable, taken, handed_out, first_pending, done, reported, success, failure, while_running, while_cancelling, call_done, call_failed, committed, stray, always}
+use Rattle.event_hub.specs.row_machine.specs.machine.Step.{Outcome, well, keeper_failed, no_memory, step, after_command, unavailable, taken, handed_out, first_pending, done, reported, success, failure, while_running, while_cancelling, call_done, call_failed, committed, stray, always}
 use Rattle.event_hub.specs.row_machine.specs.machine.Task.{Task}
 use Rattle.event_hub.specs.row_machine.specs.machine.Usage.{loads, usage_of, networks_of}
 use Rattle.event_hub.specs.row_machine.specs.machine.Work.{after_failure, cancelled, converted, ended, entered, failed, handing_out, moved, one_more_done, power_after, returned, succeeded, success_changes, undone, with_power, with_power_after, with_task}
@@ -84,13 +84,13 @@ one-few None = omega arith
 one-few (Some x) = omega arith
 
 -- an operation
-tells : (a : Answer) (f : Recent → State) (t : State) (number moment : ℕ) → ((r : Recent) → f r ≡ with_recent r t) → Leaves (λ r. and_then a (told (f r) number moment))
+tells : (a : Answer) (f : Recent → State) (t : State) (number moment : ℕ) → ((r : Recent) → f r ≡ with_recent r t) → Leaves (λ r. and_then a (with_operation_notice (f r) number moment))
 tells a f t number moment same = record {
   answer = a;
   state = t;
   untold = operation_notice t number moment;
   few = omega (arith, one-few {X = Untold} (option_map (λ (o : Operation Task). record { moment = moment; project = o.work.project; told = told_of.Op (view_of o) }) (kept_at t.operations number)));
-  is = λ r. ap (λ x. and_then a (told x number moment)) (same r);
+  is = λ r. ap (λ x. and_then a (with_operation_notice x number moment)) (same r);
 }
 
 -- a change at once
@@ -156,7 +156,7 @@ entered-aside s task moment r = refl
 
 begins : (s : State) (task : Task) (moment : ℕ) → Leaves (λ r. begun (with_recent r s) task moment)
 begins s task moment =
-    as-leaves (λ r. ap (λ t. and_then (answer.Reply (started t s.operations.next)) (told t s.operations.next moment)) (entered-aside s task moment r))
+    as-leaves (λ r. ap (λ t. and_then (answer.Reply (started t s.operations.next)) (with_operation_notice t s.operations.next moment)) (entered-aside s task moment r))
     (tells (answer.Reply (started (entered s task moment) s.operations.next)) (λ r. with_recent r (entered s task moment)) (entered s task moment) s.operations.next moment (λ r. refl))
 
 carries : (s : State) (c : Command) (moment : ℕ) (p : Plan) → Leaves (λ r. carried_out (with_recent r s) c moment p)
@@ -180,7 +180,7 @@ unavailable-apart s nothing = never (λ r. refl)
 unavailable-apart s (changes cs) = some (quiet _ s)
 unavailable-apart s (starts task) = never (λ r. refl)
 
-asked-apart : (s : State) (c : Command) (moment : ℕ) (outcome : Outcome) (refused : Option Refusal) → Apart (λ r. asked (with_recent r s) c moment outcome refused)
+asked-apart : (s : State) (c : Command) (moment : ℕ) (outcome : Outcome) (refused : Option Refusal) → Apart (λ r. after_command (with_recent r s) c moment outcome refused)
 asked-apart s c moment well (Some refusal) = some (quiet _ s)
 asked-apart s c moment well None = some (accepts s c moment)
 asked-apart s c moment (keeper_failed rise) (Some refusal) = never (λ r. refl)
@@ -241,7 +241,7 @@ succeeds s o moment = record {
   lives = success_notices o.work moment
 
   over_all : State → After
-  over_all x = and_then (answer.Ended o.number) (told x o.number moment)
+  over_all x = and_then (answer.Ended o.number) (with_operation_notice x o.number moment)
 
   shown : Kept Task → List Untold
   shown k = option_to_list (option_map (λ (x : Operation Task). record { moment = moment; project = x.work.project; told = told_of.Op (view_of x) }) (kept_at k o.number))
@@ -334,7 +334,7 @@ always-apart no_memory l = never (λ r. refl)
 pub step-apart : (s : State) (e : Event) (outcome : Outcome) → IsNoFetch e → Apart (λ r. step (with_recent r s) e outcome)
 unfolding step
 step-apart s (event.Ask c moment) outcome free =
-    as-apart (λ r. ap (asked (with_recent r s) c moment outcome) (broken-aside s c moment r)) (asked-apart s c moment outcome (broken s c moment))
+    as-apart (λ r. ap (after_command (with_recent r s) c moment outcome) (broken-aside s c moment r)) (asked-apart s c moment outcome (broken s c moment))
 step-apart s (event.Look number) outcome free =
     always-apart outcome (quiet (cond (is_some (live_at s.operations number)) (answer.NotYet number) (answer.Ended number)) s)
 step-apart s (event.Take moment) outcome free = always-apart outcome (takes s moment (first_pending s))

@@ -17,11 +17,14 @@ IsNoFetch other = Unit {0}
 
 -- nothing was told
 abbrev pub IsUntold : State → Type 0
-IsUntold s = recent_of s ≡ nothing_told
+IsUntold state = recent_of state ≡ nothing_told
 
 -- What a step tells of a state in which nothing was told, it tells of the same state with any notices, after them; and
 -- it is answered the same, and leaves the same beside.
 abbrev pub TellsAfter : Type 0
-TellsAfter = (s s' : State) (e : Event) (outcome : Outcome) (a : Answer) (untold : List Untold) → IsNoFetch e
-    → IsUntold s → IsUntold s' → step s e outcome ≡ Some (and_then a (telling untold s'))
-    → (r : Recent) → step (with_recent r s) e outcome ≡ Some (and_then a (with_recent (all_pushed untold r) s'))
+TellsAfter = (state later : State) (event : Event) (outcome : Outcome) (answer : Answer) (untold : List Untold)
+    → IsNoFetch event → IsUntold state → IsUntold later
+    → step state event outcome ≡ Some (and_then answer (telling untold later))
+    → (recent : Recent)
+    → step (with_recent recent state) event outcome
+    ≡ Some (and_then answer (with_recent (all_pushed untold recent) later))

@@ -18,11 +18,11 @@ pub record IsShortTask (task : Task) : Type 0 where
   pub name : length task.target.name ≤ most_bytes
 
 -- those of all operations that are kept
-pub record AreShort (s : State) : Type 0 where
-  pub live : Each (λ o. IsShortTask o.work) s.operations.live
-  pub ended : Each (λ o. IsShortTask o.work) s.operations.ended
+pub record AreShort (state : State) : Type 0 where
+  pub live : Each (λ operation. IsShortTask operation.work) state.operations.live
+  pub ended : Each (λ operation. IsShortTask operation.work) state.operations.ended
 
 -- so it stays
 abbrev pub StayShort : Type 0
-StayShort = (s : State) (e : Event) (outcome : Outcome) (after : After) → IsWhole s → IsPossible e → AreShort s
-    → step s e outcome ≡ Some after → AreShort after.state
+StayShort = (state : State) (event : Event) (outcome : Outcome) (after : After) → IsWhole state → IsPossible event
+    → AreShort state → step state event outcome ≡ Some after → AreShort after.state

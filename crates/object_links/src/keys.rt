@@ -24,6 +24,6 @@ pub fn three_names(
 ) -> Result<Text, NoMemory>
     ensures { IfOk result (λ key. key ≡ two_names first.now (two_names second.now third.now)) }
 {
-    let behind = two_names(alloc, second.view(), third.view())?;
-    two_names(alloc, first.view(), behind.view())
+    let after = two_names(alloc, second.view(), third.view())?;
+    two_names(alloc, first.view(), after.view())
 }

@@ -11,14 +11,15 @@ use Rattle.object_plans.specs.declared.planned.Planned.{Planned}
 -- the changes that a plan makes at once
 abbrev pub changes_in : Plan → Option (List RowChange)
 changes_in nothing = None
-changes_in (changes cs) = Some cs
+changes_in (changes row_changes) = Some row_changes
 changes_in (starts task) = None
 
 -- These are the changes of the plan and the one notice of them; or the plan changes nothing at once.
 abbrev pub IsPlanned : Option Planned → Plan → List Untold → Type 0
 IsPlanned None plan notices = changes_in plan ≡ None
-IsPlanned (Some p) plan notices = (plan ≡ changes p.changes) × (notices ≡ p.notice ∷ [])
+IsPlanned (Some planned) plan notices = (plan ≡ changes planned.changes) × (notices ≡ planned.notice ∷ [])
 
 -- the same of a command in a state
 abbrev pub IsPlanOf : Option Planned → State → Command → ℕ → Type 0
-IsPlanOf p s c moment = IsPlanned p (plan_of s c moment) (change_notices s c moment)
+IsPlanOf planned state command moment =
+    IsPlanned planned (plan_of state command moment) (change_notices state command moment)

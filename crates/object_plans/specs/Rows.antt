@@ -6,10 +6,10 @@ use Rattle.object_plans.specs.declared.found.Found.TheVariants as found
 
 -- the row itself
 abbrev pub row_at : Found → Row
-row_at (found.Project r) = row.Project r.now
-row_at (found.Profile r) = row.Profile r.now
-row_at (found.Network r) = row.Network r.now
-row_at (found.Pool r) = row.Pool r.now
-row_at (found.Volume r) = row.Volume r.now
-row_at (found.Instance r) = row.Instance r.now
-row_at (found.Snapshot r) = row.Snapshot r.now
+row_at (found.Project project) = row.Project project.now
+row_at (found.Profile profile) = row.Profile profile.now
+row_at (found.Network network) = row.Network network.now
+row_at (found.Pool pool) = row.Pool pool.now
+row_at (found.Volume volume) = row.Volume volume.now
+row_at (found.Instance instance) = row.Instance instance.now
+row_at (found.Snapshot snapshot) = row.Snapshot snapshot.now

@@ -165,7 +165,7 @@ pub(crate) fn patch_changes(
 }
 
 /// The changes, and then a row is put.
-fn row_behind(changes: Seq<RowChange>, row: Row) -> Result<Option<Seq<RowChange>>, NoMemory>
+fn with_row_last(changes: Seq<RowChange>, row: Row) -> Result<Option<Seq<RowChange>>, NoMemory>
     ensures { IfOk result (λ cs. cs ≡ Some (changes ++ change.Put row ∷ [])) }
 {
     let changes = and_put(changes, row)?;
@@ -190,17 +190,17 @@ pub(crate) fn move_changes(
         Found::Profile(old) => {
             let removed = one_removal(alloc, Found::Profile(old))?;
             let row = renamed_profile(alloc, old, to)?;
-            row_behind(removed, Row::Profile(row))
+            with_row_last(removed, Row::Profile(row))
         }
         Found::Network(old) => {
             let removed = one_removal(alloc, Found::Network(old))?;
             let row = renamed_network(alloc, old, to)?;
-            row_behind(removed, Row::Network(row))
+            with_row_last(removed, Row::Network(row))
         }
         Found::Volume(old) => {
             let removed = one_removal(alloc, Found::Volume(old))?;
             let row = renamed_volume(alloc, old, to)?;
-            row_behind(removed, Row::Volume(row))
+            with_row_last(removed, Row::Volume(row))
         }
         Found::Pool(_) => Ok(None),
         Found::Instance(_) => Ok(None),

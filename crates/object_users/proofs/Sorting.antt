@@ -121,9 +121,9 @@ only-one (x ∷ xs) (y ∷ ys) h k equal =
 rises-from : (xs : List (List ℕ)) → IsSortedBy text_before xs → Rises xs
 rises-from [] h = tt
 rises-from (x ∷ []) h = (Each-none, tt)
-rises-from (x ∷ y ∷ ys) h = at (rises-from (y ∷ ys) (λ k d low high. behind k d high)) where
-  behind : (k : ℕ) (d : List ℕ) → k + 1 < length (y ∷ ys) → text_before (get_or (y ∷ ys) (k + 1) d) (get_or (y ∷ ys) k d) ≡ false
-  behind k d high =
+rises-from (x ∷ y ∷ ys) h = at (rises-from (y ∷ ys) (λ k d low high. after k d high)) where
+  after : (k : ℕ) (d : List ℕ) → k + 1 < length (y ∷ ys) → text_before (get_or (y ∷ ys) (k + 1) d) (get_or (y ∷ ys) k d) ≡ false
+  after k d high =
       let next : suc k + 1 ≡ suc (k + 1) = omega arith in
       subst (λ n. text_before (get_or (x ∷ y ∷ ys) n d) (get_or (y ∷ ys) k d) ≡ false) next (h (suc k) d (omega arith) (omega (arith, high)))
 

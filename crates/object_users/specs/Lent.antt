@@ -6,10 +6,10 @@ use Rattle.object_users.specs.declared.row_ref.AnyRow.TheVariants as any
 
 -- the row itself
 abbrev pub row_in : AnyRow → Row
-row_in (any.Project r) = row.Project r.now
-row_in (any.Profile r) = row.Profile r.now
-row_in (any.Network r) = row.Network r.now
-row_in (any.Pool r) = row.Pool r.now
-row_in (any.Volume r) = row.Volume r.now
-row_in (any.Instance r) = row.Instance r.now
-row_in (any.Snapshot r) = row.Snapshot r.now
+row_in (any.Project project) = row.Project project.now
+row_in (any.Profile profile) = row.Profile profile.now
+row_in (any.Network network) = row.Network network.now
+row_in (any.Pool pool) = row.Pool pool.now
+row_in (any.Volume volume) = row.Volume volume.now
+row_in (any.Instance instance) = row.Instance instance.now
+row_in (any.Snapshot snapshot) = row.Snapshot snapshot.now

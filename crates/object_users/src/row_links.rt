@@ -1,5 +1,5 @@
 //! The links of rows, as they stand and in byte order.
-ghost use Rattle.std.specs.Prelude.{◌≡◌, IfOk, OnOk};
+ghost use Rattle.std.specs.Prelude.{◌≡◌, IfOk};
 ghost use Rattle.row_machine.specs.machine.Claims.{project_of_row};
 ghost use Rattle.row_machine.specs.shown.Links.{sorted, target_of};
 ghost use Rattle.row_machine.specs.shown.Views.{row_link, links};
@@ -69,11 +69,10 @@ pub fn links_of_rows(alloc: Global, rows: &[RowRef<'_>]) -> Result<Seq<Text>, No
 }
 
 /// Puts texts in byte order.
-fn sort_texts(texts: &mut Vec<Text>) -> Result<(), NoMemory>
-    ensures { OnOk result (texts.new.items ≡ sorted texts.old.items) }
+fn sort_texts(texts: &mut Vec<Text>)
+    ensures { texts.new.items ≡ sorted texts.old.items }
 {
-    texts.sort_by(|one, other| one.compare(other))?;
-    Ok(())
+    texts.sort_unstable_by(|one, other| one.compare(other));
 }
 
 /// The links of rows in byte order.
@@ -81,6 +80,6 @@ pub(crate) fn sorted_links(alloc: Global, rows: &[RowRef<'_>]) -> Result<Seq<Tex
     ensures { IfOk result (λ ts. ts ≡ sorted (links rows.now)) }
 {
     let mut texts = link_texts(alloc, rows)?;
-    sort_texts(&mut texts)?;
+    sort_texts(&mut texts);
     Ok(Seq::from_vec(texts))
 }

@@ -10,9 +10,9 @@ use Rattle.row_machine.specs.opening.Opening.{rows_in}
 
 -- the row of an entry was added; or it spells none; or memory ran out
 abbrev pub Adds : {T : Type 0} → Result T (Or Damaged) → Entry → List Row → List Row → Type 0
-Adds (Ok u) e rows rows' = (r : Row) × (row_of e ≡ Ok r) × (rows' ≡ rows ++ r ∷ [])
-Adds (Err or.NoMemory) e rows rows' = Unit {0}
-Adds (Err (or.Why why)) e rows rows' = row_of e ≡ Err why
+Adds (Ok value) entry rows rows' = (row : Row) × (row_of entry ≡ Ok row) × (rows' ≡ rows ++ row ∷ [])
+Adds (Err or.NoMemory) entry rows rows' = Unit {0}
+Adds (Err (or.Why why)) entry rows rows' = row_of entry ≡ Err why
 
 -- the entry at this place is the first that spells no row; out of memory says nothing of the entries
 abbrev pub EndsAt : Or ℕ → List Entry → Type 0
@@ -21,7 +21,7 @@ EndsAt (or.Why place) entries = option_map Err (slice_get entries place) ≡ Som
 
 -- these rows are those of the entries, or an entry spells none
 abbrev pub Fills : {T : Type 0} → Result T (Or ℕ) → List Entry → List Row → Type 0
-Fills (Ok u) entries rows = rows_in entries ≡ Ok rows
+Fills (Ok value) entries rows = rows_in entries ≡ Ok rows
 Fills (Err why) entries rows = EndsAt why entries
 
 -- the rows of the entries, or an entry spells none

@@ -33,9 +33,10 @@ use Rattle.opening_rules.specs.declared.rules.RowRule.TheVariants as row_rule_of
 
 -- the project `default` lacks a feature, or a project with profiles of its own has no profile `default`
 abbrev pub lacks_defaults : State → Project → Bool
-lacks_defaults s p =
-    (bytes_eq p.name default_name && not (has_all_features p))
-    || (is_on p.config (codes "features.profiles") && is_none (profile_named s.profiles p.name default_name))
+lacks_defaults state project =
+    (bytes_eq project.name default_name && not (has_all_features project))
+    || (is_on project.config (codes "features.profiles")
+    && is_none (profile_named state.profiles project.name default_name))
 
 -- the rule that a fault breaks
 abbrev pub fault_rule : SettingFault → Rule
@@ -49,39 +50,41 @@ without_root devices = if is_one (root_of devices) then None else Some rule.V4
 
 -- the volume that a disk of a pool names, where it has a source
 abbrev pub source_missing : State → List ℕ → Settings → List ℕ → Option Refusal
-source_missing s project settings pool =
-    option_and_then (volume_missing s project pool) (setting settings (codes "source"))
+source_missing state project settings pool =
+    option_and_then (volume_missing state project pool) (setting settings (codes "source"))
 
 -- what an instance with these devices names
 abbrev pub names_missing : State → Instance → NamedDevices → Option Refusal
-names_missing s i devices = first (profile_missing s i ∷ devices_miss s i.project devices ∷ [])
+names_missing state instance devices =
+    first (profile_missing state instance ∷ devices_miss state instance.project devices ∷ [])
 
 -- what an instance names, with the devices that it has by its profiles
 abbrev pub instance_unlinked : State → Instance → Option Refusal
-instance_unlinked s i = names_missing s i (expanded_of s.projects s.profiles i).devices
+instance_unlinked state instance =
+    names_missing state instance (expanded_of state.projects state.profiles instance).devices
 
 -- the rule of this number, where it is the first one that the settings and devices of a subject break
 abbrev pub forbidden_rule : Project → ℕ → Subject → Settings → NamedDevices → Option Rule
-forbidden_rule p number judged config devices =
-    option_and_then (λ f. if f.rule == number then Some (policy_rule number) else None)
-    (first_forbidden (policy_of p.config) judged config devices)
+forbidden_rule project number judged config devices =
+    option_and_then (λ found. if found.rule == number then Some (policy_rule number) else None)
+    (first_forbidden (policy_of project.config) judged config devices)
 
 -- the rule that is broken where some sum gets no number
 abbrev pub uncounted_by : Option SumKey → Option Rule
-uncounted_by key = option_map (λ k. rule.L0) key
+uncounted_by key = option_map (λ sum. rule.L0) key
 
 -- a rule on one row, by its name
 abbrev pub row_rule : RowRule → State → Row → Option Rule
-row_rule row_rule_of.HomeMissing s r = home_missing s r
-row_rule row_rule_of.ParentRowMissing s r = parent_row_missing s r
-row_rule row_rule_of.ProfilesMalformed s r = profiles_malformed s r
-row_rule row_rule_of.DefaultsMissing s r = defaults_missing s r
-row_rule row_rule_of.SettingsInvalid s r = settings_invalid s r
-row_rule row_rule_of.DevicesInvalid s r = devices_invalid s r
-row_rule row_rule_of.RootDiskMissing s r = root_disk_missing s r
-row_rule row_rule_of.NamedRowMissing s r = named_row_missing s r
-row_rule (row_rule_of.Forbidden number) s r = forbidden number s r
-row_rule row_rule_of.Uncountable s r = uncountable s r
+row_rule row_rule_of.HomeMissing state row = home_missing state row
+row_rule row_rule_of.ParentRowMissing state row = parent_row_missing state row
+row_rule row_rule_of.ProfilesMalformed state row = profiles_malformed state row
+row_rule row_rule_of.DefaultsMissing state row = defaults_missing state row
+row_rule row_rule_of.SettingsInvalid state row = settings_invalid state row
+row_rule row_rule_of.DevicesInvalid state row = devices_invalid state row
+row_rule row_rule_of.RootDiskMissing state row = root_disk_missing state row
+row_rule row_rule_of.NamedRowMissing state row = named_row_missing state row
+row_rule (row_rule_of.Forbidden number) state row = forbidden number state row
+row_rule row_rule_of.Uncountable state row = uncountable state row
 
 -- what an opening tells of a limit that is exceeded: its rule, at the project
 abbrev pub breach_of : Refusal → Opening

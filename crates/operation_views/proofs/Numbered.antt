@@ -12,9 +12,9 @@ use Rattle.object_links.specs.operations.specs.Kept.{by_number}
 use Rattle.object_links.specs.row_machine.specs.machine.Task.{Task}
 
 -- put after all, where it goes before none
-inserted-behind : {X : Type 0} (before : X → Bool) (x : X) (xs : List X) → list_any before xs ≡ false → insert xs (length xs) x ≡ inserted before x xs
-inserted-behind before x [] e = refl
-inserted-behind before x (y ∷ ys) e = at (before y) e (inserted-behind before x ys) where
+inserted-after : {X : Type 0} (before : X → Bool) (x : X) (xs : List X) → list_any before xs ≡ false → insert xs (length xs) x ≡ inserted before x xs
+inserted-after before x [] e = refl
+inserted-after before x (y ∷ ys) e = at (before y) e (inserted-after before x ys) where
   at : (b : Bool) → (b || list_any before ys) ≡ false
       → (list_any before ys ≡ false → insert ys (length ys) x ≡ inserted before x ys)
       → insert (y ∷ ys) (length (y ∷ ys)) x ≡ cond b (x ∷ y ∷ ys) (y ∷ inserted before x ys)
@@ -35,7 +35,7 @@ pub inserted-gap : {X : Type 0} (before : X → Bool) (x : X) (xs : List X) → 
 inserted-gap before x xs = at (position before xs) refl where
   at : (o : Option ℕ) → position before xs ≡ o → insert xs (unwrap_or o (length xs)) x ≡ inserted before x xs
   at (Some i) e = let found = position-Some before xs i x e in inserted-before before x xs i x found.0 found.1 found.2
-  at None e = inserted-behind before x xs (any-position before xs (sym e))
+  at None e = inserted-after before x xs (any-position before xs (sym e))
 
 -- an operation is put at its place among those after
 pub numbered-more : (os : List (Operation Task)) (i j : ℕ) (o p : Operation Task) (all all' : List (Operation Task))

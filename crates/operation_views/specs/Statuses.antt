@@ -8,4 +8,5 @@ use Rattle.object_links.specs.row_machine.specs.shown.Views.{status_number}
 
 -- whether it is an operation of this project and status
 abbrev pub has_status : List ℕ → Status → Operation Task → Bool
-has_status project status o = bytes_eq o.work.project project && status_number o.status == status_number status
+has_status project status operation =
+    bytes_eq operation.work.project project && status_number operation.status == status_number status

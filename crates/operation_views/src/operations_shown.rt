@@ -44,7 +44,7 @@ fn add_operations<'x>(
 }
 
 /// All kept operations, those that live first.
-fn kept<'x>(alloc: Global, view: &View<'x>) -> Result<Vec<OperationRef<'x>>, NoMemory>
+fn kept_operations<'x>(alloc: Global, view: &View<'x>) -> Result<Vec<OperationRef<'x>>, NoMemory>
     ensures { IfOk result (λ all. all.items ≡ view.now.operations.live ++ view.now.operations.ended) }
 {
     let mut all = Vec::new(alloc);
@@ -105,7 +105,7 @@ fn by_number<'x>(
 fn numbered<'x>(alloc: Global, view: &View<'x>) -> Result<Vec<OperationRef<'x>>, NoMemory>
     ensures { IfOk result (λ all. all.items ≡ by_number (view.now.operations.live ++ view.now.operations.ended)) }
 {
-    let all = kept(alloc, view)?;
+    let all = kept_operations(alloc, view)?;
     by_number(alloc, &all)
 }
 

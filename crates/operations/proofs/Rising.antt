@@ -22,7 +22,7 @@ ranked-ge n m ms h = ap (λ b. cond b (n ∷ m ∷ ms) (m ∷ ranked n ms)) (le-
 -- the order in which two numbers are put in does not matter
 ranked-below : (a b : ℕ) (ns : List ℕ) → a < b → ranked a (ranked b ns) ≡ ranked b (ranked a ns)
 ranked-below a b [] h = ranked-lt a b [] h ∙ sym (ranked-ge b a [] (omega arith))
-ranked-below a b (n ∷ ns) h = elim (cases_lt b n) [ inl bn ↦ first_three bn | inr nb ↦ elim (cases_lt a n) [ inl an ↦ between an nb | inr na ↦ behind na (ranked-below a b ns h) ] ] where
+ranked-below a b (n ∷ ns) h = elim (cases_lt b n) [ inl bn ↦ first_three bn | inr nb ↦ elim (cases_lt a n) [ inl an ↦ between an nb | inr na ↦ after na (ranked-below a b ns h) ] ] where
   first_three : b < n → ranked a (ranked b (n ∷ ns)) ≡ ranked b (ranked a (n ∷ ns))
   first_three bn =
       ap (ranked a) (ranked-lt b n ns bn) ∙ ranked-lt a b (n ∷ ns) h
@@ -33,8 +33,8 @@ ranked-below a b (n ∷ ns) h = elim (cases_lt b n) [ inl bn ↦ first_three bn 
       ap (ranked a) (ranked-ge b n ns nb) ∙ ranked-lt a n (ranked b ns) an
       ∙ sym (ap (ranked b) (ranked-lt a n ns an) ∙ ranked-ge b a (n ∷ ns) (omega arith) ∙ ap (λ ms. a ∷ ms) (ranked-ge b n ns nb))
 
-  behind : n ≤ a → ranked a (ranked b ns) ≡ ranked b (ranked a ns) → ranked a (ranked b (n ∷ ns)) ≡ ranked b (ranked a (n ∷ ns))
-  behind na same =
+  after : n ≤ a → ranked a (ranked b ns) ≡ ranked b (ranked a ns) → ranked a (ranked b (n ∷ ns)) ≡ ranked b (ranked a (n ∷ ns))
+  after na same =
       ap (ranked a) (ranked-ge b n ns (omega arith)) ∙ ranked-ge a n (ranked b ns) na
       ∙ ap (λ ms. n ∷ ms) same
       ∙ sym (ap (ranked b) (ranked-ge a n ns na) ∙ ranked-ge b n (ranked a ns) (omega arith))
@@ -48,7 +48,7 @@ ranked-both a b ns = elim (cases_order a b) [
 -- what is put in stands at its place among the others
 pub rising-Puts : {n : ℕ} {ns ms : List ℕ} → Puts n ns ms → rising ms ≡ ranked n (rising ns)
 rising-Puts here = refl
-rising-Puts {n} (later {y = m} {xs = ns} p) = ap (ranked m) (rising-Puts p) ∙ ranked-both m n (rising ns)
+rising-Puts {n} (later {other = m} {rest = ns} p) = ap (ranked m) (rising-Puts p) ∙ ranked-both m n (rising ns)
 
 pub length-rising : (ns : List ℕ) → length (rising ns) ≡ length ns
 length-rising [] = refl

@@ -9,22 +9,24 @@ use Rattle.operations.specs.Kept.{Kept}
 -- the operations stand in the order of their numbers
 abbrev pub AreInOrder : {W : Type 0} → List (Operation W) → Type 0
 AreInOrder [] = Unit {0}
-AreInOrder (o ∷ os) = Each (λ later. o.number < later.number) os × AreInOrder os
+AreInOrder (operation ∷ rest) = Each (λ later. operation.number < later.number) rest × AreInOrder rest
 
 -- the operations have numbers of their own from 1 on, all below the next one, and their moments are moments
-pub record AreNumbered {W : Type 0} (os : List (Operation W)) (next : ℕ) : Type 0 where
-  pub distinct : Distinct (λ (o : Operation W). o.number) os
-  pub from_one : Each (λ (o : Operation W). 1 ≤ o.number) os
-  pub below_next : Each (λ (o : Operation W). o.number < next) os
-  pub moments : Each (λ (o : Operation W). (o.created < moment_limit) × (o.updated < moment_limit)) os
+pub record AreNumbered {W : Type 0} (operations : List (Operation W)) (next : ℕ) : Type 0 where
+  pub distinct : Distinct (λ (operation : Operation W). operation.number) operations
+  pub from_one : Each (λ (operation : Operation W). 1 ≤ operation.number) operations
+  pub below_next : Each (λ (operation : Operation W). operation.number < next) operations
+  pub moments :
+      Each (λ (operation : Operation W). (operation.created < moment_limit) × (operation.updated < moment_limit))
+      operations
 
 -- what is true of the kept operations at all times
-pub record AreKept {W : Type 0} (k : Kept W) : Type 0 where
-  pub all_live : Each (λ (o : Operation W). is_live o.status ≡ true) k.live
-  pub all_ended : Each (λ (o : Operation W). is_live o.status ≡ false) k.ended
-  pub in_order : AreInOrder k.live
-  pub numbered : AreNumbered (k.live ++ k.ended) k.next
-  pub next_from_one : 1 ≤ k.next
-  pub next_limit : k.next ≤ number_limit
-  pub few_live : length k.live ≤ most_live
-  pub few_ended : length k.ended ≤ most_ended
+pub record AreKept {W : Type 0} (kept : Kept W) : Type 0 where
+  pub all_live : Each (λ (operation : Operation W). is_live operation.status ≡ true) kept.live
+  pub all_ended : Each (λ (operation : Operation W). is_live operation.status ≡ false) kept.ended
+  pub in_order : AreInOrder kept.live
+  pub numbered : AreNumbered (kept.live ++ kept.ended) kept.next
+  pub next_from_one : 1 ≤ kept.next
+  pub next_limit : kept.next ≤ number_limit
+  pub few_live : length kept.live ≤ most_live
+  pub few_ended : length kept.ended ≤ most_ended

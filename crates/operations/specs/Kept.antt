@@ -29,46 +29,47 @@ no_operations = record { live = []; ended = []; next = 1 }
 
 -- whether it is the operation of this number
 abbrev pub has_number : {W : Type 0} → ℕ → Operation W → Bool
-has_number number o = o.number == number
+has_number number operation = operation.number == number
 
 -- the live operation of this number
 abbrev pub live_at : {W : Type 0} → Kept W → ℕ → Option (Operation W)
-live_at k number = find (has_number number) k.live
+live_at kept number = find (has_number number) kept.live
 
 -- the operation of this number, live or ended
 abbrev pub kept_at : {W : Type 0} → Kept W → ℕ → Option (Operation W)
-kept_at k number = find (has_number number) (k.live ++ k.ended)
+kept_at kept number = find (has_number number) (kept.live ++ kept.ended)
 
 -- the status of the live operation of this number
 abbrev pub live_status : {W : Type 0} → Kept W → ℕ → Option Status
-live_status k number = option_map (λ o. o.status) (live_at k number)
+live_status kept number = option_map (λ operation. operation.status) (live_at kept number)
 
 -- the lowest number of those that wait for their first call
 abbrev pub first_pending_of : {W : Type 0} → Kept W → Option ℕ
-first_pending_of k = option_map (λ o. o.number) (find (λ o. is_pending o.status) k.live)
+first_pending_of kept =
+    option_map (λ operation. operation.number) (find (λ operation. is_pending operation.status) kept.live)
 
 -- the operations in the order of their numbers
 abbrev pub by_number : {W : Type 0} → List (Operation W) → List (Operation W)
 by_number [] = []
-by_number (o ∷ os) = inserted (λ other. nat_lt o.number other.number) o (by_number os)
+by_number (operation ∷ rest) = inserted (λ other. nat_lt operation.number other.number) operation (by_number rest)
 
 -- why nothing may be entered
 abbrev pub enter_fault : {W : Type 0} → Kept W → Option EnterFault
-enter_fault k =
-    if length k.live == most_live then Some Full
-    else if k.next == number_limit then Some Spent
+enter_fault kept =
+    if length kept.live == most_live then Some Full
+    else if kept.next == number_limit then Some Spent
     else None
 
 -- the number of the operation that is entered, or the work given back with the reason
 abbrev pub enter_answer : {W : Type 0} → Kept W → W → Result ℕ (W × EnterFault)
-enter_answer k work = option_map_or (λ why. Err (work, why)) (enter_fault k) (Ok k.next)
+enter_answer kept work = option_map_or (λ why. Err (work, why)) (enter_fault kept) (Ok kept.next)
 
 -- one more operation, which waits for its first call
 abbrev pub entered : {W : Type 0} → Bool → W → ℕ → Kept W → Kept W
-entered may_cancel work moment k =
-    record k {
-      live = k.live ++ record {
-        number = k.next;
+entered may_cancel work moment kept =
+    record kept {
+      live = kept.live ++ record {
+        number = kept.next;
         created = moment;
         updated = moment;
         status = status.Pending;
@@ -76,41 +77,47 @@ entered may_cancel work moment k =
         fault = fault.None;
         work = work;
       } ∷ [];
-      next = k.next + 1;
+      next = kept.next + 1;
     }
 
 -- as it is after a call to enter: with one more operation, or as it was
 abbrev pub after_enter : {W : Type 0} → Bool → W → ℕ → Kept W → Kept W
-after_enter may_cancel work moment k = option_map_or (λ why. k) (enter_fault k) (entered may_cancel work moment k)
+after_enter may_cancel work moment kept =
+    option_map_or (λ why. kept) (enter_fault kept) (entered may_cancel work moment kept)
 
 -- the live operation of this number has another work, and nothing else changed
 abbrev pub with_work : {W : Type 0} → ℕ → W → Kept W → Kept W
-with_work number work k = record k { live = changed_first (has_number number) (λ o. record o { work = work }) k.live }
+with_work number work kept =
+    record kept { live = changed_first (has_number number) (λ operation. record operation { work = work }) kept.live }
 
 -- the live operation of this number has another status, since this moment
 abbrev pub moved : {W : Type 0} → ℕ → Status → ℕ → Kept W → Kept W
-moved number now moment k =
-    record k { live = changed_first (has_number number) (λ o. record o { status = now; updated = moment }) k.live }
+moved number now moment kept =
+    record kept {
+      live = changed_first (has_number number)
+          (λ operation. record operation { status = now; updated = moment }) kept.live;
+    }
 
 -- The live operation of this number ended, with this status and fault, at this moment. The oldest ended one goes
 -- where there would be too many.
 abbrev pub ends : {W : Type 0} → ℕ → Status → OpFault → ℕ → Kept W → Kept W
-ends number now why moment k =
-    record k {
-      live = dropped (has_number number) k.live;
+ends number now why moment kept =
+    record kept {
+      live = dropped (has_number number) kept.live;
       ended = option_map_or
-          (λ o. ring_push most_ended (record o { status = now; fault = why; updated = moment }) k.ended)
-          (live_at k number)
-          k.ended;
+          (λ operation.
+          ring_push most_ended (record operation { status = now; fault = why; updated = moment }) kept.ended)
+          (live_at kept number)
+          kept.ended;
     }
 
 -- what a cancel answers, by the operation of its number
 abbrev pub cancel_answer : {W : Type 0} → Option (Operation W) → Result Status CancelFault
 cancel_answer None = Err Unknown
-cancel_answer (Some o) = cancel_of o.may_cancel o.status
+cancel_answer (Some operation) = cancel_of operation.may_cancel operation.status
 
 -- as it is after a cancel with this answer: a refused one changes nothing
 abbrev pub after_cancel : {W : Type 0} → ℕ → ℕ → Result Status CancelFault → Kept W → Kept W
-after_cancel number moment (Err why) k = k
-after_cancel number moment (Ok status.Cancelled) k = ends number status.Cancelled fault.None moment k
-after_cancel number moment (Ok now) k = moved number now moment k
+after_cancel number moment (Err why) kept = kept
+after_cancel number moment (Ok status.Cancelled) kept = ends number status.Cancelled fault.None moment kept
+after_cancel number moment (Ok now) kept = moved number now moment kept

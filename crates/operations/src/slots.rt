@@ -91,7 +91,7 @@ impl<W: Drop> Slots<W> {
     }
 
     /// How many are kept, live and ended together.
-    pub fn kept(&self) -> usize
+    pub fn kept_count(&self) -> usize
         ensures count { result ≡ length (self.now.live ++ self.now.ended) }
         ensures facts { AreKept self.now }
     {

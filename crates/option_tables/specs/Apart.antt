@@ -8,8 +8,8 @@ use Rattle.option_tables.specs.Tables.{volume_lines, device_lines}
 
 -- whether some key may be taken by both lines
 abbrev pub meet : List ℕ → List ℕ → Bool
-meet a b = if has_star a && has_star b then starts_with nat_eq (front_of a) (front_of b)
-    || starts_with nat_eq (front_of b) (front_of a) else takes a b || takes b a
+meet line other = if has_star line && has_star other then starts_with nat_eq (front_of line) (front_of other)
+    || starts_with nat_eq (front_of other) (front_of line) else takes line other || takes other line
 
 -- no line meets one after it
 abbrev pub are_apart : List (List ℕ) → Bool

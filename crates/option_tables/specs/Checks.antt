@@ -31,7 +31,8 @@ fault_at place (Some form) value = option_map (key.Bad place) (value_fault form 
 -- the first faulty key by a table
 unfoldable pub keys_fault : Table → Settings → Option KeyFault
 keys_fault table config =
-    first_of (λ (s : ℕ × (List ℕ × List ℕ)). fault_at s.0 (form_of table s.1.0) s.1.1) (enumerate_from 0 config)
+    first_of (λ (setting : ℕ × (List ℕ × List ℕ)). fault_at setting.0 (form_of table setting.1.0) setting.1.1)
+    (enumerate_from 0 config)
 
 -- the first fault of the settings of an instance or profile, project, network, pool or volume
 unfoldable pub instance_fault : Settings → Scope → Option SettingFault
@@ -86,5 +87,6 @@ device_fault name settings = if is_device_name name
 -- the first faulty device
 unfoldable pub devices_fault : NamedDevices → Option SettingFault
 devices_fault devices =
-    first_of (λ (d : ℕ
-    × (List ℕ × Settings)). option_map (told.Device d.0) (device_fault d.1.0 d.1.1)) (enumerate_from 0 devices)
+    first_of (λ (device : ℕ × (List ℕ × Settings)).
+    option_map (told.Device device.0) (device_fault device.1.0 device.1.1))
+    (enumerate_from 0 devices)

@@ -6,11 +6,11 @@ use Rattle.std.specs.Str.{byte}
 
 -- a letter, a digit, a dash, an underscore or a dot
 abbrev pub is_name_byte : ℕ → Bool
-is_name_byte b = is_ascii_alphanumeric b || b == byte "-" || b == byte "_" || b == byte "."
+is_name_byte sign = is_ascii_alphanumeric sign || sign == byte "-" || sign == byte "_" || sign == byte "."
 
 -- one of these, a colon or a slash
 abbrev pub is_device_byte : ℕ → Bool
-is_device_byte b = is_name_byte b || b == byte ":" || b == byte "/"
+is_device_byte sign = is_name_byte sign || sign == byte ":" || sign == byte "/"
 
 -- the name of a device: 1 to 64 of these bytes
 abbrev pub is_device_name : List ℕ → Bool
@@ -23,17 +23,17 @@ is_network_name name = nat_le 2 (length name) && nat_le (length name) 15 && is_a
 
 -- names of networks, joined by commas
 abbrev pub are_network_names : List ℕ → Bool
-are_network_names text = list_all is_network_name (slice_split (λ b. b == byte ",") text)
+are_network_names text = list_all is_network_name (slice_split (λ sign. sign == byte ",") text)
 
 -- the first byte of a pattern: a letter, a digit, or the sign before its `d`
 abbrev pub may_begin : ℕ → Bool
-may_begin b = is_ascii_alphanumeric b || b == byte "%"
+may_begin sign = is_ascii_alphanumeric sign || sign == byte "%"
 
 -- `%d`, and after it bytes of names
 abbrev pub is_numbered : List ℕ → Bool
 is_numbered [] = false
-is_numbered (a ∷ []) = false
-is_numbered (a ∷ b ∷ back) = a == byte "%" && b == byte "d" && list_all is_name_byte back
+is_numbered (first ∷ []) = false
+is_numbered (first ∷ second ∷ back) = first == byte "%" && second == byte "d" && list_all is_name_byte back
 
 -- a pattern of names: 3 to 50 bytes, in which one `%d` stands between bytes of names
 abbrev pub is_pattern : List ℕ → Bool

@@ -28,11 +28,11 @@ place_of name = record (new_rule name) { action = Some Set; required = true }
 abbrev pub command_of : List ℕ → List Rule → Shape
 command_of name rules = record (new_shape name) { rules = rules }
 
--- a command with one option or place more, behind those that it has
+-- a command with one option or place more, after those that it has
 abbrev pub with_more : Rule → Shape → Shape
 with_more rule shape = record shape { rules = shape.rules ++ rule ∷ [] }
 
--- `new` is `old` with one option or place more, behind those that it has
+-- `new` is `old` with one option or place more, after those that it has
 abbrev pub AddsRule : Rule → Command → Command → Type 0
 AddsRule rule old new = (app_of new ≡ with_rule (app_of old) rule)
     × ((fields_of new).has_globals ≡ (fields_of old).has_globals)

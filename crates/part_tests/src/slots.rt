@@ -108,7 +108,7 @@ fn swap(slots: &mut Slots<u64>, number: u64, work: u64) -> Option<u64> {
 
 fn rise_to(slots: &Slots<u64>, last: u64) -> bool {
     let mut before = 0;
-    for place in 0..slots.kept() {
+    for place in 0..slots.kept_count() {
         let number = slots.at(place).number;
         if number <= before {
             return false;
@@ -138,7 +138,7 @@ fn is_seen(slots: &Slots<u64>, step: Step) -> bool {
         Step::FirstPending(number) => slots.first_pending() == number,
         Step::Next(number) => slots.next() == number,
         Step::Live(count) => slots.live() == count,
-        Step::Kept(count) => slots.kept() == count,
+        Step::Kept(count) => slots.kept_count() == count,
         Step::RiseTo(last) => rise_to(slots, last),
         _ => false,
     }

@@ -41,11 +41,11 @@ none-first_of rule (x ∷ xs) e = ap (λ o. option_or o (first_of rule xs)) (Eac
 -- where no other object breaks the rule, one decides
 pub first_of-only : {X R : Type 0} (rule : X → Option R) {x : X} {xs ys : List X}
     → Puts x xs ys → Each (λ y. rule y ≡ None) xs → first_of rule ys ≡ rule x
-first_of-only {R} rule {x} (here {xs}) e = ap (option_or (rule x)) (none-first_of rule xs e) ∙ or-none (rule x) where
+first_of-only {R} rule {x} (here {rest = xs}) e = ap (option_or (rule x)) (none-first_of rule xs e) ∙ or-none (rule x) where
   or-none : (o : Option R) → option_or o None ≡ o
   or-none None = refl
   or-none (Some r) = refl
-first_of-only rule (later {y} {xs} {ys} p) e =
+first_of-only rule (later {other = y} {rest = xs} {whole = ys} p) e =
     ap (λ o. option_or o (first_of rule ys)) (Each-head e) ∙ first_of-only rule p (Each-tail e)
 
 pub first_of-same : {X R : Type 0} (rule other : X → Option R) (xs : List X)

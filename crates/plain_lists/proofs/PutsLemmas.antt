@@ -14,8 +14,8 @@ length-Puts here = omega arith
 length-Puts (later p) = let e = length-Puts p in omega arith
 
 pub sum_by-Puts : {X : Type 0} (f : X → ℕ) {x : X} {xs ys : List X} → Puts x xs ys → sum_by f ys ≡ f x + sum_by f xs
-sum_by-Puts f (here {xs}) = sum_by-cons f _ xs
-sum_by-Puts f (later {y} {xs} {ys} p) = let e = sum_by-Puts f p in omega (arith, sum_by-cons f y xs, sum_by-cons f y ys)
+sum_by-Puts f (here {rest = xs}) = sum_by-cons f _ xs
+sum_by-Puts f (later {other = y} {rest = xs} {whole = ys} p) = let e = sum_by-Puts f p in omega (arith, sum_by-cons f y xs, sum_by-cons f y ys)
 
 pub Mem-Puts : {X : Type 0} {x : X} {xs ys : List X} → Puts x xs ys → Mem x ys
 Mem-Puts here = inl refl
@@ -43,7 +43,7 @@ Each-unputs {x} p e = (e.at x (Mem-Puts p), record { at = λ y m. e.at y (Mem-pu
 pub Distinct-puts : {X K : Type 0} (key : X → K) {x : X} {xs ys : List X}
     → Puts x xs ys → Each (λ y. key y ≢ key x) xs → Distinct key xs → Distinct key ys
 Distinct-puts key here fresh d = (fresh, d)
-Distinct-puts key (later {y} p) fresh d = (
+Distinct-puts key (later {other = y} p) fresh d = (
   Each-puts (λ z. key z ≢ key y) p (λ e. Each-head fresh (sym e)) d.0,
   Distinct-puts key p (Each-tail fresh) d.1,
 )
@@ -52,7 +52,7 @@ Distinct-puts key (later {y} p) fresh d = (
 pub Distinct-unputs : {X K : Type 0} (key : X → K) {x : X} {xs ys : List X}
     → Puts x xs ys → Distinct key ys → Each (λ y. key y ≢ key x) xs × Distinct key xs
 Distinct-unputs key here d = d
-Distinct-unputs key {x} (later {y} p) d =
+Distinct-unputs key {x} (later {other = y} p) d =
     let apart = Each-unputs p d.0 in
     let rest = Distinct-unputs key p d.1 in
     (Each-cons (λ z. key z ≢ key x) (λ e. apart.0 (sym e)) rest.0, (apart.1, rest.1))

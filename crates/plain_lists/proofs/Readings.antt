@@ -17,14 +17,14 @@ read-push h xs x y e = filter_map-append h xs (x ∷ []) ∙ ap (λ o. filter_ma
 -- an element of which nothing is read, wherever it is put
 pub read-same : {X Y : Type 0} (h : X → Option Y) {x : X} {xs ys : List X}
     → Puts x xs ys → h x ≡ None → filter_map h ys ≡ filter_map h xs
-read-same h (here {xs}) e = ap (λ o. cons_option o (filter_map h xs)) e
-read-same h (later {y} p) e = ap (λ zs. cons_option (h y) zs) (read-same h p e)
+read-same h (here {rest = xs}) e = ap (λ o. cons_option o (filter_map h xs)) e
+read-same h (later {other = y} p) e = ap (λ zs. cons_option (h y) zs) (read-same h p e)
 
 -- what is read of one more element is one more that is read
 pub read-Puts : {X Y : Type 0} (h : X → Option Y) {x : X} {y : Y} {xs ys : List X}
     → Puts x xs ys → h x ≡ Some y → Puts y (filter_map h xs) (filter_map h ys)
-read-Puts h {y} (here {xs}) e = subst (λ o. Puts y (filter_map h xs) (cons_option o (filter_map h xs))) (sym e) here
-read-Puts h {y} (later {y = z} {xs} {ys} p) e = at (h z) (read-Puts h p e) where
+read-Puts h {y} (here {rest = xs}) e = subst (λ o. Puts y (filter_map h xs) (cons_option o (filter_map h xs))) (sym e) here
+read-Puts h {y} (later {other = z} {rest = xs} {whole = ys} p) e = at (h z) (read-Puts h p e) where
   at : {Y : Type 0} {y : Y} {xs ys : List Y} (o : Option Y) → Puts y xs ys → Puts y (cons_option o xs) (cons_option o ys)
   at None p = p
   at (Some w) p = later p

@@ -79,12 +79,12 @@ find-mem key p x xs d tells m e =
 
 -- one that does not pass is not found, wherever it is put
 pub find-puts : {X : Type 0} (p : X → Bool) {x : X} {xs ys : List X} → Puts x xs ys → p x ≡ false → find p ys ≡ find p xs
-find-puts p {x} (here {xs}) e = ap (λ b. cond b (Some x) (find p xs)) e
-find-puts p (later {y} {xs} {ys} q) e = ap (λ o. cond (p y) (Some y) o) (find-puts p q e)
+find-puts p {x} (here {rest = xs}) e = ap (λ b. cond b (Some x) (find p xs)) e
+find-puts p (later {other = y} {rest = xs} {whole = ys} q) e = ap (λ o. cond (p y) (Some y) o) (find-puts p q e)
 
 -- one that alone passes is found, wherever it is put
 pub find-Puts : {X : Type 0} (p : X → Bool) {x : X} {xs ys : List X}
     → Puts x xs ys → p x ≡ true → Each (λ y. p y ≡ false) xs → find p ys ≡ Some x
-find-Puts p {x} (here {xs}) e others = ap (λ b. cond b (Some x) (find p xs)) e
-find-Puts p (later {y} {xs} {ys} q) e others =
+find-Puts p {x} (here {rest = xs}) e others = ap (λ b. cond b (Some x) (find p xs)) e
+find-Puts p (later {other = y} {rest = xs} {whole = ys} q) e others =
     ap (λ b. cond b (Some y) (find p ys)) (Each-head others) ∙ find-Puts p q e (Each-tail others)

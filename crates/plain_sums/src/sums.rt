@@ -187,10 +187,10 @@ fn own_disk(row: &Instance) -> u128 {
 
 /// The size of the root disk among the devices of a profile, which stands before this place of the
 /// list, that no later layer replaces.
-fn profile_disk(view: &View<'_>, row: &Instance, profile: &Profile, behind: usize) -> u128 {
+fn profile_disk(view: &View<'_>, row: &Instance, profile: &Profile, after: usize) -> u128 {
     let mut sum = 0u128;
     for place in 0..profile.devices.len() {
-        if !is_covered(view, row, profile.devices.name_at(place), behind) {
+        if !is_covered(view, row, profile.devices.name_at(place), after) {
             sum = sum.saturating_add(root_size(profile.devices.device_at(place)));
         }
     }
@@ -203,8 +203,8 @@ fn disk_of(view: &View<'_>, row: &Instance) -> u128 {
     let mut sum = own_disk(row);
     for (place, name) in row.profiles.view().iter().enumerate() {
         if let Some(profile) = profile_named(view, home, name.view()) {
-            let behind = place.saturating_add(1);
-            sum = sum.saturating_add(profile_disk(view, row, profile, behind));
+            let after = place.saturating_add(1);
+            sum = sum.saturating_add(profile_disk(view, row, profile, after));
         }
     }
     sum

@@ -1,4 +1,5 @@
--- The rules on policy for a new operation alone: where all facts hold before it, nothing but what it claims can break them.
+-- The rules on policy for a new operation alone: where all facts hold before it, nothing but what it claims can break
+-- them.
 use Rattle.std.specs.Prelude.{[], ◌∷◌, Option}
 use Rattle.restrictions.specs.plain_lists.specs.Firsts.{first_of}
 use Rattle.row_machine.specs.records.specs.declared.refusals.Refusal.{Refusal}
@@ -8,5 +9,6 @@ use Rattle.policy_rules.specs.Within.{own_claim}
 
 -- F1 to F7: the first rule that the claimed instance breaks in a project of its own.
 unfoldable pub claim_forbidden : State → Task → Option Refusal
-claim_forbidden s task =
-    first_of (λ number. first_of (λ p. own_claim s p number task) s.projects) (1 ∷ 2 ∷ 3 ∷ 4 ∷ 5 ∷ 6 ∷ 7 ∷ [])
+claim_forbidden state task =
+    first_of (λ number. first_of (λ project. own_claim state project number task) state.projects)
+    (1 ∷ 2 ∷ 3 ∷ 4 ∷ 5 ∷ 6 ∷ 7 ∷ [])

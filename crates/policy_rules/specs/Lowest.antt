@@ -4,4 +4,4 @@ use Rattle.row_machine.specs.records.specs.declared.refusals.Refusal.{Refusal}
 
 -- no rule of a lower number is broken
 abbrev pub HoldBelow : ℕ → (ℕ → Option Refusal) → Type 0
-HoldBelow lowest rule = (n : ℕ) → n < lowest → rule n ≡ None
+HoldBelow lowest rule = (number : ℕ) → number < lowest → rule number ≡ None

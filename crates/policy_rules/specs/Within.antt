@@ -13,20 +13,22 @@ use Rattle.row_machine.specs.machine.PolicyRules.{forbids_profile, forbids_insta
 
 -- a profile of the project
 abbrev pub own_profile : Project → ℕ → Profile → Option Refusal
-own_profile p number r = if bytes_eq r.project p.name then forbids_profile p number r else None
+own_profile project number profile =
+    if bytes_eq profile.project project.name then forbids_profile project number profile else None
 
 -- an instance of the project
 abbrev pub own_instance : State → Project → ℕ → Instance → Option Refusal
-own_instance s p number i = if bytes_eq i.project p.name then forbids_instance s p number i else None
+own_instance state project number instance =
+    if bytes_eq instance.project project.name then forbids_instance state project number instance else None
 
 -- an instance of the project that an operation would put
 abbrev pub own_claim : State → Project → ℕ → Task → Option Refusal
-own_claim s p number task = option_and_then (own_instance s p number) (claimed_instance task)
+own_claim state project number task = option_and_then (own_instance state project number) (claimed_instance task)
 
 -- profiles, then instances, then claims
 abbrev pub own_objects : State → Project → ℕ → Option Refusal
-own_objects s p number = first
-    (first_of (own_profile p number) s.profiles
-    ∷ first_of (own_instance s p number) s.instances
-    ∷ first_of (λ o. own_claim s p number o.work) s.operations.live
+own_objects state project number = first
+    (first_of (own_profile project number) state.profiles
+    ∷ first_of (own_instance state project number) state.instances
+    ∷ first_of (λ operation. own_claim state project number operation.work) state.operations.live
     ∷ [])

@@ -37,15 +37,16 @@ parts = part_of.Instances ∷ part_of.Containers ∷ part_of.Machines ∷ part_o
     ∷ part_of.Disk ∷ []
 
 -- what is used and what is asked for are together above a set limit
-abbrev pub over : LimitKey → Option ℕ → ℕ → ℕ → Option Over
-over key None used asked = None
-over key (Some limit) used asked =
+abbrev pub exceeded : LimitKey → Option ℕ → ℕ → ℕ → Option Over
+exceeded key None used asked = None
+exceeded key (Some limit) used asked =
     if nat_lt limit (used + asked) then Some (record { key = key; used = used; asked = asked; limit = limit }) else None
 
 -- the first part of which that is so
 unfoldable pub first_over : Limits → Amounts → Amounts → Option Over
-first_over limits used asked = first_of (λ p. over (key_of p) (limit_on p limits) (part p used) (part p asked)) parts
+first_over limits used asked =
+    first_of (λ a_part. exceeded (key_of a_part) (limit_on a_part limits) (part a_part used) (part a_part asked)) parts
 
 -- the same of the number of networks
 unfoldable pub networks_over : Limits → ℕ → ℕ → Option Over
-networks_over limits used asked = over Networks limits.networks used asked
+networks_over limits used asked = exceeded Networks limits.networks used asked

@@ -21,13 +21,13 @@ use Rattle.project_limits.specs.declared.sums.SumKey.TheVariants as sum
 
 -- a number of processors; a pinned set has none
 abbrev pub processors : Cpu → Option ℕ
-processors (cpu.Count n) = Some n
+processors (cpu.Count number) = Some number
 processors cpu.Pinned = None
 
 -- a number of bytes; a percentage has none
 abbrev pub bytes : Memory → Option ℕ
-bytes (memory.Bytes n) = Some n
-bytes (memory.Percent p) = None
+bytes (memory.Bytes number) = Some number
+bytes (memory.Percent percent) = None
 
 -- the device at the place of the one root disk
 abbrev pub disk_at : NamedDevices → Root → Option Settings

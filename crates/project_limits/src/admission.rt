@@ -2,7 +2,7 @@ ghost use Rattle.std.specs.Prelude.{◌≡◌, ◌+◌, ◌<◌, ◌^◌, None, 
 ghost use Rattle.std.specs.Result.{result_err};
 ghost use Rattle.config_lists.specs.size_values.specs.Amounts.{part};
 ghost use Rattle.config_lists.specs.size_values.specs.declared.amounts.Part.{Part};
-ghost use Rattle.project_limits.specs.Admission.{first_over, networks_over, over};
+ghost use Rattle.project_limits.specs.Admission.{first_over, networks_over, exceeded};
 
 use crate::limits::Limits;
 use config_lists::from_size_values::Amounts;
@@ -82,7 +82,7 @@ pub fn admit_networks(limits: &Limits, used: u64, asked: u64) -> Result<(), Over
 /// Whether one sum is at most its limit, where it has one.
 fn refuse_over(key: LimitKey, limit: Option<u64>, used: u128, asked: u128) -> Result<(), Over>
     requires { used + asked < 2 ^ 128 }
-    ensures { result_err result ≡ over key limit used asked }
+    ensures { result_err result ≡ exceeded key limit used asked }
 {
     let Some(limit) = limit else {
         return Ok(());

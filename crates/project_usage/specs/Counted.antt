@@ -9,11 +9,11 @@ use Rattle.row_readings.specs.row_machine.specs.machine.State.{State}
 use Rattle.row_readings.specs.row_machine.specs.machine.Usage.{amount_for, instance_load, volume_load, claim_load}
 
 abbrev pub instance_part : State → List ℕ → Part → Instance → ℕ
-instance_part s project k row = amount_for project k (instance_load s row)
+instance_part state project a_part row = amount_for project a_part (instance_load state row)
 
 abbrev pub volume_part : List ℕ → Part → Volume → ℕ
-volume_part project k row = amount_for project k (volume_load row)
+volume_part project a_part row = amount_for project a_part (volume_load row)
 
 -- nothing if no row is claimed
 abbrev pub claim_part : State → List ℕ → Part → Task → ℕ
-claim_part s project k task = option_map_or (amount_for project k) (claim_load s task) 0
+claim_part state project a_part task = option_map_or (amount_for project a_part) (claim_load state task) 0

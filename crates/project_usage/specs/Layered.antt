@@ -17,4 +17,4 @@ profiles_of profiles home names = expanded (map (λ name. layer_of (profile_name
 abbrev pub amounts_over : Expanded → Instance → Amounts
 amounts_over below row = counted (laid below (own_layer row)) where
   counted : Expanded → Amounts
-  counted e = instance_amounts row.kind e.config e.devices
+  counted expanded = instance_amounts row.kind expanded.config expanded.devices

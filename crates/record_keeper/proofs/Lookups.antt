@@ -9,7 +9,7 @@ use Rattle.std.specs.declared.cmp.Ordering.{Ordering}
 use Rattle.std.specs.declared.cmp.Ordering.TheVariants.{Less, Equal, Greater}
 use Rattle.std.proofs.lemmas.List.Folds.{find-append}
 use Rattle.size_values.specs.declared.entry.Entry.{Entry}
-use Rattle.record_keeper.specs.Entries.{seen_from, entry_order, IsOrderedEntries, entries_before, entries_behind, put_entry, remove_entry, entry_at, is_place}
+use Rattle.record_keeper.specs.Entries.{seen_from, entry_order, IsOrderedEntries, entries_before, entries_after, put_entry, remove_entry, entry_at, is_place}
 use Rattle.record_keeper.proofs.Listed.{each-map}
 use Rattle.record_keeper.proofs.Ordered.{entry_total, turned, here, above-Greater}
 
@@ -44,15 +44,15 @@ module _ (kind : ℕ) (key : List ℕ) (e : Entry) (es : List Entry) where
   found-before : entry_at kind key (entries_before e.kind e.key es) ≡ cond (is_lt (ordering_reverse (seen_from kind key e))) (entry_at kind key es) None
   found-before = find-filter _ _ _ (λ x at. ap is_lt (seen x at)) es
 
-  found-behind : entry_at kind key (entries_behind e.kind e.key es) ≡ cond (is_gt (ordering_reverse (seen_from kind key e))) (entry_at kind key es) None
-  found-behind = find-filter _ _ _ (λ x at. ap is_gt (seen x at)) es
+  found-after : entry_at kind key (entries_after e.kind e.key es) ≡ cond (is_gt (ordering_reverse (seen_from kind key e))) (entry_at kind key es) None
+  found-after = find-filter _ _ _ (λ x at. ap is_gt (seen x at)) es
 
   -- after a put the place has the entry, if it is the entry's, and else what it had
   pub entry_at-put_entry : entry_at kind key (put_entry e es) ≡ cond (is_eq (seen_from kind key e)) (Some e) (entry_at kind key es)
   unfolding put_entry
   entry_at-put_entry =
-      find-append (λ x. is_eq (seen_from kind key x)) (entries_before e.kind e.key es) (e ∷ entries_behind e.kind e.key es)
-      ∙ (λ i. option_or (found-before i) (cond (is_eq (seen_from kind key e)) (Some e) (found-behind i)))
+      find-append (λ x. is_eq (seen_from kind key x)) (entries_before e.kind e.key es) (e ∷ entries_after e.kind e.key es)
+      ∙ (λ i. option_or (found-before i) (cond (is_eq (seen_from kind key e)) (Some e) (found-after i)))
       ∙ by (seen_from kind key e)
     where
       by : (o : Ordering) → option_or (cond (is_lt (ordering_reverse o)) (entry_at kind key es) None) (cond (is_eq o) (Some e) (cond (is_gt (ordering_reverse o)) (entry_at kind key es) None))
@@ -64,8 +64,8 @@ module _ (kind : ℕ) (key : List ℕ) (e : Entry) (es : List Entry) where
   removed : entry_at kind key (remove_entry e.kind e.key es) ≡ cond (is_eq (seen_from kind key e)) None (entry_at kind key es)
   unfolding remove_entry
   removed =
-      find-append (λ x. is_eq (seen_from kind key x)) (entries_before e.kind e.key es) (entries_behind e.kind e.key es)
-      ∙ (λ i. option_or (found-before i) (found-behind i))
+      find-append (λ x. is_eq (seen_from kind key x)) (entries_before e.kind e.key es) (entries_after e.kind e.key es)
+      ∙ (λ i. option_or (found-before i) (found-after i))
       ∙ by (seen_from kind key e)
     where
       by : (o : Ordering) → option_or (cond (is_lt (ordering_reverse o)) (entry_at kind key es) None) (cond (is_gt (ordering_reverse o)) (entry_at kind key es) None)

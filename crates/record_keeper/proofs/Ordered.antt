@@ -13,7 +13,7 @@ use Rattle.std.proofs.lemmas.List.Sorted.{searchable_from_sorted}
 use Rattle.std.proofs.lemmas.Map.Keys.{Less-from_sorted}
 use Rattle.size_values.specs.declared.entry.Entry.{Entry}
 use Rattle.size_values.specs.declared.entry.EntryChange.{EntryChange}
-use Rattle.record_keeper.specs.Entries.{seen_from, entry_order, IsOrderedEntries, entries_before, entries_behind, put_entry, remove_entry, after_change, after_changes, entries_put}
+use Rattle.record_keeper.specs.Entries.{seen_from, entry_order, IsOrderedEntries, entries_before, entries_after, put_entry, remove_entry, after_change, after_changes, entries_put}
 use Rattle.record_keeper.specs.Places.{SplitsAt, Finds}
 use Rattle.record_keeper.proofs.Listed.{filter-front, filter-back, within-from, within-to, set-split, each-filter, each-map, sorted-append}
 
@@ -111,25 +111,25 @@ module _ (e : Entry) (es : List Entry) where
   all-before : AllByRecursion (λ x. entry_order x e ≡ Less) (entries_before e.kind e.key es)
   all-before = each-map _ _ (λ x t. lt-Less _ t) _ (each-filter (λ x. is_lt (seen_from e.kind e.key x)) es)
 
-  all-behind : AllByRecursion (λ x. entry_order e x ≡ Less) (entries_behind e.kind e.key es)
-  all-behind = each-map _ _ (λ x t. turned e x Greater (gt-Greater _ t)) _ (each-filter (λ x. is_gt (seen_from e.kind e.key x)) es)
+  all-after : AllByRecursion (λ x. entry_order e x ≡ Less) (entries_after e.kind e.key es)
+  all-after = each-map _ _ (λ x t. turned e x Greater (gt-Greater _ t)) _ (each-filter (λ x. is_gt (seen_from e.kind e.key x)) es)
 
   -- each before is below the entry and each after
-  across : (x : Entry) → entry_order x e ≡ Less → AllByRecursion (λ y. entry_order x y ≡ Less) (entries_behind e.kind e.key es)
-  across x low = each-map _ _ (λ y high. entry_total.trans x e y low high) _ all-behind
+  across : (x : Entry) → entry_order x e ≡ Less → AllByRecursion (λ y. entry_order x y ≡ Less) (entries_after e.kind e.key es)
+  across x low = each-map _ _ (λ y high. entry_total.trans x e y low high) _ all-after
 
   pub ordered-put : IsOrderedEntries es → IsOrderedEntries (put_entry e es)
   unfolding put_entry IsStrictlySortedBy
   ordered-put ordered =
-      sorted-append entry_order (entries_before e.kind e.key es) (e ∷ entries_behind e.kind e.key es)
+      sorted-append entry_order (entries_before e.kind e.key es) (e ∷ entries_after e.kind e.key es)
       (IsStrictlySortedBy-filter entry_order _ es ordered)
-      (all-behind, IsStrictlySortedBy-filter entry_order _ es ordered)
+      (all-after, IsStrictlySortedBy-filter entry_order _ es ordered)
       (each-map _ _ (λ x low. (low, across x low)) _ all-before)
 
   removed-ordered : IsOrderedEntries es → IsOrderedEntries (remove_entry e.kind e.key es)
   unfolding remove_entry
   removed-ordered ordered =
-      sorted-append entry_order (entries_before e.kind e.key es) (entries_behind e.kind e.key es)
+      sorted-append entry_order (entries_before e.kind e.key es) (entries_after e.kind e.key es)
       (IsStrictlySortedBy-filter entry_order _ es ordered)
       (IsStrictlySortedBy-filter entry_order _ es ordered)
       (each-map _ _ across _ all-before)

@@ -241,7 +241,7 @@ longest_wait = 1000000
 
 -- seconds to wait, or -1 for no end
 abbrev pub is_timeout : ℤ → Bool
-is_timeout (pos n) = nat_le n longest_wait
+is_timeout (pos seconds) = nat_le seconds longest_wait
 is_timeout (negsuc n) = n == 0
 
 -- ---- the requests
@@ -260,9 +260,9 @@ is_request (what.Move of to) = is_object is_renamable of
 is_request (what.Delete of) = is_object is_named of
 is_request (what.Act of action) = is_object is_instance of
 is_request (what.Restore of snapshot) = is_object is_instance of
-is_request (what.GetOp op) = true
-is_request (what.Cancel op) = true
-is_request (what.Wait op timeout) = is_timeout timeout
+is_request (what.GetOp number) = true
+is_request (what.Cancel number) = true
+is_request (what.Wait number timeout) = is_timeout timeout
 
 -- A command that a request can give. Its project is any text of a query.
 abbrev pub is_formed : Command → Bool

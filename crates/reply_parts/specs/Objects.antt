@@ -6,7 +6,7 @@ use Rattle.reply_parts.specs.declared.object.Object.{Object}
 
 -- the members of an object that is being made
 abbrev pub members_in : Object → Members
-members_in o = members_view o.map.entries
+members_in made = members_view made.map.entries
 
 -- the members of a list of keys with their data
 abbrev pub members : List (List ℕ × Data) → Members

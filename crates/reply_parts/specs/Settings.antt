@@ -7,8 +7,8 @@ use Rattle.reply_parts.specs.Objects.{list_of}
 
 -- settings put one after the other into an object
 abbrev pub put_settings : Settings → Members → Members
-put_settings [] ms = ms
-put_settings (setting ∷ settings) ms = put_settings settings (put setting.0 (string setting.1) ms)
+put_settings [] members = members
+put_settings (setting ∷ settings) members = put_settings settings (put setting.0 (string setting.1) members)
 
 -- settings as an object of texts
 unfoldable pub settings_data : Settings → Data
@@ -16,8 +16,8 @@ settings_data settings = object (put_settings settings no_members)
 
 -- devices put one after the other into an object
 abbrev pub put_devices : NamedDevices → Members → Members
-put_devices [] ms = ms
-put_devices (device ∷ devices) ms = put_devices devices (put device.0 (settings_data device.1) ms)
+put_devices [] members = members
+put_devices (device ∷ devices) members = put_devices devices (put device.0 (settings_data device.1) members)
 
 -- devices as an object of their settings
 unfoldable pub devices_data : NamedDevices → Data

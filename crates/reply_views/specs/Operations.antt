@@ -31,7 +31,9 @@ resource_key other = codes "instances"
 
 -- the object that an operation is about, by its link
 unfoldable pub resources_data : OpView → Data
-resources_data v = object_of ((resource_key v.target.kind, list_of (string (link_of v.project v.target) ∷ [])) ∷ [])
+resources_data operation = object_of (
+    (resource_key operation.target.kind, list_of (string (link_of operation.project operation.target) ∷ []))
+    ∷ [])
 
 -- whether an operation of a status can still be cancelled
 abbrev pub may_stop : Status → Bool
@@ -41,15 +43,15 @@ may_stop other = false
 
 -- an operation as an object
 unfoldable pub operation_data : ℕ → OpView → Data
-operation_data boot v = object_of (
+operation_data boot operation = object_of (
     (codes "class", string (codes "task"))
-    ∷ (codes "created_at", string (moment_text v.created))
-    ∷ (codes "err", string (error_text v.status v.fault))
-    ∷ (codes "id", string (id_text boot v.number))
-    ∷ (codes "may_cancel", boolean (v.may_cancel && may_stop v.status))
-    ∷ (codes "metadata", fault_data v.fault)
-    ∷ (codes "resources", resources_data v)
-    ∷ (codes "status", string (status_text v.status))
-    ∷ (codes "status_code", whole (status_code v.status))
-    ∷ (codes "updated_at", string (moment_text v.updated))
+    ∷ (codes "created_at", string (moment_text operation.created))
+    ∷ (codes "err", string (error_text operation.status operation.fault))
+    ∷ (codes "id", string (id_text boot operation.number))
+    ∷ (codes "may_cancel", boolean (operation.may_cancel && may_stop operation.status))
+    ∷ (codes "metadata", fault_data operation.fault)
+    ∷ (codes "resources", resources_data operation)
+    ∷ (codes "status", string (status_text operation.status))
+    ∷ (codes "status_code", whole (status_code operation.status))
+    ∷ (codes "updated_at", string (moment_text operation.updated))
     ∷ [])

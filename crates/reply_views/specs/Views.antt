@@ -34,76 +34,76 @@ server_data = object_of (
 
 -- a project, with the links of what it has
 unfoldable pub project_data : Project → List (List ℕ) → Data
-project_data r used = object_of (
-    (codes "config", settings_data r.config)
-    ∷ (codes "description", string r.description)
-    ∷ (codes "name", string r.name)
+project_data project used = object_of (
+    (codes "config", settings_data project.config)
+    ∷ (codes "description", string project.description)
+    ∷ (codes "name", string project.name)
     ∷ (codes "used_by", texts_data used)
     ∷ [])
 
 -- a profile, with the links of the instances that name it
 unfoldable pub profile_data : Profile → List (List ℕ) → Data
-profile_data r used = object_of (
-    (codes "config", settings_data r.config)
-    ∷ (codes "description", string r.description)
-    ∷ (codes "devices", devices_data r.devices)
-    ∷ (codes "name", string r.name)
-    ∷ (codes "project", string r.project)
+profile_data profile used = object_of (
+    (codes "config", settings_data profile.config)
+    ∷ (codes "description", string profile.description)
+    ∷ (codes "devices", devices_data profile.devices)
+    ∷ (codes "name", string profile.name)
+    ∷ (codes "project", string profile.project)
     ∷ (codes "used_by", texts_data used)
     ∷ [])
 
 -- a network, with the links of what names it
 unfoldable pub network_data : Network → List (List ℕ) → Data
-network_data r used = object_of (
-    (codes "config", settings_data r.config)
-    ∷ (codes "description", string r.description)
+network_data network used = object_of (
+    (codes "config", settings_data network.config)
+    ∷ (codes "description", string network.description)
     ∷ (codes "managed", boolean true)
-    ∷ (codes "name", string r.name)
-    ∷ (codes "project", string r.project)
+    ∷ (codes "name", string network.name)
+    ∷ (codes "project", string network.project)
     ∷ (codes "type", string (codes "bridge"))
     ∷ (codes "used_by", texts_data used)
     ∷ [])
 
 -- a pool, with the links of what names it and of its volumes
 unfoldable pub pool_data : Pool → List (List ℕ) → Data
-pool_data r used = object_of (
-    (codes "config", settings_data r.config)
-    ∷ (codes "description", string r.description)
-    ∷ (codes "driver", string (driver_text r.driver))
-    ∷ (codes "name", string r.name)
+pool_data pool used = object_of (
+    (codes "config", settings_data pool.config)
+    ∷ (codes "description", string pool.description)
+    ∷ (codes "driver", string (driver_text pool.driver))
+    ∷ (codes "name", string pool.name)
     ∷ (codes "used_by", texts_data used)
     ∷ [])
 
 -- a volume, with the links of what names it
 unfoldable pub volume_data : Volume → List (List ℕ) → Data
-volume_data r used = object_of (
-    (codes "config", settings_data r.config)
-    ∷ (codes "created_at", string (moment_text r.created))
-    ∷ (codes "description", string r.description)
-    ∷ (codes "name", string r.name)
-    ∷ (codes "pool", string r.pool)
-    ∷ (codes "project", string r.project)
+volume_data volume used = object_of (
+    (codes "config", settings_data volume.config)
+    ∷ (codes "created_at", string (moment_text volume.created))
+    ∷ (codes "description", string volume.description)
+    ∷ (codes "name", string volume.name)
+    ∷ (codes "pool", string volume.pool)
+    ∷ (codes "project", string volume.project)
     ∷ (codes "type", string (codes "custom"))
     ∷ (codes "used_by", texts_data used)
     ∷ [])
 
 -- an instance, with its expanded settings and devices and its status
 unfoldable pub instance_data : Instance → Settings → NamedDevices → Power → Data
-instance_data r config devices power = object_of (
-    (codes "config", settings_data r.config)
-    ∷ (codes "created_at", string (moment_text r.created))
-    ∷ (codes "description", string r.description)
-    ∷ (codes "devices", devices_data r.devices)
-    ∷ (codes "ephemeral", boolean r.ephemeral)
+instance_data instance config devices power = object_of (
+    (codes "config", settings_data instance.config)
+    ∷ (codes "created_at", string (moment_text instance.created))
+    ∷ (codes "description", string instance.description)
+    ∷ (codes "devices", devices_data instance.devices)
+    ∷ (codes "ephemeral", boolean instance.ephemeral)
     ∷ (codes "expanded_config", settings_data config)
     ∷ (codes "expanded_devices", devices_data devices)
-    ∷ (codes "name", string r.name)
-    ∷ (codes "profiles", texts_data r.profiles)
-    ∷ (codes "project", string r.project)
+    ∷ (codes "name", string instance.name)
+    ∷ (codes "profiles", texts_data instance.profiles)
+    ∷ (codes "project", string instance.project)
     ∷ (codes "stateful", boolean false)
     ∷ (codes "status", string (power_text power))
     ∷ (codes "status_code", whole (power_code power))
-    ∷ (codes "type", string (instance_kind r.kind))
+    ∷ (codes "type", string (instance_kind instance.kind))
     ∷ [])
 
 -- when a snapshot expires; one that does not expire has the first moment of the year 1
@@ -112,13 +112,13 @@ expiry_text expires = if expires == 0 then codes "0001-01-01T00:00:00Z" else mom
 
 -- a snapshot
 unfoldable pub snapshot_data : Snapshot → Data
-snapshot_data r = object_of (
-    (codes "config", settings_data r.config)
-    ∷ (codes "created_at", string (moment_text r.created))
-    ∷ (codes "devices", devices_data r.devices)
-    ∷ (codes "expires_at", string (expiry_text r.expires))
-    ∷ (codes "name", string r.name)
-    ∷ (codes "profiles", texts_data r.profiles)
+snapshot_data snapshot = object_of (
+    (codes "config", settings_data snapshot.config)
+    ∷ (codes "created_at", string (moment_text snapshot.created))
+    ∷ (codes "devices", devices_data snapshot.devices)
+    ∷ (codes "expires_at", string (expiry_text snapshot.expires))
+    ∷ (codes "name", string snapshot.name)
+    ∷ (codes "profiles", texts_data snapshot.profiles)
     ∷ (codes "stateful", boolean false)
     ∷ [])
 
@@ -143,8 +143,8 @@ line_data line = object_of (
 
 -- limits put one after the other into an object
 abbrev pub put_lines : List UsageLine → Members → Members
-put_lines [] ms = ms
-put_lines (line ∷ lines) ms = put_lines lines (put (limit_name line.key) (line_data line) ms)
+put_lines [] members = members
+put_lines (line ∷ lines) members = put_lines lines (put (limit_name line.key) (line_data line) members)
 
 -- the limits of a project
 unfoldable pub lines_data : List UsageLine → Data
@@ -157,13 +157,13 @@ usage_data lines = object_of ((codes "resources", lines_data lines) ∷ [])
 -- an object of any kind
 abbrev pub view_data : ℕ → View → Data
 view_data boot shown.Server = server_data
-view_data boot (shown.Project r used) = project_data r used
-view_data boot (shown.Profile r used) = profile_data r used
-view_data boot (shown.Network r used) = network_data r used
-view_data boot (shown.Pool r used) = pool_data r used
-view_data boot (shown.Volume r used) = volume_data r used
-view_data boot (shown.Instance r config devices power) = instance_data r config devices power
-view_data boot (shown.Snapshot r) = snapshot_data r
+view_data boot (shown.Project project used) = project_data project used
+view_data boot (shown.Profile profile used) = profile_data profile used
+view_data boot (shown.Network network used) = network_data network used
+view_data boot (shown.Pool pool used) = pool_data pool used
+view_data boot (shown.Volume volume used) = volume_data volume used
+view_data boot (shown.Instance instance config devices power) = instance_data instance config devices power
+view_data boot (shown.Snapshot snapshot) = snapshot_data snapshot
 view_data boot (shown.Power power) = power_data power
 view_data boot (shown.Usage lines) = usage_data lines
 view_data boot (shown.Op operation) = operation_data boot operation

@@ -7,10 +7,11 @@ use Rattle.reservations.specs.Holdings.{Holdings, all_part}
 
 -- what is true of a ledger at all times: every share granted was converted or returned or is still held, part by part;
 -- each operation holds at most once; and no more was granted than a share of the most for each operation
-pub record AreHoldings (l : Holdings) : Type 0 where
-  pub balanced : (k : Part)
-      → part k l.books.granted ≡ part k l.books.converted + part k l.books.returned + all_part k l.held
-  pub distinct : Distinct (λ (h : Hold). h.op) l.held
-  pub up_to : Each (λ (h : Hold). h.op ≤ l.greatest) l.held
-  pub limit : l.greatest < 2 ^ 40
-  pub small : (k : Part) → part k l.books.granted ≤ l.greatest * 2 ^ 80
+pub record AreHoldings (holdings : Holdings) : Type 0 where
+  pub balanced : (a_part : Part)
+      → part a_part holdings.books.granted
+      ≡ part a_part holdings.books.converted + part a_part holdings.books.returned + all_part a_part holdings.held
+  pub distinct : Distinct (λ (hold : Hold). hold.op) holdings.held
+  pub up_to : Each (λ (hold : Hold). hold.op ≤ holdings.greatest) holdings.held
+  pub limit : holdings.greatest < 2 ^ 40
+  pub small : (a_part : Part) → part a_part holdings.books.granted ≤ holdings.greatest * 2 ^ 80

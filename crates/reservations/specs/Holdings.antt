@@ -22,34 +22,34 @@ no_books = record { granted = nothing; converted = nothing; returned = nothing }
 
 -- whether it is the share of this operation
 abbrev pub has_op : ℕ → Hold → Bool
-has_op op h = h.op == op
+has_op number hold = hold.op == number
 
 -- what this operation holds
 abbrev pub hold_at : Holdings → ℕ → Option Hold
-hold_at l op = find (has_op op) l.held
+hold_at holdings number = find (has_op number) holdings.held
 
 -- the share of this operation
 abbrev pub share_at : Holdings → ℕ → Option Amounts
-share_at l op = option_map (λ h. h.share) (hold_at l op)
+share_at holdings number = option_map (λ hold. hold.share) (hold_at holdings number)
 
 -- what a share counts for a project: nothing, if it is of another one
 abbrev pub counted : Part → List ℕ → Hold → ℕ
-counted k project h = if bytes_eq h.project project then part k h.share else 0
+counted a_part project hold = if bytes_eq hold.project project then part a_part hold.share else 0
 
 -- one part of what the operations of a project hold
 abbrev pub held_part : Part → List ℕ → List Hold → ℕ
-held_part k project holds = sum_by (counted k project) holds
+held_part a_part project holds = sum_by (counted a_part project) holds
 
 -- one part of all that is held
 abbrev pub all_part : Part → List Hold → ℕ
-all_part k holds = sum_by (λ h. part k h.share) holds
+all_part a_part holds = sum_by (λ hold. part a_part hold.share) holds
 
 -- the books after this share was granted, was converted, was returned
 abbrev pub granted_more : Amounts → Books → Books
-granted_more share b = record b { granted = plus_of b.granted share }
+granted_more share books = record books { granted = plus_of books.granted share }
 
 abbrev pub converted_more : Amounts → Books → Books
-converted_more share b = record b { converted = plus_of b.converted share }
+converted_more share books = record books { converted = plus_of books.converted share }
 
 abbrev pub returned_more : Amounts → Books → Books
-returned_more share b = record b { returned = plus_of b.returned share }
+returned_more share books = record books { returned = plus_of books.returned share }

@@ -5,13 +5,13 @@ use Rattle.reservations.specs.Facts.{AreHoldings}
 
 -- what contracts see
 abbrev pub holdings_in : Inside → Holdings
-holdings_in l = record {
-  held = l.holds.items;
-  greatest = l.greatest;
-  books = l.books;
-  spare = vec_capacity l.holds - vec_len l.holds;
+holdings_in ledger = record {
+  held = ledger.holds.items;
+  greatest = ledger.greatest;
+  books = ledger.books;
+  spare = vec_capacity ledger.holds - vec_len ledger.holds;
 }
 
 -- what is true of the fields
 abbrev pub IsLedger : Inside → Type 0
-IsLedger l = AreHoldings (holdings_in l)
+IsLedger ledger = AreHoldings (holdings_in ledger)

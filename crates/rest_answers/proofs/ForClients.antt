@@ -24,7 +24,7 @@ use Rattle.rest_replies.specs.row_machine.specs.machine.Plans.{Plan, nothing, ch
 use Rattle.rest_replies.specs.row_machine.specs.machine.Rules.{broken}
 use Rattle.rest_replies.specs.row_machine.specs.machine.Work.{entered}
 use Rattle.rest_replies.specs.row_machine.specs.machine.Accept.{After, and_then, accepted, carried_out, cancel_or_read, started}
-use Rattle.rest_replies.specs.row_machine.specs.machine.Step.{Outcome, well, keeper_failed, no_memory, step, asked, unavailable}
+use Rattle.rest_replies.specs.row_machine.specs.machine.Step.{Outcome, well, keeper_failed, no_memory, step, after_command, unavailable}
 use Rattle.rest_replies.specs.row_machine.specs.shown.Views.{read, one, row_view, state_view, operation_view, list_reply, operations_reply}
 use Rattle.rest_replies.specs.row_machine.specs.shown.Views.{rows_reply, is_operation, listed}
 use Rattle.rest_replies.specs.row_machine.specs.shown.Notices.{view_of}
@@ -124,7 +124,7 @@ unavailable_speaks s (changes cs) = refused_tells _
 unavailable_speaks s (starts task) = tt
 
 asked_speaks : (s : State) (c : Command) (moment : ℕ) (outcome : Outcome) (refusal : Option Refusal)
-    → Speaks IsForClient (asked s c moment outcome refusal)
+    → Speaks IsForClient (after_command s c moment outcome refusal)
 unfolding accepted
 asked_speaks s c moment well (Some refusal) = refused_tells refusal
 asked_speaks s c moment well None = plans_speak s c moment (plan_of s c moment)
@@ -135,7 +135,7 @@ asked_speaks s c moment no_memory None = tt
 
 -- an operation that is asked for
 shown_speaks : (s : State) (project : List ℕ) (op moment : ℕ) (outcome : Outcome) (refusal : Option Refusal)
-    → Speaks IsAtOnce (asked s (record { project = project; what = what.GetOp op }) moment outcome refusal)
+    → Speaks IsAtOnce (after_command s (record { project = project; what = what.GetOp op }) moment outcome refusal)
 unfolding accepted plan_of
 shown_speaks s project op moment well (Some refusal) = refused_tells refusal
 shown_speaks s project op moment well None = read_tells s project (what.GetOp op)

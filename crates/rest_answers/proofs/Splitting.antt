@@ -1,4 +1,4 @@
--- What a text that begins with messages has behind them.
+-- What a text that begins with messages has after them.
 use Rattle.std.proofs.Common.{◌≡◌, ◌++◌, ℕ, List, [], ◌∷◌, refl, ap, sym, ◌∙◌, subst}
 use Rattle.rest_replies.specs.http_heads.specs.Messages.{Begins, Splits, Ending, EndsAs}
 use Rattle.rest_replies.specs.http_heads.specs.declared.request.Request.{Request}
@@ -11,18 +11,18 @@ pub record GoesOn (rest : List ℕ) (begun messages : List Request) (ending : En
   pub rest_splits : Splits rest more ending
 
 -- a text that begins with messages goes on after them
-pub splits_behind : (text rest : List ℕ) (begun messages : List Request) (ending : Ending) → Begins text begun rest
+pub splits_after : (text rest : List ℕ) (begun messages : List Request) (ending : Ending) → Begins text begun rest
     → Splits text messages ending → GoesOn rest begun messages ending
-splits_behind text rest [] messages ending begins splits = record {
+splits_after text rest [] messages ending begins splits = record {
   more = messages;
   messages_are = refl;
   rest_splits = subst (λ bytes. Splits bytes messages ending) (sym begins) splits;
 }
-splits_behind text rest (m ∷ begun) [] ending begins splits =
+splits_after text rest (m ∷ begun) [] ending begins splits =
     absurd (ending_message text ending (subst (λ bytes. EndsAs bytes ending) splits.begins splits.ends) begins.1)
-splits_behind text rest (m ∷ begun) (n ∷ messages) ending begins splits =
+splits_after text rest (m ∷ begun) (n ∷ messages) ending begins splits =
     let same : (m ≡ n) × (begins.0 ≡ splits.begins.0) = message_unique begins.1 splits.begins.1 in
-    let far : GoesOn rest begun messages ending = splits_behind begins.0 rest begun messages ending begins.2
+    let far : GoesOn rest begun messages ending = splits_after begins.0 rest begun messages ending begins.2
     (record {
       rest = splits.rest;
       begins =

@@ -12,22 +12,22 @@ use Rattle.rest_answers.specs.declared.asked.Asked.TheVariants as asked
 -- The answers that a command can have: a reply, that it waits, or that memory was refused, which is no reply of its
 -- own.
 abbrev pub IsForClient : Answer → Type 0
-IsForClient (answer.Reply r) = r ≢ reply.NoMemory
+IsForClient (answer.Reply a_reply) = a_reply ≢ reply.NoMemory
 IsForClient (answer.Hold op) = Unit {0}
 IsForClient answer.NoMemory = Unit {0}
 IsForClient other = ⊥
 
 -- the same without a wait
 abbrev pub IsAtOnce : Answer → Type 0
-IsAtOnce (answer.Reply r) = r ≢ reply.NoMemory
+IsAtOnce (answer.Reply a_reply) = a_reply ≢ reply.NoMemory
 IsAtOnce answer.NoMemory = Unit {0}
 IsAtOnce other = ⊥
 
 -- the answer that this is
 abbrev pub answer_of : Asked → Answer
-answer_of (asked.Reply r) = answered r
+answer_of (asked.Reply reply) = answered reply
 answer_of (asked.Hold op) = answer.Hold op
 
 -- in the project of a command, an operation is asked for
 abbrev pub showing : ℕ → Command → Command
-showing op c = record { project = c.project; what = what.GetOp op }
+showing op command = record { project = command.project; what = what.GetOp op }

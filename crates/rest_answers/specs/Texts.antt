@@ -14,7 +14,7 @@ use Rattle.rest_answers.specs.declared.answers.Answered.TheVariants as written
 
 -- the bytes of a reply, which says where the connection ends after it
 unfoldable pub printed : Reply → ℕ → Bool → List ℕ
-printed r boot last = reply_text (printed_of r boot last)
+printed reply boot last = reply_text (printed_of reply boot last)
 
 -- the rule that a malformed place breaks
 abbrev pub rule_of : HeadFault → Rule
@@ -35,9 +35,9 @@ no_memory_text last = reply_text (record { code = 500; body = no_memory_body; lo
 -- What is to be written is the text of the reply, unless memory for it was refused. The reply that tells of memory
 -- refused takes none, and is always written.
 abbrev pub HasText : Answered → Reply → ℕ → Bool → Type 0
-HasText (written.Printed bytes) r boot last = bytes ≡ printed r boot last
-HasText written.NoMemory r boot last = no_memory_text last ≡ printed r boot last
-HasText written.Unprinted r boot last = r ≢ reply.NoMemory
+HasText (written.Printed bytes) a_reply boot last = bytes ≡ printed a_reply boot last
+HasText written.NoMemory a_reply boot last = no_memory_text last ≡ printed a_reply boot last
+HasText written.Unprinted a_reply boot last = a_reply ≢ reply.NoMemory
 
 -- the bytes that are written for an answer
 abbrev pub text_for : Answered → Bool → List ℕ

@@ -9,15 +9,16 @@ use Rattle.rest_answers.specs.declared.writing.Written.TheVariants as ended
 
 -- how a write ended
 abbrev pub written_by : {T E : Type 0} → Result T E → Written
-written_by (Ok u) = ended.Whole
-written_by (Err e) = ended.WriteFault
+written_by (Ok value) = ended.Whole
+written_by (Err error) = ended.WriteFault
 
 -- An answer was written whole, or some first bytes of it and the write failed; or nothing was, since memory for it was
 -- refused.
 abbrev pub WritesAnswer : Written → Answered → Bool → Outlet → Outlet → Type 0
-WritesAnswer ended.Whole a last sink sink' = ¬ IsUnprinted a × Takes sink sink' (text_for a last)
-WritesAnswer ended.WriteFault a last sink sink' = ¬ IsUnprinted a × BreaksOff sink sink' (text_for a last)
-WritesAnswer ended.NoMemory a last sink sink' = IsUnprinted a × (sink' ≡ sink)
+WritesAnswer ended.Whole answer last sink sink' = ¬ IsUnprinted answer × Takes sink sink' (text_for answer last)
+WritesAnswer ended.WriteFault answer last sink sink' =
+    ¬ IsUnprinted answer × BreaksOff sink sink' (text_for answer last)
+WritesAnswer ended.NoMemory answer last sink sink' = IsUnprinted answer × (sink' ≡ sink)
 
 -- A malformed place was answered by its rule, or of that reply some first bytes were written, or memory was refused
 -- before it.

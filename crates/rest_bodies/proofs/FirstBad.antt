@@ -8,8 +8,8 @@ use Rattle.rest_bodies.specs.declared.fields.Shape.{Shape}
 use Rattle.rest_bodies.specs.declared.fields.Shape.TheVariants as shape
 
 -- a field without a fault stands before the first bad one
-behind : (field : Field) (fields : List Field) (body : Data) (key : List ℕ) → fault_of field body ≡ None → IsFirstBad fields body key → IsFirstBad (field ∷ fields) body key
-behind field fields body key fine h = record {
+following : (field : Field) (fields : List Field) (body : Data) (key : List ℕ) → fault_of field body ≡ None → IsFirstBad fields body key → IsFirstBad (field ∷ fields) body key
+following field fields body key fine h = record {
   before = field ∷ h.before;
   bad = h.bad;
   after = h.after;
@@ -24,7 +24,7 @@ first_bad [] body key h = cc
 first_bad (field ∷ fields) body key h = by (fault_of field body) refl (first_bad fields body key) h
   where
     by : (o : Option (List ℕ)) → fault_of field body ≡ o → (first_fault fields body ≡ Some key → IsFirstBad fields body key) → or_next o (first_fault fields body) ≡ Some key → IsFirstBad (field ∷ fields) body key
-    by None is rest h = behind field fields body key is (rest h)
+    by None is rest h = following field fields body key is (rest h)
     by (Some other) is rest h = record { before = []; bad = field; after = fields; is = refl; none_before = refl; is_bad = is ∙ h }
 
 -- where fields of a body are judged at all, they are those of its shape

@@ -73,79 +73,52 @@ pub enum Shape {
     StateChange,
 }
 
-/// The fields of a shape, in the order in which they are judged. A copy has no type of its own.
+/// The fields of a new instance, in the order in which they are judged.
+const NEW_INSTANCE: &[Field] = &[
+    Field::Name,
+    Field::InstanceType,
+    Field::InstanceSource,
+    Field::Profiles,
+    Field::Config,
+    Field::Devices,
+    Field::Ephemeral,
+    Field::Description,
+    Field::Start,
+];
+
+/// Those of a copy of an instance, which has no type of its own.
+const INSTANCE_COPY: &[Field] = &[
+    Field::Name,
+    Field::InstanceSource,
+    Field::Profiles,
+    Field::Config,
+    Field::Devices,
+    Field::Ephemeral,
+    Field::Description,
+    Field::Start,
+];
+
+/// The fields of a shape, in the order in which they are judged.
 fn fields_of(shape: Shape) -> &'static [Field]
     ensures { result.now ≡ fields_of shape }
 {
+    use Field::*;
     match shape {
-        Shape::NewProject => &[Field::Name, Field::Description, Field::Config],
-        Shape::NewProfile => &[
-            Field::Name,
-            Field::Description,
-            Field::Config,
-            Field::Devices,
-        ],
-        Shape::NewNetwork => &[
-            Field::Name,
-            Field::NetworkType,
-            Field::Description,
-            Field::Config,
-        ],
-        Shape::NewPool => &[
-            Field::Name,
-            Field::Driver,
-            Field::Description,
-            Field::Config,
-        ],
-        Shape::NewVolume => &[
-            Field::Name,
-            Field::VolumeType,
-            Field::Description,
-            Field::Config,
-            Field::VolumeSource,
-        ],
-        Shape::NewInstance => &[
-            Field::Name,
-            Field::InstanceType,
-            Field::InstanceSource,
-            Field::Profiles,
-            Field::Config,
-            Field::Devices,
-            Field::Ephemeral,
-            Field::Description,
-            Field::Start,
-        ],
-        Shape::InstanceCopy => &[
-            Field::Name,
-            Field::InstanceSource,
-            Field::Profiles,
-            Field::Config,
-            Field::Devices,
-            Field::Ephemeral,
-            Field::Description,
-            Field::Start,
-        ],
-        Shape::NewSnapshot => &[Field::SnapshotName, Field::Stateful],
-        Shape::Change => &[Field::Description, Field::Config],
-        Shape::ProfileChange => &[Field::Description, Field::Config, Field::Devices],
-        Shape::InstancePut => &[
-            Field::Description,
-            Field::Config,
-            Field::Devices,
-            Field::Profiles,
-            Field::Ephemeral,
-            Field::Restore,
-        ],
-        Shape::InstancePatch => &[
-            Field::Description,
-            Field::Config,
-            Field::Devices,
-            Field::Profiles,
-            Field::Ephemeral,
-        ],
-        Shape::Rename => &[Field::Name],
-        Shape::InstanceRename => &[Field::Name, Field::Migration, Field::Project],
-        Shape::StateChange => &[Field::Action, Field::Stateful],
+        Shape::NewProject => &[Name, Description, Config],
+        Shape::NewProfile => &[Name, Description, Config, Devices],
+        Shape::NewNetwork => &[Name, NetworkType, Description, Config],
+        Shape::NewPool => &[Name, Driver, Description, Config],
+        Shape::NewVolume => &[Name, VolumeType, Description, Config, VolumeSource],
+        Shape::NewInstance => NEW_INSTANCE,
+        Shape::InstanceCopy => INSTANCE_COPY,
+        Shape::NewSnapshot => &[SnapshotName, Stateful],
+        Shape::Change => &[Description, Config],
+        Shape::ProfileChange => &[Description, Config, Devices],
+        Shape::InstancePut => &[Description, Config, Devices, Profiles, Ephemeral, Restore],
+        Shape::InstancePatch => &[Description, Config, Devices, Profiles, Ephemeral],
+        Shape::Rename => &[Name],
+        Shape::InstanceRename => &[Name, Migration, Project],
+        Shape::StateChange => &[Action, Stateful],
     }
 }
 

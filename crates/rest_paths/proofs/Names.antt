@@ -57,13 +57,13 @@ after-part (b ∷ p) rest clean = at (b == slash) refl clean (after-part p rest)
     at true is clean more = cc
     at false is clean more = rw is (drop-more (bytes-before (p ++ slash ∷ rest)) b (p ++ slash ∷ rest) ∙ more clean)
 
--- the name of a volume, behind its pool
+-- the name of a volume, after its pool
 volume-name : (p q : List ℕ) → has_slash p ≡ false → has_slash q ≡ false → before_slash (after_three_slashes (p ++ slash ∷ (codes "volumes/custom/" ++ (q ++ [])))) ≡ q
 unfolding after_slash after_three_slashes
 volume-name p q clean last =
     ap (λ r. before_slash (after_slash (after_slash r))) (after-part p (codes "volumes/custom/" ++ (q ++ [])) clean) ∙ before-end q last
 
--- the name of a snapshot, behind its instance
+-- the name of a snapshot, after its instance
 snapshot-name : (p q : List ℕ) → has_slash p ≡ false → has_slash q ≡ false → before_slash (after_slash (after_slash (p ++ slash ∷ (codes "snapshots/" ++ (q ++ []))))) ≡ q
 unfolding after_slash
 snapshot-name p q clean last =

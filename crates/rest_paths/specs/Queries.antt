@@ -72,11 +72,13 @@ unfoldable pub flags_after : Flags → List ℕ → List ℕ → Option Flags
 flags_after flags key value =
     if bytes_eq key (codes "recursion")
     && not (is_some flags.recursion)
-    then option_map (λ (r : Bool). record flags { recursion = Some r }) (recursion_of value)
+    then option_map (λ (recursion : Bool). record flags { recursion = Some recursion }) (recursion_of value)
     else (if bytes_eq key (codes "timeout")
-    && not (is_some flags.timeout) then option_map (λ (t : ℤ). record flags { timeout = Some t }) (timeout_of value)
+    && not (is_some flags.timeout)
+    then option_map (λ (timeout : ℤ). record flags { timeout = Some timeout }) (timeout_of value)
     else (if bytes_eq key (codes "type")
-    && not (is_some flags.types) then option_map (λ (t : Types). record flags { types = Some t }) (types_of value)
+    && not (is_some flags.types)
+    then option_map (λ (types : Types). record flags { types = Some types }) (types_of value)
     else (if bytes_eq key (codes "all-projects") || bytes_eq key (codes "filter") then None
     else Some flags)))
 

@@ -64,13 +64,13 @@ told_data boot (told.Op operation) = operation_data boot operation
 
 -- a notice as an object
 unfoldable pub notice_data : ℕ → Notice → Data
-notice_data boot n = object_of (
-    (codes "metadata", told_data boot n.told)
-    ∷ (codes "project", string n.project)
-    ∷ (codes "timestamp", string (moment_text n.moment))
-    ∷ (codes "type", string (told_type n.told))
+notice_data boot notice = object_of (
+    (codes "metadata", told_data boot notice.told)
+    ∷ (codes "project", string notice.project)
+    ∷ (codes "timestamp", string (moment_text notice.moment))
+    ∷ (codes "type", string (told_type notice.told))
     ∷ [])
 
 -- a notice as a text
 unfoldable pub notice_text : Notice → ℕ → List ℕ
-notice_text n boot = compact_text (notice_data boot n)
+notice_text notice boot = compact_text (notice_data boot notice)

@@ -130,18 +130,19 @@ part_data kept part.Used = string (decimal kept.used)
 
 -- parts put one after the other into an object
 abbrev pub put_parts : Kept → List Part → Members → Members
-put_parts kept [] ms = ms
-put_parts kept (part ∷ parts) ms = put_parts kept parts (put (part_key part) (part_data kept part) ms)
+put_parts kept [] members = members
+put_parts kept (part ∷ parts) members = put_parts kept parts (put (part_key part) (part_data kept part) members)
 
 -- the rule, and what is told with it
 unfoldable pub kept_data : Refusal → Data
-kept_data r = object (put_parts r.kept (kept_parts r.rule) (put (codes "rule") (string (rule_name r.rule)) no_members))
+kept_data refusal = object (put_parts refusal.kept (kept_parts refusal.rule)
+    (put (codes "rule") (string (rule_name refusal.rule)) no_members))
 
 -- a refusal
 unfoldable pub refusal_data : Refusal → Data
-refusal_data r = object_of (
-    (codes "error", string (rule_text r.rule))
-    ∷ (codes "error_code", whole (rule_code r.rule))
-    ∷ (codes "metadata", kept_data r)
+refusal_data refusal = object_of (
+    (codes "error", string (rule_text refusal.rule))
+    ∷ (codes "error_code", whole (rule_code refusal.rule))
+    ∷ (codes "metadata", kept_data refusal)
     ∷ (codes "type", string (codes "error"))
     ∷ [])

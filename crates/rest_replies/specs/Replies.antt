@@ -44,8 +44,9 @@ links_data boot numbers = list_of (map (λ number. string (operation_link boot n
 
 -- the links of operations put by status into an object
 abbrev pub put_links : ℕ → List (Status × List ℕ) → Members → Members
-put_links boot [] ms = ms
-put_links boot (group ∷ groups) ms = put_links boot groups (put (status_key group.0) (links_data boot group.1) ms)
+put_links boot [] members = members
+put_links boot (group ∷ groups) members =
+    put_links boot groups (put (status_key group.0) (links_data boot group.1) members)
 
 -- the links of operations by status
 unfoldable pub by_status : ℕ → List (Status × List ℕ) → Data
@@ -57,9 +58,9 @@ operations_data boot operations = list_of (map (operation_data boot) operations)
 
 -- operations put by status into an object
 abbrev pub put_operations : ℕ → List (Status × List OpView) → Members → Members
-put_operations boot [] ms = ms
+put_operations boot [] members = members
 put_operations boot (group
-    ∷ groups) ms = put_operations boot groups (put (status_key group.0) (operations_data boot group.1) ms)
+    ∷ groups) members = put_operations boot groups (put (status_key group.0) (operations_data boot group.1) members)
 
 -- operations by status
 unfoldable pub whole_by_status : ℕ → List (Status × List OpView) → Data
@@ -95,10 +96,10 @@ reply_location boot other = []
 
 -- a reply as it is printed; the connection may end after it
 unfoldable pub printed_of : Reply → ℕ → Bool → Printed
-printed_of r boot last = record {
-  code = reply_code r;
-  body = compact_text (reply_data boot r);
-  location = reply_location boot r;
+printed_of reply boot last = record {
+  code = reply_code reply;
+  body = compact_text (reply_data boot reply);
+  location = reply_location boot reply;
   last = last;
 }
 

@@ -3,7 +3,7 @@ ghost use Rattle.std.specs.Prelude.{◌≡◌, IfOk, IsTrue, decimal};
 ghost use Rattle.http_front.specs.Replies.{is_reply_code};
 ghost use Rattle.serde_json.specs.Data.{string};
 ghost use Rattle.serde_json.specs.View.{view};
-ghost use Rattle.rest_replies.specs.Refusals.{rule_name, rule_text, rule_code, kept_parts, part_key, part_data};
+ghost use Rattle.rest_replies.specs.Refusals.{line, rule_line, rule_name, rule_code, part_key, part_data};
 ghost use Rattle.rest_replies.specs.Refusals.{kept_data, refusal_data};
 
 use http_front::from_size_values::NoMemory;
@@ -25,6 +25,12 @@ pub(crate) enum Part {
     Used,
 }
 
+/// What is told of a name that an operation holds.
+const HELD_NAME: &[Part] = &[Part::Kind, Part::Name, Part::Number];
+
+/// What is told of an instance or a profile that an operation holds.
+const HELD_OBJECT: &[Part] = &[Part::Name, Part::Number];
+
 /// What is told of a forbidden setting, or of one that is not countable.
 const SETTING: &[Part] = &[Part::Key, Part::Name, Part::Project];
 
@@ -37,147 +43,101 @@ const LIMIT: &[Part] = &[
     Part::Used,
 ];
 
+/// A line of the table of rules.
+#[derive(Clone, Copy)]
+struct RuleLine {
+    /// The name of the rule, as `N4`.
+    name: &'static str,
+    /// The HTTP status code.
+    code: u16,
+    /// What went wrong, for a person.
+    text: &'static str,
+    /// What is told with the rule.
+    parts: &'static [Part],
+}
+
+/// A line of the table, which as a call stands in one line of code.
+fn line(name: &'static str, code: u16, text: &'static str, parts: &'static [Part]) -> RuleLine
+    ensures line { line result.name.now result.code result.text.now result.parts.now
+        ≡ line name.now code text.now parts.now }
+    ensures code { result.code ≡ code }
+{
+    RuleLine {
+        name,
+        code,
+        text,
+        parts,
+    }
+}
+
+/// The table of rules.
+fn rule_line(rule: Rule) -> RuleLine
+    ensures line { line result.name.now result.code result.text.now result.parts.now ≡ rule_line rule }
+    ensures known { IsTrue (is_reply_code result.code) }
+{
+    use Part::*;
+    use Rule::*;
+    match rule {
+        H1 => line("H1", 400, "head is malformed", &[]),
+        H2 => line("H2", 400, "head is too long", &[]),
+        H3 => line("H3", 400, "length is malformed", &[]),
+        H4 => line("H4", 400, "body is too long", &[]),
+        A1 => line("A1", 404, "path is unknown", &[]),
+        A2 => line("A2", 405, "method is not offered here", &[]),
+        A3 => line("A3", 400, "query is malformed", &[Key]),
+        A4 => line("A4", 400, "body is no JSON object", &[]),
+        A5 => line("A5", 400, "field is malformed", &[Key]),
+        A6 => line("A6", 400, "events need a WebSocket", &[]),
+        N1 => line("N1", 404, "project is missing", &[Project]),
+        N2 => line("N2", 404, "object is missing", &[Kind, Name]),
+        N3 => line("N3", 400, "name is malformed", &[Kind, Name]),
+        N4 => line("N4", 409, "name is taken", &[Kind, Name]),
+        N5 => line("N5", 409, "name is held by an operation", HELD_NAME),
+        B1 => line("B1", 409, "instance is busy", HELD_OBJECT),
+        B2 => line("B2", 400, "instance is in the wrong state", &[Key, Name]),
+        B3 => line("B3", 403, "object is protected", &[Kind, Name]),
+        B4 => line("B4", 400, "object is in use", &[Key, Kind, Name]),
+        B5 => line("B5", 400, "project is not empty", &[Name]),
+        B6 => line("B6", 409, "profile is held by an operation", HELD_OBJECT),
+        V1 => line("V1", 400, "key is unknown", &[Key]),
+        V2 => line("V2", 400, "value is malformed", &[Key, Number]),
+        V3 => line("V3", 400, "device is malformed", &[Key, Name, Number]),
+        V4 => line("V4", 400, "instance needs exactly one root disk", &[Name]),
+        V5 => line("V5", 400, "named object is missing", &[Kind, Name]),
+        F1 => line("F1", 403, "setting is forbidden", SETTING),
+        F2 => line("F2", 403, "setting is forbidden", SETTING),
+        F3 => line("F3", 403, "setting is forbidden", SETTING),
+        F4 => line("F4", 403, "setting is forbidden", SETTING),
+        F5 => line("F5", 403, "setting is forbidden", SETTING),
+        F6 => line("F6", 403, "setting is forbidden", SETTING),
+        F7 => line("F7", 403, "setting is forbidden", SETTING),
+        F8 => line("F8", 403, "snapshots are forbidden", &[Project]),
+        L0 => line("L0", 403, "setting is not countable", SETTING),
+        L1 => line("L1", 403, "limit is exceeded", LIMIT),
+        L2 => line("L2", 403, "limit is exceeded", LIMIT),
+        L3 => line("L3", 403, "limit is exceeded", LIMIT),
+        L4 => line("L4", 403, "limit is exceeded", LIMIT),
+        L5 => line("L5", 403, "limit is exceeded", LIMIT),
+        L6 => line("L6", 403, "limit is exceeded", LIMIT),
+        L7 => line("L7", 403, "limit is exceeded", LIMIT),
+        L8 => line("L8", 403, "limit is exceeded", LIMIT),
+        O1 => line("O1", 400, "operation has ended", &[Key, Number]),
+        O2 => line("O2", 400, "operation may not be cancelled", &[Number]),
+        O3 => line("O3", 400, "operation is being cancelled", &[Number]),
+        O4 => line("O4", 409, "too many live operations", &[Number]),
+        O5 => line("O5", 409, "operation numbers are used up", &[Number]),
+        C1 => line("C1", 409, "table is full", &[Kind, Number]),
+        C2 => line("C2", 409, "row is too large", &[Kind, Number]),
+        K1 => line("K1", 503, "unavailable", &[]),
+        M1 => line("M1", 500, "no memory", &[]),
+    }
+}
+
 /// The name of a rule, as `N4`.
 pub fn rule_name(rule: Rule) -> &'static str
     ensures { result.now ≡ rule_name rule }
 {
-    match rule {
-        Rule::H1 => "H1",
-        Rule::H2 => "H2",
-        Rule::H3 => "H3",
-        Rule::H4 => "H4",
-        Rule::A1 => "A1",
-        Rule::A2 => "A2",
-        Rule::A3 => "A3",
-        Rule::A4 => "A4",
-        Rule::A5 => "A5",
-        Rule::A6 => "A6",
-        Rule::N1 => "N1",
-        Rule::N2 => "N2",
-        Rule::N3 => "N3",
-        Rule::N4 => "N4",
-        Rule::N5 => "N5",
-        Rule::B1 => "B1",
-        Rule::B2 => "B2",
-        Rule::B3 => "B3",
-        Rule::B4 => "B4",
-        Rule::B5 => "B5",
-        Rule::B6 => "B6",
-        Rule::V1 => "V1",
-        Rule::V2 => "V2",
-        Rule::V3 => "V3",
-        Rule::V4 => "V4",
-        Rule::V5 => "V5",
-        Rule::F1 => "F1",
-        Rule::F2 => "F2",
-        Rule::F3 => "F3",
-        Rule::F4 => "F4",
-        Rule::F5 => "F5",
-        Rule::F6 => "F6",
-        Rule::F7 => "F7",
-        Rule::F8 => "F8",
-        Rule::L0 => "L0",
-        Rule::L1 => "L1",
-        Rule::L2 => "L2",
-        Rule::L3 => "L3",
-        Rule::L4 => "L4",
-        Rule::L5 => "L5",
-        Rule::L6 => "L6",
-        Rule::L7 => "L7",
-        Rule::L8 => "L8",
-        Rule::O1 => "O1",
-        Rule::O2 => "O2",
-        Rule::O3 => "O3",
-        Rule::O4 => "O4",
-        Rule::O5 => "O5",
-        Rule::C1 => "C1",
-        Rule::C2 => "C2",
-        Rule::K1 => "K1",
-        Rule::M1 => "M1",
-    }
-}
-
-/// What went wrong, for a person.
-fn rule_text(rule: Rule) -> &'static str
-    ensures { result.now ≡ rule_text rule }
-{
-    match rule {
-        Rule::H1 => "head is malformed",
-        Rule::H2 => "head is too long",
-        Rule::H3 => "length is malformed",
-        Rule::H4 => "body is too long",
-        Rule::A1 => "path is unknown",
-        Rule::A2 => "method is not offered here",
-        Rule::A3 => "query is malformed",
-        Rule::A4 => "body is no JSON object",
-        Rule::A5 => "field is malformed",
-        Rule::A6 => "events need a WebSocket",
-        Rule::N1 => "project is missing",
-        Rule::N2 => "object is missing",
-        Rule::N3 => "name is malformed",
-        Rule::N4 => "name is taken",
-        Rule::N5 => "name is held by an operation",
-        Rule::B1 => "instance is busy",
-        Rule::B2 => "instance is in the wrong state",
-        Rule::B3 => "object is protected",
-        Rule::B4 => "object is in use",
-        Rule::B5 => "project is not empty",
-        Rule::B6 => "profile is held by an operation",
-        Rule::V1 => "key is unknown",
-        Rule::V2 => "value is malformed",
-        Rule::V3 => "device is malformed",
-        Rule::V4 => "instance needs exactly one root disk",
-        Rule::V5 => "named object is missing",
-        Rule::F1 | Rule::F2 | Rule::F3 | Rule::F4 | Rule::F5 | Rule::F6 | Rule::F7 =>
-            "setting is forbidden",
-        Rule::F8 => "snapshots are forbidden",
-        Rule::L0 => "setting is not countable",
-        Rule::L1 | Rule::L2 | Rule::L3 | Rule::L4 | Rule::L5 | Rule::L6 | Rule::L7 | Rule::L8 =>
-            "limit is exceeded",
-        Rule::O1 => "operation has ended",
-        Rule::O2 => "operation may not be cancelled",
-        Rule::O3 => "operation is being cancelled",
-        Rule::O4 => "too many live operations",
-        Rule::O5 => "operation numbers are used up",
-        Rule::C1 => "table is full",
-        Rule::C2 => "row is too large",
-        Rule::K1 => "unavailable",
-        Rule::M1 => "no memory",
-    }
-}
-
-/// What is told with a rule.
-fn kept_parts(rule: Rule) -> &'static [Part]
-    ensures { result.now ≡ kept_parts rule }
-{
-    match rule {
-        Rule::H1
-        | Rule::H2
-        | Rule::H3
-        | Rule::H4
-        | Rule::A1
-        | Rule::A2
-        | Rule::A4
-        | Rule::A6
-        | Rule::K1
-        | Rule::M1 => &[],
-        Rule::A3 | Rule::A5 | Rule::V1 => &[Part::Key],
-        Rule::N1 | Rule::F8 => &[Part::Project],
-        Rule::N2 | Rule::N3 | Rule::N4 | Rule::B3 | Rule::V5 => &[Part::Kind, Part::Name],
-        Rule::N5 => &[Part::Kind, Part::Name, Part::Number],
-        Rule::B1 | Rule::B6 => &[Part::Name, Part::Number],
-        Rule::B2 => &[Part::Key, Part::Name],
-        Rule::B4 => &[Part::Key, Part::Kind, Part::Name],
-        Rule::B5 | Rule::V4 => &[Part::Name],
-        Rule::V2 | Rule::O1 => &[Part::Key, Part::Number],
-        Rule::V3 => &[Part::Key, Part::Name, Part::Number],
-        Rule::F1 | Rule::F2 | Rule::F3 | Rule::F4 | Rule::F5 | Rule::F6 | Rule::F7 | Rule::L0 =>
-            SETTING,
-        Rule::L1 | Rule::L2 | Rule::L3 | Rule::L4 | Rule::L5 | Rule::L6 | Rule::L7 | Rule::L8 =>
-            LIMIT,
-        Rule::O2 | Rule::O3 | Rule::O4 | Rule::O5 => &[Part::Number],
-        Rule::C1 | Rule::C2 => &[Part::Kind, Part::Number],
-    }
+    rule_line(rule).name
 }
 
 /// The HTTP status code of a rule.
@@ -185,52 +145,7 @@ pub(crate) fn rule_code(rule: Rule) -> u16
     ensures code { result ≡ rule_code rule }
     ensures known { IsTrue (is_reply_code result) }
 {
-    match rule {
-        Rule::H1
-        | Rule::H2
-        | Rule::H3
-        | Rule::H4
-        | Rule::A3
-        | Rule::A4
-        | Rule::A5
-        | Rule::A6
-        | Rule::N3
-        | Rule::B2
-        | Rule::B4
-        | Rule::B5
-        | Rule::V1
-        | Rule::V2
-        | Rule::V3
-        | Rule::V4
-        | Rule::V5
-        | Rule::O1
-        | Rule::O2
-        | Rule::O3 => 400,
-        Rule::A1 | Rule::N1 | Rule::N2 => 404,
-        Rule::A2 => 405,
-        Rule::N4 | Rule::N5 | Rule::B1 | Rule::B6 | Rule::O4 | Rule::O5 | Rule::C1 | Rule::C2 =>
-            409,
-        Rule::B3
-        | Rule::F1
-        | Rule::F2
-        | Rule::F3
-        | Rule::F4
-        | Rule::F5
-        | Rule::F6
-        | Rule::F7
-        | Rule::F8
-        | Rule::L0
-        | Rule::L1
-        | Rule::L2
-        | Rule::L3
-        | Rule::L4
-        | Rule::L5
-        | Rule::L6
-        | Rule::L7
-        | Rule::L8 => 403,
-        Rule::K1 => 503,
-        Rule::M1 => 500,
-    }
+    rule_line(rule).code
 }
 
 /// The key of a part.
@@ -285,8 +200,9 @@ fn kept_value(alloc: Global, refusal: &Refusal) -> Result<Value, NoMemory>
     ensures { IfOk result (λ v. view v ≡ kept_data refusal.now) }
 {
     let mut object = Object::new(alloc);
-    object.put_text("rule", rule_name(refusal.rule))?;
-    for part in kept_parts(refusal.rule) {
+    let line = rule_line(refusal.rule);
+    object.put_text("rule", line.name)?;
+    for part in line.parts {
         object.put(part_key(*part), part_value(alloc, &refusal.kept, *part)?)?;
     }
     Ok(object.into_value())
@@ -297,9 +213,10 @@ fn kept_value(alloc: Global, refusal: &Refusal) -> Result<Value, NoMemory>
 pub(crate) fn refusal_value(alloc: Global, refusal: &Refusal) -> Result<Value, NoMemory>
     ensures { IfOk result (λ v. view v ≡ refusal_data refusal.now) }
 {
+    let line = rule_line(refusal.rule);
     let object = Object::new(alloc)
-        .with_text("error", rule_text(refusal.rule))?
-        .with_number("error_code", u64::from(rule_code(refusal.rule)))?;
+        .with_text("error", line.text)?
+        .with_number("error_code", u64::from(line.code))?;
     let kept = kept_value(alloc, refusal)?;
     let object = object.with("metadata", kept)?.with_text("type", "error")?;
     Ok(object.into_value())

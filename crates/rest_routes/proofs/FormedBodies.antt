@@ -155,7 +155,7 @@ copy_profiles body h =
     (fine_next (fault_of field.InstanceSource body) _
     (fine_next (fault_of field.Name body) _ h)))
 
--- PUT and PATCH judge profiles behind three other fields, PUT where it does not restore
+-- PUT and PATCH judge profiles after three other fields, PUT where it does not restore
 pub put_profiles : (body : Data) → first_fault (fields_of shape.InstancePut) body ≡ None → HasProfiles body
 put_profiles body h =
     profiles_at_formed body

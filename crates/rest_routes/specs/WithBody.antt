@@ -28,7 +28,7 @@ use Rattle.rest_routes.specs.Targets.{target_at_path, object_of}
 
 -- a value that has to be there, or else the request is refused by a rule that tells nothing
 abbrev pub needed : {T : Type 0} → Rule → Option T → Result T Refusal
-needed rule o = ok_or o (plain_refusal rule)
+needed rule value = ok_or value (plain_refusal rule)
 
 -- the first field of a body that is at fault is refused by its key
 abbrev pub unless_fault : Option (List ℕ) → Result (Unit {0}) Refusal

@@ -26,32 +26,32 @@ use Rattle.rest_service.specs.Exchanges.{IsAnswered, Held}
 -- The entries of the keeper open to the rows of the service, and are their records now, and no call is in hand; or the
 -- opening was refused.
 abbrev pub OpensService : Result Serial OpenFault → Store → Store → Type 0
-OpensService (Ok s) store store' = OpensTo s.state store store' × (s.hand ≡ None)
+OpensService (Ok serial) store store' = OpensTo serial.state store store' × (serial.hand ≡ None)
 OpensService (Err why) store store' = Refuses why store store'
 
 -- ---- what a command is answered
 
 -- In a project an operation was asked for, at the next moment of a clock, and was answered by this reply. The call in
 -- hand is as before.
-pub record Shows (project : List ℕ) (op : ℕ) (s : Serial) (store : Store) (told : Readings) (r : Reply) (s' : Serial)
-    (store' : Store) (told' : Readings) : Type 0 where
+pub record Shows (project : List ℕ) (op : ℕ) (serial : Serial) (store : Store) (told : Readings) (reply : Reply)
+    (later : Serial) (store' : Store) (told' : Readings) : Type 0 where
   pub moment : ℕ
-  pub turn : IsTurn s.state store (event.Ask (record { project = project; what = what.GetOp op }) moment)
-      (answered r) s'.state
+  pub turn : IsTurn serial.state store (event.Ask (record { project = project; what = what.GetOp op }) moment)
+      (answered reply) later.state
       store'
-  pub hand : s'.hand ≡ s.hand
+  pub hand : later.hand ≡ serial.hand
   pub read : Reads told (moment ∷ []) told'
   pub early : moment < moment_limit
 
 -- What was asked for came to a reply.
-pub record Reaches (w : Site) (asks : Result Command Refusal) (r : Reply) (w' : Site) : Type 0 where
+pub record Reaches (site : Site) (asks : Result Command Refusal) (reply : Reply) (later : Site) : Type 0 where
   pub moment : Option ℕ
   pub outcome : Outcome
   pub held : Option Held
-  pub comes : IsAnswered w asks moment outcome held r w'
+  pub comes : IsAnswered site asks moment outcome held reply later
 
 -- One request was answered: it came to a reply, and what is to be written is that reply.
-pub record Answers (boot : ℕ) (w w' : Site) (request : Request) (result : Answered) : Type 0 where
+pub record Answers (boot : ℕ) (site later : Site) (request : Request) (result : Answered) : Type 0 where
   pub reply : Reply
-  pub reaches : Reaches w (command_of request boot) reply w'
+  pub reaches : Reaches site (command_of request boot) reply later
   pub text : HasText result reply boot request.last

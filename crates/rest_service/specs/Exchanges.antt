@@ -51,30 +51,30 @@ pub record Exchange : Type 0 where
 
 -- a request that is refused by its form asks for no command: the keeper is not called, and nothing changes
 abbrev pub refused : State → Refusal → Outcome → Option After
-refused s refusal well = Some (and_then (answer.Reply (reply.Refused refusal)) s)
-refused s refusal (keeper_failed rise) = None
-refused s refusal no_memory = Some (and_then answer.NoMemory s)
+refused state refusal well = Some (and_then (answer.Reply (reply.Refused refusal)) state)
+refused state refusal (keeper_failed rise) = None
+refused state refusal no_memory = Some (and_then answer.NoMemory state)
 
 -- memory was refused before the command of a request was known: nothing changes
 abbrev pub unasked : State → Outcome → Option After
-unasked s well = None
-unasked s (keeper_failed rise) = None
-unasked s no_memory = Some (and_then answer.NoMemory s)
+unasked state well = None
+unasked state (keeper_failed rise) = None
+unasked state no_memory = Some (and_then answer.NoMemory state)
 
 -- The command that a request asks for is one turn of the server, at the moment at which it was asked. A request without
 -- a moment was refused by its form, or memory was refused before its command was known; one that is refused by its form
 -- has no moment. None where the outcome is not possible with it.
 abbrev pub carried_out : State → Option ℕ → Outcome → Result Command Refusal → Option After
-carried_out s (Some moment) outcome (Ok command) = step s (event.Ask command moment) outcome
-carried_out s (Some moment) outcome (Err refusal) = None
-carried_out s None outcome (Ok command) = unasked s outcome
-carried_out s None outcome (Err refusal) = refused s refusal outcome
+carried_out state (Some moment) outcome (Ok command) = step state (event.Ask command moment) outcome
+carried_out state (Some moment) outcome (Err refusal) = None
+carried_out state None outcome (Ok command) = unasked state outcome
+carried_out state None outcome (Err refusal) = refused state refusal outcome
 
 -- the changes of rows that a request is to commit: those of the command that was asked, and none where no command was
 abbrev pub asked_changes : State → Option ℕ → Result Command Refusal → List RowChange
-asked_changes s (Some moment) (Ok command) = changes_of s command moment
-asked_changes s (Some moment) (Err refusal) = []
-asked_changes s None asked = []
+asked_changes state (Some moment) (Ok command) = changes_of state command moment
+asked_changes state (Some moment) (Err refusal) = []
+asked_changes state None asked = []
 
 -- The clock was read for a command that was asked at this moment, before the year 10000, or for none it was not read.
 pub record AsksAt (moment : Option ℕ) (told told' : Readings) : Type 0 where
@@ -84,72 +84,74 @@ pub record AsksAt (moment : Option ℕ) (told told' : Readings) : Type 0 where
 -- What was asked for at one moment was answered so, with an outcome that the keeper's count bears out. Its changes went
 -- to the store in one call, and without changes the keeper was not called. The call in hand and the host are as before.
 -- Entries that were the records of the rows are so afterwards.
-pub record Carries (w : Site) (asked : Result Command Refusal) (moment : Option ℕ) (outcome : Outcome) (a : Answer)
-    (w' : Site)
+pub record Carries (site : Site) (asked : Result Command Refusal) (moment : Option ℕ) (outcome : Outcome)
+    (answer : Answer) (later : Site)
     : Type 0 where
-  pub is : carried_out w.serial.state moment outcome asked ≡ Some (and_then a w'.serial.state)
-  pub stored : Stores (asked_changes w.serial.state moment asked) outcome w.store w'.store
-  pub caused : IsCaused outcome w.store.failures w'.store.failures
-  pub kept : KeepsRecords w.store.told w.serial.state w'.store.told w'.serial.state
-  pub hand : w'.serial.hand ≡ w.serial.hand
-  pub host : w'.host ≡ w.host
-  pub clock : AsksAt moment w.clock w'.clock
+  pub is : carried_out site.serial.state moment outcome asked ≡ Some (and_then answer later.serial.state)
+  pub stored : Stores (asked_changes site.serial.state moment asked) outcome site.store later.store
+  pub caused : IsCaused outcome site.store.failures later.store.failures
+  pub kept : KeepsRecords site.store.told site.serial.state later.store.told later.serial.state
+  pub hand : later.serial.hand ≡ site.serial.hand
+  pub host : later.host ≡ site.host
+  pub clock : AsksAt moment site.clock later.clock
 
 -- ---- one request comes to its reply
 
 -- The command was a wait for an operation that was live, so its answer was held back; steps were made until the
 -- operation had ended; and then it was asked for in the same project, and was answered by this reply.
-pub record HeldBack (w : Site) (asked : Result Command Refusal) (moment : Option ℕ) (outcome : Outcome) (h : Held)
-    (r : Reply)
-    (w' : Site) : Type 0 where
+pub record HeldBack (site : Site) (asked : Result Command Refusal) (moment : Option ℕ) (outcome : Outcome) (held : Held)
+    (reply : Reply)
+    (later : Site) : Type 0 where
   pub command : Command
   pub op : ℕ
   pub waiting : Site
   pub ended : Site
   pub asks : asked ≡ Ok command
-  pub holds : Carries w asked moment outcome (answer.Hold op) waiting
-  pub waits : WaitsFor op waiting h.steps ended
-  pub few : length h.steps ≤ most_steps
-  pub shows : Carries ended (Ok (showing op command)) (Some h.moment) h.outcome (answered r) w'
+  pub holds : Carries site asked moment outcome (answer.Hold op) waiting
+  pub waits : WaitsFor op waiting held.steps ended
+  pub few : length held.steps ≤ most_steps
+  pub shows : Carries ended (Ok (showing op command)) (Some held.moment) held.outcome (answered reply) later
 
 -- What was asked for was answered by this reply, at once or after its answer was held back.
 abbrev pub IsAnswered : Site → Result Command Refusal → Option ℕ → Outcome → Option Held → Reply → Site → Type 0
-IsAnswered w asked moment outcome None r w' = Carries w asked moment outcome (answered r) w'
-IsAnswered w asked moment outcome (Some h) r w' = HeldBack w asked moment outcome h r w'
+IsAnswered site asked moment outcome None reply later = Carries site asked moment outcome (answered reply) later
+IsAnswered site asked moment outcome (Some held) reply later = HeldBack site asked moment outcome held reply later
 
 -- a request came to its reply; the daemon's boot word is that of the ids of operations
 abbrev pub Comes : ℕ → Site → Exchange → Site → Type 0
-Comes boot w e w' = IsAnswered w (command_of e.request boot) e.moment e.outcome e.held e.reply w'
+Comes boot site exchange later = IsAnswered site (command_of exchange.request boot)
+    exchange.moment exchange.outcome exchange.held exchange.reply later
 
 -- ---- and steps follow
 
 -- the steps that follow a reply: so many, or all until nothing is live
 abbrev pub IsPaced : Pace → Site → List Step → Site → Type 0
-IsPaced (pace.Steps count) w steps w' = StepsTo w steps w' × (length steps ≡ count)
-IsPaced pace.All w steps w' = Finishes w steps w' × (length steps ≤ most_steps)
+IsPaced (pace.Steps count) site steps later = StepsTo site steps later × (length steps ≡ count)
+IsPaced pace.All site steps later = Finishes site steps later × (length steps ≤ most_steps)
 
 -- a request came to its reply, and the steps of the pace followed
-pub record Leads (boot : ℕ) (follows : Pace) (w : Site) (e : Exchange) (w' : Site) : Type 0 where
+pub record Leads (boot : ℕ) (follows : Pace) (site : Site) (exchange : Exchange) (later : Site) : Type 0 where
   pub replied : Site
-  pub comes : Comes boot w e replied
-  pub paced : IsPaced follows replied e.steps w'
+  pub comes : Comes boot site exchange replied
+  pub paced : IsPaced follows replied exchange.steps later
 
 -- Exchanges lead from one moment of the server to another: each request comes to its reply, and with the steps after it
 -- to the moment at which the next one is taken.
 abbrev pub LeadTo : ℕ → Pace → Site → List Exchange → Site → Type 0
-LeadTo boot follows w [] w' = w ≡ w'
-LeadTo boot follows w (e ∷ more) w' = (next : Site) × Leads boot follows w e next × LeadTo boot follows next more w'
+LeadTo boot follows site [] later = site ≡ later
+LeadTo boot follows site (exchange ∷ more) later =
+    (next : Site) × Leads boot follows site exchange next × LeadTo boot follows next more later
 
 -- ---- what they read, and what failed in them
 
 -- the moments while an answer was held back: those of the steps, and the one at which the operation was asked for
 abbrev pub held_moments : Option Held → List ℕ
 held_moments None = []
-held_moments (Some h) = moments_in h.steps ++ h.moment ∷ []
+held_moments (Some held) = moments_in held.steps ++ held.moment ∷ []
 
 -- all moments of an exchange, in their order: one for each command, each call that was asked for and each report
 abbrev pub moments_at : Exchange → List ℕ
-moments_at e = option_to_list e.moment ++ held_moments e.held ++ moments_in e.steps
+moments_at exchange = option_to_list exchange.moment ++ held_moments exchange.held ++ moments_in exchange.steps
 
 abbrev pub moments_of : List Exchange → List ℕ
 moments_of exchanges = flat_map moments_at exchanges
@@ -157,10 +159,11 @@ moments_of exchanges = flat_map moments_at exchanges
 -- how often the keeper failed: at most once for each command and each report
 abbrev pub held_keeper_failures : Option Held → ℕ
 held_keeper_failures None = 0
-held_keeper_failures (Some h) = keeper_failures_in h.steps + failed_commits h.outcome
+held_keeper_failures (Some held) = keeper_failures_in held.steps + failed_commits held.outcome
 
 abbrev pub keeper_failures_at : Exchange → ℕ
-keeper_failures_at e = failed_commits e.outcome + held_keeper_failures e.held + keeper_failures_in e.steps
+keeper_failures_at exchange =
+    failed_commits exchange.outcome + held_keeper_failures exchange.held + keeper_failures_in exchange.steps
 
 abbrev pub keeper_failures_of : List Exchange → ℕ
 keeper_failures_of exchanges = sum_by keeper_failures_at exchanges
@@ -168,10 +171,10 @@ keeper_failures_of exchanges = sum_by keeper_failures_at exchanges
 -- how many calls of the host failed
 abbrev pub held_host_failures : Option Held → ℕ
 held_host_failures None = 0
-held_host_failures (Some h) = host_failures_in h.steps
+held_host_failures (Some held) = host_failures_in held.steps
 
 abbrev pub host_failures_at : Exchange → ℕ
-host_failures_at e = held_host_failures e.held + host_failures_in e.steps
+host_failures_at exchange = held_host_failures exchange.held + host_failures_in exchange.steps
 
 abbrev pub host_failures_of : List Exchange → ℕ
 host_failures_of exchanges = sum_by host_failures_at exchanges
@@ -180,4 +183,4 @@ host_failures_of exchanges = sum_by host_failures_at exchanges
 
 -- the bytes of the replies, in their order
 abbrev pub printed_replies : ℕ → List Exchange → List ℕ
-printed_replies boot exchanges = flat_map (λ e. printed e.reply boot e.request.last) exchanges
+printed_replies boot exchanges = flat_map (λ exchange. printed exchange.reply boot exchange.request.last) exchanges

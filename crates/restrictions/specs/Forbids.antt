@@ -74,7 +74,7 @@ is_meant which.WithoutNetwork device = is_none (setting device (codes "network")
 
 -- whether a name is one of those that are joined by commas
 abbrev pub is_listed : List ℕ → List ℕ → Bool
-is_listed list name = list_any (λ listed. bytes_eq listed name) (slice_split (λ b. b == byte ",") list)
+is_listed list name = list_any (λ listed. bytes_eq listed name) (slice_split (λ sign. sign == byte ",") list)
 
 -- whether a network is none of those that are listed; without a list none is
 abbrev pub is_outside : Option (List ℕ) → Option (List ℕ) → Bool
@@ -103,7 +103,7 @@ setting_rule policy subject key value = setting_rule_in setting_lines policy sub
 
 -- what is forbidden at a place
 abbrev pub forbidden_at : ℕ → Option ℕ → Option Forbidden
-forbidden_at place rule = option_map (λ r. record { rule = r; place = place }) rule
+forbidden_at place rule = option_map (λ number. record { rule = number; place = place }) rule
 
 -- the one of the lower rule, or else the first
 abbrev pub earlier : Option Forbidden → Option Forbidden → Option Forbidden
@@ -114,12 +114,13 @@ earlier (Some first) (Some second) = if nat_le first.rule second.rule then Some 
 -- the first of the lowest rule
 abbrev pub lowest : List (Option Forbidden) → Option Forbidden
 lowest [] = None
-lowest (f ∷ fs) = earlier f (lowest fs)
+lowest (found ∷ rest) = earlier found (lowest rest)
 
 -- what settings break, each at its place
 unfoldable pub broken_settings : Restrictions → Subject → Settings → List (Option Forbidden)
 broken_settings policy subject config =
-    map (λ (s : ℕ × (List ℕ × List ℕ)). forbidden_at s.0 (setting_rule policy subject s.1.0 s.1.1))
+    map (λ (setting : ℕ × (List ℕ × List ℕ)).
+    forbidden_at setting.0 (setting_rule policy subject setting.1.0 setting.1.1))
     (enumerate_from 0 config)
 
 -- a demanded key that is not set, after all settings
@@ -130,7 +131,8 @@ missing_setting policy subject config =
 -- what devices break, each at its place
 unfoldable pub broken_devices : Restrictions → NamedDevices → List (Option Forbidden)
 broken_devices policy devices =
-    map (λ (d : ℕ × Settings). forbidden_at d.0 (device_rule policy d.1)) (enumerate_from 0 (values_of devices))
+    map (λ (device : ℕ × Settings). forbidden_at device.0 (device_rule policy device.1))
+    (enumerate_from 0 (values_of devices))
 
 -- the first thing that a policy forbids: of the lowest rule, and of those the first
 unfoldable pub first_forbidden : Restrictions → Subject → Settings → NamedDevices → Option Forbidden

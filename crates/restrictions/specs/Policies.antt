@@ -29,22 +29,22 @@ pub record Restrictions : Type 0 where
 
 -- what a `Policy` says
 abbrev pub seen : Policy → Restrictions
-seen p = record {
-  restricted = p.restricted;
-  nesting = p.nesting;
-  privilege = p.privilege;
-  container_low = p.container_low;
-  machine_low = p.machine_low;
-  interception = p.interception;
-  disk = p.disk;
-  nic = p.nic;
-  gpu = p.gpu;
-  proxy = p.proxy;
-  unix_block = p.unix_block;
-  unix_char = p.unix_char;
-  usb = p.usb;
-  snapshots = p.snapshots;
-  access = option_copied p.access;
+seen policy = record {
+  restricted = policy.restricted;
+  nesting = policy.nesting;
+  privilege = policy.privilege;
+  container_low = policy.container_low;
+  machine_low = policy.machine_low;
+  interception = policy.interception;
+  disk = policy.disk;
+  nic = policy.nic;
+  gpu = policy.gpu;
+  proxy = policy.proxy;
+  unix_block = policy.unix_block;
+  unix_char = policy.unix_char;
+  usb = policy.usb;
+  snapshots = policy.snapshots;
+  access = option_copied policy.access;
 }
 
 -- the policy of a project's settings: each key with its default
@@ -69,15 +69,15 @@ policy_of project = record {
 
 -- the word of a restriction
 abbrev pub word_in : Restrictions → Restriction → Word
-word_in p restriction.Nesting = p.nesting
-word_in p restriction.Privilege = p.privilege
-word_in p restriction.ContainerLow = p.container_low
-word_in p restriction.MachineLow = p.machine_low
-word_in p restriction.Interception = p.interception
-word_in p restriction.Disk = p.disk
-word_in p restriction.Nic = p.nic
-word_in p restriction.Gpu = p.gpu
-word_in p restriction.Proxy = p.proxy
-word_in p restriction.UnixBlock = p.unix_block
-word_in p restriction.UnixChar = p.unix_char
-word_in p restriction.Usb = p.usb
+word_in policy restriction.Nesting = policy.nesting
+word_in policy restriction.Privilege = policy.privilege
+word_in policy restriction.ContainerLow = policy.container_low
+word_in policy restriction.MachineLow = policy.machine_low
+word_in policy restriction.Interception = policy.interception
+word_in policy restriction.Disk = policy.disk
+word_in policy restriction.Nic = policy.nic
+word_in policy restriction.Gpu = policy.gpu
+word_in policy restriction.Proxy = policy.proxy
+word_in policy restriction.UnixBlock = policy.unix_block
+word_in policy restriction.UnixChar = policy.unix_char
+word_in policy restriction.Usb = policy.usb

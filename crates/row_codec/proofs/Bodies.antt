@@ -61,14 +61,14 @@ driver_part = code_part driver_of driver_byte back again
 
 version_took : (body rest : List ℕ) → IsBytes body → version_at body ≡ Ok rest → Takes body (1 ∷ []) rest
 version_took [] rest all e = absurd cc
-version_took (version ∷ behind) rest all e = by (eqb version 1) refl e
+version_took (version ∷ following) rest all e = by (eqb version 1) refl e
   where
-    by : (b : Bool) → eqb version 1 ≡ b → cond b (Ok behind) (stops_at (version ∷ behind)) ≡ Ok rest → Takes (version ∷ behind) (1 ∷ []) rest
+    by : (b : Bool) → eqb version 1 ≡ b → cond b (Ok following) (stops_at (version ∷ following)) ≡ Ok rest → Takes (version ∷ following) (1 ∷ []) rest
     by false is e = absurd cc
     by true is e =
         let one : version ≡ 1 = grind (arith, nat_tests) in
-        let same : behind ≡ rest = cc in
-        subst (λ (r : List ℕ). Takes (version ∷ behind) (1 ∷ []) r) same (record { parts = ap (λ v. v ∷ behind) one; rest_fits = IsBytes-tail version behind all })
+        let same : following ≡ rest = cc in
+        subst (λ (r : List ℕ). Takes (version ∷ following) (1 ∷ []) r) same (record { parts = ap (λ v. v ∷ following) one; rest_fits = IsBytes-tail version following all })
 
 ended_took : (rest : List ℕ) (done : Unit {0}) → ended rest ≡ Ok done → rest ≡ []
 ended_took [] done e = refl
@@ -90,11 +90,11 @@ regroup_6 a b c d e f more = simp append_assoc
 -- ---- the profiles, settings and devices of an instance or a snapshot
 
 pub record ShapeTook (bytes : List ℕ) (s : Shape) (rest : List ℕ) : Type 0 where
-  pub behind_profiles : List ℕ
-  pub behind_config : List ℕ
-  pub profiles_took : Takes bytes (texts_bytes s.profiles) behind_profiles
-  pub config_took : Takes behind_profiles (settings_bytes s.config) behind_config
-  pub devices_took : Takes behind_config (devices_bytes s.devices) rest
+  pub past_profiles : List ℕ
+  pub after_config : List ℕ
+  pub profiles_took : Takes bytes (texts_bytes s.profiles) past_profiles
+  pub config_took : Takes past_profiles (settings_bytes s.config) after_config
+  pub devices_took : Takes after_config (devices_bytes s.devices) rest
   pub profiles_fit : FitsTexts s.profiles
   pub config_fits : FitsSettings s.config
   pub devices_fit : FitsDevices s.devices
@@ -110,8 +110,8 @@ shape_took bytes x all e =
     let t2 = devices_part.takes c.got.1 d.got t1.rest_fits d.read_is in
     let made : Shape = record { profiles = p.got.0; config = c.got.0; devices = d.got.0 } in
     let took : ShapeTook bytes made d.got.1 = record {
-      behind_profiles = p.got.1;
-      behind_config = c.got.1;
+      past_profiles = p.got.1;
+      after_config = c.got.1;
       profiles_took = t0;
       config_took = t1;
       devices_took = t2;
@@ -125,9 +125,9 @@ shape_again : (s : Shape) (rest : List ℕ) → FitsTexts s.profiles → FitsSet
     → shape_at (texts_bytes s.profiles ++ (settings_bytes s.config ++ (devices_bytes s.devices ++ rest))) ≡ Ok (s, rest)
 unfolding shape_at
 shape_again s rest profiles config devices =
-    let behind_config : List ℕ = devices_bytes s.devices ++ rest in
-    let behind_profiles : List ℕ = settings_bytes s.config ++ behind_config in
-    rw (texts_part.again s.profiles behind_profiles profiles, settings_part.again s.config behind_config config, devices_part.again s.devices rest devices) refl
+    let after_config : List ℕ = devices_bytes s.devices ++ rest in
+    let past_profiles : List ℕ = settings_bytes s.config ++ after_config in
+    rw (texts_part.again s.profiles past_profiles profiles, settings_part.again s.config after_config config, devices_part.again s.devices rest devices) refl
 
 -- ---- projects
 

@@ -72,10 +72,10 @@ after_joined front back none = ap (λ n. drop (n + 1) (two_names front back)) (f
 
 -- a key with something after its first slash is joined of what stands before and after it
 joined : (key : List ℕ) → after_first is_slash key ≢ [] → key ≡ two_names (before_first is_slash key) (after_first is_slash key)
-joined key behind =
+joined key following =
     elim (cases_lt (position_or_len is_slash key) (length key)) [
       | inl lt ↦ split_at_first is_slash key 0 lt ∙ ap (λ b. before_first is_slash key ++ b ∷ after_first is_slash key) (eqb-true _ _ (passes_at_first is_slash key 0 lt))
-      | inr le ↦ absurd (behind (drop_all (position_or_len is_slash key + 1) key (omega arith)))
+      | inr le ↦ absurd (following (drop_all (position_or_len is_slash key + 1) key (omega arith)))
     ]
 
 good_is_something : (kind : ObjectKind) (name : List ℕ) → IsGood kind name → name ≢ []
@@ -104,8 +104,8 @@ two_again first second front back front_good back_good =
     let none = good_no_slash first front front_good in
     rw (before_joined front back none, after_joined front back none, front_good, back_good) refl
 
-abbrev behind_first : List ℕ → List ℕ × List ℕ → Result (List ℕ × List ℕ × List ℕ) Damaged
-behind_first front names = Ok (front, names.0, names.1)
+abbrev past_first : List ℕ → List ℕ × List ℕ → Result (List ℕ × List ℕ × List ℕ) Damaged
+past_first front names = Ok (front, names.0, names.1)
 
 pub three_took : (first second third : ObjectKind) (key : List ℕ) (x : List ℕ × List ℕ × List ℕ) → three_names_in first second third key ≡ Ok x
     → IsGood first x.0 × IsGood second x.1 × IsGood third x.2 × (key ≡ three_names x.0 x.1 x.2)
@@ -113,8 +113,8 @@ unfolding three_names_in
 three_took first second third key x e =
     let front = before_first is_slash key in
     let back = after_first is_slash key in
-    let p = passed_then (good_name_of first front) (two_names_in second third back >>= behind_first front) x damaged.Key e in
-    let n = went (two_names_in second third back) (behind_first front) x p.1 in
+    let p = passed_then (good_name_of first front) (two_names_in second third back >>= past_first front) x damaged.Key e in
+    let n = went (two_names_in second third back) (past_first front) x p.1 in
     let two = two_took second third back n.got n.read_is in
     let same : (front, n.got.0, n.got.1) ≡ x = cc (n.next_is) in
     let whole : key ≡ three_names front n.got.0 n.got.1 =

@@ -20,19 +20,19 @@ module _ {V : Type 0} where
 
   pub KeysRise-from_row : (entries : List (List ℕ × V)) → AreInRow IsNext None entries → KeysRise entries
   KeysRise-from_row [] row = KeysRise-nil V
-  KeysRise-from_row (e ∷ es) row = behind e es row.1
+  KeysRise-from_row (e ∷ es) row = following e es row.1
     where
-      behind : (e : List ℕ × V) (es : List (List ℕ × V)) → AreInRow IsNext (Some e) es → KeysRise (e ∷ es)
-      behind e [] row = KeysRise-cons e [] tt (KeysRise-nil V)
-      behind e (x ∷ xs) row =
-          let rest : KeysRise (x ∷ xs) = behind x xs row.1 in
+      following : (e : List ℕ × V) (es : List (List ℕ × V)) → AreInRow IsNext (Some e) es → KeysRise (e ∷ es)
+      following e [] row = KeysRise-cons e [] tt (KeysRise-nil V)
+      following e (x ∷ xs) row =
+          let rest : KeysRise (x ∷ xs) = following x xs row.1 in
           let less : order e.0 x.0 ≡ Less = less_from_test _ row.0 in
           KeysRise-cons e (x ∷ xs) (less, IsBelow-trans e.0 x.0 xs less (KeysRise-head x xs rest)) rest
 
   pub row_from_KeysRise : (entries : List (List ℕ × V)) → KeysRise entries → AreInRow IsNext None entries
   row_from_KeysRise [] up = tt
-  row_from_KeysRise (e ∷ es) up = (refl, behind e es up)
+  row_from_KeysRise (e ∷ es) up = (refl, following e es up)
     where
-      behind : (e : List ℕ × V) (es : List (List ℕ × V)) → KeysRise (e ∷ es) → AreInRow IsNext (Some e) es
-      behind e [] up = tt
-      behind e (x ∷ xs) up = (ap is_lt (KeysRise-head e (x ∷ xs) up).0, behind x xs (KeysRise-tail e (x ∷ xs) up))
+      following : (e : List ℕ × V) (es : List (List ℕ × V)) → KeysRise (e ∷ es) → AreInRow IsNext (Some e) es
+      following e [] up = tt
+      following e (x ∷ xs) up = (ap is_lt (KeysRise-head e (x ∷ xs) up).0, following x xs (KeysRise-tail e (x ∷ xs) up))

@@ -149,9 +149,9 @@ setting_took before bytes x e =
 setting_again : (before : Option (List ℕ × List ℕ)) (s : List ℕ × List ℕ) (rest : List ℕ) → FitsSetting s → IsNext before s → setting_at before (setting_bytes s ++ rest) ≡ Ok (s, rest)
 unfolding setting_at
 setting_again before s rest fits next =
-    let behind : List ℕ = text_bytes s.1 ++ rest in
-    let key : next_filled_at before (text_bytes s.0 ++ behind) ≡ Ok (s.0, behind) = next_filled_again before (text_bytes s.0 ++ behind) (s.0, behind) (text_part.again s.0 behind fits.key) next fits.full.0 in
-    let value : filled_at behind ≡ Ok (s.1, rest) = filled_again behind (s.1, rest) (text_part.again s.1 rest fits.value) fits.full.1 in
+    let after : List ℕ = text_bytes s.1 ++ rest in
+    let key : next_filled_at before (text_bytes s.0 ++ after) ≡ Ok (s.0, after) = next_filled_again before (text_bytes s.0 ++ after) (s.0, after) (text_part.again s.0 after fits.key) next fits.full.0 in
+    let value : filled_at after ≡ Ok (s.1, rest) = filled_again after (s.1, rest) (text_part.again s.1 rest fits.value) fits.full.1 in
     ap (setting_at before) (append_assoc (text_bytes s.0) (text_bytes s.1) rest) ∙ rw (key, value) refl
 
 setting_item : IsItem setting_at setting_bytes FitsSetting IsNext
@@ -233,9 +233,9 @@ device_took before bytes x e =
 device_again : (before : Option (List ℕ × Settings)) (d : List ℕ × Settings) (rest : List ℕ) → FitsDevice d → IsNext before d → device_at before (device_bytes d ++ rest) ≡ Ok (d, rest)
 unfolding device_at
 device_again before d rest fits next =
-    let behind : List ℕ = settings_bytes d.1 ++ rest in
-    let name : next_at before (text_bytes d.0 ++ behind) ≡ Ok (d.0, behind) = next_again before (text_bytes d.0 ++ behind) (d.0, behind) (text_part.again d.0 behind fits.name) next in
-    let config : settings_at behind ≡ Ok (d.1, rest) = settings_part.again d.1 rest fits.config in
+    let after : List ℕ = settings_bytes d.1 ++ rest in
+    let name : next_at before (text_bytes d.0 ++ after) ≡ Ok (d.0, after) = next_again before (text_bytes d.0 ++ after) (d.0, after) (text_part.again d.0 after fits.name) next in
+    let config : settings_at after ≡ Ok (d.1, rest) = settings_part.again d.1 rest fits.config in
     ap (device_at before) (append_assoc (text_bytes d.0) (settings_bytes d.1) rest) ∙ rw (name, config) refl
 
 device_item : IsItem device_at device_bytes FitsDevice IsNext

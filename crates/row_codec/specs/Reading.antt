@@ -168,7 +168,7 @@ snapshot_in project instance name body = do
 
 -- the place of what cannot be read, in a body of this length
 abbrev pub placed : {A : Type 0} → ℕ → Result A Unreadable → Result A Damaged
-placed len (Ok x) = Ok x
+placed len (Ok value) = Ok value
 placed len (Err unreadable) = Err (damaged.Body (len - unreadable.left))
 
 -- the same of what a function returned, to which memory may be wanting
@@ -244,8 +244,8 @@ read_snapshot key body = do
 
 -- what was read, as f makes it
 abbrev pub mapped : {A B E : Type 0} → (A → B) → Result A E → Result B E
-mapped f (Ok x) = Ok (f x)
-mapped f (Err e) = Err e
+mapped f (Ok value) = Ok (f value)
+mapped f (Err error) = Err error
 
 -- by the number of the kind, the key and the body
 unfoldable pub row_at : ℕ → List ℕ → List ℕ → Result Row Damaged
@@ -261,4 +261,4 @@ row_at number key body =
 
 -- the row that the entry spells, or the damage
 abbrev pub row_of : Entry → Result Row Damaged
-row_of e = row_at e.kind e.key e.body
+row_of entry = row_at entry.kind entry.key entry.body

@@ -27,64 +27,70 @@ IsGood kind name = good_name_of kind name ≡ true
 
 -- each part of the key is a good name of its kind
 abbrev pub HasGoodKey : Row → Type 0
-HasGoodKey (row.Project r) = IsGood kind.Project r.name
-HasGoodKey (row.Profile r) = IsGood kind.Project r.project × IsGood kind.Profile r.name
-HasGoodKey (row.Network r) = IsGood kind.Project r.project × IsGood kind.Network r.name
-HasGoodKey (row.Pool r) = IsGood kind.Pool r.name
-HasGoodKey (row.Volume r) = IsGood kind.Project r.project × IsGood kind.Pool r.pool × IsGood kind.Volume r.name
-HasGoodKey (row.Instance r) = IsGood kind.Project r.project × IsGood kind.Instance r.name
-HasGoodKey (row.Snapshot r) = IsGood kind.Project r.project × IsGood kind.Instance r.instance
-    × IsGood kind.Snapshot r.name
+HasGoodKey (row.Project project) = IsGood kind.Project project.name
+HasGoodKey (row.Profile profile) = IsGood kind.Project profile.project × IsGood kind.Profile profile.name
+HasGoodKey (row.Network network) = IsGood kind.Project network.project × IsGood kind.Network network.name
+HasGoodKey (row.Pool pool) = IsGood kind.Pool pool.name
+HasGoodKey (row.Volume volume) =
+    IsGood kind.Project volume.project × IsGood kind.Pool volume.pool × IsGood kind.Volume volume.name
+HasGoodKey (row.Instance instance) = IsGood kind.Project instance.project × IsGood kind.Instance instance.name
+HasGoodKey (row.Snapshot snapshot) = IsGood kind.Project snapshot.project × IsGood kind.Instance snapshot.instance
+    × IsGood kind.Snapshot snapshot.name
 
 -- ---- its moments
 
 -- each moment lies below the bound
 abbrev pub HasMoments : Row → Type 0
-HasMoments (row.Project r) = Unit {0}
-HasMoments (row.Profile r) = Unit {0}
-HasMoments (row.Network r) = Unit {0}
-HasMoments (row.Pool r) = Unit {0}
-HasMoments (row.Volume r) = IsMoment r.created
-HasMoments (row.Instance r) = IsMoment r.created
-HasMoments (row.Snapshot r) = IsMoment r.created × IsMoment r.expires
+HasMoments (row.Project project) = Unit {0}
+HasMoments (row.Profile profile) = Unit {0}
+HasMoments (row.Network network) = Unit {0}
+HasMoments (row.Pool pool) = Unit {0}
+HasMoments (row.Volume volume) = IsMoment volume.created
+HasMoments (row.Instance instance) = IsMoment instance.created
+HasMoments (row.Snapshot snapshot) = IsMoment snapshot.created × IsMoment snapshot.expires
 
 -- ---- its lengths
 
 -- each text and each list is short
 abbrev pub HasShortParts : Row → Type 0
-HasShortParts (row.Project r) = IsShort r.description × AreShortSettings r.config
-HasShortParts (row.Profile r) = IsShort r.description × AreShortSettings r.config × AreShortDevices r.devices
-HasShortParts (row.Network r) = IsShort r.description × AreShortSettings r.config
-HasShortParts (row.Pool r) = IsShort r.description × AreShortSettings r.config
-HasShortParts (row.Volume r) = IsShort r.description × AreShortSettings r.config
-HasShortParts (row.Instance r) =
-    IsShort r.description × IsShort r.origin × AreShortTexts r.profiles × AreShortSettings r.config
-    × AreShortDevices r.devices
-HasShortParts (row.Snapshot r) = AreShortTexts r.profiles × AreShortSettings r.config × AreShortDevices r.devices
+HasShortParts (row.Project project) = IsShort project.description × AreShortSettings project.config
+HasShortParts (row.Profile profile) =
+    IsShort profile.description × AreShortSettings profile.config × AreShortDevices profile.devices
+HasShortParts (row.Network network) = IsShort network.description × AreShortSettings network.config
+HasShortParts (row.Pool pool) = IsShort pool.description × AreShortSettings pool.config
+HasShortParts (row.Volume volume) = IsShort volume.description × AreShortSettings volume.config
+HasShortParts (row.Instance instance) =
+    IsShort instance.description × IsShort instance.origin × AreShortTexts instance.profiles
+    × AreShortSettings instance.config × AreShortDevices instance.devices
+HasShortParts (row.Snapshot snapshot) =
+    AreShortTexts snapshot.profiles × AreShortSettings snapshot.config × AreShortDevices snapshot.devices
 
 -- ---- what each row of the program has by its type
 
 -- texts are UTF-8, keys of settings and names of devices rise, and no key or value of a setting is empty
 abbrev pub HasTypedParts : Row → Type 0
-HasTypedParts (row.Project r) = IsUtf8 r.description × AreTypedSettings r.config
-HasTypedParts (row.Profile r) = IsUtf8 r.description × AreTypedSettings r.config × AreTypedDevices r.devices
-HasTypedParts (row.Network r) = IsUtf8 r.description × AreTypedSettings r.config
-HasTypedParts (row.Pool r) = IsUtf8 r.description × AreTypedSettings r.config
-HasTypedParts (row.Volume r) = IsUtf8 r.description × AreTypedSettings r.config
-HasTypedParts (row.Instance r) =
-    IsUtf8 r.description × IsUtf8 r.origin × AreUtf8 r.profiles × AreTypedSettings r.config × AreTypedDevices r.devices
-HasTypedParts (row.Snapshot r) = AreUtf8 r.profiles × AreTypedSettings r.config × AreTypedDevices r.devices
+HasTypedParts (row.Project project) = IsUtf8 project.description × AreTypedSettings project.config
+HasTypedParts (row.Profile profile) =
+    IsUtf8 profile.description × AreTypedSettings profile.config × AreTypedDevices profile.devices
+HasTypedParts (row.Network network) = IsUtf8 network.description × AreTypedSettings network.config
+HasTypedParts (row.Pool pool) = IsUtf8 pool.description × AreTypedSettings pool.config
+HasTypedParts (row.Volume volume) = IsUtf8 volume.description × AreTypedSettings volume.config
+HasTypedParts (row.Instance instance) =
+    IsUtf8 instance.description × IsUtf8 instance.origin × AreUtf8 instance.profiles
+    × AreTypedSettings instance.config × AreTypedDevices instance.devices
+HasTypedParts (row.Snapshot snapshot) =
+    AreUtf8 snapshot.profiles × AreTypedSettings snapshot.config × AreTypedDevices snapshot.devices
 
 -- ---- what has a spelling
 
 -- a row that can be kept
-pub record IsRow (r : Row) : Type 0 where
-  pub keyed : HasGoodKey r
-  pub timely : HasMoments r
-  pub short : HasShortParts r
-  pub typed : HasTypedParts r
+pub record IsRow (row : Row) : Type 0 where
+  pub keyed : HasGoodKey row
+  pub timely : HasMoments row
+  pub short : HasShortParts row
+  pub typed : HasTypedParts row
 
 -- the entry is the spelling of this row
-pub record Spells (r : Row) (e : Entry) : Type 0 where
-  pub row : IsRow r
-  pub entry : e ≡ entry_of r
+pub record Spells (spelled : Row) (spelling : Entry) : Type 0 where
+  pub row : IsRow spelled
+  pub entry : spelling ≡ entry_of spelled

@@ -26,65 +26,66 @@ pub use Rattle.row_parts.specs.Spelling.{
 
 -- the body of a project: description and settings
 abbrev pub project_bytes : Project → List ℕ
-project_bytes r = (1 ∷ text_bytes r.description) ++ settings_bytes r.config
+project_bytes project = (1 ∷ text_bytes project.description) ++ settings_bytes project.config
 
 -- the body of a profile: description, settings and devices
 abbrev pub profile_bytes : Profile → List ℕ
-profile_bytes r = (1 ∷ text_bytes r.description) ++ settings_bytes r.config ++ devices_bytes r.devices
+profile_bytes profile =
+    (1 ∷ text_bytes profile.description) ++ settings_bytes profile.config ++ devices_bytes profile.devices
 
 -- the body of a network: description and settings
 abbrev pub network_bytes : Network → List ℕ
-network_bytes r = (1 ∷ text_bytes r.description) ++ settings_bytes r.config
+network_bytes network = (1 ∷ text_bytes network.description) ++ settings_bytes network.config
 
 -- the body of a pool: driver, description and settings
 abbrev pub pool_bytes : Pool → List ℕ
-pool_bytes r = (1 ∷ driver_byte r.driver ∷ text_bytes r.description) ++ settings_bytes r.config
+pool_bytes pool = (1 ∷ driver_byte pool.driver ∷ text_bytes pool.description) ++ settings_bytes pool.config
 
 -- the body of a volume: description, settings and the moment of creation
 abbrev pub volume_bytes : Volume → List ℕ
-volume_bytes r = (1 ∷ text_bytes r.description) ++ settings_bytes r.config ++ number_bytes r.created
+volume_bytes volume = (1 ∷ text_bytes volume.description) ++ settings_bytes volume.config ++ number_bytes volume.created
 
 -- the body of an instance: kind, whether ephemeral, description, origin, the moment of creation, profiles, settings and
 -- devices
 abbrev pub instance_bytes : Instance → List ℕ
-instance_bytes r =
-    (1 ∷ kind_byte r.kind ∷ truth_byte r.ephemeral ∷ text_bytes r.description)
-    ++ text_bytes r.origin
-    ++ number_bytes r.created
-    ++ texts_bytes r.profiles
-    ++ settings_bytes r.config
-    ++ devices_bytes r.devices
+instance_bytes instance =
+    (1 ∷ kind_byte instance.kind ∷ truth_byte instance.ephemeral ∷ text_bytes instance.description)
+    ++ text_bytes instance.origin
+    ++ number_bytes instance.created
+    ++ texts_bytes instance.profiles
+    ++ settings_bytes instance.config
+    ++ devices_bytes instance.devices
 
 -- the body of a snapshot: the moments of creation and of expiry, profiles, settings and devices
 abbrev pub snapshot_bytes : Snapshot → List ℕ
-snapshot_bytes r =
-    (1 ∷ number_bytes r.created)
-    ++ number_bytes r.expires
-    ++ texts_bytes r.profiles
-    ++ settings_bytes r.config
-    ++ devices_bytes r.devices
+snapshot_bytes snapshot =
+    (1 ∷ number_bytes snapshot.created)
+    ++ number_bytes snapshot.expires
+    ++ texts_bytes snapshot.profiles
+    ++ settings_bytes snapshot.config
+    ++ devices_bytes snapshot.devices
 
 -- the body of a row, by its kind
 abbrev pub body_of : Row → List ℕ
-body_of (row.Project r) = project_bytes r
-body_of (row.Profile r) = profile_bytes r
-body_of (row.Network r) = network_bytes r
-body_of (row.Pool r) = pool_bytes r
-body_of (row.Volume r) = volume_bytes r
-body_of (row.Instance r) = instance_bytes r
-body_of (row.Snapshot r) = snapshot_bytes r
+body_of (row.Project project) = project_bytes project
+body_of (row.Profile profile) = profile_bytes profile
+body_of (row.Network network) = network_bytes network
+body_of (row.Pool pool) = pool_bytes pool
+body_of (row.Volume volume) = volume_bytes volume
+body_of (row.Instance instance) = instance_bytes instance
+body_of (row.Snapshot snapshot) = snapshot_bytes snapshot
 
 -- ---- kinds and keys
 
 -- the number of the kind of a row
 abbrev pub kind_of : Row → ℕ
-kind_of (row.Project r) = 1
-kind_of (row.Profile r) = 2
-kind_of (row.Network r) = 3
-kind_of (row.Pool r) = 4
-kind_of (row.Volume r) = 5
-kind_of (row.Instance r) = 6
-kind_of (row.Snapshot r) = 7
+kind_of (row.Project project) = 1
+kind_of (row.Profile profile) = 2
+kind_of (row.Network network) = 3
+kind_of (row.Pool pool) = 4
+kind_of (row.Volume volume) = 5
+kind_of (row.Instance instance) = 6
+kind_of (row.Snapshot snapshot) = 7
 
 -- two names with a slash between
 abbrev pub two_names : List ℕ → List ℕ → List ℕ
@@ -96,14 +97,14 @@ three_names first second third = two_names first (two_names second third)
 
 -- the key of a row: its project where it has one, its pool or instance where it stands in one, and its name
 abbrev pub key_of : Row → List ℕ
-key_of (row.Project r) = r.name
-key_of (row.Profile r) = two_names r.project r.name
-key_of (row.Network r) = two_names r.project r.name
-key_of (row.Pool r) = r.name
-key_of (row.Volume r) = three_names r.project r.pool r.name
-key_of (row.Instance r) = two_names r.project r.name
-key_of (row.Snapshot r) = three_names r.project r.instance r.name
+key_of (row.Project project) = project.name
+key_of (row.Profile profile) = two_names profile.project profile.name
+key_of (row.Network network) = two_names network.project network.name
+key_of (row.Pool pool) = pool.name
+key_of (row.Volume volume) = three_names volume.project volume.pool volume.name
+key_of (row.Instance instance) = two_names instance.project instance.name
+key_of (row.Snapshot snapshot) = three_names snapshot.project snapshot.instance snapshot.name
 
 -- the entry that a row is kept as
 abbrev pub entry_of : Row → Entry
-entry_of r = record { kind = kind_of r; key = key_of r; body = body_of r }
+entry_of row = record { kind = kind_of row; key = key_of row; body = body_of row }

@@ -131,8 +131,8 @@ fn two_names(alloc: Global, first: &Text, second: &Text) -> Result<Text, NoMemor
 fn three_names(alloc: Global, first: &Text, second: &Text, third: &Text) -> Result<Text, NoMemory>
     ensures { IfOk result (λ key. key ≡ three_names first.now second.now third.now) }
 {
-    let behind = two_names(alloc, second, third)?;
-    two_names(alloc, first, &behind)
+    let after = two_names(alloc, second, third)?;
+    two_names(alloc, first, &after)
 }
 
 /// The key of the entry that a row is kept as: its project's name where it has one, that of its pool or

@@ -37,10 +37,10 @@ same_start p n key rest h is =
     sym (rest_eq p (47 ∷ n) rest) ∙ ap (bytes_eq (two_names p n)) whole
 
 -- what stands after the name and a slash, by what stands after a slash in the rest
-pub rest-behind : (first key rest : List ℕ) (o : Option (List ℕ)) → bytes_eq (take (length first) key) first ≡ true → rest ≡ drop (length first) key
+pub rest-after : (first key rest : List ℕ) (o : Option (List ℕ)) → bytes_eq (take (length first) key) first ≡ true → rest ≡ drop (length first) key
     → IsRest [] rest o → IsRest first key o
-rest-behind first key rest None begins is none = λ n. sym (same_start first n key rest begins is) ∙ none n
-rest-behind first key rest (Some last) begins is some = λ n. sym (same_start first n key rest begins is) ∙ some n
+rest-after first key rest None begins is none = λ n. sym (same_start first n key rest begins is) ∙ none n
+rest-after first key rest (Some last) begins is some = λ n. sym (same_start first n key rest begins is) ∙ some n
 
 -- ---- a put at the place that was found
 

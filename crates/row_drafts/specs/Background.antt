@@ -35,19 +35,20 @@ pub record Background : Type 0 where
 
 -- the state with these operations and shares
 abbrev pub with_background : Background → State → State
-with_background b s = record s { operations = b.operations; held = b.held; books = b.books }
+with_background background state =
+    record state { operations = background.operations; held = background.held; books = background.books }
 
 -- ---- shares
 
 -- the share that this operation holds
 abbrev pub share_in : List Hold → ℕ → Amounts
-share_in held op = option_map_or (λ (h : Hold). h.share) (find (has_op op) held) nothing
+share_in held op = option_map_or (λ (hold : Hold). hold.share) (find (has_op op) held) nothing
 
 -- the operation that was entered last holds this share of a project from now on
 abbrev pub holding : List ℕ → Amounts → State → State
-holding project share s = record s {
-  held = s.held ++ record { op = s.operations.next - 1; project = project; share = share } ∷ [];
-  books = granted_more share s.books;
+holding project share state = record state {
+  held = state.held ++ record { op = state.operations.next - 1; project = project; share = share } ∷ [];
+  books = granted_more share state.books;
 }
 
 -- ---- claims
@@ -66,7 +67,7 @@ pending_of number task moment = record {
 
 -- the operations as they were before the one that was entered last
 abbrev pub before_claim : Kept Task → Kept Task
-before_claim k = record { live = take (length k.live - 1) k.live; ended = k.ended; next = k.next - 1 }
+before_claim kept = record { live = take (length kept.live - 1) kept.live; ended = kept.ended; next = kept.next - 1 }
 
 -- ---- calls
 
@@ -85,7 +86,8 @@ handed handing.Undo task = option_map (λ call. (call, undone task)) task.undo
 
 -- what the live operation of this number hands out
 abbrev pub handed_at : Handing → Kept Task → ℕ → Option (HostCall × Task)
-handed_at which k number = option_and_then (λ (o : Operation Task). handed which o.work) (live_at k number)
+handed_at which kept number =
+    option_and_then (λ (operation : Operation Task). handed which operation.work) (live_at kept number)
 
 -- one more call can be counted
 abbrev pub HasCount : Handing → Task → Type 0
@@ -94,4 +96,5 @@ HasCount other task = Unit {0}
 
 -- the same of the live operation of this number
 abbrev pub HasCountAt : Handing → Kept Task → ℕ → Type 0
-HasCountAt which k number = IfSome (live_at k number) (λ (o : Operation Task). HasCount which o.work)
+HasCountAt which kept number =
+    IfSome (live_at kept number) (λ (operation : Operation Task). HasCount which operation.work)

@@ -30,31 +30,31 @@ pub record Drafted : Type 0 where
 
 -- the state before the changes that are not settled yet
 abbrev pub former : Drafted → State
-former d = before_changes d.log d.state
+former draft = before_changes draft.log draft.state
 
 -- memory was taken for one more operation, for taking it back, and for the share that it then holds
-pub record CanClaim (d : Drafted) : Type 0 where
-  pub rows : length d.log + 1 ≤ d.room
-  pub log : 1 ≤ d.log_room
-  pub claim : 1 ≤ d.backing.claim_room
-  pub hold : 1 ≤ d.backing.hold_room
+pub record CanClaim (draft : Drafted) : Type 0 where
+  pub rows : length draft.log + 1 ≤ draft.room
+  pub log : 1 ≤ draft.log_room
+  pub claim : 1 ≤ draft.backing.claim_room
+  pub hold : 1 ≤ draft.backing.hold_room
 
 -- the status of a new instance
 abbrev pub stopped : Instance → Standing
-stopped i = record { project = i.project; name = i.name; power = Stopped }
+stopped instance = record { project = instance.project; name = instance.name; power = Stopped }
 
 -- the status that a change may need: that of the instance which it puts
 abbrev pub spares_for : RowChange → List Standing
-spares_for (change.Put (row.Instance i)) = stopped i ∷ []
+spares_for (change.Put (row.Instance instance)) = stopped instance ∷ []
 spares_for other = []
 
 -- those that changes may need, in their order
 abbrev pub spares_of : List RowChange → List Standing
 spares_of [] = []
-spares_of (c ∷ cs) = spares_for c ++ spares_of cs
+spares_of (change ∷ changes) = spares_for change ++ spares_of changes
 
 -- memory was taken for these changes, and for taking back them and those before that are not settled
-pub record IsReady (d : Drafted) (cs : List RowChange) : Type 0 where
-  pub rows : length d.log + 2 * length cs ≤ d.room
-  pub log : length cs ≤ d.log_room
-  pub spares : d.spares ≡ spares_of cs
+pub record IsReady (draft : Drafted) (changes : List RowChange) : Type 0 where
+  pub rows : length draft.log + 2 * length changes ≤ draft.room
+  pub log : length changes ≤ draft.log_room
+  pub spares : draft.spares ≡ spares_of changes

@@ -10,48 +10,48 @@ use Rattle.row_drafts.specs.Steps.{FitChanges, RoseBefore}
 
 -- the state with these rows, statuses, operations and shares, which was told to close or not
 abbrev pub state_in : ListsInside → State
-state_in l = with_background l.background (record empty_state {
-  projects = l.projects.items;
-  profiles = l.profiles.items;
-  networks = l.networks.items;
-  pools = l.pools.items;
-  volumes = l.volumes.items;
-  instances = l.instances.items;
-  snapshots = l.snapshots.items;
-  powers = l.powers.items;
-  closed = l.closed;
+state_in lists = with_background lists.background (record empty_state {
+  projects = lists.projects.items;
+  profiles = lists.profiles.items;
+  networks = lists.networks.items;
+  pools = lists.pools.items;
+  volumes = lists.volumes.items;
+  instances = lists.instances.items;
+  snapshots = lists.snapshots.items;
+  powers = lists.powers.items;
+  closed = lists.closed;
 })
 
 -- the rows and operations, and the least room that a kind of rows has
 abbrev pub listed : ListsInside → Listed
-listed l = record {
-  state = state_in l;
+listed lists = record {
+  state = state_in lists;
   room =
-      min (vec_capacity l.projects - vec_len l.projects)
-      (min (vec_capacity l.profiles - vec_len l.profiles)
-      (min (vec_capacity l.networks - vec_len l.networks)
-      (min (vec_capacity l.pools - vec_len l.pools)
-      (min (vec_capacity l.volumes - vec_len l.volumes)
-      (min (vec_capacity l.instances - vec_len l.instances)
-      (min (vec_capacity l.snapshots - vec_len l.snapshots)
-      (vec_capacity l.powers - vec_len l.powers)))))));
-  backing = l.background.backing;
+      min (vec_capacity lists.projects - vec_len lists.projects)
+      (min (vec_capacity lists.profiles - vec_len lists.profiles)
+      (min (vec_capacity lists.networks - vec_len lists.networks)
+      (min (vec_capacity lists.pools - vec_len lists.pools)
+      (min (vec_capacity lists.volumes - vec_len lists.volumes)
+      (min (vec_capacity lists.instances - vec_len lists.instances)
+      (min (vec_capacity lists.snapshots - vec_len lists.snapshots)
+      (vec_capacity lists.powers - vec_len lists.powers)))))));
+  backing = lists.background.backing;
 }
 
 -- the rows with the log of their changes
 abbrev pub drafted : DraftInside → Drafted
-drafted d = record {
-  state = d.lists.state;
-  log = d.log.items;
-  room = d.lists.room;
-  log_room = vec_capacity d.log - vec_len d.log;
-  spares = d.spares.items;
-  backing = d.lists.backing;
+drafted draft = record {
+  state = draft.lists.state;
+  log = draft.log.items;
+  room = draft.lists.room;
+  log_room = vec_capacity draft.log - vec_len draft.log;
+  spares = draft.spares.items;
+  backing = draft.lists.backing;
 }
 
 -- the log can be taken back, and there is room for it; and the rows rise, as they did before each of its changes
-pub record IsDraft (d : DraftInside) : Type 0 where
-  pub fits : FitChanges d.log.items d.lists.state
-  pub room : length d.log.items ≤ d.lists.room
-  pub rises : AreRising d.lists.state
-  pub rose : RoseBefore d.log.items d.lists.state
+pub record IsDraft (draft : DraftInside) : Type 0 where
+  pub fits : FitChanges draft.log.items draft.lists.state
+  pub room : length draft.log.items ≤ draft.lists.room
+  pub rises : AreRising draft.lists.state
+  pub rose : RoseBefore draft.log.items draft.lists.state

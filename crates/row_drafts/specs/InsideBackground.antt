@@ -6,18 +6,18 @@ use Rattle.row_drafts.specs.Background.{Background}
 
 -- the operations, the shares, and what there is memory for
 abbrev pub background_in : Inside → Background
-background_in b = record {
-  operations = record { live = b.live.items; ended = b.ended.items; next = b.next };
-  held = b.ledger.held;
-  books = b.ledger.books;
+background_in background = record {
+  operations = record { live = background.live.items; ended = background.ended.items; next = background.next };
+  held = background.ledger.held;
+  books = background.ledger.books;
   backing = record {
-    claim_room = vec_capacity b.live - vec_len b.live;
-    hold_room = b.ledger.spare;
-    greatest = b.ledger.greatest;
+    claim_room = vec_capacity background.live - vec_len background.live;
+    hold_room = background.ledger.spare;
+    greatest = background.ledger.greatest;
   };
 }
 
 -- there is room for all ended operations that are kept, and no more are
-pub record HasRing (b : Inside) : Type 0 where
-  pub room : most_ended ≤ vec_capacity b.ended
-  pub few : length b.ended.items ≤ most_ended
+pub record HasRing (background : Inside) : Type 0 where
+  pub room : most_ended ≤ vec_capacity background.ended
+  pub few : length background.ended.items ≤ most_ended

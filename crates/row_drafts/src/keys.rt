@@ -6,7 +6,7 @@ ghost use Rattle.machine_laws.specs.row_codec.specs.Spelling.{two_names, three_n
 ghost use Rattle.row_drafts.specs.Keys.{IsRest};
 
 /// What stands after a slash.
-fn rest_behind_slash(key: &[u8]) -> Option<&[u8]>
+fn rest_after_slash(key: &[u8]) -> Option<&[u8]>
     ensures { IsRest [] key.now (option_copied result) }
 {
     match key.split_first() {
@@ -16,11 +16,11 @@ fn rest_behind_slash(key: &[u8]) -> Option<&[u8]>
 }
 
 /// What stands in a key after this name and a slash.
-fn rest_behind<'x>(key: &'x [u8], first: &[u8]) -> Option<&'x [u8]>
+fn rest_after<'x>(key: &'x [u8], first: &[u8]) -> Option<&'x [u8]>
     ensures { IsRest first.now key.now (option_copied result) }
 {
     match key.strip_prefix(first) {
-        Some(rest) => rest_behind_slash(rest),
+        Some(rest) => rest_after_slash(rest),
         None => None,
     }
 }
@@ -29,7 +29,7 @@ fn rest_behind<'x>(key: &'x [u8], first: &[u8]) -> Option<&'x [u8]>
 pub(crate) fn is_two_names(key: &[u8], first: &[u8], second: &[u8]) -> bool
     ensures { result ≡ bytes_eq (two_names first.now second.now) key.now }
 {
-    match rest_behind(key, first) {
+    match rest_after(key, first) {
         Some(rest) => second == rest,
         None => false,
     }
@@ -39,7 +39,7 @@ pub(crate) fn is_two_names(key: &[u8], first: &[u8], second: &[u8]) -> bool
 pub(crate) fn is_three_names(key: &[u8], first: &[u8], second: &[u8], third: &[u8]) -> bool
     ensures { result ≡ bytes_eq (three_names first.now second.now third.now) key.now }
 {
-    match rest_behind(key, first) {
+    match rest_after(key, first) {
         Some(rest) => is_two_names(rest, second, third),
         None => false,
     }

@@ -37,8 +37,8 @@ use Rattle.row_machine.specs.machine.Plans.{Plan, nothing, changes, starts, plan
 use Rattle.row_machine.specs.machine.Work.{entered, moved, with_task, succeeded, failed, cancelled, after_failure, with_power_after, power_after, success_changes}
 use Rattle.row_machine.specs.shown.Notices.{telling, push_notice, operation_notice, change_notices, success_notices, view_of}
 use Rattle.row_machine.specs.machine.Rules.{broken}
-use Rattle.row_machine.specs.machine.Accept.{After, accepted, carried_out, begun, told, cancel, after_cancel, cancel_or_read, started}
-use Rattle.row_machine.specs.machine.Step.{Outcome, well, keeper_failed, no_memory, step, asked, unavailable, taken, handed_out, first_pending, done, reported, while_running, while_cancelling, call_done, call_failed, committed, stray, always, fetched}
+use Rattle.row_machine.specs.machine.Accept.{After, accepted, carried_out, begun, with_operation_notice, cancel, after_cancel, cancel_or_read, started}
+use Rattle.row_machine.specs.machine.Step.{Outcome, well, keeper_failed, no_memory, step, after_command, unavailable, taken, handed_out, first_pending, done, reported, while_running, while_cancelling, call_done, call_failed, committed, stray, always, fetched}
 use Rattle.row_machine.specs.facts.Laws.{RefusedStays}
 use Rattle.row_machine.proofs.Moving.{Moves, stays, enters, changes as alters, over, both}
 
@@ -80,7 +80,7 @@ telling-operations : (ns : List Untold) (s : State) → (telling ns s).operation
 telling-operations [] s = refl
 telling-operations (n ∷ ns) s = telling-operations ns (push_notice n s) ∙ pushed-operations n s
 
-told-operations : (s : State) (number moment : ℕ) → (told s number moment).operations ≡ s.operations
+told-operations : (s : State) (number moment : ℕ) → (with_operation_notice s number moment).operations ≡ s.operations
 told-operations s number moment = telling-operations (operation_notice s number moment) s
 
 -- ---- moves
@@ -89,7 +89,7 @@ told-operations s number moment = telling-operations (operation_notice s number 
 to-same : {k l m : Kept Task} → m ≡ l → Moves k l → Moves k m
 to-same {k} same h = subst (λ x. Moves k x) (sym same) h
 
-moves-told : {k : Kept Task} (s : State) (number moment : ℕ) → Moves k s.operations → Moves k (told s number moment).operations
+moves-told : {k : Kept Task} (s : State) (number moment : ℕ) → Moves k s.operations → Moves k (with_operation_notice s number moment).operations
 moves-told s number moment h = to-same (told-operations s number moment) h
 
 moves-moved : (s : State) (n : ℕ) (now : Status) (moment : ℕ) → Moves s.operations (moved n now moment s).operations
@@ -184,7 +184,7 @@ follows-unavailable s nothing = follows-none s
 follows-unavailable s (changes cs) = follows-at s _ stays
 follows-unavailable s (starts task) = follows-none s
 
-follows-asked : (s : State) (c : Command) (moment : ℕ) (outcome : Outcome) (r : Option Refusal) → Follows s (asked s c moment outcome r)
+follows-asked : (s : State) (c : Command) (moment : ℕ) (outcome : Outcome) (r : Option Refusal) → Follows s (after_command s c moment outcome r)
 follows-asked s c moment well (Some refusal) = follows-at s _ stays
 follows-asked s c moment well None = follows-at s _ (follows-accepted s c moment)
 follows-asked s c moment (keeper_failed rise) (Some refusal) = follows-none s
@@ -201,11 +201,11 @@ follows-taken : (s : State) (moment : ℕ) (o : Option (Operation Task)) → Mov
 follows-taken s moment (Some o) = follows-handed s o moment o.work.calls
 follows-taken s moment None = stays
 
-follows-failure : (s : State) (o : Operation Task) (why : OpFault) (n moment : ℕ) → Moves s.operations (told (failed s o why n moment) o.number moment).operations
+follows-failure : (s : State) (o : Operation Task) (why : OpFault) (n moment : ℕ) → Moves s.operations (with_operation_notice (failed s o why n moment) o.number moment).operations
 follows-failure s o why n moment = moves-told (failed s o why n moment) o.number moment (moves-failed s o why n moment)
 
 follows-success : (s : State) (o : Operation Task) (moment : ℕ)
-    → Moves s.operations (told (telling (success_notices o.work moment) (succeeded s o moment)) o.number moment).operations
+    → Moves s.operations (with_operation_notice (telling (success_notices o.work moment) (succeeded s o moment)) o.number moment).operations
 follows-success s o moment = moves-told _ o.number moment
     (to-same (telling-operations (success_notices o.work moment) (succeeded s o moment)) (moves-succeeded s o moment))
 
@@ -344,7 +344,7 @@ refuses-unavailable s nothing = refuses-none s
 refuses-unavailable s (changes cs) = refuses-same s _
 refuses-unavailable s (starts task) = refuses-none s
 
-refuses-asked : (s : State) (c : Command) (moment : ℕ) (outcome : Outcome) (r : Option Refusal) → Refuses s (asked s c moment outcome r)
+refuses-asked : (s : State) (c : Command) (moment : ℕ) (outcome : Outcome) (r : Option Refusal) → Refuses s (after_command s c moment outcome r)
 refuses-asked s c moment well (Some refusal) = refuses-same s _
 refuses-asked s c moment well None = refuses-accepted s c moment
 refuses-asked s c moment (keeper_failed rise) (Some refusal) = refuses-none s

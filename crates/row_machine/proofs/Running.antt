@@ -17,7 +17,7 @@ use Rattle.row_machine.specs.machine.Task.{Task}
 use Rattle.row_machine.specs.machine.State.{State}
 use Rattle.row_machine.specs.machine.Accept.{After}
 use Rattle.row_machine.specs.machine.Step.{Outcome, step}
-use Rattle.row_machine.specs.machine.Runs.{Ran, behind, run, end_of, ends_between}
+use Rattle.row_machine.specs.machine.Runs.{Ran, prepended, run, end_of, ends_between}
 use Rattle.row_machine.specs.facts.Laws.{EmptyRunStays, joined, RunsJoin, EndedStays, EndsOnce}
 use Rattle.row_machine.proofs.Moving.{Moves, stays, both, AreLive, kept-live, moves-next, moves-live, IsOver, moves-over, kept-settled, moves-settled, settled-is}
 use Rattle.row_machine.proofs.Following.{step-moves}
@@ -29,17 +29,17 @@ Events = List (Event × Outcome)
 
 -- a run of one event more is a step and a run
 pub data Begins (s : State) (e : Event × Outcome) (events : Events) (r : Ran) : Type 0 where
-  begins : (first : After) (rest : Ran) → step s e.0 e.1 ≡ Some first → run first.state events ≡ Some rest → r ≡ behind s first rest → Begins s e events r
+  begins : (first : After) (rest : Ran) → step s e.0 e.1 ≡ Some first → run first.state events ≡ Some rest → r ≡ prepended s first rest → Begins s e events r
 
 pub run-begins : (s : State) (e : Event × Outcome) (events : Events) (r : Ran) → run s (e ∷ events) ≡ Some r → Begins s e events r
 run-begins s e events r is = at (step s e.0 e.1) refl is where
-  and_rest : (first : After) → step s e.0 e.1 ≡ Some first → (rest : Option Ran) → run first.state events ≡ rest → option_map (behind s first) rest ≡ Some r → Begins s e events r
+  and_rest : (first : After) → step s e.0 e.1 ≡ Some first → (rest : Option Ran) → run first.state events ≡ rest → option_map (prepended s first) rest ≡ Some r → Begins s e events r
   and_rest first stepped None ran whole = cc
   and_rest first stepped (Some rest) ran whole = begins first rest stepped ran (some-is (sym whole)) where
     some-is : {x y : Ran} → Some x ≡ Some y → x ≡ y
     some-is same = cc
 
-  at : (first : Option After) → step s e.0 e.1 ≡ first → option_and_then (λ a. option_map (behind s a) (run a.state events)) first ≡ Some r → Begins s e events r
+  at : (first : Option After) → step s e.0 e.1 ≡ first → option_and_then (λ a. option_map (prepended s a) (run a.state events)) first ≡ Some r → Begins s e events r
   at None stepped whole = cc
   at (Some first) stepped whole = and_rest first stepped (run first.state events) refl whole
 
@@ -63,25 +63,25 @@ runs-join s [] more = sym (none-before (run s more)) where
   none-before None = refl
   none-before (Some r) = refl
 runs-join s (e ∷ events) more = at (step s e.0 e.1) (λ first. runs-join first.state events more) where
-  behind-joined : (first : After) (a b : Ran) → behind s first (joined a b) ≡ joined (behind s first a) b
-  behind-joined first a b = ap (λ ends. record { answers = first.answer ∷ a.answers ++ b.answers; ends = ends; state = b.state }) (sym (append_assoc (ends_between s first.state) a.ends b.ends))
+  after-joined : (first : After) (a b : Ran) → prepended s first (joined a b) ≡ joined (prepended s first a) b
+  after-joined first a b = ap (λ ends. record { answers = first.answer ∷ a.answers ++ b.answers; ends = ends; state = b.state }) (sym (append_assoc (ends_between s first.state) a.ends b.ends))
 
-  and_more : (first : After) (a : Ran) (m : Option Ran) → option_map (behind s first) (option_map (joined a) m) ≡ option_map (joined (behind s first a)) m
+  and_more : (first : After) (a : Ran) (m : Option Ran) → option_map (prepended s first) (option_map (joined a) m) ≡ option_map (joined (prepended s first a)) m
   and_more first a None = refl
-  and_more first a (Some b) = ap Some (behind-joined first a b)
+  and_more first a (Some b) = ap Some (after-joined first a b)
 
   and_rest : (first : After) (r : Option Ran)
-      → option_map (behind s first) (option_and_then (λ a. option_map (joined a) (run a.state more)) r)
-      ≡ option_and_then (λ a. option_map (joined a) (run a.state more)) (option_map (behind s first) r)
+      → option_map (prepended s first) (option_and_then (λ a. option_map (joined a) (run a.state more)) r)
+      ≡ option_and_then (λ a. option_map (joined a) (run a.state more)) (option_map (prepended s first) r)
   and_rest first None = refl
   and_rest first (Some a) = and_more first a (run a.state more)
 
   at : (o : Option After)
       → ((first : After) → run first.state (events ++ more) ≡ option_and_then (λ a. option_map (joined a) (run a.state more)) (run first.state events))
-      → option_and_then (λ first. option_map (behind s first) (run first.state (events ++ more))) o
-      ≡ option_and_then (λ a. option_map (joined a) (run a.state more)) (option_and_then (λ first. option_map (behind s first) (run first.state events)) o)
+      → option_and_then (λ first. option_map (prepended s first) (run first.state (events ++ more))) o
+      ≡ option_and_then (λ a. option_map (joined a) (run a.state more)) (option_and_then (λ first. option_map (prepended s first) (run first.state events)) o)
   at None rest = refl
-  at (Some first) rest = ap (option_map (behind s first)) (rest first) ∙ and_rest first (run first.state events)
+  at (Some first) rest = ap (option_map (prepended s first)) (rest first) ∙ and_rest first (run first.state events)
 
 pub ended-stays : EndedStays
 ended-stays s events r o later kept is there found =

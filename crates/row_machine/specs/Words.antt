@@ -49,7 +49,7 @@ pub use Rattle.reservations.specs.plain_lists.specs.Edits.{changed_first, droppe
 pub use Rattle.reservations.specs.plain_lists.specs.Firsts.{first, first_of}
 pub use Rattle.reservations.specs.plain_lists.specs.Members.{Distinct, Each, Mem}
 pub use Rattle.reservations.specs.plain_lists.specs.Rings.{ring_push}
-pub use Rattle.project_limits.specs.Admission.{limit_on, over, parts, key_of as key_of_part}
+pub use Rattle.project_limits.specs.Admission.{limit_on, exceeded, parts, key_of as key_of_part}
 pub use Rattle.project_limits.specs.Countable.{first_uncounted, volume_uncounted}
 pub use Rattle.project_limits.specs.Instance.{instance_amounts, volume_amounts}
 pub use Rattle.project_limits.specs.Limits.{limits_of}

@@ -35,7 +35,7 @@ module _ {V : Type 0} where
   KeysRise-push [] e up above = KeysRise-cons e [] tt up
   KeysRise-push (x ∷ []) e up above = KeysRise-cons x (e ∷ []) (less_from_test _ above, tt) (KeysRise-cons e [] tt (KeysRise-nil V))
   KeysRise-push (x ∷ y ∷ ys) e up above =
-      KeysRise-cons x (y ∷ ys ++ e ∷ []) (first.0, below ys e first.1 (behind y ys first above)) (KeysRise-push (y ∷ ys) e (KeysRise-tail x (y ∷ ys) up) above)
+      KeysRise-cons x (y ∷ ys ++ e ∷ []) (first.0, below ys e first.1 (after y ys first above)) (KeysRise-push (y ∷ ys) e (KeysRise-tail x (y ∷ ys) up) above)
     where
       first : IsBelow x.0 (y ∷ ys)
       first = KeysRise-head x (y ∷ ys) up
@@ -44,9 +44,9 @@ module _ {V : Type 0} where
       below [] e h is = (is, tt)
       below (z ∷ zs) e h is = (h.0, below zs e h.1 is)
 
-      behind : (z : List ℕ × V) (zs : List (List ℕ × V)) → IsBelow x.0 (z ∷ zs) → is_next (last_of (z ∷ zs)) e.0 ≡ true → order x.0 e.0 ≡ Less
-      behind z [] h above = below_trans x.0 z.0 e.0 h.0 (less_from_test _ above)
-      behind z (w ∷ ws) h above = behind w ws h.1 above
+      after : (z : List ℕ × V) (zs : List (List ℕ × V)) → IsBelow x.0 (z ∷ zs) → is_next (last_of (z ∷ zs)) e.0 ≡ true → order x.0 e.0 ≡ Less
+      after z [] h above = below_trans x.0 z.0 e.0 h.0 (less_from_test _ above)
+      after z (w ∷ ws) h above = after w ws h.1 above
 
-  pub put_behind : (entries : List (List ℕ × V)) (key : List ℕ) (value : V) → IsLast entries key → put entries key value ≡ entries ++ (key, value) ∷ []
-  put_behind entries key value last = put-last entries key value (KeysRise-push entries (key, value) last.rising last.above)
+  pub put_after : (entries : List (List ℕ × V)) (key : List ℕ) (value : V) → IsLast entries key → put entries key value ≡ entries ++ (key, value) ∷ []
+  put_after entries key value last = put-last entries key value (KeysRise-push entries (key, value) last.rising last.above)

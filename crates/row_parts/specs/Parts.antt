@@ -24,11 +24,13 @@ AreShortTexts texts = IsShort texts × AllByRecursion IsShort texts
 
 -- the list is short, and each key and value
 abbrev pub AreShortSettings : Settings → Type 0
-AreShortSettings settings = IsShort settings × AllByRecursion (λ s. IsShort s.0 × IsShort s.1) settings
+AreShortSettings settings =
+    IsShort settings × AllByRecursion (λ setting. IsShort setting.0 × IsShort setting.1) settings
 
 -- the list is short, and each name and the settings of each device
 abbrev pub AreShortDevices : NamedDevices → Type 0
-AreShortDevices devices = IsShort devices × AllByRecursion (λ d. IsShort d.0 × AreShortSettings d.1) devices
+AreShortDevices devices =
+    IsShort devices × AllByRecursion (λ device. IsShort device.0 × AreShortSettings device.1) devices
 
 -- ---- what each part of the program has by its type
 
@@ -38,8 +40,9 @@ AreUtf8 texts = AllByRecursion IsUtf8 texts
 
 -- keys rise, no key or value is empty, and each is UTF-8
 abbrev pub AreTypedSettings : Settings → Type 0
-AreTypedSettings settings = IsConfig settings × AllByRecursion (λ s. IsUtf8 s.0 × IsUtf8 s.1) settings
+AreTypedSettings settings = IsConfig settings × AllByRecursion (λ setting. IsUtf8 setting.0 × IsUtf8 setting.1) settings
 
 -- names rise, and each name and all settings are as they are by their types
 abbrev pub AreTypedDevices : NamedDevices → Type 0
-AreTypedDevices devices = IsDevices devices × AllByRecursion (λ d. IsUtf8 d.0 × AreTypedSettings d.1) devices
+AreTypedDevices devices =
+    IsDevices devices × AllByRecursion (λ device. IsUtf8 device.0 × AreTypedSettings device.1) devices

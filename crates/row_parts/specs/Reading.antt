@@ -21,23 +21,23 @@ use Rattle.row_parts.specs.declared.parts.Shape.{Shape}
 -- What is read next from what was read, or the first damage.
 infixl 10 ◌>>=◌
 abbrev pub ◌>>=◌ : {A B E : Type 0} → Result A E → (A → Result B E) → Result B E
-(Ok x) >>= f = f x
-(Err e) >>= f = Err e
+(Ok value) >>= f = f value
+(Err error) >>= f = Err error
 
 -- An error is the one that reading gives, unless memory ran out.
 abbrev pub Fails : {Y E : Type 0} → Or E → Result Y E → Type 0
 Fails or.NoMemory read = Unit {0}
-Fails (or.Why e) read = read ≡ Err e
+Fails (or.Why error) read = read ≡ Err error
 
 -- What a function returned, seen by view, is what reading gives, unless memory ran out.
 abbrev pub Gives : {X Y E : Type 0} → (X → Y) → Result X (Or E) → Result Y E → Type 0
-Gives view (Ok x) read = read ≡ Ok (view x)
-Gives view (Err e) read = Fails e read
+Gives view (Ok value) read = read ≡ Ok (view value)
+Gives view (Err error) read = Fails error read
 
 -- the same of a function that takes no memory
 abbrev pub IsRead : {X Y E : Type 0} → (X → Y) → Result X E → Result Y E → Type 0
-IsRead view (Ok x) read = read ≡ Ok (view x)
-IsRead view (Err e) read = read ≡ Err e
+IsRead view (Ok value) read = read ≡ Ok (view value)
+IsRead view (Err error) read = read ≡ Err error
 
 -- A part that is read, and the bytes after it. A part that cannot be read is named by the bytes that are left where it
 -- begins.
@@ -86,7 +86,7 @@ driver_of byte =
 -- what a byte stands for, and the bytes after it
 abbrev pub meant_at : {A : Type 0} → Option A → List ℕ → List ℕ → Read A
 meant_at None rest bytes = stops_at bytes
-meant_at (Some x) rest bytes = Ok (x, rest)
+meant_at (Some value) rest bytes = Ok (value, rest)
 
 -- the first byte, which stands for something
 unfoldable pub code_at : {A : Type 0} → (ℕ → Option A) → List ℕ → Read A
@@ -119,12 +119,12 @@ list_at item bytes = do
 -- the last item, if there is one
 abbrev pub last_of : {X : Type 0} → List X → Option X
 last_of [] = None
-last_of (x ∷ []) = Some x
-last_of (x ∷ y ∷ ys) = last_of (y ∷ ys)
+last_of (item ∷ []) = Some item
+last_of (item ∷ other ∷ rest) = last_of (other ∷ rest)
 
 -- the items with the one that is read at their end
 abbrev pub added : {X : Type 0} → List X → Read X → Read (List X)
-added items read = read >>= λ x. Ok (items ++ x.0 ∷ [], x.1)
+added items read = read >>= λ next. Ok (items ++ next.0 ∷ [], next.1)
 
 -- whether a key is above the one before it
 abbrev pub is_next : {V : Type 0} → Option (List ℕ × V) → List ℕ → Bool

@@ -76,7 +76,7 @@ fn value_at(bytes: &[u8]) -> Result<(&str, &[u8]), Unreadable>
     Ok((value, rest))
 }
 
-#[tactic(auto, using(crate::proofs::Rising::put_behind), unfolding(crate::specs::Reading::setting_at))]
+#[tactic(auto, using(crate::proofs::Rising::put_after), unfolding(crate::specs::Reading::setting_at))]
 fn add_setting<'b>(config: &mut Config, bytes: &'b [u8]) -> Result<&'b [u8], Or<Unreadable>>
     ensures { Gives (λ rest. (
       config.new,
@@ -130,7 +130,7 @@ fn name_at<'b>(devices: &Devices, bytes: &'b [u8]) -> Result<(&'b str, &'b [u8])
     Ok((name, rest))
 }
 
-#[tactic(auto, using(crate::proofs::Rising::put_behind), unfolding(crate::specs::Reading::device_at))]
+#[tactic(auto, using(crate::proofs::Rising::put_after), unfolding(crate::specs::Reading::device_at))]
 fn add_device<'b>(
     alloc: Global,
     devices: &mut Devices,

@@ -53,12 +53,12 @@ module _ {X : Type 0} (names : X → List (List ℕ)) where
   rise-far (x ∷ xs) zero (suc j) d up ahead within = less _ (Each-get_or j d up.0 (omega (arith, within)))
   rise-far (x ∷ xs) (suc i) (suc j) d up ahead within = rise-far xs i j d up.1 (omega (arith, ahead)) (omega (arith, within))
 
-  behind : (a b : List (List ℕ)) (o : Ordering) → order a b ≡ o → order b a ≡ ordering_reverse o
-  behind a b o is = total.antisymm b a ∙ ap ordering_reverse is
+  after : (a b : List (List ℕ)) (o : Ordering) → order a b ≡ o → order b a ≡ ordering_reverse o
+  after a b o is = total.antisymm b a ∙ ap ordering_reverse is
 
   pub rise-sorted : (xs : List X) → Rise names xs → IsSortedBy (λ x y. is_lt (order (names x) (names y))) xs
   rise-sorted xs up k d low high =
-      ap is_lt (behind (names (get_or xs k d)) (names (get_or xs (k + 1) d)) Less (rise-far xs k (k + 1) d up (omega arith) high))
+      ap is_lt (after (names (get_or xs k d)) (names (get_or xs (k + 1) d)) Less (rise-far xs k (k + 1) d up (omega arith) high))
 
   module _ (wanted : List (List ℕ)) (xs : List X) (up : Rise names xs) where
     abbrev test : X → Bool
@@ -76,15 +76,15 @@ module _ {X : Type 0} (names : X → List (List ℕ)) where
           (inl refl) where
             before : (a b c : List (List ℕ)) → order a b ≡ Less → order b c ≡ Equal → order a c ≡ Less
             before a b c less equal =
-                behind c a Greater (sym (total.congr b c a equal) ∙ behind a b Less less)
+                after c a Greater (sym (total.congr b c a equal) ∙ after a b Less less)
 
     found-nowhere : (i : ℕ) → i ≤ length xs → IsPartitionPoint (λ y. order (names y) wanted ≡ Less) (λ y. order (names y) wanted ≡ Greater) xs i
         → (position test xs ≡ None) × (position_or_len ahead xs ≡ i)
     found-nowhere i within parts = (
       position-nowhere test xs (first-at test xs (length xs) (omega arith) none (λ more. absurd (omega (arith, more)))),
       first-at ahead xs i within
-          (λ k d low high. ap is_lt (behind (names (get_or xs k d)) wanted Less (parts.0 k d low high)))
-          (λ more d. ap is_lt (behind (names (get_or xs i d)) wanted Greater (parts.1 i d (omega arith) more))),
+          (λ k d low high. ap is_lt (after (names (get_or xs k d)) wanted Less (parts.0 k d low high)))
+          (λ more d. ap is_lt (after (names (get_or xs i d)) wanted Greater (parts.1 i d (omega arith) more))),
     ) where
       none : AllWithin (λ row. test row ≡ false) xs 0 (length xs)
       none k d low high = ⊎_elim

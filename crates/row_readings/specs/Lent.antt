@@ -5,21 +5,21 @@ use Rattle.row_readings.specs.Rising.{AreRising}
 
 -- the state with these rows, statuses, operations and shares, which was told to close or not
 abbrev pub state_in : Inside → State
-state_in v = record empty_state {
-  projects = v.projects.now;
-  profiles = v.profiles.now;
-  networks = v.networks.now;
-  pools = v.pools.now;
-  volumes = v.volumes.now;
-  instances = v.instances.now;
-  snapshots = v.snapshots.now;
-  powers = v.powers.now;
-  operations = record { live = v.live.now; ended = v.ended.now; next = v.next };
-  held = v.held.now;
-  books = v.books;
-  closed = v.closed;
+state_in view = record empty_state {
+  projects = view.projects.now;
+  profiles = view.profiles.now;
+  networks = view.networks.now;
+  pools = view.pools.now;
+  volumes = view.volumes.now;
+  instances = view.instances.now;
+  snapshots = view.snapshots.now;
+  powers = view.powers.now;
+  operations = record { live = view.live.now; ended = view.ended.now; next = view.next };
+  held = view.held.now;
+  books = view.books;
+  closed = view.closed;
 }
 
 -- the rows of each kind, and the statuses, rise by their names
 abbrev pub IsLent : Inside → Type 0
-IsLent v = AreRising (state_in v)
+IsLent view = AreRising (state_in view)

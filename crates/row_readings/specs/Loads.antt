@@ -6,7 +6,7 @@ use Rattle.row_machine.specs.machine.Usage.{Load}
 
 -- no part of it reaches 2^63, as no value of a setting does
 pub record IsSmall (load : Load) : Type 0 where
-  pub parts : (k : Part) → part k load.amounts < 2 ^ 63
+  pub parts : (a_part : Part) → part a_part load.amounts < 2 ^ 63
 
 -- the same of each
 abbrev pub AreSmall : List Load → Type 0

@@ -31,16 +31,18 @@ pub record Rising
 
 -- the rows of each kind, and the statuses, rise by their names
 abbrev pub AreRising : State → Type 0
-AreRising s = Rising s.projects s.profiles s.networks s.pools s.volumes s.instances s.snapshots s.powers
+AreRising state =
+    Rising state.projects state.profiles state.networks state.pools state.volumes state.instances state.snapshots
+    state.powers
 
 -- the names as the machine lists them
 abbrev pub names_in : Names → List (List ℕ)
-names_in (names_of.One a) = a.now ∷ []
-names_in (names_of.Two a b) = a.now ∷ b.now ∷ []
-names_in (names_of.Three a b c) = a.now ∷ b.now ∷ c.now ∷ []
+names_in (names_of.One first) = first.now ∷ []
+names_in (names_of.Two first second) = first.now ∷ second.now ∷ []
+names_in (names_of.Three first second third) = first.now ∷ second.now ∷ third.now ∷ []
 
 -- the first row of these names stands at this place, or there is none, and its place is in front of the first row that
--- these names go before, or behind all rows
+-- these names go before, or after all rows
 abbrev pub FindsPlace : {X : Type 0} → (X → List (List ℕ)) → List (List ℕ) → List X → Result ℕ ℕ → Type 0
 FindsPlace names wanted rows (Ok place) = position (λ row. same_names (names row) wanted) rows ≡ Some place
 FindsPlace names wanted rows (Err place) =

@@ -7,4 +7,4 @@ largest_body = 65536
 
 -- a number, or the greatest one that eight bytes hold where it is more
 unfoldable pub capped : ℕ → ℕ
-capped n = min n (2 ^ 64 - 1)
+capped number = min number (2 ^ 64 - 1)

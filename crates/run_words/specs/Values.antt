@@ -45,7 +45,7 @@ is_path value = not (length value == 0)
 
 -- the parts of a text between its commas
 abbrev pub parts_of : List ℕ → List (List ℕ)
-parts_of text = slice_split (λ b. b == byte ",") text
+parts_of text = slice_split (λ code. code == byte ",") text
 
 -- a text is 1 to 64 numbers of calls, joined by commas
 abbrev pub are_call_numbers : List ℕ → Bool

@@ -38,7 +38,7 @@ run_options =
 abbrev pub store_options : List Taking
 store_options = (codes "db", is_path) ∷ []
 
--- the words behind `make` and behind `drill`
+-- the words after `make` and after `drill`
 abbrev pub stream_places : List Rule
 stream_places = place_of (codes "seed") ∷ place_of (codes "count") ∷ []
 

@@ -77,13 +77,13 @@ answered_drill boot stream messages status store opened s host clock sink store'
   after : World
   after = record { held = a.held; source = a.source'; sink = record { held = Some replies; failures = a.failures' }; site = site last store' host' clock' }
 
-  all : Together boot pace.All before a.session.exchanges a.session.behind
-  all = together boot pace.All before a.session.behind a.session.exchanges a.session.serves
+  all : Together boot pace.All before a.session.exchanges a.session.reached
+  all = together boot pace.All before a.session.reached a.session.exchanges a.session.serves
 
   due : IsDue messages ended end.Ended a.session.exchanges
   due = session_due boot pace.All before after end.Ended stream messages ended a.session (ap (prepend_known []) a.known) splits tt
 
-  quiet : StopsQuietly end.Ended a.session.behind after
+  quiet : StopsQuietly end.Ended a.session.reached after
   quiet = session_quietly boot pace.All before after end.Ended a.session tt
 
   along : IsAlong before.site (moments_of a.session.exchanges) (keeper_failures_of a.session.exchanges)
@@ -93,7 +93,7 @@ answered_drill boot stream messages status store opened s host clock sink store'
 
   replies_are : replies ≡ printed_replies boot a.session.exchanges
   replies_are = all_there_are a.sink.held replies (printed_replies boot a.session.exchanges) a.empty
-      (appends_twice a.sink.held a.session.behind.sink.held (Some replies) (printed_replies boot a.session.exchanges) [] all.written quiet.written)
+      (appends_twice a.sink.held a.session.reached.sink.held (Some replies) (printed_replies boot a.session.exchanges) [] all.written quiet.written)
 
 -- where something was written, all requests were answered
 pub drill_text : (boot : ℕ) (stream : List ℕ) (status : ℕ) (store : Store) (host : Hosted) (clock : Readings) (sink : Outlet)

@@ -51,22 +51,24 @@ pub record Unopened (status : ℕ) (sink sink' : Outlet) (store store' : Store) 
 
 -- how many rows of each kind a state has, and its books, were told
 abbrev pub TellsReport : ℕ → State → Outlet → Outlet → Type 0
-TellsReport status s sink sink' = Tells status (report_of s) sink sink'
+TellsReport status state sink sink' = Tells status (report_of state) sink sink'
 
 -- the entries of the keeper open to a state, of which was told; or they were not opened
 abbrev pub Checks : ℕ → Outlet → Outlet → Store → Store → Type 0
 Checks status sink sink' store store' =
-    ((s : State) × OpensTo s store store' × TellsReport status s sink sink') ⊎ Unopened status sink sink' store store'
+    ((state : State) × OpensTo state store store' × TellsReport status state sink sink')
+    ⊎ Unopened status sink sink' store store'
 
 -- ---- `drill`
 
 -- what is told of replies and of the rows after them
 abbrev pub drilled_text : List ℕ → State → List ℕ
-drilled_text replies s = summary replies ++ report_of s
+drilled_text replies state = summary replies ++ report_of state
 
 -- Requests were answered from an empty buffer on, over a source that gives them all and a sink that had taken nothing, and the
 -- worker made all of its steps after each. The replies are what the sink took.
-pub record Answers (boot : ℕ) (stream : List ℕ) (w w' : Site) (replies : List ℕ) (ends : SessionEnd) : Type 0 where
+pub record Answers (boot : ℕ) (stream : List ℕ) (site later : Site) (replies : List ℕ)
+    (ends : SessionEnd) : Type 0 where
   pub source : Inlet
   pub known : source.left ≡ Some stream
   pub sink : Outlet
@@ -75,8 +77,13 @@ pub record Answers (boot : ℕ) (stream : List ℕ) (w w' : Site) (replies : Lis
   pub source' : Inlet
   pub failures' : ℕ
   pub session : Session boot pace.All
-      (record { held = []; source = source; sink = sink; site = w })
-      (record { held = held; source = source'; sink = record { held = Some replies; failures = failures' }; site = w' })
+      (record { held = []; source = source; sink = sink; site = site })
+      (record {
+        held = held;
+        source = source';
+        sink = record { held = Some replies; failures = failures' };
+        site = later;
+      })
       ends
 
 -- Where all requests were answered, this text was told. Else memory was refused, and nothing is told.
@@ -85,26 +92,27 @@ TellsDrill end.Ended status text sink sink' = Tells status text sink sink'
 TellsDrill other status text sink sink' = (status ≡ 9) × (sink' ≡ sink)
 
 -- made requests were answered from here on, and what they came to was told
-pub record Drilled (boot : ℕ) (stream : List ℕ) (status : ℕ) (w : Site) (sink : Outlet) (store' : Store) (host' : Hosted)
-    (clock' : Readings) (sink' : Outlet) : Type 0 where
+pub record Drilled (boot : ℕ) (stream : List ℕ) (status : ℕ) (start : Site) (sink : Outlet) (store' : Store)
+    (host' : Hosted) (clock' : Readings) (sink' : Outlet) : Type 0 where
   pub last : Serial
   pub replies : List ℕ
   pub ends : SessionEnd
-  pub answers : Answers boot stream w (site last store' host' clock') replies ends
+  pub answers : Answers boot stream start (site last store' host' clock') replies ends
   pub tells : TellsDrill ends status (drilled_text replies last.state) sink sink'
 
 -- memory was refused before the first request
-pub record OutOfMemory (status : ℕ) (w : Site) (sink : Outlet) (store' : Store) (host' : Hosted) (clock' : Readings)
+pub record OutOfMemory (status : ℕ) (start : Site) (sink : Outlet) (store' : Store) (host' : Hosted) (clock' : Readings)
     (sink' : Outlet) : Type 0 where
   pub status_is : status ≡ 9
-  pub store : store' ≡ w.store
-  pub host : host' ≡ w.host
-  pub clock : clock' ≡ w.clock
+  pub store : store' ≡ start.store
+  pub host : host' ≡ start.host
+  pub clock : clock' ≡ start.clock
   pub silent : sink' ≡ sink
 
 abbrev pub DrillsOver : ℕ → List ℕ → ℕ → Site → Outlet → Store → Hosted → Readings → Outlet → Type 0
-DrillsOver boot stream status w sink store' host' clock' sink' =
-    Drilled boot stream status w sink store' host' clock' sink' ⊎ OutOfMemory status w sink store' host' clock' sink'
+DrillsOver boot stream status start sink store' host' clock' sink' =
+    Drilled boot stream status start sink store' host' clock' sink'
+    ⊎ OutOfMemory status start sink store' host' clock' sink'
 
 -- the entries of the keeper open to a state, and made requests were answered from it on
 pub record OpenedDrill (boot : ℕ) (stream : List ℕ) (status : ℕ) (store : Store) (host : Hosted) (clock : Readings)

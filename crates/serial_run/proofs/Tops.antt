@@ -28,7 +28,7 @@ use Rattle.serial_commands.specs.serial_sessions.specs.Inputs.{status_of}
 use Rattle.start_faults.specs.Starts.{start_status}
 use Rattle.serial_run.specs.Runs.{begun, boot_with, seen_with, IsUnread, Ran, Runs}
 use Rattle.serial_run.specs.Runs.{HasCauseToRefuse, Opened}
-use Rattle.serial_commands.specs.serial_sessions.specs.Sessions.{Session, Stops, StopsBehindFinal, AllGoOn, OnlyFinalEnds}
+use Rattle.serial_commands.specs.serial_sessions.specs.Sessions.{Session, Stops, StopsAfterFinal, AllGoOn, OnlyFinalEnds}
 use Rattle.serial_commands.specs.serial_sessions.specs.Inputs.{answered, end_due}
 use Rattle.serial_commands.specs.rest_answers.specs.Lasts.{has_last, through_last}
 use Rattle.serial_run.specs.Texts.{RunsText, is_fault}
@@ -60,20 +60,20 @@ session_text boot pace before after status r ends text messages ending s known s
   status_is = sym (ap (λ e. e.status) due.end_is);
   written = subst (λ t. Appends before.sink.held after.sink.held (printed_replies boot s.exchanges ++ t))
       (sym (ap (λ e. e.text) due.end_is))
-      (appends_twice before.sink.held s.behind.sink.held after.sink.held (printed_replies boot s.exchanges)
+      (appends_twice before.sink.held s.reached.sink.held after.sink.held (printed_replies boot s.exchanges)
       (text_at ends) all.written quiet.written);
   kept = along.kept before.keeper.told refl;
   keeper_failed = along.keeper_failed;
   host_failed = along.host_failed;
 } where
-  all : Together boot pace (begun r.entries r.state before) s.exchanges s.behind
-  all = together boot pace (begun r.entries r.state before) s.behind s.exchanges s.serves
+  all : Together boot pace (begun r.entries r.state before) s.exchanges s.reached
+  all = together boot pace (begun r.entries r.state before) s.reached s.exchanges s.serves
 
   due : IsDue messages ending ends s.exchanges
   due = session_due boot pace (begun r.entries r.state before) (world r.follows.held after r.follows.serial) ends text messages ending s
       (ap (prepend_known []) known) splits settled
 
-  quiet : StopsQuietly ends s.behind (world r.follows.held after r.follows.serial)
+  quiet : StopsQuietly ends s.reached (world r.follows.held after r.follows.serial)
   quiet = session_quietly boot pace (begun r.entries r.state before) (world r.follows.held after r.follows.serial) ends s settled
 
   along : IsAlong (begun r.entries r.state before).site (moments_of s.exchanges) (keeper_failures_of s.exchanges)
@@ -108,7 +108,7 @@ stop_tells boot end.WriteFault w v w' reads writes (inr stops) = rose_from _ _ _
 stop_tells boot end.Spent w v w' reads writes stops = tt
 stop_tells boot end.NoMemory w v w' reads writes stops = tt
 
-final_tells : (ends : SessionEnd) (w w' : World) → StopsBehindFinal ends → Tells ends w w'
+final_tells : (ends : SessionEnd) (w w' : World) → StopsAfterFinal ends → Tells ends w w'
 final_tells end.Ended w w' is = tt
 final_tells end.Spent w w' is = tt
 final_tells end.Cut w w' is = absurd is
@@ -120,12 +120,12 @@ final_tells end.NoMemory w w' is = absurd is
 session_tells : (boot : ℕ) (pace : Pace) (w w' : World) (ends : SessionEnd) → Session boot pace w w' ends
     → Tells ends w w'
 session_tells boot pace w w' ends s = by s.stops where
-  all : Together boot pace w s.exchanges s.behind
-  all = together boot pace w s.behind s.exchanges s.serves
+  all : Together boot pace w s.exchanges s.reached
+  all = together boot pace w s.reached s.exchanges s.serves
 
-  by : (AllGoOn s.exchanges × Stops boot ends s.behind w')
-      ⊎ (OnlyFinalEnds s.exchanges × StopsBehindFinal ends × (w' ≡ s.behind)) → Tells ends w w'
-  by (inl (going, stops)) = stop_tells boot ends w s.behind w' all.reads all.writes stops
+  by : (AllGoOn s.exchanges × Stops boot ends s.reached w')
+      ⊎ (OnlyFinalEnds s.exchanges × StopsAfterFinal ends × (w' ≡ s.reached)) → Tells ends w w'
+  by (inl (going, stops)) = stop_tells boot ends w s.reached w' all.reads all.writes stops
   by (inr (only, is, same)) = final_tells ends w w' is
 
 -- none of these statuses is that of a run without a session

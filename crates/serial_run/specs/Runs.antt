@@ -42,16 +42,17 @@ boot_with words handed = unwrap_or (boot_of words) handed
 
 -- A session from this world on, with the outside seen so at its end, and rows that nobody sees. What is still to come
 -- is what its buffer holds, at most one head, one body and one piece, and what the source has left.
-pub record SessionFrom (boot : ℕ) (pace : Pace) (w : World) (after : Outside) (ends : SessionEnd) : Type 0 where
+pub record SessionFrom (boot : ℕ) (pace : Pace) (start : World) (after : Outside) (ends : SessionEnd) : Type 0 where
   pub held : List ℕ
   pub few : length held ≤ most_held
   pub serial : Serial
-  pub session : Session boot pace w (world held after serial) ends
+  pub session : Session boot pace start (world held after serial) ends
 
 -- what a session sees at its begin of an outside whose keeper had these entries, which open to this state: its rows, whose
 -- records the entries are now, and no call in hand
 abbrev pub begun : List Entry → State → Outside → World
-begun entries s before = world [] (record before { keeper = opened_store entries s before.keeper }) (serial s None)
+begun entries state before =
+    world [] (record before { keeper = opened_store entries state before.keeper }) (serial state None)
 
 -- the entries of the keeper were opened, and there was one session, from an empty buffer on
 pub record Opened (boot : ℕ) (pace : Pace) (before after : Outside) (status : ℕ) : Type 0 where

@@ -54,4 +54,4 @@ pub record RunsText (boot : ℕ) (pace : Pace) (messages : List Request) (ending
 -- whether an exit status is that of a fault of the outside, of entries that open to no rows, of words that are not
 -- read, or of refused memory
 abbrev pub is_fault : ℕ → Bool
-is_fault status = list_any (λ s. s == status) (4 ∷ 5 ∷ 6 ∷ 7 ∷ 8 ∷ 9 ∷ [])
+is_fault status = list_any (λ fault. fault == status) (4 ∷ 5 ∷ 6 ∷ 7 ∷ 8 ∷ 9 ∷ [])

@@ -4,7 +4,7 @@ use Rattle.std.specs.Io.KnownBytes.{Appends}
 use Rattle.rest_service.specs.run_words.specs.declared.words.Pace.{Pace}
 use Rattle.serial_sessions.specs.declared.session.SessionEnd.{SessionEnd}
 use Rattle.serial_sessions.specs.declared.session.SessionEnd.TheVariants as end
-use Rattle.serial_sessions.specs.Sessions.{Session, Stops, StopsBehindFinal, AllGoOn, OnlyFinalEnds}
+use Rattle.serial_sessions.specs.Sessions.{Session, Stops, StopsAfterFinal, AllGoOn, OnlyFinalEnds}
 use Rattle.serial_sessions.specs.Worlds.{World}
 use Rattle.rest_service.specs.rest_answers.proofs.Linking.{appends_nothing}
 use Rattle.serial_sessions.proofs.Whole.{IsSettled, text_at}
@@ -37,20 +37,20 @@ stops_quietly boot end.WriteFault w w' stops settled = absurd settled
 stops_quietly boot end.NoMemory w w' stops settled = absurd settled
 
 -- where it stops after a final request
-behind_final : (ends : SessionEnd) (w w' : World) → StopsBehindFinal ends → w' ≡ w → StopsQuietly ends w w'
-behind_final end.Ended w w' is same = same_quietly end.Ended w w' same refl
-behind_final end.Spent w w' is same = same_quietly end.Spent w w' same refl
-behind_final end.Cut w w' is same = absurd is
-behind_final (end.Malformed fault) w w' is same = absurd is
-behind_final end.ReadFault w w' is same = absurd is
-behind_final end.WriteFault w w' is same = absurd is
-behind_final end.NoMemory w w' is same = absurd is
+after_final : (ends : SessionEnd) (w w' : World) → StopsAfterFinal ends → w' ≡ w → StopsQuietly ends w w'
+after_final end.Ended w w' is same = same_quietly end.Ended w w' same refl
+after_final end.Spent w w' is same = same_quietly end.Spent w w' same refl
+after_final end.Cut w w' is same = absurd is
+after_final (end.Malformed fault) w w' is same = absurd is
+after_final end.ReadFault w w' is same = absurd is
+after_final end.WriteFault w w' is same = absurd is
+after_final end.NoMemory w w' is same = absurd is
 
 -- where it stops in either way
 pub session_quietly : (boot : ℕ) (pace : Pace) (w w' : World) (ends : SessionEnd) (s : Session boot pace w w' ends)
-    → IsSettled ends → StopsQuietly ends s.behind w'
+    → IsSettled ends → StopsQuietly ends s.reached w'
 session_quietly boot pace w w' ends s settled = by s.stops where
-  by : (AllGoOn s.exchanges × Stops boot ends s.behind w')
-      ⊎ (OnlyFinalEnds s.exchanges × StopsBehindFinal ends × (w' ≡ s.behind)) → StopsQuietly ends s.behind w'
-  by (inl (going, stops)) = stops_quietly boot ends s.behind w' stops settled
-  by (inr (only, is, same)) = behind_final ends s.behind w' is same
+  by : (AllGoOn s.exchanges × Stops boot ends s.reached w')
+      ⊎ (OnlyFinalEnds s.exchanges × StopsAfterFinal ends × (w' ≡ s.reached)) → StopsQuietly ends s.reached w'
+  by (inl (going, stops)) = stops_quietly boot ends s.reached w' stops settled
+  by (inr (only, is, same)) = after_final ends s.reached w' is same

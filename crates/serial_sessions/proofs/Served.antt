@@ -18,8 +18,8 @@ use Rattle.rest_service.proofs.Along.{IsAlong, along_leads, along_more, along_no
 use Rattle.serial_sessions.specs.declared.session.SessionEnd.{SessionEnd}
 use Rattle.serial_sessions.specs.declared.session.SessionEnd.TheVariants as end
 use Rattle.serial_sessions.specs.Most.{most_requests}
-use Rattle.serial_sessions.specs.Sessions.{Session, Serves, ServesAll, Stops, CountsAt, StopsBehindFinal, AllGoOn}
-use Rattle.serial_sessions.specs.Sessions.{OnlyFinalEnds, end_behind}
+use Rattle.serial_sessions.specs.Sessions.{Session, Serves, ServesAll, Stops, CountsAt, StopsAfterFinal, AllGoOn}
+use Rattle.serial_sessions.specs.Sessions.{OnlyFinalEnds, end_after_final}
 use Rattle.serial_sessions.specs.Inputs.{requests_of}
 use Rattle.serial_sessions.specs.Worlds.{World, input}
 
@@ -117,18 +117,18 @@ pub session_still : (boot : ℕ) (pace : Pace) (moment : ℕ) (w w' : World) (en
     → w.site.clock ≡ standing_still moment → Session boot pace w w' ends
     → w'.site.clock ≡ standing_still moment
 session_still boot pace moment w w' ends still s = by s.stops where
-  all : Together boot pace w s.exchanges s.behind
-  all = together boot pace w s.behind s.exchanges s.serves
+  all : Together boot pace w s.exchanges s.reached
+  all = together boot pace w s.reached s.exchanges s.serves
 
-  then : (told : Readings) (more : List ℕ) → Reads s.behind.site.clock more told → told ≡ standing_still moment
+  then : (told : Readings) (more : List ℕ) → Reads s.reached.site.clock more told → told ≡ standing_still moment
   then told more reads = still_reads moment (moments_of s.exchanges ++ more) told
       (subst (λ known. Reads known (moments_of s.exchanges ++ more) told) still
-      (reads_twice w.site.clock s.behind.site.clock told (moments_of s.exchanges) more all.along.clock reads))
+      (reads_twice w.site.clock s.reached.site.clock told (moments_of s.exchanges) more all.along.clock reads))
 
-  by : (AllGoOn s.exchanges × Stops boot ends s.behind w')
-      ⊎ (OnlyFinalEnds s.exchanges × StopsBehindFinal ends × (w' ≡ s.behind)) → w'.site.clock ≡ standing_still moment
+  by : (AllGoOn s.exchanges × Stops boot ends s.reached w')
+      ⊎ (OnlyFinalEnds s.exchanges × StopsAfterFinal ends × (w' ≡ s.reached)) → w'.site.clock ≡ standing_still moment
   by (inl (going, stops)) = let reads : (moments : List ℕ)
-      × Reads s.behind.site.clock moments w'.site.clock = stop_reads boot ends s.behind w' stops in
+      × Reads s.reached.site.clock moments w'.site.clock = stop_reads boot ends s.reached w' stops in
       then w'.site.clock reads.0 reads.1
   by (inr (only, is, same)) = then w'.site.clock [] (ap (λ v. v.site.clock) same)
 
@@ -154,11 +154,11 @@ few_at boot end.NoMemory w w' (inr (inr stops)) few = stops.1.asked.few
 pub session_few : (boot : ℕ) (pace : Pace) (w w' : World) (ends : SessionEnd) → length w.held ≤ most_held
     → Session boot pace w w' ends → length w'.held ≤ most_held
 session_few boot pace w w' ends few s = by s.stops where
-  by : (AllGoOn s.exchanges × Stops boot ends s.behind w')
-      ⊎ (OnlyFinalEnds s.exchanges × StopsBehindFinal ends × (w' ≡ s.behind)) → length w'.held ≤ most_held
-  by (inl (going, stops)) = few_at boot ends s.behind w' stops (few_along boot pace w s.behind s.exchanges few s.serves)
+  by : (AllGoOn s.exchanges × Stops boot ends s.reached w')
+      ⊎ (OnlyFinalEnds s.exchanges × StopsAfterFinal ends × (w' ≡ s.reached)) → length w'.held ≤ most_held
+  by (inl (going, stops)) = few_at boot ends s.reached w' stops (few_along boot pace w s.reached s.exchanges few s.serves)
   by (inr (only, is, same)) =
-      subst (λ v. length v.held ≤ most_held) (sym same) (few_along boot pace w s.behind s.exchanges few s.serves)
+      subst (λ v. length v.held ≤ most_held) (sym same) (few_along boot pace w s.reached s.exchanges few s.serves)
 
 -- ---- one more request
 
@@ -212,7 +212,7 @@ pub session_stops : (boot : ℕ) (pace : Pace) (a b c : World) (count : ℕ) (en
     → Stops boot ends b c × (ends ≢ end.Spent) → Session boot pace a c ends
 session_stops boot pace a b c count ends far few stops = record {
   exchanges = far.exchanges;
-  behind = b;
+  reached = b;
   serves = far.serves;
   counted = by ends stops.1;
   stops = inl (far.going, stops.0);
@@ -232,7 +232,7 @@ session_stops boot pace a b c count ends far few stops = record {
 -- a session stops after a final request
 pub session_final : (boot : ℕ) (pace : Pace) (a b c : World) (count : ℕ) (ends : SessionEnd)
     → ServesSoFar boot pace a b count → count < most_requests
-    → (e : Exchange) × Serves boot pace b c e × (e.request.last ≡ true) → ends ≡ end_behind count
+    → (e : Exchange) × Serves boot pace b c e × (e.request.last ≡ true) → ends ≡ end_after_final count
     → Session boot pace a c ends
 session_final boot pace a b c count ends far few next is =
     subst (λ e. Session boot pace a c e) (sym is) (by (count + 1 == most_requests) refl) where
@@ -248,10 +248,10 @@ session_final boot pace a b c count ends far few next is =
       only : OnlyFinalEnds all
       only = only_final_append far.exchanges next.0 far.going next.2
 
-      by : (full : Bool) → (count + 1 == most_requests) ≡ full → Session boot pace a c (end_behind count)
+      by : (full : Bool) → (count + 1 == most_requests) ≡ full → Session boot pace a c (end_after_final count)
       by true is = rw is (record {
         exchanges = all;
-        behind = c;
+        reached = c;
         serves = all_served;
         counted = length_all
             ∙ eqb-true _ _ is;
@@ -259,7 +259,7 @@ session_final boot pace a b c count ends far few next is =
       })
       by false is = rw is (record {
         exchanges = all;
-        behind = c;
+        reached = c;
         serves = all_served;
         counted = subst (λ n. n < most_requests) (sym length_all) (below is);
         stops = inr (only, tt, refl);
@@ -272,7 +272,7 @@ pub session_spent : (boot : ℕ) (pace : Pace) (a b : World) → ServesSoFar boo
     → Session boot pace a b end.Spent
 session_spent boot pace a b far = record {
   exchanges = far.exchanges;
-  behind = b;
+  reached = b;
   serves = far.serves;
   counted = far.counted;
   stops = inl (far.going, refl);

@@ -9,16 +9,16 @@ use Rattle.rest_service.specs.http_heads.specs.declared.request.Request.{Request
 use Rattle.rest_service.specs.http_front.specs.Reading.{ReadsNext}
 use Rattle.rest_service.specs.http_front.specs.declared.read.Got.TheVariants as got
 use Rattle.rest_service.specs.run_words.specs.declared.words.Pace.{Pace}
-use Rattle.rest_service.specs.rest_answers.proofs.Splitting.{GoesOn, none_more, splits_behind}
+use Rattle.rest_service.specs.rest_answers.proofs.Splitting.{GoesOn, none_more, splits_after}
 use Rattle.rest_service.specs.rest_answers.specs.Texts.{malformed_text}
 use Rattle.rest_service.specs.Exchanges.{Exchange}
 use Rattle.serial_sessions.specs.Most.{most_requests}
 use Rattle.serial_sessions.specs.declared.session.SessionEnd.{SessionEnd}
 use Rattle.serial_sessions.specs.declared.session.SessionEnd.TheVariants as end
 use Rattle.serial_sessions.specs.Inputs.{status_of}
-use Rattle.serial_sessions.specs.Sessions.{Session, Stops, CountsAt, StopsBehindFinal, AllGoOn, OnlyFinalEnds}
+use Rattle.serial_sessions.specs.Sessions.{Session, Stops, CountsAt, StopsAfterFinal, AllGoOn, OnlyFinalEnds}
 use Rattle.serial_sessions.proofs.Served.{together}
-use Rattle.serial_sessions.specs.Inputs.{requests_of, answered, end_at, end_behind_all, end_due}
+use Rattle.serial_sessions.specs.Inputs.{requests_of, answered, end_at, end_after, end_due}
 use Rattle.rest_service.specs.rest_answers.specs.Lasts.{has_last, through_last}
 use Rattle.serial_sessions.specs.Worlds.{World, input}
 
@@ -89,7 +89,7 @@ answered_final exchanges messages more are only few =
 
 -- the end that is due after answered requests
 due_going : (exchanges : List Exchange) (ending : Ending) → AllGoOn exchanges → length exchanges < most_requests
-    → end_behind_all (requests_of exchanges) ending ≡ end_at ending
+    → end_after (requests_of exchanges) ending ≡ end_at ending
 due_going exchanges ending going few = rw (
   not_full (length (requests_of exchanges)) (omega (arith, few, length_requests exchanges)),
   has_last_going exchanges going,
@@ -97,12 +97,12 @@ due_going exchanges ending going few = rw (
 
 -- the same where they are as many as a session may answer
 due_full : (exchanges : List Exchange) (ending : Ending) → length exchanges ≡ most_requests
-    → end_behind_all (requests_of exchanges) ending ≡ record { status = 10; text = [] }
+    → end_after (requests_of exchanges) ending ≡ record { status = 10; text = [] }
 due_full exchanges ending full = rw (is_full (length (requests_of exchanges)) (length_requests exchanges ∙ full)) refl
 
 -- and where the final one is the last on its connection
 due_final : (exchanges : List Exchange) (ending : Ending) → OnlyFinalEnds exchanges → length exchanges < most_requests
-    → end_behind_all (requests_of exchanges) ending ≡ record { status = 0; text = [] }
+    → end_after (requests_of exchanges) ending ≡ record { status = 0; text = [] }
 due_final exchanges ending only few = rw (
   not_full (length (requests_of exchanges)) (omega (arith, few, length_requests exchanges)),
   has_last_final exchanges only,
@@ -137,11 +137,11 @@ pub record IsDue (messages : List Request) (ending : Ending) (ends : SessionEnd)
 -- the end is that of the requests that are answered
 due_by : (messages : List Request) (ending : Ending) (ends : SessionEnd) (exchanges : List Exchange)
     → answered messages ≡ requests_of exchanges
-    → end_behind_all (requests_of exchanges) ending ≡ record { status = status_of ends; text = text_at ends }
+    → end_after (requests_of exchanges) ending ≡ record { status = status_of ends; text = text_at ends }
     → IsDue messages ending ends exchanges
 due_by messages ending ends exchanges are due = record {
   requests_are = sym are;
-  end_is = ap (λ ms. end_behind_all ms ending) are ∙ due;
+  end_is = ap (λ ms. end_after ms ending) are ∙ due;
 }
 
 -- where the rest after the requests ends as the session stopped
@@ -160,20 +160,20 @@ pub session_due : (boot : ℕ) (pace : Pace) (w w' : World) (ends : SessionEnd) 
     (ending : Ending) (s : Session boot pace w w' ends) → input w ≡ Some text → Splits text messages ending
     → IsSettled ends → IsDue messages ending ends s.exchanges
 session_due boot pace w w' ends text messages ending s is splits settled = by ends s.counted s.stops settled where
-  taken : (rest : List ℕ) × Begins text (requests_of s.exchanges) rest × (input s.behind ≡ Some rest)
+  taken : (rest : List ℕ) × Begins text (requests_of s.exchanges) rest × (input s.reached ≡ Some rest)
   taken = subst (λ known. IfSome known
-      (λ bytes. (rest : List ℕ) × Begins bytes (requests_of s.exchanges) rest × (input s.behind ≡ Some rest))) is
-      (together boot pace w s.behind s.exchanges s.serves).read
+      (λ bytes. (rest : List ℕ) × Begins bytes (requests_of s.exchanges) rest × (input s.reached ≡ Some rest))) is
+      (together boot pace w s.reached s.exchanges s.serves).read
 
   far : GoesOn taken.0 (requests_of s.exchanges) messages ending
-  far = splits_behind text taken.0 (requests_of s.exchanges) messages ending taken.1 splits
+  far = splits_after text taken.0 (requests_of s.exchanges) messages ending taken.1 splits
 
-  at_rest : (P : List ℕ → Type 0) → IfSome (input s.behind) P → P taken.0
+  at_rest : (P : List ℕ → Type 0) → IfSome (input s.reached) P → P taken.0
   at_rest P known = subst (λ input. IfSome input P) taken.2 known
 
   by : (ends : SessionEnd) → CountsAt ends (length s.exchanges)
-      → (AllGoOn s.exchanges × Stops boot ends s.behind w')
-      ⊎ (OnlyFinalEnds s.exchanges × StopsBehindFinal ends × (w' ≡ s.behind)) → IsSettled ends
+      → (AllGoOn s.exchanges × Stops boot ends s.reached w')
+      ⊎ (OnlyFinalEnds s.exchanges × StopsAfterFinal ends × (w' ≡ s.reached)) → IsSettled ends
       → IsDue messages ending ends s.exchanges
   by end.Ended few (inl (going, stops)) settled =
       let answered : ReadsNext taken.0 (input w') w'.held got.End = at_rest

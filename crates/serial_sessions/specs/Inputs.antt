@@ -21,7 +21,7 @@ status_of end.Spent = 10
 
 -- the requests of these
 abbrev pub requests_of : List Exchange → List Request
-requests_of exchanges = map (λ e. e.request) exchanges
+requests_of exchanges = map (λ exchange. exchange.request) exchanges
 
 -- the requests of a text that are answered: these, and at most as many as a session may answer
 abbrev pub answered : List Request → List Request
@@ -40,12 +40,12 @@ end_at (malformed fault) = record { status = 3; text = malformed_text fault }
 
 -- The end of a run that has answered these requests of an input that ends so: the most requests that a session may
 -- answer go before a last request, and that goes before the end of the input.
-abbrev pub end_behind_all : List Request → Ending → End
-end_behind_all requests ending =
+abbrev pub end_after : List Request → Ending → End
+end_after requests ending =
     if length requests == most_requests then record { status = 10; text = [] }
     else if has_last requests then record { status = 0; text = [] }
     else end_at ending
 
 -- the end of a run over an input with these messages and this ending, where nothing fails
 abbrev pub end_due : List Request → Ending → End
-end_due messages ending = end_behind_all (answered messages) ending
+end_due messages ending = end_after (answered messages) ending

@@ -36,4 +36,4 @@ world held out serial =
 
 -- the bytes to come: those held, and then those that the source has left
 abbrev pub input : World → Option (List ℕ)
-input w = prepend_known w.held w.source.left
+input world = prepend_known world.held world.source.left

@@ -1,7 +1,7 @@
 ghost use Rattle.std.specs.Prelude.{◌≡◌, ◌<◌};
 ghost use Rattle.rest_service.specs.serial_steps.specs.Steps.{hosted};
 ghost use Rattle.serial_sessions.specs.Most.{most_requests};
-ghost use Rattle.serial_sessions.specs.Sessions.{Session, end_behind};
+ghost use Rattle.serial_sessions.specs.Sessions.{Session, end_after_final};
 ghost use Rattle.serial_sessions.specs.Worlds.{inlet, outlet, outside, world};
 
 use crate::session::{MOST_REQUESTS, SessionEnd, Turn};
@@ -14,9 +14,9 @@ use rest_service::from_run_words::Pace;
 use std::alloc::Global;
 
 /// Where a session stops after the final request, with this many requests answered before it.
-fn end_behind(done: u32) -> SessionEnd
+fn end_after_final(done: u32) -> SessionEnd
     requires { done < most_requests }
-    ensures { result ≡ end_behind done }
+    ensures { result ≡ end_after_final done }
 {
     if done + 1 == MOST_REQUESTS {
         SessionEnd::Spent
@@ -54,7 +54,7 @@ pub fn serve<S: Source, K: Sink, R: Keeper, H: Host, C: Clock>(
             alloc, buffer, source, sink, keeper, host, clock, service, boot, pace,
         ) {
             Turn::GoOn => {}
-            Turn::Final => return end_behind(done),
+            Turn::Final => return end_after_final(done),
             Turn::Stop(ends) => return ends,
         }
     }

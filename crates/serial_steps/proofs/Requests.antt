@@ -31,7 +31,7 @@ use Rattle.core_turns.specs.row_machine.specs.machine.Work.{entered, moved, canc
 use Rattle.core_turns.specs.row_machine.specs.shown.Notices.{telling, operation_notice, change_notices}
 use Rattle.core_turns.specs.row_machine.specs.machine.Rules.{broken}
 use Rattle.core_turns.specs.row_machine.specs.machine.Accept.{After, accepted, carried_out, after_cancel, cancel_or_read}
-use Rattle.core_turns.specs.row_machine.specs.machine.Step.{Outcome, well, keeper_failed, no_memory, step, asked, unavailable}
+use Rattle.core_turns.specs.row_machine.specs.machine.Step.{Outcome, well, keeper_failed, no_memory, step, after_command, unavailable}
 use Rattle.core_turns.specs.row_machine.specs.facts.Whole.{IsWhole}
 use Rattle.core_turns.specs.machine_laws.specs.Waits.{IsAlone}
 use Rattle.core_turns.specs.machine_laws.proofs.Base.{Each-found}
@@ -224,7 +224,7 @@ unavailable-leaves s nothing = none-left s
 unavailable-leaves s (changes cs) = leaves s _ (alike s)
 unavailable-leaves s (starts task) = none-left s
 
-asked-leaves : (s : State) (c : Command) (moment : ℕ) (outcome : Outcome) (r : Option Refusal) → IsWhole s → Leaves s (asked s c moment outcome r)
+asked-leaves : (s : State) (c : Command) (moment : ℕ) (outcome : Outcome) (r : Option Refusal) → IsWhole s → Leaves s (after_command s c moment outcome r)
 asked-leaves s c moment well (Some refusal) h = leaves s _ (alike s)
 asked-leaves s c moment well None h = leaves s _ (accepted-alone s c moment h)
 asked-leaves s c moment (keeper_failed rise) (Some refusal) h = none-left s

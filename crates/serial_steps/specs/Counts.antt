@@ -19,12 +19,12 @@ use Rattle.serial_steps.specs.Steps.{Site, Step, took, reported, StepsTo}
 -- the moment at which a step was made
 abbrev pub moment_of : Step → ℕ
 moment_of (took moment) = moment
-moment_of (reported r moment outcome) = moment
+moment_of (reported report moment outcome) = moment
 
 -- the report of the call that a step made
 abbrev pub report_of : Step → Option Report
 report_of (took moment) = None
-report_of (reported r moment outcome) = Some r
+report_of (reported report moment outcome) = Some report
 
 -- a call of the host failed, or none did
 abbrev pub failed_calls : Report → ℕ
@@ -34,7 +34,7 @@ failed_calls report.NoMemory = 0
 
 abbrev pub host_failure : Step → ℕ
 host_failure (took moment) = 0
-host_failure (reported r moment outcome) = failed_calls r
+host_failure (reported report moment outcome) = failed_calls report
 
 -- a call of the keeper failed, or none did
 abbrev pub failed_commits : Outcome → ℕ
@@ -44,7 +44,7 @@ failed_commits no_memory = 0
 
 abbrev pub keeper_failure : Step → ℕ
 keeper_failure (took moment) = 0
-keeper_failure (reported r moment outcome) = failed_commits outcome
+keeper_failure (reported report moment outcome) = failed_commits outcome
 
 -- ---- of several
 
@@ -68,21 +68,21 @@ roots_by (made ∷ more) roots = roots_by more (roots_after made.0 made.1 roots)
 -- calls with these reports, one for each, made these roots of the told ones
 pub record Makes (reports : List Report) (roots roots' : Option (List HostRoot)) : Type 0 where
   pub made : List (Report × HostCall)
-  pub reports_are : map (λ (m : Report × HostCall). m.0) made ≡ reports
+  pub reports_are : map (λ (pair : Report × HostCall). pair.0) made ≡ reports
   pub roots_are : roots' ≡ roots_by made roots
 
 -- What steps came to. The clock was read once for each, in their order, before the year 10000; the host's told roots
 -- are those that the calls made; the counts of the host and of the keeper rose at least by the failures that the steps
 -- tell of, and never fell; and entries that were the records of the rows are so afterwards.
-pub record ComesTo (w : Site) (steps : List Step) (w' : Site) : Type 0 where
-  pub clock : Reads w.clock (moments_in steps) w'.clock
+pub record ComesTo (site : Site) (steps : List Step) (later : Site) : Type 0 where
+  pub clock : Reads site.clock (moments_in steps) later.clock
   pub early : All (λ moment. moment < moment_limit) (moments_in steps)
-  pub host : Makes (reports_in steps) w.host.roots w'.host.roots
-  pub host_failed : RoseBy (host_failures_in steps) w.host.failures w'.host.failures
-  pub host_later : w.host.failures ≤ w'.host.failures
-  pub keeper_failed : RoseBy (keeper_failures_in steps) w.store.failures w'.store.failures
-  pub keeper_later : w.store.failures ≤ w'.store.failures
-  pub kept : KeepsRecords w.store.told w.serial.state w'.store.told w'.serial.state
+  pub host : Makes (reports_in steps) site.host.roots later.host.roots
+  pub host_failed : RoseBy (host_failures_in steps) site.host.failures later.host.failures
+  pub host_later : site.host.failures ≤ later.host.failures
+  pub keeper_failed : RoseBy (keeper_failures_in steps) site.store.failures later.store.failures
+  pub keeper_later : site.store.failures ≤ later.store.failures
+  pub kept : KeepsRecords site.store.told site.serial.state later.store.told later.serial.state
 
 abbrev pub StepsComeTo : Type 0
-StepsComeTo = (w : Site) (steps : List Step) (w' : Site) → StepsTo w steps w' → ComesTo w steps w'
+StepsComeTo = (site : Site) (steps : List Step) (later : Site) → StepsTo site steps later → ComesTo site steps later

@@ -67,15 +67,15 @@ job_of (answer.Job number call) = Some (number, call)
 job_of other = None
 
 -- a call was asked for, and there was one or none
-pub record Takes (w : Site) (moment : ℕ) (w' : Site) : Type 0 where
+pub record Takes (site : Site) (moment : ℕ) (next : Site) : Type 0 where
   pub answer : Answer
-  pub idle : w.serial.hand ≡ None
-  pub turn : Turns w.serial.state w.store (event.Take moment) well answer w'.serial.state w'.store
-  pub hand : w'.serial.hand ≡ job_of answer
-  pub host : w'.host ≡ w.host
-  pub clock : Reads w.clock (moment ∷ []) w'.clock
+  pub idle : site.serial.hand ≡ None
+  pub turn : Turns site.serial.state site.store (event.Take moment) well answer next.serial.state next.store
+  pub hand : next.serial.hand ≡ job_of answer
+  pub host : next.host ≡ site.host
+  pub clock : Reads site.clock (moment ∷ []) next.clock
   pub early : moment < moment_limit
-  pub kept : KeepsRecords w.store.told w.serial.state w'.store.told w'.serial.state
+  pub kept : KeepsRecords site.store.told site.serial.state next.store.told next.serial.state
 
 -- a failed call has its cause in the host's count, which rose
 abbrev pub HasCause : Report → ℕ → ℕ → Type 0
@@ -84,26 +84,27 @@ HasCause (report.Failed rise) before after = Rose before after
 HasCause report.NoMemory before after = Unit {0}
 
 -- the call in hand was made, and its report was taken
-pub record Reports (w : Site) (r : Report) (moment : ℕ) (outcome : Outcome) (w' : Site) : Type 0 where
+pub record Reports (site : Site) (report : Report) (moment : ℕ) (outcome : Outcome) (next : Site) : Type 0 where
   pub number : ℕ
   pub call : HostCall
   pub answer : Answer
-  pub busy : w.serial.hand ≡ Some (number, call)
-  pub turn : Turns w.serial.state w.store (event.Done number r moment) outcome answer w'.serial.state w'.store
-  pub hand : w'.serial.hand ≡ job_of answer
-  pub roots : w'.host.roots ≡ roots_after r call w.host.roots
-  pub counts : CarriesCounts r w.host.failures w'.host.failures
-  pub cause : HasCause r w.host.failures w'.host.failures
-  pub later : w.host.failures ≤ w'.host.failures
-  pub clock : Reads w.clock (moment ∷ []) w'.clock
+  pub busy : site.serial.hand ≡ Some (number, call)
+  pub turn : Turns site.serial.state site.store (event.Done number report moment) outcome answer
+      next.serial.state next.store
+  pub hand : next.serial.hand ≡ job_of answer
+  pub roots : next.host.roots ≡ roots_after report call site.host.roots
+  pub counts : CarriesCounts report site.host.failures next.host.failures
+  pub cause : HasCause report site.host.failures next.host.failures
+  pub later : site.host.failures ≤ next.host.failures
+  pub clock : Reads site.clock (moment ∷ []) next.clock
   pub early : moment < moment_limit
-  pub caused : IsCaused outcome w.store.failures w'.store.failures
-  pub kept : KeepsRecords w.store.told w.serial.state w'.store.told w'.serial.state
+  pub caused : IsCaused outcome site.store.failures next.store.failures
+  pub kept : KeepsRecords site.store.told site.serial.state next.store.told next.serial.state
 
 -- one step leads from one moment to the next
 abbrev pub Steps : Site → Step → Site → Type 0
-Steps w (took moment) w' = Takes w moment w'
-Steps w (reported r moment outcome) w' = Reports w r moment outcome w'
+Steps site (took moment) next = Takes site moment next
+Steps site (reported report moment outcome) next = Reports site report moment outcome next
 
 -- ---- several steps
 
@@ -113,19 +114,20 @@ most_steps = 4096
 
 -- steps lead from one moment to another, each made where the state before it is such
 abbrev pub StepsWhile : (State → Type 0) → Site → List Step → Site → Type 0
-StepsWhile such w [] w' = w ≡ w'
-StepsWhile such w (s ∷ steps) w' = such w.serial.state × (next : Site) × Steps w s next × StepsWhile such next steps w'
+StepsWhile such site [] later = site ≡ later
+StepsWhile such site (step ∷ steps) later =
+    such site.serial.state × (next : Site) × Steps site step next × StepsWhile such next steps later
 
 -- steps lead from one moment to another
 abbrev pub StepsTo : Site → List Step → Site → Type 0
-StepsTo = StepsWhile (λ s. Unit {0})
+StepsTo = StepsWhile (λ state. Unit {0})
 
 -- steps until nothing is live
-pub record Finishes (w : Site) (steps : List Step) (w' : Site) : Type 0 where
-  pub made : StepsWhile (λ s. s.operations.live ≢ []) w steps w'
-  pub done : w'.serial.state.operations.live ≡ []
+pub record Finishes (site : Site) (steps : List Step) (later : Site) : Type 0 where
+  pub made : StepsWhile (λ state. state.operations.live ≢ []) site steps later
+  pub done : later.serial.state.operations.live ≡ []
 
 -- steps until an operation has ended
-pub record WaitsFor (number : ℕ) (w : Site) (steps : List Step) (w' : Site) : Type 0 where
-  pub made : StepsWhile (λ s. live_at s.operations number ≢ None) w steps w'
-  pub done : live_at w'.serial.state.operations number ≡ None
+pub record WaitsFor (number : ℕ) (site : Site) (steps : List Step) (later : Site) : Type 0 where
+  pub made : StepsWhile (λ state. live_at state.operations number ≢ None) site steps later
+  pub done : live_at later.serial.state.operations number ≡ None

@@ -4,8 +4,8 @@ use Rattle.serial_steps.specs.Steps.{Serial, number_in}
 use Rattle.serial_steps.specs.declared.serial.SerialDaemon.TheInside.{Inside}
 
 abbrev pub serial_of : Inside → Serial
-serial_of d = record { state = d.daemon; hand = d.hand }
+serial_of serial = record { state = serial.daemon; hand = serial.hand }
 
 -- all live operations wait but for the one whose call is in hand, and that one does not wait
 abbrev pub IsAtWork : Inside → Type 0
-IsAtWork d = IsAlone d.daemon (number_in d.hand)
+IsAtWork serial = IsAlone serial.daemon (number_in serial.hand)

@@ -107,17 +107,17 @@ one_more boot a b c far next = record {
 pub link_final : (boot : ℕ) (a b c : Line) → ServesSoFar boot a b → Turns boot turn.Final b c
     → Serving boot a c end.Ended
 link_final boot a b c far next =
-    record { exchanges = far.exchanges; behind = b; serves = far.serves; stops = inl (refl, next) }
+    record { exchanges = far.exchanges; reached = b; serves = far.serves; stops = inl (refl, next) }
 
 -- the link ends for another reason
 pub link_stops : (boot : ℕ) (a b c : Line) (ends : LinkEnd) → ServesSoFar boot a b → Turns boot (turn.Stop ends) b c
     → Serving boot a c ends
 link_stops boot a b c ends far stops =
-    record { exchanges = far.exchanges; behind = b; serves = far.serves; stops = inr stops }
+    record { exchanges = far.exchanges; reached = b; serves = far.serves; stops = inr stops }
 
 -- memory was refused before any request was read
 pub none_serves : (boot : ℕ) (w : Line) → Serving boot w w end.NoMemory
-none_serves boot w = record { exchanges = []; behind = w; serves = refl; stops = inr (inl refl) }
+none_serves boot w = record { exchanges = []; reached = w; serves = refl; stops = inr (inl refl) }
 
 -- ---- what a link comes to
 
@@ -152,10 +152,10 @@ stop_goes boot (end.Events wanted) w w' stops = goes_along w w' stops.3.gate
 
 -- what was done at the gate is one trail
 pub link_goes : (boot : ℕ) (w w' : Line) (ends : LinkEnd) → Serving boot w w' ends → Goes w w'
-link_goes boot w w' ends s = goes_twice w s.behind w' (all_go boot w s.behind s.exchanges s.serves) (by s.stops) where
-  by : ((ends ≡ end.Ended) × Turns boot turn.Final s.behind w') ⊎ Stops boot ends s.behind w' → Goes s.behind w'
+link_goes boot w w' ends s = goes_twice w s.reached w' (all_go boot w s.reached s.exchanges s.serves) (by s.stops) where
+  by : ((ends ≡ end.Ended) × Turns boot turn.Final s.reached w') ⊎ Stops boot ends s.reached w' → Goes s.reached w'
   by (inl (is, next)) = (next.0.trail, next.1.carries.gate)
-  by (inr stops) = stop_goes boot ends s.behind w' stops
+  by (inr stops) = stop_goes boot ends s.reached w' stops
 
 -- the buffer never holds more than it may
 few_along : (boot : ℕ) (w w' : Line) (xs : List Exchange) → length w.held ≤ most_held → ServesAll boot w xs w'
@@ -181,13 +181,13 @@ few_at boot (end.Events wanted) w w' stops few = stops.1.few
 pub link_few : (boot : ℕ) (w w' : Line) (ends : LinkEnd) → length w.held ≤ most_held → Serving boot w w' ends
     → length w'.held ≤ most_held
 link_few boot w w' ends few s = by s.stops where
-  behind : length s.behind.held ≤ most_held
-  behind = few_along boot w s.behind s.exchanges few s.serves
+  reached : length s.reached.held ≤ most_held
+  reached = few_along boot w s.reached s.exchanges few s.serves
 
-  by : ((ends ≡ end.Ended) × Turns boot turn.Final s.behind w') ⊎ Stops boot ends s.behind w'
+  by : ((ends ≡ end.Ended) × Turns boot turn.Final s.reached w') ⊎ Stops boot ends s.reached w'
       → length w'.held ≤ most_held
   by (inl (is, next)) = next.1.carries.asked.few
-  by (inr stops) = few_at boot ends s.behind w' stops behind
+  by (inr stops) = few_at boot ends s.reached w' stops reached
 
 -- ---- counts
 
@@ -209,10 +209,10 @@ sources_later boot w w' (e ∷ more) serves =
 
 -- how a link stopped that did not end after a final request
 stopped : (boot : ℕ) (w w' : Line) (ends : LinkEnd) → ends ≢ end.Ended → (s : Serving boot w w' ends)
-    → Stops boot ends s.behind w'
+    → Stops boot ends s.reached w'
 stopped boot w w' ends other s = by s.stops where
-  by : ((ends ≡ end.Ended) × Turns boot turn.Final s.behind w') ⊎ Stops boot ends s.behind w'
-      → Stops boot ends s.behind w'
+  by : ((ends ≡ end.Ended) × Turns boot turn.Final s.reached w') ⊎ Stops boot ends s.reached w'
+      → Stops boot ends s.reached w'
   by (inl (is, next)) = absurd (other is)
   by (inr stops) = stops
 
@@ -227,10 +227,10 @@ pub link_read_fault : (boot : ℕ) (w w' : Line) (ends : LinkEnd) → Serving bo
 link_read_fault boot w w' ends s is = by (subst (Serving boot w w') is s) where
   by : Serving boot w w' end.ReadFault → Rose w.source.failures w'.source.failures
   by s =
-      let rose : Rose s.behind.source.failures w'.source.failures =
+      let rose : Rose s.reached.source.failures w'.source.failures =
       (stopped boot w w' end.ReadFault (λ e. cc) s).0.fault in
-      let later : w.source.failures ≤ s.behind.source.failures =
-      sources_later boot w s.behind s.exchanges s.serves in
+      let later : w.source.failures ≤ s.reached.source.failures =
+      sources_later boot w s.reached s.exchanges s.serves in
       omega (arith, rose, later)
 
 pub link_write_fault : (boot : ℕ) (w w' : Line) (ends : LinkEnd) → Serving boot w w' ends → ends ≡ end.WriteFault
@@ -245,5 +245,5 @@ link_write_fault boot w w' ends s is = by (subst (Serving boot w w') is s) where
   stops_rose v (inr stops) = stops.3.rose
 
   by : Serving boot w w' end.WriteFault → Rose w.sink.failures w'.sink.failures
-  by s = rose_from s.behind (sinks_later boot w s.behind s.exchanges s.serves)
-      (stops_rose s.behind (stopped boot w w' end.WriteFault (λ e. cc) s))
+  by s = rose_from s.reached (sinks_later boot w s.reached s.exchanges s.serves)
+      (stops_rose s.reached (stopped boot w w' end.WriteFault (λ e. cc) s))

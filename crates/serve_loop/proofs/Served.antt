@@ -13,7 +13,7 @@ use Rattle.event_texts.specs.Subscriptions.{subscription_of}
 use Rattle.event_texts.specs.declared.subscriptions.Subscription.{Subscription}
 use Rattle.gate_replies.specs.rest_answers.specs.Texts.{printed}
 use Rattle.gate_replies.specs.rest_answers.proofs.Linking.{appends_nothing, appends_twice}
-use Rattle.gate_replies.specs.rest_answers.proofs.Splitting.{GoesOn, none_more, splits_behind}
+use Rattle.gate_replies.specs.rest_answers.proofs.Splitting.{GoesOn, none_more, splits_after}
 use Rattle.serve_loop.specs.Serving.{Exchange, Line, Serves, ServesAll, Serving, Stops, Turns}
 use Rattle.serve_loop.specs.Texts.{HandlesAll, IsFault, ServesText, Sides, answered, answered_by, end_at, end_by}
 use Rattle.serve_loop.specs.Texts.{end_due, printed_replies}
@@ -111,7 +111,7 @@ due_going (m ∷ ms) more ending going =
     ∙ ap (λ last. if last then end.Ended else end_due (ms ++ more) ending) going.1
     ∙ due_going ms more ending going.2
 
--- behind these comes a request that is the last on its connection
+-- after these comes a request that is the last on its connection
 answered_final : (ms : List Request) (m : Request) (more : List Request) → AreGoing ms → subscription_of m ≡ None
     → m.last ≡ true → answered (ms ++ m ∷ more) ≡ ms ++ m ∷ []
 answered_final ms m more going plain last =
@@ -126,7 +126,7 @@ due_final ms m more ending going plain last =
     ∙ ap (λ s. end_by s m (end_due more ending)) plain
     ∙ ap (λ l. if l then end.Ended else end_due more ending) last
 
--- behind these comes a request that subscribes to events
+-- after these comes a request that subscribes to events
 answered_events : (ms : List Request) (m : Request) (more : List Request) (wanted : Subscription) → AreGoing ms
     → subscription_of m ≡ Some wanted → answered (ms ++ m ∷ more) ≡ ms
 answered_events ms m more wanted going is =
@@ -145,22 +145,22 @@ requests-append (e ∷ xs) ys = ap (λ ms. e.request ∷ ms) (requests-append xs
 
 -- ---- links
 
--- what is left of a text behind requests
+-- what is left of a text after requests
 record Behind (text : List ℕ) (xs : List Exchange) (w : Line) (messages : List Request) (ending : Ending) : Type 0 where
   rest : List ℕ
   input_is : input w ≡ Some rest
   goes_on : GoesOn rest (requests_of xs) messages ending
 
-behind : (boot : ℕ) (w v : Line) (xs : List Exchange) (text : List ℕ) (messages : List Request) (ending : Ending)
+reached : (boot : ℕ) (w v : Line) (xs : List Exchange) (text : List ℕ) (messages : List Request) (ending : Ending)
     → Together boot w xs v → input w ≡ Some text → Splits text messages ending → Behind text xs v messages ending
-behind boot w v xs text messages ending all is splits =
+reached boot w v xs text messages ending all is splits =
     let taken : (rest : List ℕ) × Begins text (requests_of xs) rest × (input v ≡ Some rest) =
     subst (λ known. IfSome known (λ bytes. (rest : List ℕ) × Begins bytes (requests_of xs) rest
     × (input v ≡ Some rest))) is all.read in
     record {
       rest = taken.0;
       input_is = taken.2;
-      goes_on = splits_behind text taken.0 (requests_of xs) messages ending taken.1 splits;
+      goes_on = splits_after text taken.0 (requests_of xs) messages ending taken.1 splits;
     }
 
 -- a link that ends with its input
@@ -171,7 +171,7 @@ text_at_end : (boot : ℕ) (w v w' : Line) (xs : List Exchange) (text : List ℕ
     → Appends v.sink.held w'.sink.held (text_at (end_at other))
     → ServesText boot messages ending (end_at other) (sides_of w) (sides_of w')
 text_at_end boot w v w' xs text messages ending other all going is splits gate clock stands written =
-    let far : Behind text xs v messages ending = behind boot w v xs text messages ending all is splits in
+    let far : Behind text xs v messages ending = reached boot w v xs text messages ending all is splits in
     let none : (far.goes_on.more ≡ []) × (ending ≡ other) = none_more far.rest far.goes_on.more ending other
     far.goes_on.rest_splits (stands far.rest far.input_is) in
     let are : messages ≡ requests_of xs =
@@ -197,7 +197,7 @@ text_at_final boot w v w' xs text messages ending serves final is splits =
     let all : Together boot w (xs ++ final.0 ∷ []) w' = all_together boot w v w' xs (final.0 ∷ []) serves
     (first_together boot v w' w' final.0 [] final.1 (none_together boot w')) in
     let far : Behind text (xs ++ final.0 ∷ []) w' messages ending =
-    behind boot w w' (xs ++ final.0 ∷ []) text messages ending all is splits in
+    reached boot w w' (xs ++ final.0 ∷ []) text messages ending all is splits in
     let going : AreGoing (requests_of xs) = served_going boot w v xs serves in
     let are : messages ≡ requests_of xs ++ final.0.request ∷ far.goes_on.more =
     far.goes_on.messages_are
@@ -231,12 +231,12 @@ text_at_events : (boot : ℕ) (w v w' : Line) (xs : List Exchange) (text : List 
     → Stops boot (end.Events wanted) v w' → input w ≡ Some text → Splits text messages ending
     → ServesText boot messages ending (end.Events wanted) (sides_of w) (sides_of w')
 text_at_events boot w v w' xs text messages ending wanted all going stops is splits =
-    let far : Behind text xs v messages ending = behind boot w v xs text messages ending all is splits in
+    let far : Behind text xs v messages ending = reached boot w v xs text messages ending all is splits in
     let taken : ReadsNext far.rest (input w') w'.held (got.Request stops.0) =
     at_known (λ bytes. ReadsNext bytes (input w') w'.held (got.Request stops.0)) (input v) stops.1.next far.rest
     far.input_is in
     let next : GoesOn taken.0 (stops.0 ∷ []) far.goes_on.more ending =
-    splits_behind far.rest taken.0 (stops.0 ∷ []) far.goes_on.more ending (taken.0, taken.1, refl)
+    splits_after far.rest taken.0 (stops.0 ∷ []) far.goes_on.more ending (taken.0, taken.1, refl)
     far.goes_on.rest_splits in
     let are : messages ≡ requests_of xs ++ stops.0 ∷ next.more =
     far.goes_on.messages_are ∙ ap (λ ms. requests_of xs ++ ms) next.messages_are in
@@ -257,46 +257,46 @@ pub link_text : (boot : ℕ) (w w' : Line) (ends : LinkEnd) (text : List ℕ) (m
     → Serving boot w w' ends → input w ≡ Some text → Splits text messages ending
     → IsFault ends ⊎ ServesText boot messages ending ends (sides_of w) (sides_of w')
 link_text boot w w' ends text messages ending s is splits = by ends s.stops where
-  all : Together boot w (s.exchanges ++ []) s.behind
-  all = all_together boot w s.behind s.behind s.exchanges [] s.serves (none_together boot s.behind)
+  all : Together boot w (s.exchanges ++ []) s.reached
+  all = all_together boot w s.reached s.reached s.exchanges [] s.serves (none_together boot s.reached)
 
-  whole : Together boot w s.exchanges s.behind
-  whole = subst (λ xs. Together boot w xs s.behind) (append-nil s.exchanges) all
+  whole : Together boot w s.exchanges s.reached
+  whole = subst (λ xs. Together boot w xs s.reached) (append-nil s.exchanges) all
 
   going : AreGoing (requests_of s.exchanges)
-  going = served_going boot w s.behind s.exchanges s.serves
+  going = served_going boot w s.reached s.exchanges s.serves
 
-  by : (ends : LinkEnd) → ((ends ≡ end.Ended) × Turns boot turn.Final s.behind w') ⊎ Stops boot ends s.behind w'
+  by : (ends : LinkEnd) → ((ends ≡ end.Ended) × Turns boot turn.Final s.reached w') ⊎ Stops boot ends s.reached w'
       → IsFault ends ⊎ ServesText boot messages ending ends (sides_of w) (sides_of w')
   by end.Ended (inl (same, final)) =
-      inr (text_at_final boot w s.behind w' s.exchanges text messages ending s.serves final is splits)
+      inr (text_at_final boot w s.reached w' s.exchanges text messages ending s.serves final is splits)
   by end.Ended (inr stops) = inr (
-      text_at_end boot w s.behind w' s.exchanges text messages ending ended whole going is splits stops.1.gate
+      text_at_end boot w s.reached w' s.exchanges text messages ending ended whole going is splits stops.1.gate
       stops.1.clock
-      (λ rest known. (at_known (λ bytes. ReadsNext bytes (input w') w'.held got.End) (input s.behind) stops.0.next rest
+      (λ rest known. (at_known (λ bytes. ReadsNext bytes (input w') w'.held got.End) (input s.reached) stops.0.next rest
       known).0)
-      (same_sink s.behind w' stops.2)
+      (same_sink s.reached w' stops.2)
       )
   by end.Cut (inl (same, final)) = cc
   by end.Cut (inr stops) = inr (
-      text_at_end boot w s.behind w' s.exchanges text messages ending (cut stops.0) whole going is splits
+      text_at_end boot w s.reached w' s.exchanges text messages ending (cut stops.0) whole going is splits
       stops.2.gate stops.2.clock
       (λ rest known. let said : ReadsNext rest (input w') w'.held (got.Cut stops.0) =
-      at_known (λ bytes. ReadsNext bytes (input w') w'.held (got.Cut stops.0)) (input s.behind) stops.1.next rest known in
+      at_known (λ bytes. ReadsNext bytes (input w') w'.held (got.Cut stops.0)) (input s.reached) stops.1.next rest known in
       (said.0, said.3))
-      (same_sink s.behind w' stops.3)
+      (same_sink s.reached w' stops.3)
       )
   by (end.Malformed fault) (inl (same, final)) = cc
   by (end.Malformed fault) (inr stops) = inr (
-      text_at_end boot w s.behind w' s.exchanges text messages ending (malformed fault) whole going is splits
+      text_at_end boot w s.reached w' s.exchanges text messages ending (malformed fault) whole going is splits
       stops.1.gate stops.1.clock
-      (λ rest known. (at_known (λ bytes. ReadsNext bytes (input w') w'.held (got.Malformed fault)) (input s.behind)
+      (λ rest known. (at_known (λ bytes. ReadsNext bytes (input w') w'.held (got.Malformed fault)) (input s.reached)
       stops.0.next rest known).0)
       stops.2.written
       )
   by (end.Events wanted) (inl (same, final)) = cc
   by (end.Events wanted) (inr stops) = inr (
-      text_at_events boot w s.behind w' s.exchanges text messages ending wanted whole going stops is splits
+      text_at_events boot w s.reached w' s.exchanges text messages ending wanted whole going stops is splits
       )
   by end.ReadFault stops = inl tt
   by end.WriteFault stops = inl tt

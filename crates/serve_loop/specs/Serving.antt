@@ -48,24 +48,24 @@ line held source sink gate clock = record { held = held; source = source; sink =
 
 -- one call of `read_request` answered this of the bytes to come and of the bytes held
 abbrev pub Asks : Line → Line → Got → Type 0
-Asks w w' answer = ReadsFrom w.held w.source answer w'.held w'.source
+Asks line later answer = ReadsFrom line.held line.source answer later.held later.source
 
 -- nothing was done at the gate, and the clock was not read
-pub record KeepsGate (w w' : Line) : Type 0 where
-  pub gate : w'.gate ≡ w.gate
-  pub clock : w'.clock ≡ w.clock
+pub record KeepsGate (line later : Line) : Type 0 where
+  pub gate : later.gate ≡ line.gate
+  pub clock : later.clock ≡ line.clock
 
 -- The next request was taken, subscribes to no events, and came to its reply.
-pub record CarriesOut (boot : ℕ) (w w' : Line) (e : Exchange) : Type 0 where
-  pub asked : Asks w w' (got.Request e.request)
-  pub plain : subscription_of e.request ≡ None
-  pub gate : Between e.trail w.gate w'.gate
-  pub handles : Handles (command_of e.request boot) w.clock e.trail e.reply w'.clock
+pub record CarriesOut (boot : ℕ) (line later : Line) (exchange : Exchange) : Type 0 where
+  pub asked : Asks line later (got.Request exchange.request)
+  pub plain : subscription_of exchange.request ≡ None
+  pub gate : Between exchange.trail line.gate later.gate
+  pub handles : Handles (command_of exchange.request boot) line.clock exchange.trail exchange.reply later.clock
 
 -- The next request was taken and came to its reply, which was written whole.
-pub record Serves (boot : ℕ) (w w' : Line) (e : Exchange) : Type 0 where
-  pub carries : CarriesOut boot w w' e
-  pub replied : Takes w.sink w'.sink (printed e.reply boot e.request.last)
+pub record Serves (boot : ℕ) (line later : Line) (exchange : Exchange) : Type 0 where
+  pub carries : CarriesOut boot line later exchange
+  pub replied : Takes line.sink later.sink (printed exchange.reply boot exchange.request.last)
 
 -- ---- ends
 
@@ -74,53 +74,60 @@ pub record Serves (boot : ℕ) (w w' : Line) (e : Exchange) : Type 0 where
 -- where memory was refused, nothing is written, after a request was carried out, before, or before any was read; and at
 -- a request that subscribes to events, nothing was done of it.
 abbrev pub Stops : ℕ → LinkEnd → Line → Line → Type 0
-Stops boot end.Ended w w' = Asks w w' got.End × KeepsGate w w' × (w'.sink ≡ w.sink)
-Stops boot end.Cut w w' = (count : ℕ) × Asks w w' (got.Cut count) × KeepsGate w w' × (w'.sink ≡ w.sink)
-Stops boot (end.Malformed fault) w w' = Asks w w' (got.Malformed fault) × KeepsGate w w'
-    × Takes w.sink w'.sink (malformed_text fault)
-Stops boot end.ReadFault w w' = Asks w w' got.ReadFault × KeepsGate w w' × (w'.sink ≡ w.sink)
-Stops boot end.WriteFault w w' =
-    ((e : Exchange) × CarriesOut boot w w' e × BreaksOff w.sink w'.sink (printed e.reply boot e.request.last))
-    ⊎ ((fault : HeadFault) × Asks w w' (got.Malformed fault) × KeepsGate w w'
-    × BreaksOff w.sink w'.sink (malformed_text fault))
-Stops boot end.NoMemory w w' =
-    (w' ≡ w)
-    ⊎ (Asks w w' got.NoMemory × KeepsGate w w' × (w'.sink ≡ w.sink))
-    ⊎ ((fault : HeadFault) × Asks w w' (got.Malformed fault) × KeepsGate w w' × (w'.sink ≡ w.sink))
-    ⊎ ((e : Exchange) × CarriesOut boot w w' e × (e.reply ≢ reply.NoMemory) × (w'.sink ≡ w.sink))
-    ⊎ ((request : Request) × Asks w w' (got.Request request) × KeepsGate w w' × (w'.sink ≡ w.sink))
-Stops boot (end.Events wanted) w w' = (request : Request) × Asks w w' (got.Request request)
-    × (subscription_of request ≡ Some wanted) × KeepsGate w w' × (w'.sink ≡ w.sink)
+Stops boot end.Ended line later = Asks line later got.End × KeepsGate line later × (later.sink ≡ line.sink)
+Stops boot end.Cut line later =
+    (count : ℕ) × Asks line later (got.Cut count) × KeepsGate line later × (later.sink ≡ line.sink)
+Stops boot (end.Malformed fault) line later = Asks line later (got.Malformed fault) × KeepsGate line later
+    × Takes line.sink later.sink (malformed_text fault)
+Stops boot end.ReadFault line later = Asks line later got.ReadFault × KeepsGate line later × (later.sink ≡ line.sink)
+Stops boot end.WriteFault line later =
+    ((exchange : Exchange) × CarriesOut boot line later exchange
+    × BreaksOff line.sink later.sink (printed exchange.reply boot exchange.request.last))
+    ⊎ ((fault : HeadFault) × Asks line later (got.Malformed fault) × KeepsGate line later
+    × BreaksOff line.sink later.sink (malformed_text fault))
+Stops boot end.NoMemory line later =
+    (later ≡ line)
+    ⊎ (Asks line later got.NoMemory × KeepsGate line later × (later.sink ≡ line.sink))
+    ⊎ ((fault : HeadFault) × Asks line later (got.Malformed fault) × KeepsGate line later × (later.sink ≡ line.sink))
+    ⊎ ((exchange : Exchange) × CarriesOut boot line later exchange
+    × (exchange.reply ≢ reply.NoMemory) × (later.sink ≡ line.sink))
+    ⊎ ((request : Request) × Asks line later (got.Request request) × KeepsGate line later × (later.sink ≡ line.sink))
+Stops boot (end.Events wanted) line later = (request : Request) × Asks line later (got.Request request)
+    × (subscription_of request ≡ Some wanted) × KeepsGate line later × (later.sink ≡ line.sink)
 
 -- one turn of a link: the next request was answered, or the link ends
 abbrev pub Turns : ℕ → Turn → Line → Line → Type 0
-Turns boot turn.GoOn w w' = (e : Exchange) × Serves boot w w' e × (e.request.last ≡ false)
-Turns boot turn.Final w w' = (e : Exchange) × Serves boot w w' e × (e.request.last ≡ true)
-Turns boot (turn.Stop ends) w w' = Stops boot ends w w'
+Turns boot turn.GoOn line later =
+    (exchange : Exchange) × Serves boot line later exchange × (exchange.request.last ≡ false)
+Turns boot turn.Final line later =
+    (exchange : Exchange) × Serves boot line later exchange × (exchange.request.last ≡ true)
+Turns boot (turn.Stop ends) line later = Stops boot ends line later
 
 -- ---- a link
 
 -- requests were answered one after the other, and none of them is the last on its connection
 abbrev pub ServesAll : ℕ → Line → List Exchange → Line → Type 0
-ServesAll boot w [] w' = w ≡ w'
-ServesAll boot w (e ∷ more) w' = (next : Line) × Serves boot w next e × (e.request.last ≡ false)
-    × ServesAll boot next more w'
+ServesAll boot line [] later = line ≡ later
+ServesAll boot line (exchange ∷ more) later =
+    (next : Line) × Serves boot line next exchange × (exchange.request.last ≡ false)
+    × ServesAll boot next more later
 
--- A link from w to w': the requests that it answered whole and after which it went on, the line behind them, and how it
--- ended there: by a final request, which was answered whole and is the last on its connection, or for another reason.
-pub record Serving (boot : ℕ) (w w' : Line) (ends : LinkEnd) : Type 0 where
+-- A link from one line to a later one: the requests that it answered whole and after which it went on, the line after
+-- them, and how it ended there: by a final request, which was answered whole and is the last on its connection, or for
+-- another reason.
+pub record Serving (boot : ℕ) (line later : Line) (ends : LinkEnd) : Type 0 where
   pub exchanges : List Exchange
-  pub behind : Line
-  pub serves : ServesAll boot w exchanges behind
-  pub stops : ((ends ≡ end.Ended) × Turns boot turn.Final behind w') ⊎ Stops boot ends behind w'
+  pub reached : Line
+  pub serves : ServesAll boot line exchanges reached
+  pub stops : ((ends ≡ end.Ended) × Turns boot turn.Final reached later) ⊎ Stops boot ends reached later
 
 -- A link from this line on, with the outside seen so at its end. What is still to come is what its buffer held, at most
 -- one head, one body and one piece, and what the source has left.
-pub record ServingFrom (boot : ℕ) (w : Line) (source : Inlet) (sink : Outlet) (gate : Seen) (clock : Readings)
+pub record ServingFrom (boot : ℕ) (start : Line) (source : Inlet) (sink : Outlet) (gate : Seen) (clock : Readings)
     (ends : LinkEnd) : Type 0 where
   pub held : List ℕ
   pub few : length held ≤ most_held
-  pub serving : Serving boot w (line held source sink gate clock) ends
+  pub serving : Serving boot start (line held source sink gate clock) ends
 
 -- ---- the parts of a turn
 

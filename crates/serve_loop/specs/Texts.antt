@@ -20,21 +20,21 @@ use Rattle.serve_loop.specs.declared.link.LinkEnd.TheVariants as end
 
 -- the requests of these
 abbrev pub requests_of : List Exchange → List Request
-requests_of exchanges = map (λ e. e.request) exchanges
+requests_of exchanges = map (λ exchange. exchange.request) exchanges
 
 -- the bytes of the replies, in their order
 abbrev pub printed_replies : ℕ → List Exchange → List ℕ
-printed_replies boot exchanges = flat_map (λ e. printed e.reply boot e.request.last) exchanges
+printed_replies boot exchanges = flat_map (λ exchange. printed exchange.reply boot exchange.request.last) exchanges
 
 -- what was done at the gate, in its order
 abbrev pub trail_of : List Exchange → List Item
-trail_of exchanges = flat_map (λ e. e.trail) exchanges
+trail_of exchanges = flat_map (λ exchange. exchange.trail) exchanges
 
 -- requests came to their replies one after the other, between these readings of the clock
 abbrev pub HandlesAll : ℕ → Readings → List Exchange → Readings → Type 0
 HandlesAll boot told [] told' = told' ≡ told
-HandlesAll boot told (e ∷ more) told' = (between : Readings)
-    × Handles (command_of e.request boot) told e.trail e.reply between
+HandlesAll boot told (exchange ∷ more) told' = (between : Readings)
+    × Handles (command_of exchange.request boot) told exchange.trail exchange.reply between
     × HandlesAll boot between more told'
 
 -- how a link ends that has answered all messages of its input
@@ -46,21 +46,21 @@ end_at (malformed fault) = end.Malformed fault
 -- The requests that are answered: those up to and with the first that is the last on its connection, or before the
 -- first that subscribes to events.
 abbrev pub answered_by : Option Subscription → Request → List Request → List Request
-answered_by (Some wanted) m others = []
-answered_by None m others = m ∷ (if m.last then [] else others)
+answered_by (Some wanted) message others = []
+answered_by None message others = message ∷ (if message.last then [] else others)
 
 abbrev pub answered : List Request → List Request
 answered [] = []
-answered (m ∷ more) = answered_by (subscription_of m) m (answered more)
+answered (message ∷ more) = answered_by (subscription_of message) message (answered more)
 
 -- how a link ends over an input with these messages and this ending, where nothing fails
 abbrev pub end_by : Option Subscription → Request → LinkEnd → LinkEnd
-end_by (Some wanted) m other = end.Events wanted
-end_by None m other = if m.last then end.Ended else other
+end_by (Some wanted) message other = end.Events wanted
+end_by None message other = if message.last then end.Ended else other
 
 abbrev pub end_due : List Request → Ending → LinkEnd
 end_due [] ending = end_at ending
-end_due (m ∷ more) ending = end_by (subscription_of m) m (end_due more ending)
+end_due (message ∷ more) ending = end_by (subscription_of message) message (end_due more ending)
 
 -- the text that is written after the replies
 abbrev pub text_at : LinkEnd → List ℕ
@@ -86,11 +86,11 @@ sides sink gate clock = record { sink = sink; gate = gate; clock = clock }
 -- The link did what its input asks, and nothing else. The requests up to and with the first that is the last on its
 -- connection, or before the first that subscribes to events, are answered, each by the turns and rests that it is due.
 -- These are all that was done at the gate, and the clock was read for nothing else. The end is the one that is due, and the sink took the replies in their order.
-pub record ServesText (boot : ℕ) (messages : List Request) (ending : Ending) (ends : LinkEnd) (w w' : Sides)
+pub record ServesText (boot : ℕ) (messages : List Request) (ending : Ending) (ends : LinkEnd) (sides later : Sides)
     : Type 0 where
   pub exchanges : List Exchange
   pub requests_are : requests_of exchanges ≡ answered messages
-  pub gate : Between (trail_of exchanges) w.gate w'.gate
-  pub handles : HandlesAll boot w.clock exchanges w'.clock
+  pub gate : Between (trail_of exchanges) sides.gate later.gate
+  pub handles : HandlesAll boot sides.clock exchanges later.clock
   pub end_is : ends ≡ end_due messages ending
-  pub written : Appends w.sink.held w'.sink.held (printed_replies boot exchanges ++ text_at ends)
+  pub written : Appends sides.sink.held later.sink.held (printed_replies boot exchanges ++ text_at ends)

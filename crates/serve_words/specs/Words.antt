@@ -77,7 +77,7 @@ options_of words = option_and_then options_from (parsed_options words)
 -- how many connections and workers the words say, where they are read
 abbrev pub serve_words_of : List (List ℕ) → Option ServeWords
 serve_words_of words =
-    option_map (λ o. record { connections = o.connections; workers = o.workers }) (options_of words)
+    option_map (λ options. record { connections = options.connections; workers = options.workers }) (options_of words)
 
 -- the path of the file that keeps the rows, and the empty text where they are kept in memory
 abbrev pub db_in : List (List ℕ) → List ℕ
@@ -85,7 +85,8 @@ db_in words = unwrap_or (option_and_then (first_of (codes "db")) (parsed_options
 
 -- one pass through the lock for each connection, one for each worker, and one to close
 abbrev pub setup_with : Option Options → List ℕ → ServeSetup
-setup_with (Some o) db = record { port = o.port; db = db; passes = o.connections + o.workers + 1 }
+setup_with (Some options) db =
+    record { port = options.port; db = db; passes = options.connections + options.workers + 1 }
 setup_with None db = record { port = 0; db = []; passes = 0 }
 
 -- what the words say of the outside: port 0, no file and no passes where they are not read

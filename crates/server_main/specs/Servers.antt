@@ -48,7 +48,7 @@ pub record NotBegun (words : List (List ℕ)) (keeper : Store) (back : Option St
 
 -- A server served its links, or had trouble with its doors or its spawner, or was out of memory.
 abbrev pub EndsBy : ServeWords → Result (Unit {0}) Trouble → Outside → Outside → Type 0
-EndsBy said (Ok u) before after = IsServed said.connections said.workers after.doors after.counts
+EndsBy said (Ok unit) before after = IsServed said.connections said.workers after.doors after.counts
 EndsBy said (Err trouble) before after = IsCaused trouble before.doors.failed after.doors.failed
     before.refused after.refused
 

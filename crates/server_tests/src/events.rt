@@ -25,7 +25,7 @@ pub(crate) const SETUP: &[&str] = &[
     r#"PATCH /1.0/projects/default {"config":{"limits.disk":"20GiB"}}"#,
 ];
 
-/// Requests of every kind, each as often as it stands here. A sign `$` and the letter behind it
+/// Requests of every kind, each as often as it stands here. A sign `$` and the letter after it
 /// stand for one of the texts of that letter.
 const REQUESTS: &[&str] = &[
     CREATION,

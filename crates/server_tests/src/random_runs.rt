@@ -8,7 +8,7 @@ use plain_sums::from_size_values::NoMemory;
 use serve_loop::from_rest_routes::Router;
 use std::alloc::Global;
 
-/// The seed behind the last one.
+/// The seed after the last one.
 const RUNS: u64 = 9;
 
 /// How many events a run has.

@@ -85,7 +85,7 @@ fn push_frame(bytes: &mut Vec<u8>, text: &str) -> Result<(), NoMemory> {
 }
 
 /// The head, these messages, and a close frame.
-fn sent(alloc: Global, texts: &[&str]) -> Result<Vec<u8>, NoMemory> {
+fn message_bytes(alloc: Global, texts: &[&str]) -> Result<Vec<u8>, NoMemory> {
     let mut bytes = Vec::new(alloc);
     bytes.extend_from_slice(HEAD.as_bytes())?;
     for text in texts {
@@ -97,7 +97,7 @@ fn sent(alloc: Global, texts: &[&str]) -> Result<Vec<u8>, NoMemory> {
 
 /// Whether bytes are the head, these messages, and a close frame.
 fn are_sent(alloc: Global, bytes: &[u8], texts: &[&str]) -> bool {
-    match sent(alloc, texts) {
+    match message_bytes(alloc, texts) {
         Ok(due) => {
             let same = bytes == due.as_slice();
             drop(due);

@@ -4,10 +4,10 @@ use Rattle.spawners.specs.Counts.{Counts}
 use Rattle.doors.specs.Accepts.{Seen}
 
 -- there is room in the counts for n more jobs
-pub record HasRoom (c : Counts) (n : ℕ) : Type 0 where
-  pub links : c.links + n ≤ 2 ^ 62
-  pub others : c.others + n ≤ 2 ^ 62
-  pub out : c.out + n ≤ 2 ^ 62
+pub record HasRoom (counts : Counts) (n : ℕ) : Type 0 where
+  pub links : counts.links + n ≤ 2 ^ 62
+  pub others : counts.others + n ≤ 2 ^ 62
+  pub out : counts.out + n ≤ 2 ^ 62
 
 -- A number of workers were started, and as many tasks more are held. None was waited for.
 pub record StartsWorkers (old new : Counts) (tasks tasks' : ℕ) : Type 0 where
@@ -38,7 +38,7 @@ pub record GivesFirst {T : Type 0} (given given' : ℕ) (old new : Option (List 
 abbrev pub AcceptsOne : {E : Type 0} → Seen → Seen → Result Bool E → Type 0
 AcceptsOne old new (Ok true) = new.given ≡ old.given + 1
 AcceptsOne old new (Ok false) = (new.given ≡ old.given) × (new.none_left ≡ true)
-AcceptsOne old new (Err e) = new.given ≡ old.given
+AcceptsOne old new (Err error) = new.given ≡ old.given
 
 -- the doors gave so many links, or said that none is left
 abbrev pub IsEnough : ℕ → ℕ → Seen → Type 0
@@ -47,12 +47,12 @@ IsEnough given count new = (new.given ≡ given + count) ⊎ (new.none_left ≡ 
 -- The doors gave as many links as were asked for, or said that none is left. A link job was begun for each of them, another
 -- job for each worker, and every task was taken in. No job was begun after one had been waited for, so all that were started
 -- ran beside each other.
-pub record IsServed (connections workers : ℕ) (seen : Seen) (c : Counts) : Type 0 where
+pub record IsServed (connections workers : ℕ) (seen : Seen) (counts : Counts) : Type 0 where
   pub enough : IsEnough 0 connections seen
-  pub links : c.links ≡ seen.given
-  pub others : c.others ≡ workers
-  pub out : c.out ≡ 0
-  pub beside : c.late ≡ false
+  pub links : counts.links ≡ seen.given
+  pub others : counts.others ≡ workers
+  pub out : counts.out ≡ 0
+  pub beside : counts.late ≡ false
 
 -- so many tasks were taken in, and nothing was begun
 pub record TakesIn (n : ℕ) (old new : Counts) : Type 0 where
@@ -63,9 +63,9 @@ pub record TakesIn (n : ℕ) (old new : Counts) : Type 0 where
 
 -- Of a server that had begun nothing: a link job for each link that was given, a worker for each of those that are held,
 -- all tasks that are out are held, and none was waited for yet.
-pub record BeginsAll (c : Counts) (link_tasks worker_tasks given : ℕ) : Type 0 where
-  pub links : c.links ≡ given
-  pub others : c.others ≡ worker_tasks
-  pub out : c.out ≡ link_tasks + worker_tasks
-  pub waited : c.waited ≡ false
-  pub late : c.late ≡ false
+pub record BeginsAll (counts : Counts) (link_tasks worker_tasks given : ℕ) : Type 0 where
+  pub links : counts.links ≡ given
+  pub others : counts.others ≡ worker_tasks
+  pub out : counts.out ≡ link_tasks + worker_tasks
+  pub waited : counts.waited ≡ false
+  pub late : counts.late ≡ false

@@ -25,7 +25,7 @@ of_spawner (or.Why failed) = trouble.Start
 
 -- the exit status of a server
 abbrev pub status_of : Result (Unit {0}) Trouble → ℕ
-status_of (Ok u) = 0
+status_of (Ok unit) = 0
 status_of (Err trouble.NoMemory) = 9
 status_of (Err trouble.Accept) = 11
 status_of (Err trouble.Start) = 12

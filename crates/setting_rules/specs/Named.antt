@@ -15,21 +15,22 @@ use Rattle.row_machine.specs.machine.SettingRules.{is_one, profile_missing, devi
 
 -- an instance with these devices, those of its profiles among them
 abbrev pub with_devices : State → Instance → NamedDevices → Option Refusal
-with_devices s i devices = first
-    ((if is_one (root_of devices) then None else Some (on_name rule.V4 i.name))
-    ∷ profile_missing s i
-    ∷ devices_miss s i.project devices
+with_devices state instance devices = first
+    ((if is_one (root_of devices) then None else Some (on_name rule.V4 instance.name))
+    ∷ profile_missing state instance
+    ∷ devices_miss state instance.project devices
     ∷ [])
 
 -- an instance that names the profile
 abbrev pub where_named : State → Profile → Instance → Option Refusal
-where_named s r i = if names_profile s r.project r.name i then instance_settings s i else None
+where_named state profile instance =
+    if names_profile state profile.project profile.name instance then instance_settings state instance else None
 
 -- one that an operation would put
 abbrev pub where_claimed : State → Profile → Task → Option Refusal
-where_claimed s r task = option_and_then (where_named s r) (claimed_instance task)
+where_claimed state profile task = option_and_then (where_named state profile) (claimed_instance task)
 
 -- instances, then claims
 abbrev pub all_named : State → Profile → Option Refusal
-all_named s r = first (first_of (where_named s r) s.instances
-    ∷ first_of (λ o. where_claimed s r o.work) s.operations.live ∷ [])
+all_named state profile = first (first_of (where_named state profile) state.instances
+    ∷ first_of (λ operation. where_claimed state profile operation.work) state.operations.live ∷ [])

@@ -88,8 +88,8 @@ before-slash : (front : List ℕ) (c : ℕ) (b : Bool) → list_any is_slash fro
     → may_follow_in_cidr front c ≡ b
 before-slash front c b none is = ap (λ s. cond s (is_ascii_digit c) (may_follow_in_address front c || (is_slash c && is_whole_address front))) none ∙ is
 
-behind-slash : (front : List ℕ) (c : ℕ) (b : Bool) → list_any is_slash front ≡ true → is_ascii_digit c ≡ b → may_follow_in_cidr front c ≡ b
-behind-slash front c b some is = ap (λ s. cond s (is_ascii_digit c) (may_follow_in_address front c || (is_slash c && is_whole_address front))) some ∙ is
+after-slash : (front : List ℕ) (c : ℕ) (b : Bool) → list_any is_slash front ≡ true → is_ascii_digit c ≡ b → may_follow_in_cidr front c ≡ b
+after-slash front c b some is = ap (λ s. cond s (is_ascii_digit c) (may_follow_in_address front c || (is_slash c && is_whole_address front))) some ∙ is
 
 or-left : (a b : Bool) → a ≡ true → (a || b) ≡ true
 or-left a b h = grind arith
@@ -174,16 +174,16 @@ module _ (text : List ℕ) (filled : eqb (length text) 0 ≡ false) where
       digits-stand : StandsTo may_follow_in_cidr text (quad.end + 1 + prefix_len is_ascii_digit (drop (quad.end + 1) text))
       digits-stand =
           stands-run may_follow_in_cidr text (quad.end + 1) (prefix_len is_ascii_digit (drop (quad.end + 1) text)) slash-stands (run-within text (quad.end + 1) slash-stands.within)
-          (λ k low high. behind-slash (take k text) (get_or text k 0) true
+          (λ k low high. after-slash (take k text) (get_or text k 0) true
           (has-slash k (omega arith) (omega (arith, run-within text (quad.end + 1) slash-stands.within))) (run-digit text (quad.end + 1) slash-stands.within k low high))
 
       -- the form is left where the digits end
-      leaves-behind : (n : ℕ) → n ≡ quad.end + 1 + prefix_len is_ascii_digit (drop (quad.end + 1) text) → (n ≡ length text → is_ascii_digit (last_byte text) ≡ false)
+      leaves-after : (n : ℕ) → n ≡ quad.end + 1 + prefix_len is_ascii_digit (drop (quad.end + 1) text) → (n ≡ length text → is_ascii_digit (last_byte text) ≡ false)
           → Err (BadByte n) ≡ cidr_of text
       unfolding cidr_of
-      leaves-behind n end part =
+      leaves-after n end part =
           reading-strays _ _ _ _ (leaves may_follow_in_cidr is_whole_cidr text n (subst (λ (k : ℕ). StandsTo may_follow_in_cidr text k) (sym end) digits-stand)
-          (λ less. behind-slash (take n text) (get_or text n 0) false (has-slash n (omega arith) (omega arith))
+          (λ less. after-slash (take n text) (get_or text n 0) false (has-slash n (omega arith) (omega arith))
           (ap (λ k. is_ascii_digit (get_or text k 0)) end ∙ run-end text (quad.end + 1) slash-stands.within))
           (λ e. by (is_ascii_digit (last_byte text)) (list_any is_slash text) (part e)))
           ∙ reading-past _ _ _ _ filled
@@ -192,7 +192,7 @@ module _ (text : List ℕ) (filled : eqb (length text) 0 ≡ false) where
           by a b h = grind arith
 
       pub cidr-no_bits : prefix_len is_ascii_digit (drop (quad.end + 1) text) ≡ 0 → Err (BadByte (quad.end + 1)) ≡ cidr_of text
-      cidr-no_bits no_digit = leaves-behind (quad.end + 1) (omega arith) (λ e. by e)
+      cidr-no_bits no_digit = leaves-after (quad.end + 1) (omega arith) (λ e. by e)
         where
           slash-no_digit : (c : ℕ) → is_slash c ≡ true → is_ascii_digit c ≡ false
           slash-no_digit c h = grind (arith, nat_tests)
@@ -204,7 +204,7 @@ module _ (text : List ℕ) (filled : eqb (length text) 0 ≡ false) where
 
       module _ (bits : SmallNumber) (from : IsFrom 8 30 text (quad.end + 1) bits) where
         pub cidr-more : bits.end < length text → Err (BadByte bits.end) ≡ cidr_of text
-        cidr-more less = leaves-behind bits.end from.end (λ e. absurd (omega arith))
+        cidr-more less = leaves-after bits.end from.end (λ e. absurd (omega arith))
 
         module _ (all : length text ≤ bits.end) where
           ends : quad.end + 1 + prefix_len is_ascii_digit (drop (quad.end + 1) text) ≡ length text
@@ -243,6 +243,6 @@ module _ (text : List ℕ) (filled : eqb (length text) 0 ≡ false) where
         by : ((place ≡ quad.end) × (is_slash (get_or text quad.end 0) ≡ false))
             ⊎ ((place ≡ quad.end + 1) × (is_slash (get_or text quad.end 0) ≡ true) × (prefix_len is_ascii_digit (drop place text) ≡ 0)) → Err (BadByte place) ≡ cidr_of text
         by (inl at) = ap (λ k. Err (BadByte k)) at.0 ∙ cidr-unslashed at.1
-        by (inr behind) =
-            ap (λ k. Err (BadByte k)) behind.0
-            ∙ cidr-no_bits behind.1 (subst (λ (k : ℕ). prefix_len is_ascii_digit (drop k text) ≡ 0) behind.0 behind.2)
+        by (inr following) =
+            ap (λ k. Err (BadByte k)) following.0
+            ∙ cidr-no_bits following.1 (subst (λ (k : ℕ). prefix_len is_ascii_digit (drop k text) ≡ 0) following.0 following.2)

@@ -453,16 +453,16 @@ module _ (text : List ℕ) (at : ℕ) (stands : StandsTo may_follow_in_expiry te
         ends : is_ascii_digit (get_or text at 0) ≡ false
         ends = let same : at + prefix_len is_ascii_digit (drop at text) ≡ at = omega (arith, none.1) in
             subst (λ (k : ℕ). is_ascii_digit (get_or text k 0) ≡ false) same (run-end text at stands.within)
-    part-leaves place (inr behind) =
+    part-leaves place (inr following) =
         leaves may_follow_in_expiry is_whole_expiry text (at + prefix_len is_ascii_digit (drop at text)) digits-stand
         (λ less. neither-follows (take (at + prefix_len is_ascii_digit (drop at text)) text) (get_or text (at + prefix_len is_ascii_digit (drop at text)) 0)
-        (run-end text at stands.within) (inl behind.2) no_unit)
+        (run-end text at stands.within) (inl following.2) no_unit)
         (λ e. whole-front is_whole_expiry text (at + prefix_len is_ascii_digit (drop at text)) false (omega arith) no_unit)
-        ∙ ap (λ n. Some n) (sym behind.0)
+        ∙ ap (λ n. Some n) (sym following.0)
       where
         no_unit : is_unit (last_byte (take (at + prefix_len is_ascii_digit (drop at text)) text)) ≡ false
         no_unit = digit-no_unit (last_byte (take (at + prefix_len is_ascii_digit (drop at text)) text))
-            (last-digit (at + prefix_len is_ascii_digit (drop at text)) (omega (arith, behind.1)) (omega arith))
+            (last-digit (at + prefix_len is_ascii_digit (drop at text)) (omega (arith, following.1)) (omega arith))
 
 pub first-front : (text : List ℕ) (part : Part) (expiry : Option Expiry) → IsPartAt text 0 part → expiry ≡ with_part part none_yet
     → IsExpiryFront text (record { end = part.end; expiry = expiry })
@@ -527,8 +527,8 @@ module _ (text : List ℕ) (front : ExpiryFront) (h : IsExpiryFront text front) 
       where
         by : (a b e f g : Bool) → b ≡ true → f ≡ false → g ≡ false → ((a && not b) || (e && f) || (g && b)) ≡ false
         by a b e f g j k l = grind arith
-    expiry-misses place less (inr behind) =
-        reading-strays _ _ _ _ (part-leaves text (front.end + 1) (space-stands behind.0) (fresh behind.0) (digitless behind.0) place behind.1)
+    expiry-misses place less (inr following) =
+        reading-strays _ _ _ _ (part-leaves text (front.end + 1) (space-stands following.0) (fresh following.0) (digitless following.0) place following.1)
         ∙ reading-past _ _ _ _ filled
 
     pub expiry-says : length text ≤ front.end → ok_or front.expiry OutOfRange ≡ expiry_of text

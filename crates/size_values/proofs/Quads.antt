@@ -37,8 +37,8 @@ dot-stands front c dot last few = by (count_by is_dot front) few
 neither-stands : (front : List ℕ) (c : ℕ) → is_ascii_digit c ≡ false → is_dot c ≡ false → may_follow_in_address front c ≡ false
 neither-stands front c d e = grind arith
 
-no_digit-behind : (front : List ℕ) (c : ℕ) → is_ascii_digit c ≡ false → is_ascii_digit (last_byte front) ≡ false → may_follow_in_address front c ≡ false
-no_digit-behind front c d e = grind arith
+no_digit-after : (front : List ℕ) (c : ℕ) → is_ascii_digit c ≡ false → is_ascii_digit (last_byte front) ≡ false → may_follow_in_address front c ≡ false
+no_digit-after front c d e = grind arith
 
 -- the digits of a number stand after a front that stands
 digits-stand : (text : List ℕ) (at : ℕ) → StandsTo may_follow_in_address text at → StandsTo may_follow_in_address text (at + prefix_len is_ascii_digit (drop at text))
@@ -118,21 +118,21 @@ module _ (text : List ℕ) (n : ℕ) (parts : List (List ℕ)) (front : IsFront 
         stops = λ _. neither-stands (take n text) (get_or text n 0) front.ends at.1;
         part = not-whole;
       })
-      by (inr behind) =
-          let none : prefix_len is_ascii_digit (drop (n + 1) text) ≡ 0 = subst (λ (k : ℕ). prefix_len is_ascii_digit (drop k text) ≡ 0) behind.0 behind.2 in
+      by (inr following) =
+          let none : prefix_len is_ascii_digit (drop (n + 1) text) ≡ 0 = subst (λ (k : ℕ). prefix_len is_ascii_digit (drop k text) ≡ 0) following.0 following.2 in
           let same : n + 1 + prefix_len is_ascii_digit (drop (n + 1) text) ≡ n + 1 = omega arith in
-          let ends : is_ascii_digit (get_or text (n + 1) 0) ≡ false = subst (λ (k : ℕ). is_ascii_digit (get_or text k 0) ≡ false) same (run-end text (n + 1) (omega (arith, inside behind.1))) in
-          subst (λ (k : ℕ). IsAstray text k) (sym behind.0) (record {
-            stands = dot-in-place behind.1;
-            stops = λ _. no_digit-behind (take (n + 1) text) (get_or text (n + 1) 0) ends (dot-last behind.1);
-            part = dot-not-whole behind.1;
+          let ends : is_ascii_digit (get_or text (n + 1) 0) ≡ false = subst (λ (k : ℕ). is_ascii_digit (get_or text k 0) ≡ false) same (run-end text (n + 1) (omega (arith, inside following.1))) in
+          subst (λ (k : ℕ). IsAstray text k) (sym following.0) (record {
+            stands = dot-in-place following.1;
+            stops = λ _. no_digit-after (take (n + 1) text) (get_or text (n + 1) 0) ends (dot-last following.1);
+            part = dot-not-whole following.1;
           })
 
 -- no number at the front
 pub astray-first : (text : List ℕ) → prefix_len is_ascii_digit text ≡ 0 → IsAstray text 0
 astray-first text none = record {
   stands = stands-start may_follow_in_address text;
-  stops = λ _. no_digit-behind [] (get_or text 0 0) ends refl;
+  stops = λ _. no_digit-after [] (get_or text 0 0) ends refl;
   part = refl;
 } where
   ends : is_ascii_digit (get_or text 0 0) ≡ false

@@ -134,7 +134,7 @@ range-falls : (xs : List ℕ) (c : ℕ) (ys : List ℕ) → list_any is_dash xs 
     → falls (xs ++ c ∷ ys) ≡ nat_lt (digits_value 10 ys) (digits_value 10 xs)
 range-falls xs c ys none dash =
     ap (λ b. b && nat_lt (digits_value 10 (after_first is_dash (xs ++ c ∷ ys))) (digits_value 10 (before_first is_dash (xs ++ c ∷ ys)))) has_dash
-    ∙ (λ i. nat_lt (digits_value 10 (behind i)) (digits_value 10 (before i)))
+    ∙ (λ i. nat_lt (digits_value 10 (following i)) (digits_value 10 (before i)))
   where
     has_dash : list_any is_dash (xs ++ c ∷ ys) ≡ true
     has_dash = list_any-append is_dash xs (c ∷ ys) ∙ by (list_any is_dash xs) (is_dash c) (list_any is_dash ys) dash
@@ -148,8 +148,8 @@ range-falls xs c ys none dash =
     before : before_first is_dash (xs ++ c ∷ ys) ≡ xs
     before = ap (λ n. take n (xs ++ c ∷ ys)) at ∙ take_at xs (c ∷ ys) (length xs) refl
 
-    behind : after_first is_dash (xs ++ c ∷ ys) ≡ ys
-    behind =
+    following : after_first is_dash (xs ++ c ∷ ys) ≡ ys
+    following =
         ap (λ n. drop (n + 1) (xs ++ c ∷ ys)) at
         ∙ sym (drop-drop 1 (length xs) (xs ++ c ∷ ys)) ∙ ap (drop 1) (drop_at xs (c ∷ ys) (length xs) refl)
 
@@ -219,15 +219,15 @@ module _ (text : List ℕ) (old : SetFront) (h : IsSetFront text old) where
     no_digit : is_ascii_digit (get_or text old.end 0) ≡ false
     no_digit = h.ends
 
-    stands-behind : StandsTo may_follow_in_set text (old.end + 1)
-    stands-behind = stands-more may_follow_in_set text old.end h.stands inside (sign-stands sign)
+    stands-after : StandsTo may_follow_in_set text (old.end + 1)
+    stands-after = stands-more may_follow_in_set text old.end h.stands inside (sign-stands sign)
 
   -- one more sign and number
   pub next-front : (new : SetFront) → ContinuesSet text old new → IsSetFront text new
   next-front new g = record {
-    stands = subst (λ (n : ℕ). StandsTo may_follow_in_set text n) (sym g.end) (digits-stand text (old.end + 1) (stands-behind g.sign));
-    whole = digits-last text (old.end + 1) new.end (stands-behind g.sign).within g.end g.some;
-    ends = ap (λ n. is_ascii_digit (get_or text n 0)) g.end ∙ run-end text (old.end + 1) (stands-behind g.sign).within;
+    stands = subst (λ (n : ℕ). StandsTo may_follow_in_set text n) (sym g.end) (digits-stand text (old.end + 1) (stands-after g.sign));
+    whole = digits-last text (old.end + 1) new.end (stands-after g.sign).within g.end g.some;
+    ends = ap (λ n. is_ascii_digit (get_or text n 0)) g.end ∙ run-end text (old.end + 1) (stands-after g.sign).within;
     sign = ap (λ (f : List ℕ). is_dash (last_byte (signs f))) front ∙ ap is_dash (last-sign (take old.end text) (get_or text old.end 0) (drop (old.end + 1) text) h.ends) ∙ sym g.in_range;
     large =
         ap (list_any is_too_large) numbers ∙ list_any-append is_too_large (slice_split separates (take old.end text)) (D ∷ [])
@@ -363,13 +363,13 @@ module _ (text : List ℕ) (front : SetFront) (h : IsSetFront text front) where
   set-breaks place less (inl at) =
       ap (λ n. Err (BadByte n)) at.0
       ∙ reading-strays _ _ _ _ (stray-at may_follow_in_set is_whole_set text front.end h.stands less (sign-falls text front h at.1))
-  set-breaks place less (inr behind) =
-      ap (λ n. Err (BadByte n)) behind.0
-      ∙ reading-strays _ _ _ _ (leaves may_follow_in_set is_whole_set text (front.end + 1) (stands-behind text front h behind.1)
+  set-breaks place less (inr following) =
+      ap (λ n. Err (BadByte n)) following.0
+      ∙ reading-strays _ _ _ _ (leaves may_follow_in_set is_whole_set text (front.end + 1) (stands-after text front h following.1)
       (λ more. no_digit-falls (take (front.end + 1) text) (get_or text (front.end + 1) 0) ends last) (λ e. whole-front is_whole_set text (front.end + 1) false (omega arith) last))
     where
       ends : is_ascii_digit (get_or text (front.end + 1) 0) ≡ false
-      ends = let same : front.end + 1 + prefix_len is_ascii_digit (drop (front.end + 1) text) ≡ front.end + 1 = omega (arith, behind.2) in
+      ends = let same : front.end + 1 + prefix_len is_ascii_digit (drop (front.end + 1) text) ≡ front.end + 1 = omega (arith, following.2) in
           subst (λ (k : ℕ). is_ascii_digit (get_or text k 0) ≡ false) same (run-end text (front.end + 1) (omega arith))
 
       last : is_ascii_digit (last_byte (take (front.end + 1) text)) ≡ false

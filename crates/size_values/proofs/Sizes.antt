@@ -37,8 +37,8 @@ neither-stands front c d l = grind arith
 letter-first : (c : ℕ) → is_ascii_digit c ≡ false → may_follow_in_size [] c ≡ false
 letter-first c d = grind arith
 
-no-digit-behind : (front : List ℕ) (c : ℕ) → list_any is_ascii_alphabetic front ≡ true → is_ascii_alphabetic c ≡ false → may_follow_in_size front c ≡ false
-no-digit-behind front c h l = grind arith
+no-digit-after : (front : List ℕ) (c : ℕ) → list_any is_ascii_alphabetic front ≡ true → is_ascii_alphabetic c ≡ false → may_follow_in_size front c ≡ false
+no-digit-after front c h l = grind arith
 
 -- a product that stops at the last value, of a number that stops there, stops where the whole product does
 stops-times : (n v f last : ℕ) → v ≡ min n last → 1 ≤ f → min (v * f) last ≡ min (n * f) last
@@ -186,7 +186,7 @@ module _ (text : List ℕ) (number : Number) (front : number ≡ number_at text)
             subst (λ (k : ℕ). is_ascii_digit (get_or text k 0) ≡ false) same (prefix_len_stops is_ascii_digit text 0 (omega (arith, more)))
 
         by : (0 < letters) ⊎ (letters ≤ 0) → may_follow_in_size (take (number.len + letters) text) (get_or text (number.len + letters) 0) ≡ false
-        by (inl some') = no-digit-behind (take (number.len + letters) text) (get_or text (number.len + letters) 0) (has_letter some') no_more
+        by (inl some') = no-digit-after (take (number.len + letters) text) (get_or text (number.len + letters) 0) (has_letter some') no_more
         by (inr none) = neither-stands (take (number.len + letters) text) (get_or text (number.len + letters) 0) (no_digit (omega arith)) no_more
 
     module _ (all : length suffix ≤ letters) where

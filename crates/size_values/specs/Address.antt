@@ -10,15 +10,15 @@ use Rattle.size_values.specs.declared.fault.ValueFault.{ValueFault}
 use Rattle.size_values.specs.declared.fault.ValueFault.TheVariants.{Empty, BadByte, OutOfRange}
 
 abbrev pub is_dot : ℕ → Bool
-is_dot b = b == byte "."
+is_dot sign = sign == byte "."
 
 abbrev pub is_slash : ℕ → Bool
-is_slash b = b == byte "/"
+is_slash sign = sign == byte "/"
 
 -- a digit may stand anywhere; a dot after a digit, three times at most
 abbrev pub may_follow_in_address : List ℕ → ℕ → Bool
-may_follow_in_address front b = is_ascii_digit b
-    || (is_dot b && is_ascii_digit (last_byte front) && nat_lt (count_by is_dot front) 3)
+may_follow_in_address front next = is_ascii_digit next
+    || (is_dot next && is_ascii_digit (last_byte front) && nat_lt (count_by is_dot front) 3)
 
 -- an address has three dots and ends with a digit
 abbrev pub is_whole_address : List ℕ → Bool
@@ -26,9 +26,9 @@ is_whole_address text = is_ascii_digit (last_byte text) && count_by is_dot text 
 
 -- before the slash an address; the slash after a whole one; after the slash digits
 abbrev pub may_follow_in_cidr : List ℕ → ℕ → Bool
-may_follow_in_cidr front b =
-    if list_any is_slash front then is_ascii_digit b
-    else may_follow_in_address front b || (is_slash b && is_whole_address front)
+may_follow_in_cidr front next =
+    if list_any is_slash front then is_ascii_digit next
+    else may_follow_in_address front next || (is_slash next && is_whole_address front)
 
 -- an address with a length has a slash and ends with a digit
 abbrev pub is_whole_cidr : List ℕ → Bool

@@ -6,13 +6,13 @@ use Rattle.size_values.specs.declared.amounts.Part.TheVariants.{Disk}
 
 -- one part of the amounts
 abbrev pub part : Part → Amounts → ℕ
-part Instances a = a.instances
-part Containers a = a.containers
-part Machines a = a.machines
-part Cpu a = a.cpu
-part Memory a = a.memory
-part Processes a = a.processes
-part Disk a = a.disk
+part Instances amounts = amounts.instances
+part Containers amounts = amounts.containers
+part Machines amounts = amounts.machines
+part Cpu amounts = amounts.cpu
+part Memory amounts = amounts.memory
+part Processes amounts = amounts.processes
+part Disk amounts = amounts.disk
 
 -- no amount of anything
 abbrev pub nothing : Amounts
@@ -20,51 +20,51 @@ nothing = record { instances = 0; containers = 0; machines = 0; cpu = 0; memory 
 
 -- both together, part by part
 unfoldable pub plus_of : Amounts → Amounts → Amounts
-plus_of a b = record {
-  instances = a.instances + b.instances;
-  containers = a.containers + b.containers;
-  machines = a.machines + b.machines;
-  cpu = a.cpu + b.cpu;
-  memory = a.memory + b.memory;
-  processes = a.processes + b.processes;
-  disk = a.disk + b.disk;
+plus_of amounts others = record {
+  instances = amounts.instances + others.instances;
+  containers = amounts.containers + others.containers;
+  machines = amounts.machines + others.machines;
+  cpu = amounts.cpu + others.cpu;
+  memory = amounts.memory + others.memory;
+  processes = amounts.processes + others.processes;
+  disk = amounts.disk + others.disk;
 }
 
--- what is left of a without b, part by part
+-- what is left of the amounts without those taken, part by part
 unfoldable pub minus_of : Amounts → Amounts → Amounts
-minus_of a b = record {
-  instances = a.instances - b.instances;
-  containers = a.containers - b.containers;
-  machines = a.machines - b.machines;
-  cpu = a.cpu - b.cpu;
-  memory = a.memory - b.memory;
-  processes = a.processes - b.processes;
-  disk = a.disk - b.disk;
+minus_of amounts taken = record {
+  instances = amounts.instances - taken.instances;
+  containers = amounts.containers - taken.containers;
+  machines = amounts.machines - taken.machines;
+  cpu = amounts.cpu - taken.cpu;
+  memory = amounts.memory - taken.memory;
+  processes = amounts.processes - taken.processes;
+  disk = amounts.disk - taken.disk;
 }
 
 -- by how much one number is above another, and 0 where it is not
 abbrev pub amount_above : ℕ → ℕ → ℕ
-amount_above a b = if nat_lt b a then a - b else 0
+amount_above amount bound = if nat_lt bound amount then amount - bound else 0
 
--- by how much a is above b, part by part
+-- by how much the amounts are above the bounds, part by part
 unfoldable pub excess_of : Amounts → Amounts → Amounts
-excess_of a b = record {
-  instances = amount_above a.instances b.instances;
-  containers = amount_above a.containers b.containers;
-  machines = amount_above a.machines b.machines;
-  cpu = amount_above a.cpu b.cpu;
-  memory = amount_above a.memory b.memory;
-  processes = amount_above a.processes b.processes;
-  disk = amount_above a.disk b.disk;
+excess_of amounts bounds = record {
+  instances = amount_above amounts.instances bounds.instances;
+  containers = amount_above amounts.containers bounds.containers;
+  machines = amount_above amounts.machines bounds.machines;
+  cpu = amount_above amounts.cpu bounds.cpu;
+  memory = amount_above amounts.memory bounds.memory;
+  processes = amount_above amounts.processes bounds.processes;
+  disk = amount_above amounts.disk bounds.disk;
 }
 
--- no part of a is greater than that part of b
+-- no part of the amounts is greater than that part of the bounds
 unfoldable pub fits_in : Amounts → Amounts → Bool
-fits_in a b =
-    nat_le a.instances b.instances
-    && nat_le a.containers b.containers
-    && nat_le a.machines b.machines
-    && nat_le a.cpu b.cpu
-    && nat_le a.memory b.memory
-    && nat_le a.processes b.processes
-    && nat_le a.disk b.disk
+fits_in amounts bounds =
+    nat_le amounts.instances bounds.instances
+    && nat_le amounts.containers bounds.containers
+    && nat_le amounts.machines bounds.machines
+    && nat_le amounts.cpu bounds.cpu
+    && nat_le amounts.memory bounds.memory
+    && nat_le amounts.processes bounds.processes
+    && nat_le amounts.disk bounds.disk

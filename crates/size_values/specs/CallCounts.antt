@@ -12,6 +12,6 @@ called more calls = min (calls + more) last_number
 -- What one call does to the count of failures: a call that is well or out of memory leaves it as it was, and one that
 -- failed raised it.
 abbrev pub CountsFailure : {T E : Type 0} → ℕ → ℕ → Result T (Or E) → Type 0
-CountsFailure before now (Ok x) = now ≡ before
+CountsFailure before now (Ok value) = now ≡ before
 CountsFailure before now (Err or.NoMemory) = now ≡ before
-CountsFailure before now (Err (or.Why e)) = (before ≤ now) × Rose before now
+CountsFailure before now (Err (or.Why why)) = (before ≤ now) × Rose before now

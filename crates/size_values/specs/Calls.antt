@@ -21,18 +21,18 @@ no_calls fails = record { fails = fails; made = 0; failed = 0 }
 
 -- The next call is one of those that fail. After the call of the last number none fails.
 abbrev pub is_next_failing : Calls → Bool
-is_next_failing c = nat_lt c.made last_number && list_any (λ number. number == c.made + 1) c.fails
+is_next_failing calls = nat_lt calls.made last_number && list_any (λ number. number == calls.made + 1) calls.fails
 
 -- after one more call
 abbrev pub after_call : Calls → Calls
-after_call c =
-    record c {
-      made = min (c.made + 1) last_number;
-      failed = if is_next_failing c then min (c.failed + 1) last_number else c.failed;
+after_call calls =
+    record calls {
+      made = min (calls.made + 1) last_number;
+      failed = if is_next_failing calls then min (calls.failed + 1) last_number else calls.failed;
     }
 
 -- a call answered a failure, and neither its value nor out of memory
 abbrev pub has_failed : {T E : Type 0} → Result T (Or E) → Bool
-has_failed (Ok x) = false
+has_failed (Ok value) = false
 has_failed (Err or.NoMemory) = false
-has_failed (Err (or.Why e)) = true
+has_failed (Err (or.Why why)) = true

@@ -12,9 +12,9 @@ RoseBy n before now = min (before + n) (2 ^ 64 - 1) ≤ now
 
 -- the reason of an answer meets the fact; Ok and out of memory are free of it
 abbrev pub OnWhy : {T E : Type 0} → Result T (Or E) → Type 0 → Type 0
-OnWhy (Ok x) P = Unit {0}
+OnWhy (Ok value) P = Unit {0}
 OnWhy (Err or.NoMemory) P = Unit {0}
-OnWhy (Err (or.Why e)) P = P
+OnWhy (Err (or.Why why)) P = P
 
 -- A call of the outside: its count never falls, and it failed only where the count rose.
 pub record HasCause {T E : Type 0} (before now : ℕ) (result : Result T E) : Type 0 where
@@ -29,9 +29,9 @@ pub record HasCauseOrMemory {T E : Type 0} (before now : ℕ) (result : Result T
 -- A refusal of this rule, or none. Out of memory says nothing of the rule.
 abbrev pub Refuses : {R : Type 0} → Or R → Option R → Type 0
 Refuses or.NoMemory rule = Unit {0}
-Refuses (or.Why r) rule = rule ≡ Some r
+Refuses (or.Why refusal) rule = rule ≡ Some refusal
 
 -- A check answers the rule that is broken first, if any is.
 abbrev pub Says : {T R : Type 0} → Result T (Or R) → Option R → Type 0
-Says (Ok x) rule = rule ≡ None
-Says (Err e) rule = Refuses e rule
+Says (Ok value) rule = rule ≡ None
+Says (Err error) rule = Refuses error rule

@@ -11,7 +11,7 @@ unfoldable pub count_of : List ℕ → ℕ → ℕ → Result ℕ ValueFault
 count_of text least most =
     reading (digits_value 10 text) (
     fault_if (length text == 0) Empty
-    ∷ option_map BadByte (stray (λ front b. is_ascii_digit b) (λ _. true) text)
+    ∷ option_map BadByte (stray (λ front next. is_ascii_digit next) (λ _. true) text)
     ∷ fault_if (is_too_large text) TooLarge
     ∷ fault_if (is_outside least most text) OutOfRange
     ∷ [])

@@ -13,17 +13,18 @@ use Rattle.size_values.specs.declared.cpu.Cpu.{Cpu}
 use Rattle.size_values.specs.declared.cpu.Cpu.TheVariants.{Count, Pinned}
 
 abbrev pub is_comma : ℕ → Bool
-is_comma b = b == byte ","
+is_comma sign = sign == byte ","
 
 abbrev pub is_dash : ℕ → Bool
-is_dash b = b == byte "-"
+is_dash sign = sign == byte "-"
 
 -- a digit may stand anywhere, a comma after a digit, and a dash after a digit where the last sign before it is no dash
 abbrev pub may_follow_in_set : List ℕ → ℕ → Bool
-may_follow_in_set front b =
-    is_ascii_digit b
+may_follow_in_set front next =
+    is_ascii_digit next
     || (is_ascii_digit (last_byte front)
-    && (is_comma b || (is_dash b && not (is_dash (last_byte (filter (λ c. not (is_ascii_digit c)) front))))))
+    && (is_comma next
+    || (is_dash next && not (is_dash (last_byte (filter (λ sign. not (is_ascii_digit sign)) front))))))
 
 -- a set ends with a digit
 abbrev pub is_whole_set : List ℕ → Bool
@@ -37,7 +38,7 @@ falls part = list_any is_dash part
 -- What a text that is not digits alone gives, or the first fault: numbers and rising ranges joined by commas.
 unfoldable pub set_of : List ℕ → Result Cpu ValueFault
 set_of text =
-    let numbers = slice_split (λ b. is_comma b || is_dash b) text in
+    let numbers = slice_split (λ sign. is_comma sign || is_dash sign) text in
     let parts = slice_split is_comma text in
     reading Pinned (
     option_map BadByte (stray may_follow_in_set is_whole_set text)
@@ -48,4 +49,4 @@ set_of text =
 -- The CPU setting that a text gives, or the first fault: digits alone are a count, any other text is a set.
 unfoldable pub cpu_of : List ℕ → Result Cpu ValueFault
 cpu_of text = if list_all is_ascii_digit text
-    then result_map_both Count (λ e. e) (count_of text 1 1000000) else set_of text
+    then result_map_both Count (λ fault. fault) (count_of text 1 1000000) else set_of text

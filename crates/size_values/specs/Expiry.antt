@@ -15,17 +15,17 @@ abbrev pub unit_letters : List ℕ
 unit_letters = codes "MHdwmy"
 
 abbrev pub is_unit : ℕ → Bool
-is_unit b = list_any (λ letter. letter == b) unit_letters
+is_unit sign = list_any (λ letter. letter == sign) unit_letters
 
 abbrev pub is_space : ℕ → Bool
-is_space b = b == byte " "
+is_space sign = sign == byte " "
 
 -- a digit may stand first, after a digit or after a space; a letter of a unit after a digit; a space after a letter
 abbrev pub may_follow_in_expiry : List ℕ → ℕ → Bool
-may_follow_in_expiry front b =
-    (is_ascii_digit b && not (is_unit (last_byte front)))
-    || (is_unit b && is_ascii_digit (last_byte front))
-    || (is_space b && is_unit (last_byte front))
+may_follow_in_expiry front next =
+    (is_ascii_digit next && not (is_unit (last_byte front)))
+    || (is_unit next && is_ascii_digit (last_byte front))
+    || (is_space next && is_unit (last_byte front))
 
 -- an expiry ends with the letter of a unit
 abbrev pub is_whole_expiry : List ℕ → Bool

@@ -19,21 +19,21 @@ letter_of Years = byte "y"
 
 -- the number of one unit
 abbrev pub amount_in : Unit → Expiry → ℕ
-amount_in Minutes e = e.minutes
-amount_in Hours e = e.hours
-amount_in Days e = e.days
-amount_in Weeks e = e.weeks
-amount_in Months e = e.months
-amount_in Years e = e.years
+amount_in Minutes expiry = expiry.minutes
+amount_in Hours expiry = expiry.hours
+amount_in Days expiry = expiry.days
+amount_in Weeks expiry = expiry.weeks
+amount_in Months expiry = expiry.months
+amount_in Years expiry = expiry.years
 
 -- the same with another number of one unit
 abbrev pub with_amount : Unit → ℕ → Expiry → Expiry
-with_amount Minutes n e = record e { minutes = n }
-with_amount Hours n e = record e { hours = n }
-with_amount Days n e = record e { days = n }
-with_amount Weeks n e = record e { weeks = n }
-with_amount Months n e = record e { months = n }
-with_amount Years n e = record e { years = n }
+with_amount Minutes number expiry = record expiry { minutes = number }
+with_amount Hours number expiry = record expiry { hours = number }
+with_amount Days number expiry = record expiry { days = number }
+with_amount Weeks number expiry = record expiry { weeks = number }
+with_amount Months number expiry = record expiry { months = number }
+with_amount Years number expiry = record expiry { years = number }
 
 -- no unit is named
 abbrev pub none_yet : Expiry
@@ -41,9 +41,10 @@ none_yet = record { minutes = 0; hours = 0; days = 0; weeks = 0; months = 0; yea
 
 -- the same with one more part, if its number is fit and its unit is not named yet
 abbrev pub with_part : Part → Expiry → Option Expiry
-with_part part e =
-    if not (nat_le 1 part.number.value && nat_le part.number.value 9999) || not (amount_in part.unit e == 0) then None
-    else Some (with_amount part.unit part.number.value e)
+with_part part expiry =
+    if not (nat_le 1 part.number.value && nat_le part.number.value 9999) || not (amount_in part.unit expiry == 0)
+    then None
+    else Some (with_amount part.unit part.number.value expiry)
 
 -- the part is the digits at the place and the letter after them
 pub record IsPartAt (text : List ℕ) (at : ℕ) (part : Part) : Type 0 where

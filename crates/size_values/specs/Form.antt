@@ -4,4 +4,4 @@ use Rattle.std.specs.Prelude.{ℕ, ◌≡◌, ◌<◌, ◌≤◌, Bool, true, Li
 -- each of the first n bytes may follow the bytes before it
 pub record StandsTo (may_follow : List ℕ → ℕ → Bool) (text : List ℕ) (n : ℕ) : Type 0 where
   pub within : n ≤ length text
-  pub each : (k : ℕ) → k < n → may_follow (take k text) (slice_index text k) ≡ true
+  pub each : (place : ℕ) → place < n → may_follow (take place text) (slice_index text place) ≡ true

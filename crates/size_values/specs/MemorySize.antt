@@ -12,5 +12,5 @@ use Rattle.size_values.specs.declared.memory_size.Memory.TheVariants.{Bytes, Per
 unfoldable pub memory_of : List ℕ → Result Memory ValueFault
 memory_of text =
     if ends_with nat_eq text (codes "%")
-    then result_map_both Percent (λ e. e) (count_of (take (length text - 1) text) 1 100)
-    else result_map_both Bytes (λ e. e) (size_of text)
+    then result_map_both Percent (λ fault. fault) (count_of (take (length text - 1) text) 1 100)
+    else result_map_both Bytes (λ fault. fault) (size_of text)

@@ -16,8 +16,9 @@ fit_of least most digits = if is_unfit least most digits then None else Some (di
 
 -- the address of four numbers, if all are fit
 abbrev pub quad_value : Option ℕ → Option ℕ → Option ℕ → Option ℕ → Option ℕ
-quad_value (Some a) (Some b) (Some c) (Some d) = Some (((a * 256 + b) * 256 + c) * 256 + d)
-quad_value a b c d = None
+quad_value (Some first) (Some second) (Some third) (Some fourth) =
+    Some (((first * 256 + second) * 256 + third) * 256 + fourth)
+quad_value first second third fourth = None
 
 -- the number is the one whose digits begin at the place
 pub record IsFrom (least most : ℕ) (text : List ℕ) (at : ℕ) (number : SmallNumber) : Type 0 where

@@ -19,7 +19,7 @@ fault_if holds fault = if holds then Some fault else None
 -- or else the end of a text that is not whole.
 abbrev pub stray : (List ℕ → ℕ → Bool) → (List ℕ → Bool) → List ℕ → Option ℕ
 stray may_follow is_whole text =
-    let place = prefix_len (λ b. may_follow (take b.0 text) b.1) (enumerate_from 0 text) in
+    let place = prefix_len (λ placed. may_follow (take placed.0 text) placed.1) (enumerate_from 0 text) in
     if nat_lt place (length text) || not (is_whole text) then Some place else None
 
 -- the last byte, or 0 where there is none

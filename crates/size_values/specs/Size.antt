@@ -24,9 +24,9 @@ factor_of suffix = option_map (λ row. row.1) (find (λ row. bytes_eq row.0 suff
 
 -- a digit may stand before the first letter; a letter may stand after a digit or a letter
 abbrev pub may_follow_in_size : List ℕ → ℕ → Bool
-may_follow_in_size front b =
-    if list_any is_ascii_alphabetic front then is_ascii_alphabetic b
-    else is_ascii_digit b || (is_ascii_alphabetic b && nat_lt 0 (length front))
+may_follow_in_size front next =
+    if list_any is_ascii_alphabetic front then is_ascii_alphabetic next
+    else is_ascii_digit next || (is_ascii_alphabetic next && nat_lt 0 (length front))
 
 -- The size that a text gives in bytes, or the first fault: digits and then a suffix.
 unfoldable pub size_of : List ℕ → Result ℕ ValueFault

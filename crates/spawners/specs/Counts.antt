@@ -17,27 +17,27 @@ none_begun = record { links = 0; others = 0; out = 0; waited = false; late = fal
 
 -- one more job was begun: a link job, or another one; it is late where a task was waited for before
 abbrev pub begun : Bool → Counts → Counts
-begun true c = record c { links = c.links + 1; late = c.late || c.waited }
-begun false c = record c { others = c.others + 1; late = c.late || c.waited }
+begun true counts = record counts { links = counts.links + 1; late = counts.late || counts.waited }
+begun false counts = record counts { others = counts.others + 1; late = counts.late || counts.waited }
 
 -- one more task is out
 abbrev pub with_task : Counts → Counts
-with_task c = record c { out = c.out + 1 }
+with_task counts = record counts { out = counts.out + 1 }
 
 -- one task was waited for and taken in
 abbrev pub without_task : Counts → Counts
-without_task c = record c { out = c.out - 1; waited = true }
+without_task counts = record counts { out = counts.out - 1; waited = true }
 
 -- each number has room in 64 bits for very many more
-pub record AreSmall (c : Counts) : Type 0 where
-  pub links : c.links < 2 ^ 63
-  pub others : c.others < 2 ^ 63
-  pub out : c.out < 2 ^ 63
+pub record AreSmall (counts : Counts) : Type 0 where
+  pub links : counts.links < 2 ^ 63
+  pub others : counts.others < 2 ^ 63
+  pub out : counts.out < 2 ^ 63
 
 -- A start begins the job and gives its task. One that is refused begins nothing.
 abbrev pub Starts : {T E : Type 0} → Bool → Counts → Counts → Result T E → Type 0
 Starts link old new (Ok task) = new ≡ with_task (begun link old)
-Starts link old new (Err e) = new ≡ old
+Starts link old new (Err error) = new ≡ old
 
 -- A job is begun in any case: its task is given, or it was run at once.
 abbrev pub Runs : {T O : Type 0} → Bool → Counts → Counts → Result T O → Type 0

@@ -15,11 +15,12 @@ pub record Kept : Type 0 where
 
 -- a call that failed says why, and any other call leaves what was said
 abbrev pub SaysWhy : {T E : Type 0} → Kept → Kept → Result T (Or E) → Type 0
-SaysWhy before now (Ok x) = now.trouble ≡ before.trouble
+SaysWhy before now (Ok value) = now.trouble ≡ before.trouble
 SaysWhy before now (Err or.NoMemory) = now.trouble ≡ before.trouble
-SaysWhy before now (Err (or.Why e)) = IsSome now.trouble
+SaysWhy before now (Err (or.Why error)) = IsSome now.trouble
 
 -- the keeper after a call that was refused for this: a trouble is counted and kept, and out of memory is none
 abbrev pub after_refusal : Or Trouble → Kept → Kept
-after_refusal or.NoMemory k = k
-after_refusal (or.Why trouble) k = record k { failures = min (k.failures + 1) last_number; trouble = Some trouble }
+after_refusal or.NoMemory keeper = keeper
+after_refusal (or.Why trouble) keeper =
+    record keeper { failures = min (keeper.failures + 1) last_number; trouble = Some trouble }

@@ -39,12 +39,12 @@ impl RowsFile {
             return Err(Or::Why(Trouble::NotADatabase));
         }
         match Connection::open(rt, path.view()) {
-            Ok(database) => RowsFile::over(database),
+            Ok(database) => RowsFile::admitted(database),
             Err(error) => Err(trouble_of(error)),
         }
     }
 
-    fn over(mut database: Database) -> Result<RowsFile, Or<Trouble>>
+    fn admitted(mut database: Database) -> Result<RowsFile, Or<Trouble>>
         requires { database.in_transaction ≡ false }
         ensures settled { IfOk result (λ file. file.database.in_transaction ≡ false) }
         ensures cause { IfErr result (λ why. is_refusal why ≡ true) }

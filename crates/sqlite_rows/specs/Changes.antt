@@ -22,14 +22,15 @@ values_of (Remove kind key) = Int (pos kind) ∷ Text key ∷ []
 
 -- a connection after the statements of these changes, one after the other
 abbrev pub Makes : {S : Type 0} → Ghosts S → List EntryChange → Held S → Held S → Type 0
-Makes g [] old new = new ≡ old
-Makes {S} g (change ∷ changes) old new =
+Makes ghosts [] old new = new ≡ old
+Makes {S} ghosts (change ∷ changes) old new =
     (mid : Held S) × (count : ℕ)
-    × Executes (statement_of change) (values_of change) (state g old) (state g mid) (Ok count)
-    × Makes g changes mid new
+    × Executes (statement_of change) (values_of change) (state ghosts old) (state ghosts mid) (Ok count)
+    × Makes ghosts changes mid new
 
 -- what a database holds after these changes, all of them made in one transaction
-pub record Leaves {S : Type 0} (g : Ghosts S) (changes : List EntryChange) (old : Held S) (db : Database) : Type 0 where
+pub record Leaves {S : Type 0} (ghosts : Ghosts S) (changes : List EntryChange) (old : Held S)
+    (db : Database) : Type 0 where
   pub last : Held S
-  pub made : Makes g changes (record old { in_transaction = true }) last
-  pub is : db ≡ (state g last).now
+  pub made : Makes ghosts changes (record old { in_transaction = true }) last
+  pub is : db ≡ (state ghosts last).now

@@ -28,7 +28,7 @@ SayEach (row ∷ rows) (entry ∷ entries) = Says row entry × SayEach rows entr
 SayEach _ _ = ⊥
 
 -- the entries are those of the rows that a query for all of them shows
-pub record AreKept {S : Type 0} (g : Ghosts S) (old new : Held S) (entries : List Entry) : Type 0 where
+pub record AreKept {S : Type 0} (ghosts : Ghosts S) (old new : Held S) (entries : List Entry) : Type 0 where
   pub rows : List Row
-  pub shown : Shown ALL.now [] (state g old) (state g new) rows
+  pub shown : Shown ALL.now [] (state ghosts old) (state ghosts new) rows
   pub say : SayEach rows entries

@@ -5,6 +5,6 @@ use Rattle.sqlite.specs.Held.{Held, state}
 
 -- No transaction is left open where none was, and reads that were tested against a digest of what was written still are.
 abbrev pub StaysGuarded : {S : Type 0} → Ghosts S → Held S → Held S → Type 0
-StaysGuarded g old new =
+StaysGuarded ghosts old new =
     (old.in_transaction ≡ false → new.in_transaction ≡ false)
-    × ((state g old).IsShielded → (state g new).IsShielded)
+    × ((state ghosts old).IsShielded → (state ghosts new).IsShielded)

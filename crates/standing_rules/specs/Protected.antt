@@ -18,15 +18,16 @@ use Rattle.row_machine.specs.machine.StandingRules.{asks_for_features, is_deleti
 
 -- an instance is protected by its expanded settings
 abbrev pub is_kept : State → Instance → Bool
-is_kept s i = is_on (expanded_of s.projects s.profiles i).config (codes "security.protection.delete")
+is_kept state instance =
+    is_on (expanded_of state.projects state.profiles instance).config (codes "security.protection.delete")
 
 -- the project `default` is not renamed or deleted, and its features stay
 abbrev pub project_protected : State → What → List ℕ → Bool
-project_protected s asked name = bytes_eq name default_name && (is_parting asked || asks_for_features s asked)
+project_protected state asked name = bytes_eq name default_name && (is_parting asked || asks_for_features state asked)
 
 -- an instance that is protected is not deleted
 abbrev pub instance_protected : State → Command → List ℕ → Bool
-instance_protected s c name = is_deletion c.what && protects_itself s c.project name
+instance_protected state command name = is_deletion command.what && protects_itself state command.project name
 
 -- B4 of an object, with the link of its first user
 abbrev pub on_user : Target → List ℕ → Refusal

@@ -17,49 +17,52 @@ use Rattle.row_machine.specs.machine.Holders.{volume_uses, work_link}
 
 -- a profile that names the object
 abbrev pub profile_link : State → List ℕ → Target → Profile → Option (List ℕ)
-profile_link s home of r = user_link (profile_uses s home of r) (row.Profile r)
+profile_link state home of profile = user_link (profile_uses state home of profile) (row.Profile profile)
 
 -- an instance that names the object
 abbrev pub instance_link : State → List ℕ → Target → Instance → Option (List ℕ)
-instance_link s home of r = user_link (instance_uses s home of r) (row.Instance r)
+instance_link state home of instance = user_link (instance_uses state home of instance) (row.Instance instance)
 
 -- a volume that names the object
 abbrev pub volume_link : Target → Volume → Option (List ℕ)
-volume_link of r = user_link (volume_uses of r) (row.Volume r)
+volume_link of volume = user_link (volume_uses of volume) (row.Volume volume)
 
 -- a live operation whose claim belongs to this project and names the object
 abbrev pub claim_link : State → List ℕ → Target → List ℕ → Operation Task → Option (List ℕ)
-claim_link s home of project o =
-    if option_map_or (λ new. bytes_eq (project_of_row new) project) o.work.claim false && claim_uses s home of o.work
-    then Some (work_link o.work)
+claim_link state home of project operation =
+    if option_map_or (λ new. bytes_eq (project_of_row new) project) operation.work.claim false
+    && claim_uses state home of operation.work
+    then Some (work_link operation.work)
     else None
 
 -- an instance that names the profile
 abbrev pub naming_link : State → List ℕ → List ℕ → Instance → Option (List ℕ)
-naming_link s home profile r = user_link (names_profile s home profile r) (row.Instance r)
+naming_link state home profile instance = user_link (names_profile state home profile instance) (row.Instance instance)
 
 -- the first profile of a project that names the object
 abbrev pub first_profile_link : State → List ℕ → Target → List ℕ → List Profile → Option (List ℕ)
-first_profile_link s home of project rows =
-    first_of (profile_link s home of) (filter (λ r. bytes_eq r.project project) rows)
+first_profile_link state home of project rows =
+    first_of (profile_link state home of) (filter (λ profile. bytes_eq profile.project project) rows)
 
 -- the same of one profile
 abbrev pub profile_link_in : State → List ℕ → Target → List ℕ → Profile → Option (List ℕ)
-profile_link_in s home of project r = if bytes_eq r.project project then profile_link s home of r else None
+profile_link_in state home of project profile =
+    if bytes_eq profile.project project then profile_link state home of profile else None
 
 -- the first instance of a project that names the object
 abbrev pub first_instance_link : State → List ℕ → Target → List ℕ → List Instance → Option (List ℕ)
-first_instance_link s home of project rows =
-    first_of (instance_link s home of) (filter (λ r. bytes_eq r.project project) rows)
+first_instance_link state home of project rows =
+    first_of (instance_link state home of) (filter (λ instance. bytes_eq instance.project project) rows)
 
 -- the same of one instance
 abbrev pub instance_link_in : State → List ℕ → Target → List ℕ → Instance → Option (List ℕ)
-instance_link_in s home of project r = if bytes_eq r.project project then instance_link s home of r else None
+instance_link_in state home of project instance =
+    if bytes_eq instance.project project then instance_link state home of instance else None
 
 -- the first volume of a project that names the object
 abbrev pub first_volume_link : Target → List ℕ → List Volume → Option (List ℕ)
-first_volume_link of project rows = first_of (volume_link of) (filter (λ r. bytes_eq r.project project) rows)
+first_volume_link of project rows = first_of (volume_link of) (filter (λ volume. bytes_eq volume.project project) rows)
 
 -- the same of one volume
 abbrev pub volume_link_in : Target → List ℕ → Volume → Option (List ℕ)
-volume_link_in of project r = if bytes_eq r.project project then volume_link of r else None
+volume_link_in of project volume = if bytes_eq volume.project project then volume_link of volume else None

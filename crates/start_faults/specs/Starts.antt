@@ -29,5 +29,5 @@ IsUnopened keeper keeper' = (opening : Opening) × (is_refused opening ≡ true)
 
 -- why the entries of a keeper open to no rows; none where they open
 abbrev pub Explains : Option OpenFault → Store → Store → Type 0
-Explains None keeper keeper' = (s : State) × OpensTo s keeper keeper'
+Explains None keeper keeper' = (state : State) × OpensTo state keeper keeper'
 Explains (Some why) keeper keeper' = Refuses why keeper keeper'

@@ -12,42 +12,42 @@ use Rattle.row_readings.specs.row_machine.specs.machine.State.{State}
 abbrev pub count_line : List ℕ → ℕ → List ℕ
 count_line kind count = kind ++ codes " " ++ decimal count ++ codes "\n"
 
--- a number behind a space
-abbrev pub number_behind : ℕ → List ℕ
-number_behind number = codes " " ++ decimal number
+-- a number after a space
+abbrev pub number_at_end : ℕ → List ℕ
+number_at_end number = codes " " ++ decimal number
 
 -- the seven parts of an amount, in the order in which limits are judged
 abbrev pub amounts_line : List ℕ → (Part → ℕ) → List ℕ
 amounts_line name amount =
     name
-    ++ number_behind (amount Instances)
-    ++ number_behind (amount Containers)
-    ++ number_behind (amount Machines)
-    ++ number_behind (amount Cpu)
-    ++ number_behind (amount Memory)
-    ++ number_behind (amount Processes)
-    ++ number_behind (amount Disk)
+    ++ number_at_end (amount Instances)
+    ++ number_at_end (amount Containers)
+    ++ number_at_end (amount Machines)
+    ++ number_at_end (amount Cpu)
+    ++ number_at_end (amount Memory)
+    ++ number_at_end (amount Processes)
+    ++ number_at_end (amount Disk)
     ++ codes "\n"
 
 -- how many rows of each kind there are
 unfoldable pub counts_of : State → List ℕ
-counts_of s =
-    count_line (codes "projects") (length s.projects)
-    ++ count_line (codes "profiles") (length s.profiles)
-    ++ count_line (codes "networks") (length s.networks)
-    ++ count_line (codes "pools") (length s.pools)
-    ++ count_line (codes "volumes") (length s.volumes)
-    ++ count_line (codes "instances") (length s.instances)
-    ++ count_line (codes "snapshots") (length s.snapshots)
+counts_of state =
+    count_line (codes "projects") (length state.projects)
+    ++ count_line (codes "profiles") (length state.profiles)
+    ++ count_line (codes "networks") (length state.networks)
+    ++ count_line (codes "pools") (length state.pools)
+    ++ count_line (codes "volumes") (length state.volumes)
+    ++ count_line (codes "instances") (length state.instances)
+    ++ count_line (codes "snapshots") (length state.snapshots)
 
 -- the sums over all projects of what operations were granted, of what became their objects', of what went back, and of
 -- what is still held
 unfoldable pub books_of : State → List ℕ
-books_of s =
-    amounts_line (codes "granted") (λ k. part k s.books.granted)
-    ++ amounts_line (codes "converted") (λ k. part k s.books.converted)
-    ++ amounts_line (codes "returned") (λ k. part k s.books.returned)
-    ++ amounts_line (codes "held") (λ k. all_part k s.held)
+books_of state =
+    amounts_line (codes "granted") (λ a_part. part a_part state.books.granted)
+    ++ amounts_line (codes "converted") (λ a_part. part a_part state.books.converted)
+    ++ amounts_line (codes "returned") (λ a_part. part a_part state.books.returned)
+    ++ amounts_line (codes "held") (λ a_part. all_part a_part state.held)
 
 abbrev pub report_of : State → List ℕ
-report_of s = counts_of s ++ books_of s
+report_of state = counts_of state ++ books_of state

@@ -2,7 +2,7 @@ ghost use Rattle.std.specs.Prelude.{◌≡◌, ◌+◌, ◌-◌, ◌≤◌, ◌+
 ghost use Rattle.row_readings.specs.size_values.specs.Amounts.{part};
 ghost use Rattle.row_readings.specs.size_values.specs.declared.amounts.Part.{Part};
 ghost use Rattle.row_readings.specs.row_machine.specs.facts.Whole.{AreBalanced};
-ghost use Rattle.store_report.specs.Report.{amounts_line, books_of, count_line, counts_of, number_behind, report_of};
+ghost use Rattle.store_report.specs.Report.{amounts_line, books_of, count_line, counts_of, number_at_end, report_of};
 
 use row_readings::View;
 use row_readings::from_reservations::Books;
@@ -18,9 +18,9 @@ fn push_count(alloc: Global, text: &mut String, kind: &str, count: usize) -> Res
     Ok(())
 }
 
-/// Adds a number behind a space.
+/// Adds a number after a space.
 fn push_number(alloc: Global, text: &mut String, number: u128) -> Result<(), NoMemory>
-    ensures { IfOk result (λ _. string_bytes text.new ≡ string_bytes text.old ++ number_behind number) }
+    ensures { IfOk result (λ _. string_bytes text.new ≡ string_bytes text.old ++ number_at_end number) }
 {
     let word = format!(in alloc; " {number}")?;
     text.push_str(word.as_str())?;

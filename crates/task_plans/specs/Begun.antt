@@ -10,15 +10,15 @@ use Rattle.row_machine.specs.machine.Plans.{Plan, nothing, changes, starts}
 -- the background operation that a plan begins
 abbrev pub task_in : Plan → Option Task
 task_in nothing = None
-task_in (changes cs) = None
+task_in (changes row_changes) = None
 task_in (starts task) = Some task
 
 -- the row, where it is an instance
 abbrev pub instance_in : Option Row → Option Instance
-instance_in (Some (row.Instance i)) = Some i
+instance_in (Some (row.Instance instance)) = Some instance
 instance_in other = None
 
 -- the row, where it is a snapshot
 abbrev pub snapshot_in : Option Row → Option Snapshot
-snapshot_in (Some (row.Snapshot r)) = Some r
+snapshot_in (Some (row.Snapshot snapshot)) = Some snapshot
 snapshot_in other = None

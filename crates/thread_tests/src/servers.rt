@@ -114,7 +114,7 @@ fn alone<R: Wait + Copy + Drop>(rt: R, alloc: Global, case: &Case) -> Result<Tol
     ));
     let links = begun::<InMemoryJob<R>, _>(&spawner, true);
     let workers = begun::<InMemoryJob<R>, _>(&spawner, false);
-    Ok(told(status, doors.given(), links, workers, &board))
+    Ok(end_of_server(status, doors.given(), links, workers, &board))
 }
 
 type InMemory<R> = Bench<ByteSource, ByteSink, R>;
@@ -125,7 +125,7 @@ fn begun<J: Job, P: Spawner<J>>(spawner: &P, links: bool) -> u64 {
     spawner.begun(links)
 }
 
-fn told(status: u8, given: u64, links: u64, workers: u64, board: &Board) -> Told {
+fn end_of_server(status: u8, given: u64, links: u64, workers: u64, board: &Board) -> Told {
     let served = board.served.load(Ordering::SeqCst);
     let bytes = board.bytes.load(Ordering::SeqCst);
     let ended = board.ended.load(Ordering::SeqCst);
@@ -155,7 +155,7 @@ fn on_threads<R: Threads + Wait + Copy + Drop + Send + Sync + 'static>(
     ));
     let links = begun::<InMemoryJob<R>, _>(&spawner, true);
     let workers = begun::<InMemoryJob<R>, _>(&spawner, false);
-    Ok(told(status, doors.given(), links, workers, &board))
+    Ok(end_of_server(status, doors.given(), links, workers, &board))
 }
 
 #[test]

@@ -56,7 +56,7 @@ fn ask<R: Net<Listener = TcpListener, Stream = TcpStream>>(
     Some(got)
 }
 
-fn asked<R: Net<Listener = TcpListener, Stream = TcpStream> + Threads>(
+fn client_and_answer<R: Net<Listener = TcpListener, Stream = TcpStream> + Threads>(
     rt: &R,
 ) -> Option<((usize, u64), Option<[u8; 5]>)> {
     let (doors, address) = open(rt)?;
@@ -108,7 +108,7 @@ fn writes_failed<K: Sink + Drop>(alloc: Global, mut sink: K) -> Option<u64> {
 #[test]
 fn a_client_is_answered(rt: HostRuntime) {
     assert!(rt;
-        asked(&rt) == Some(((5, 0), Some(*b"hello"))),
+        client_and_answer(&rt) == Some(((5, 0), Some(*b"hello"))),
         "five bytes, there and back"
     );
 }

@@ -200,7 +200,7 @@ const OTHERS: &[(&[&str], CommandWords, &str)] = &[
     ),
 ];
 
-/// Values of `--db` that `run` takes. One that begins with `-` stands behind `=`.
+/// Values of `--db` that `run` takes. One that begins with `-` stands after `=`.
 const PATHS: &[(&[&str], &str)] = &[
     (&["run", "--db", "rows"], "rows"),
     (&["run", "--db=rows"], "rows"),

@@ -49,7 +49,7 @@ none-first s h = at (first_pending s) refl h where
 
 -- ---- its calls
 
--- a call is left, and others behind it
+-- a call is left, and others after it
 pub record HasCalls (task : Task) : Type 0 where
   pub call : HostCall
   pub rest : List HostCall
@@ -136,7 +136,7 @@ shown-told k o number moment numbered kept =
     shown : Rattle.work_reports.specs.declared.waiting.Shown.Shown
     shown = record { moment = moment; number = number; status = o.status; may_cancel = o.may_cancel; created = o.created; updated = o.updated; fault = o.fault }
 
--- what waits behind nothing is all that waits
+-- what waits after nothing is all that waits
 pub all-told : {X Y : Type 0} (f g : X → Y) (xs ys zs : List X) → map f xs ≡ [] → ys ≡ xs ++ zs → map g ys ≡ map g zs
 all-told f g [] ys zs e is = ap (map g) is
 all-told f g (x ∷ xs) ys zs e is = cc

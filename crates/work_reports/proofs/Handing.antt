@@ -16,7 +16,7 @@ use Rattle.row_machine.specs.declared.events.Answer.TheVariants as answer
 use Rattle.row_machine.specs.declared.events.Event.TheVariants as event
 use Rattle.row_machine.specs.machine.Task.{Task}
 use Rattle.row_machine.specs.machine.State.{State}
-use Rattle.row_machine.specs.machine.Accept.{and_then, told}
+use Rattle.row_machine.specs.machine.Accept.{and_then, with_operation_notice}
 use Rattle.row_machine.specs.machine.Step.{well, step, first_pending, taken, handed_out, done, reported, call_done, while_cancelling}
 use Rattle.row_machine.specs.machine.Work.{with_task, moved, handing_out, one_more_done, undone}
 use Rattle.row_machine.specs.shown.Notices.{telling, view_of}
@@ -28,7 +28,7 @@ abbrev pub notice_of : Operation Task → ℕ → Untold
 notice_of o moment = record { moment = moment; project = o.work.project; told = told_as.Op (view_of o) }
 
 -- an operation that is kept is told
-pub told-kept : (s : State) (o : Operation Task) (number moment : ℕ) → kept_at s.operations number ≡ Some o → told s number moment ≡ telling (notice_of o moment ∷ []) s
+pub told-kept : (s : State) (o : Operation Task) (number moment : ℕ) → kept_at s.operations number ≡ Some o → with_operation_notice s number moment ≡ telling (notice_of o moment ∷ []) s
 told-kept s o number moment kept =
     ap (λ (x : Option (Operation Task)). telling (option_to_list (option_map (λ (o : Operation Task). notice_of o moment) x)) s) kept
 

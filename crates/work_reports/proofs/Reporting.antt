@@ -14,7 +14,7 @@ use Rattle.row_machine.specs.declared.events.Answer.TheVariants as answer
 use Rattle.row_machine.specs.declared.events.Event.TheVariants as event
 use Rattle.row_machine.specs.machine.Task.{Task}
 use Rattle.row_machine.specs.machine.State.{State}
-use Rattle.row_machine.specs.machine.Accept.{After, and_then, told}
+use Rattle.row_machine.specs.machine.Accept.{After, and_then, with_operation_notice}
 use Rattle.row_machine.specs.machine.Step.{Outcome, well, step, done, reported, while_running, call_done, committed, while_cancelling, failure, success}
 use Rattle.row_machine.specs.machine.Work.{failed, succeeded, cancelled, success_changes, power_after, with_power_after}
 use Rattle.row_machine.specs.shown.Notices.{telling, success_notices}
@@ -70,7 +70,7 @@ module _ (s : State) (o : Operation Task) (moment : ℕ) (kept : AreKept s.opera
 
   pub cancelled-is : (s' : State) (untold : List Untold) → s' ≡ cancelled s o.number moment
       → untold ≡ notice_of (as_ended o status.Cancelled fault.None moment) moment ∷ []
-      → and_then (answer.Ended o.number) (told (cancelled s o.number moment) o.number moment) ≡ and_then (answer.Ended o.number) (telling untold s')
+      → and_then (answer.Ended o.number) (with_operation_notice (cancelled s o.number moment) o.number moment) ≡ and_then (answer.Ended o.number) (telling untold s')
   cancelled-is s' untold made tells =
       ap (and_then (answer.Ended o.number))
       (told-kept (cancelled s o.number moment) (as_ended o status.Cancelled fault.None moment) o.number moment cancelled-kept
@@ -102,7 +102,7 @@ module _ (s : State) (o : Operation Task) (moment : ℕ) (kept : AreKept s.opera
   last-step outcome running none = running-step report.Done outcome running ∙ ap (call_done s o moment outcome) none
 
   pub cancelled-step : (r : Report) → o.status ≡ status.Cancelling → o.work.undo ≡ None
-      → reports r well ≡ Some (and_then (answer.Ended o.number) (told (cancelled s o.number moment) o.number moment))
+      → reports r well ≡ Some (and_then (answer.Ended o.number) (with_operation_notice (cancelled s o.number moment) o.number moment))
   unfolding step
   cancelled-step r cancelling none =
       ap (done s o.number r moment well) live ∙ ap (reported s o r moment well) cancelling ∙ ap (while_cancelling s o moment well) none

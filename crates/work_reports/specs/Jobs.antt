@@ -27,8 +27,9 @@ use Rattle.work_reports.specs.declared.jobs.Turned.TheVariants as turned
 
 -- A worker got a call as one step of the machine, and these notices are left untold; or nothing waits, and all stays.
 abbrev pub IsTaken : State → ℕ → Option (ℕ × HostCall) → State → List Untold → Type 0
-IsTaken s moment (Some (op, call)) s' untold = step s (event.Take moment) well ≡ Some (and_then (answer.Job op call) (telling untold s'))
-IsTaken s moment None s' untold = (first_pending s ≡ None) × (s' ≡ s) × (untold ≡ [])
+IsTaken state moment (Some (op, call)) later untold =
+    step state (event.Take moment) well ≡ Some (and_then (answer.Job op call) (telling untold later))
+IsTaken state moment None later untold = (first_pending state ≡ None) × (later ≡ state) × (untold ≡ [])
 
 -- ---- a worker reports of a call
 
@@ -40,28 +41,30 @@ answer_of op turned.Ended = answer.Ended op
 
 -- the changes that the last call of a deed commits
 abbrev pub changes_at_last : State → Operation Task → List HostCall → List RowChange
-changes_at_last s o [] = success_changes s o.work
-changes_at_last s o (call ∷ calls) = []
+changes_at_last state operation [] = success_changes state operation.work
+changes_at_last state operation (call ∷ calls) = []
 
 -- of an operation that runs, those of its success where the report is that its last call was done
 abbrev pub changes_while : State → Operation Task → Report → Status → List RowChange
-changes_while s o report.Done Running = changes_at_last s o o.work.calls
-changes_while s o other status = []
+changes_while state operation report.Done Running = changes_at_last state operation operation.work.calls
+changes_while state operation other status = []
 
 -- the changes that a report of this operation commits
 abbrev pub changes_by : State → Report → Option (Operation Task) → List RowChange
-changes_by s r None = []
-changes_by s r (Some o) = changes_while s o r o.status
+changes_by state report None = []
+changes_by state report (Some operation) = changes_while state operation report operation.status
 
 -- the changes that a report commits: those of the success of an operation, at the report that its last call was done
 unfoldable pub changes_reported : State → ℕ → Report → List RowChange
-changes_reported s op r = changes_by s r (live_at s.operations op)
+changes_reported state op report = changes_by state report (live_at state.operations op)
 
 -- A report was taken as one step of the machine, with an outcome that the keeper's count bears out: the changes of rows went
 -- to the store, and these notices are left untold. Entries that were the records of the rows are so afterwards.
-pub record IsReported (s : State) (op : ℕ) (r : Report) (moment : ℕ) (s' : State) (untold : List Untold) (result : Turned) (store store' : Store) : Type 0 where
+pub record IsReported (state : State) (op : ℕ) (report : Report) (moment : ℕ) (later : State)
+    (untold : List Untold) (result : Turned) (store store' : Store) : Type 0 where
   pub outcome : Outcome
   pub caused : IsCaused outcome store.failures store'.failures
-  pub stored : Stores (changes_reported s op r) outcome store store'
-  pub is : step s (event.Done op r moment) outcome ≡ Some (and_then (answer_of op result) (telling untold s'))
-  pub kept : KeepsRecords store.told s store'.told s'
+  pub stored : Stores (changes_reported state op report) outcome store store'
+  pub is : step state (event.Done op report moment) outcome
+      ≡ Some (and_then (answer_of op result) (telling untold later))
+  pub kept : KeepsRecords store.told state store'.told later

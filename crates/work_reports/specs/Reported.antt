@@ -19,29 +19,30 @@ use Rattle.work_reports.specs.declared.success.Ending.{Ending}
 use Rattle.work_reports.specs.declared.waiting.Waiting.{Waiting}
 
 -- what the success of a task needs over these rows
-pub record IsEndingOf (s : State) (task : Task) (moment : ℕ) (e : Ending) : Type 0 where
-  pub power : e.power ≡ power_after s task
-  pub changes : e.changes ≡ success_changes s task
-  pub entries : e.entries ≡ entry_changes (success_changes s task)
-  pub notices : e.notices ≡ success_notices task moment
+pub record IsEndingOf (state : State) (task : Task) (moment : ℕ) (ending : Ending) : Type 0 where
+  pub power : ending.power ≡ power_after state task
+  pub changes : ending.changes ≡ success_changes state task
+  pub entries : ending.entries ≡ entry_changes (success_changes state task)
+  pub notices : ending.notices ≡ success_notices task moment
 
 -- Changes of entries were committed in one call to the store, which is not called where there are none. Or that call
 -- failed, which is told with the count of failures before and after it; or memory was refused, before it or in it.
 abbrev pub CommitsSome : {T : Type 0} → Result T OpFault → List EntryChange → Store → Store → Type 0
-CommitsSome (Ok u) [] before now = now ≡ before
-CommitsSome (Ok u) (e ∷ es) before now = now ≡ after_commit (e ∷ es) before
+CommitsSome (Ok unit) [] before now = now ≡ before
+CommitsSome (Ok unit) (change ∷ changes) before now = now ≡ after_commit (change ∷ changes) before
 CommitsSome (Err fault.NoMemory) [] before now = now ≡ before
-CommitsSome (Err fault.NoMemory) (e ∷ es) before now = IsAfterUpTo 1 before now
+CommitsSome (Err fault.NoMemory) (change ∷ changes) before now = IsAfterUpTo 1 before now
 CommitsSome (Err (fault.Keeper earlier later)) [] before now = ⊥
-CommitsSome (Err (fault.Keeper earlier later)) (e ∷ es) before now =
+CommitsSome (Err (fault.Keeper earlier later)) (change ∷ changes) before now =
     FailsAtCall 1 before now × (earlier ≡ before.failures) × (later ≡ now.failures)
-CommitsSome (Err other) es before now = ⊥
+CommitsSome (Err other) changes before now = ⊥
 
 -- A report was taken as one step of the machine, and these notices wait. The facts hold of the rows after it, nothing
 -- else was told, and no operation was entered.
-pub record IsTurned (s : State) (number : ℕ) (r : Report) (moment : ℕ) (s' : State) (waiting : List Waiting)
+pub record IsTurned (state : State) (number : ℕ) (report : Report) (moment : ℕ) (later : State) (waiting : List Waiting)
     (result : Turned) (store store' : Store) : Type 0 where
-  pub reported : IsReported s number r moment s' (map (told_by s'.operations) waiting) result store store'
-  pub whole : IsWhole s'
-  pub silent : IsSilent s'
-  pub next : s'.operations.next ≡ s.operations.next
+  pub reported : IsReported state number report moment later (map (told_by later.operations) waiting) result
+      store store'
+  pub whole : IsWhole later
+  pub silent : IsSilent later
+  pub next : later.operations.next ≡ state.operations.next

@@ -22,10 +22,13 @@ abbrev pub Stores : List RowChange → Outcome → Store → Store → Type 0
 Stores [] well before now = now ≡ before
 Stores [] (keeper_failed rise) before now = ⊥
 Stores [] no_memory before now = now ≡ before
-Stores (c ∷ cs) well before now = now ≡ after_commit (entry_changes (c ∷ cs)) before
-Stores (c ∷ cs) (keeper_failed rise) before now = FailsAtCall 1 before now × (rise.before ≡ before.failures) × (rise.after ≡ now.failures)
-Stores (c ∷ cs) no_memory before now = IsAfterUpTo 1 before now
+Stores (change ∷ changes) well before now = now ≡ after_commit (entry_changes (change ∷ changes)) before
+Stores (change ∷ changes) (keeper_failed rise) before now =
+    FailsAtCall 1 before now × (rise.before ≡ before.failures) × (rise.after ≡ now.failures)
+Stores (change ∷ changes) no_memory before now = IsAfterUpTo 1 before now
 
 -- what told the records of the old state tells those of the new one, and goes on to tell or not to tell
 abbrev pub KeepsRecords : Option (List Entry) → State → Option (List Entry) → State → Type 0
-KeepsRecords told s told' s' = (start : Option (List Entry)) → told ≡ option_map (λ _. records_of s) start → told' ≡ option_map (λ _. records_of s') start
+KeepsRecords told state told' later =
+    (start : Option (List Entry)) → told ≡ option_map (λ _. records_of state) start
+    → told' ≡ option_map (λ _. records_of later) start

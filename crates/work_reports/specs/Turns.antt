@@ -20,14 +20,14 @@ use Rattle.work_reports.specs.declared.waiting.Waiting.TheVariants as waiting
 
 -- an operation, as it waits to be told
 abbrev pub shown_as : ℕ → Operation Task → Waiting
-shown_as moment o = waiting.Shown record {
+shown_as moment operation = waiting.Shown record {
   moment = moment;
-  number = o.number;
-  status = o.status;
-  may_cancel = o.may_cancel;
-  created = o.created;
-  updated = o.updated;
-  fault = o.fault;
+  number = operation.number;
+  status = operation.status;
+  may_cancel = operation.may_cancel;
+  created = operation.created;
+  updated = operation.updated;
+  fault = operation.fault;
 }
 
 -- the operation of a number, if it is kept
@@ -35,13 +35,13 @@ abbrev pub shown_at : Kept Task → ℕ → ℕ → List Waiting
 shown_at operations number moment = option_to_list (option_map (shown_as moment) (kept_at operations number))
 
 -- the first operation that waits runs, and its first call was handed out
-pub record IsBegun (s : State) (number moment : ℕ) (call : HostCall) (s' : State) : Type 0 where
+pub record IsBegun (state : State) (number moment : ℕ) (call : HostCall) (later : State) : Type 0 where
   pub of : Operation Task
   pub rest : List HostCall
   pub numbered : of.number ≡ number
-  pub first : first_pending s ≡ Some of
+  pub first : first_pending state ≡ Some of
   pub calls : of.work.calls ≡ call ∷ rest
-  pub made : s' ≡ with_task of.number (handing_out of.work rest) (moved of.number Running moment s)
+  pub made : later ≡ with_task of.number (handing_out of.work rest) (moved of.number Running moment state)
 
 -- ---- what comes of a report
 
@@ -63,11 +63,11 @@ turn_cancelling (Some call) = turn.Undo
 
 -- by the status
 abbrev pub turn_while : Operation Task → Report → Status → Turn
-turn_while o r Running = turn_running o.work r
-turn_while o r Cancelling = turn_cancelling o.work.undo
-turn_while o r other = turn.Stray
+turn_while operation report Running = turn_running operation.work report
+turn_while operation report Cancelling = turn_cancelling operation.work.undo
+turn_while operation report other = turn.Stray
 
 -- of the live operation of a number
 abbrev pub turn_of : Option (Operation Task) → Report → Turn
-turn_of None r = turn.Stray
-turn_of (Some o) r = turn_while o r o.status
+turn_of None report = turn.Stray
+turn_of (Some operation) report = turn_while operation report operation.status

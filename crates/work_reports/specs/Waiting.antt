@@ -20,11 +20,11 @@ no_target = record { kind = kind.Operation; pool = []; instance = []; name = [] 
 
 -- the project of an operation
 abbrev pub project_shown : Option (Operation Task) → List ℕ
-project_shown kept = option_map_or (λ o. o.work.project) kept []
+project_shown kept = option_map_or (λ operation. operation.work.project) kept []
 
 -- the target of an operation
 abbrev pub target_shown : Option (Operation Task) → Target
-target_shown kept = option_map_or (λ o. o.work.target) kept no_target
+target_shown kept = option_map_or (λ operation. operation.work.target) kept no_target
 
 -- what is told of an operation as it was then
 abbrev pub told_of : Option (Operation Task) → Shown → Untold
@@ -53,6 +53,6 @@ abbrev pub untold_limit : ℕ
 untold_limit = 8
 
 -- none was told so far: the state's notices are none, and the next one is the first
-pub record IsSilent (s : State) : Type 0 where
-  pub notices : s.notices ≡ []
-  pub next : s.next_notice ≡ 1
+pub record IsSilent (state : State) : Type 0 where
+  pub notices : state.notices ≡ []
+  pub next : state.next_notice ≡ 1

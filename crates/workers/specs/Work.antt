@@ -26,46 +26,47 @@ standing post host clock = record { post = post; host = host; clock = clock }
 -- What is to be done after a call was asked for: to make the one that was handed out; to rest, where none waits; or
 -- nothing any more, where the server was closed.
 abbrev pub Gets : Answer → Post → Type 0
-Gets (answer.Job number call) p = p ≡ post.Busy number call
-Gets answer.NoJob p = p ≡ post.Resting
-Gets answer.Closed p = p ≡ post.Over
-Gets other p = ⊥
+Gets (answer.Job number call) next = next ≡ post.Busy number call
+Gets answer.NoJob next = next ≡ post.Resting
+Gets answer.Closed next = next ≡ post.Over
+Gets other next = ⊥
 
 -- What is to be done after a report: to make the next call of the operation; or to ask for another one, where the
 -- operation has ended or no call of it was out.
 abbrev pub GoesOn : Answer → Post → Type 0
-GoesOn (answer.Job number call) p = p ≡ post.Busy number call
-GoesOn (answer.Ended number) p = p ≡ post.Idle
-GoesOn (answer.Stray number) p = p ≡ post.Idle
-GoesOn other p = ⊥
+GoesOn (answer.Job number call) next = next ≡ post.Busy number call
+GoesOn (answer.Ended number) next = next ≡ post.Idle
+GoesOn (answer.Stray number) next = next ≡ post.Idle
+GoesOn other next = ⊥
 
 -- a call was asked for, at the clock's next reading
-pub record Takes (w : Standing) (e : Event) (a : Answer) (w' : Standing) : Type 0 where
+pub record Takes (worker : Standing) (an_event : Event) (answer : Answer) (next : Standing) : Type 0 where
   pub moment : ℕ
-  pub asks : e ≡ event.Take moment
-  pub clock : IsRead w.clock moment w'.clock
-  pub host : w'.host ≡ w.host
-  pub gets : Gets a w'.post
+  pub asks : an_event ≡ event.Take moment
+  pub clock : IsRead worker.clock moment next.clock
+  pub host : next.host ≡ worker.host
+  pub gets : Gets answer next.post
 
 -- A call was made on the host, once, and what became of it was reported, at the clock's next reading.
-pub record Reports (number : ℕ) (call : HostCall) (w : Standing) (e : Event) (a : Answer) (w' : Standing) : Type 0 where
+pub record Reports (number : ℕ) (call : HostCall) (worker : Standing) (an_event : Event) (answer : Answer)
+    (next : Standing) : Type 0 where
   pub report : Report
   pub moment : ℕ
-  pub tells : e ≡ event.Done number report moment
-  pub roots : w'.host.roots ≡ roots_after report call w.host.roots
-  pub counts : CarriesCounts report w.host.failures w'.host.failures
-  pub cause : HasCause report w.host.failures w'.host.failures
-  pub later : w.host.failures ≤ w'.host.failures
-  pub clock : IsRead w.clock moment w'.clock
-  pub goes_on : GoesOn a w'.post
+  pub tells : an_event ≡ event.Done number report moment
+  pub roots : next.host.roots ≡ roots_after report call worker.host.roots
+  pub counts : CarriesCounts report worker.host.failures next.host.failures
+  pub cause : HasCause report worker.host.failures next.host.failures
+  pub later : worker.host.failures ≤ next.host.failures
+  pub clock : IsRead worker.clock moment next.clock
+  pub goes_on : GoesOn answer next.post
 
 -- what a worker does at its post
 abbrev pub DoneAt : Post → Standing → Item → Standing → Type 0
-DoneAt post.Idle w (turn e outcome a) w' = Takes w e a w'
-DoneAt (post.Busy number call) w (turn e outcome a) w' = Reports number call w e a w'
-DoneAt post.Resting w (rest events) w' = w' ≡ standing post.Idle w.host w.clock
-DoneAt other w item w' = ⊥
+DoneAt post.Idle worker (turn event outcome answer) next = Takes worker event answer next
+DoneAt (post.Busy number call) worker (turn event outcome answer) next = Reports number call worker event answer next
+DoneAt post.Resting worker (rest events) next = next ≡ standing post.Idle worker.host worker.clock
+DoneAt other worker item next = ⊥
 
 -- one thing that a worker does
 abbrev pub WorkBy : Standing → Item → Standing → Type 0
-WorkBy w item w' = DoneAt w.post w item w'
+WorkBy worker item next = DoneAt worker.post worker item next

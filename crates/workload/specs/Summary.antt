@@ -9,9 +9,9 @@ use Rattle.std.specs.Str.Parse.{digits_value}
 -- the parts of a text before and after the first place at which a mark stands
 abbrev pub parted : List ℕ → List ℕ → Option (List ℕ × List ℕ)
 parted mark [] = None
-parted mark (c ∷ cs) =
-    if starts_with nat_eq (c ∷ cs) mark then Some ([], drop (length mark) (c ∷ cs))
-    else option_map (λ parts. (c ∷ parts.0, parts.1)) (parted mark cs)
+parted mark (byte ∷ rest) =
+    if starts_with nat_eq (byte ∷ rest) mark then Some ([], drop (length mark) (byte ∷ rest))
+    else option_map (λ parts. (byte ∷ parts.0, parts.1)) (parted mark rest)
 
 -- the number with which a text begins: 1 to 19 digits
 abbrev pub number_in : List ℕ → Option ℕ
@@ -21,7 +21,7 @@ number_in text =
 
 -- a number of three digits, the first of which is not 0
 abbrev pub as_code : ℕ → Option ℕ
-as_code n = if nat_le 100 n && nat_lt n 1000 then Some n else None
+as_code number = if nat_le 100 number && nat_lt number 1000 then Some number else None
 
 -- the status code of a head `HTTP/1.1 CODE PHRASE`
 abbrev pub code_in : List ℕ → Option ℕ
@@ -56,8 +56,8 @@ codes_of bytes = codes_within (length bytes) bytes
 -- how many replies have this code, in a line of its own, if there are any
 abbrev pub code_line : List ℕ → ℕ → List ℕ
 code_line all code =
-    if count_by (λ c. c == code) all == 0 then []
-    else codes "replies " ++ decimal code ++ codes " " ++ decimal (count_by (λ c. c == code) all) ++ codes "\n"
+    if count_by (λ other. other == code) all == 0 then []
+    else codes "replies " ++ decimal code ++ codes " " ++ decimal (count_by (λ other. other == code) all) ++ codes "\n"
 
 -- the number of replies, and then the number of each code that occurs, rising; each line ends with LF
 unfoldable pub summary_by : List ℕ → List ℕ

@@ -34,11 +34,12 @@ use Rattle.row_machine.specs.examples.Worked.{a, status_after}
 -- the fault of an operation after all events
 abbrev pub fault_after : Events → ℕ → Option OpFault
 fault_after events number = option_and_then
-    (λ s. option_map (λ (o : Operation Task). o.fault) (kept_at s.operations number)) (state_after events)
+    (λ state. option_map (λ (operation : Operation Task). operation.fault) (kept_at state.operations number))
+    (state_after events)
 
 -- how many instances there are after all events, by their names
 abbrev pub instances_after : Events → Option (List (List ℕ))
-instances_after events = option_map (λ s. map (λ i. i.name) s.instances) (state_after events)
+instances_after events = option_map (λ state. map (λ instance. instance.name) state.instances) (state_after events)
 
 -- ---- a host's call that fails
 
@@ -103,7 +104,8 @@ short (told.Op view) = is_now view.number view.status
 
 -- the numbers of the notices after all events, each with what it tells
 abbrev pub notices_after : Events → Option (List (ℕ × Short))
-notices_after events = option_map (λ s. map (λ (n : Notice). (n.number, short n.told)) s.notices) (state_after events)
+notices_after events = option_map (λ state. map (λ (notice : Notice). (notice.number, short notice.told)) state.notices)
+    (state_after events)
 
 -- The operation is told at its beginning, when it runs, and at its end, and the new instance before that end.
 abbrev pub CreationIsTold : Type 0
@@ -140,7 +142,7 @@ from_the_fifth = record begin { notices = pool_made 5 ∷ pool_made 6 ∷ []; ne
 -- what a listener is answered that asks from this number on
 abbrev pub fetched_from : ℕ → Option Answer
 fetched_from cursor =
-    option_map (λ (x : After). x.answer) (step from_the_fifth (event.Fetch cursor all_of_default) well)
+    option_map (λ (after : After). after.answer) (step from_the_fifth (event.Fetch cursor all_of_default) well)
 
 -- A listener that asks for what is no longer kept has lagged; one that asks from a kept number on gets the rest.
 pub record ListenersLag : Type 0 where

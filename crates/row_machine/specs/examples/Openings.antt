@@ -107,7 +107,7 @@ abbrev pub with_a_byte_more : List Entry
 with_a_byte_more =
     entry_of (row.Project default_project) ∷ longer (entry_of (row.Profile (default_profile default))) ∷ [] where
       longer : Entry → Entry
-      longer e = record e { body = e.body ++ 0 ∷ [] }
+      longer entry = record entry { body = entry.body ++ 0 ∷ [] }
 
 -- an entry that spells no row is told by its kind and key
 abbrev pub DamageIsTold : Type 0

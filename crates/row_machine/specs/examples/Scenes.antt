@@ -136,12 +136,12 @@ begin = with_rows first_rows
 -- the last element
 abbrev pub last_of : {X : Type 0} → List X → Option X
 last_of [] = None
-last_of (x ∷ []) = Some x
-last_of (x ∷ y ∷ ys) = last_of (y ∷ ys)
+last_of (item ∷ []) = Some item
+last_of (item ∷ other ∷ rest) = last_of (other ∷ rest)
 
 -- the answer to the last event
 abbrev pub last_answer : Events → Option Answer
-last_answer events = option_and_then (λ r. last_of r.answers) (run begin events)
+last_answer events = option_and_then (λ ran. last_of ran.answers) (run begin events)
 
 -- the refusal that an answer tells
 abbrev pub refusal_in : Answer → Option Refusal
@@ -163,8 +163,8 @@ last_started events = option_and_then number_in (last_answer events)
 
 -- the state after all events
 abbrev pub state_after : Events → Option State
-state_after events = option_map (λ r. r.state) (run begin events)
+state_after events = option_map (λ ran. ran.state) (run begin events)
 
 -- the usage of a project after all events
 abbrev pub usage_after : Events → List ℕ → Option Amounts
-usage_after events project = option_map (λ s. usage_of s project) (state_after events)
+usage_after events project = option_map (λ state. usage_of state project) (state_after events)

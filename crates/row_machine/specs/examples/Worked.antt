@@ -152,7 +152,8 @@ pub record ClaimsCount : Type 0 where
 -- the status of an operation after all events
 abbrev pub status_after : Events → ℕ → Option Status
 status_after events number =
-    option_and_then (λ s. option_map (λ o. o.status) (kept_at s.operations number)) (state_after events)
+    option_and_then (λ state. option_map (λ operation. operation.status) (kept_at state.operations number))
+    (state_after events)
 
 -- a waiting operation is cancelled at once, and what it claimed is free again
 pub record CancelFrees : Type 0 where
@@ -270,7 +271,7 @@ pub record ProfilesAreHeld : Type 0 where
   pub held : last_refusal (small_is_held ++ enlarged)
       ≡ Some (record { rule = rule.B6; kept = record nothing_told { name = small; number = 1 } })
   pub free : last_answer (small_is_held ++ work_twice 1 ++ enlarged) ≡ Some (answer.Reply reply.Empty)
-  pub used : option_map (λ u. u.memory) (usage_after (small_is_held ++ work_twice 1 ++ enlarged) default)
+  pub used : option_map (λ usage. usage.memory) (usage_after (small_is_held ++ work_twice 1 ++ enlarged) default)
       ≡ Some 1073741824
 
 -- ---- states and snapshots
@@ -303,8 +304,8 @@ delete_instance project name = ask project (what.Delete (named kind.Instance nam
 pub record EphemeralGoes : Type 0 where
   pub running : last_refusal (running_e ++ delete_instance default e)
       ≡ Some (record { rule = rule.B2; kept = record nothing_told { key = codes "Running"; name = e } })
-  pub instances : option_map (λ s. s.instances) (state_after stopped_e) ≡ Some []
-  pub snapshots : option_map (λ s. s.snapshots) (state_after stopped_e) ≡ Some []
+  pub instances : option_map (λ state. state.instances) (state_after stopped_e) ≡ Some []
+  pub snapshots : option_map (λ state. state.snapshots) (state_after stopped_e) ≡ Some []
   pub used : usage_after stopped_e default ≡ Some nothing
 
 -- a protected instance is not deleted
@@ -320,7 +321,7 @@ ProtectedStays =
 
 -- the names of the snapshots after all events
 abbrev pub snapshots_after : Events → Option (List (List ℕ))
-snapshots_after events = option_map (λ s. map (λ x. x.name) s.snapshots) (state_after events)
+snapshots_after events = option_map (λ state. map (λ snapshot. snapshot.name) state.snapshots) (state_after events)
 
 -- two snapshots without names
 abbrev pub two_snapshots : Events
@@ -366,7 +367,7 @@ changing =
 
 -- two parts of the usage
 abbrev pub cpu_and_memory : Amounts → ℕ × ℕ
-cpu_and_memory u = (u.cpu, u.memory)
+cpu_and_memory usage = (usage.cpu, usage.memory)
 
 -- while it is live, a change counts with what it asks for above what stands; then with the new row alone
 pub record ChangesHoldTheExcess : Type 0 where
@@ -394,7 +395,8 @@ pub record RestoreFrees : Type 0 where
   pub above : last_refusal (grown ++ copy_snapshot)
       ≡ Some (over_limit rule.L5 (codes "limits.memory") 1073741824 536870912 1073741824)
   pub restoring : last_started (grown ++ restore_snapshot) ≡ Some 4
-  pub restored : option_map (λ u. u.memory) (usage_after (grown ++ restore_snapshot ++ work 4) lab) ≡ Some 536870912
+  pub restored : option_map (λ usage. usage.memory) (usage_after (grown ++ restore_snapshot ++ work 4) lab)
+      ≡ Some 536870912
   pub copied : last_started (grown ++ restore_snapshot ++ work 4 ++ copy_snapshot) ≡ Some 5
 
 -- ---- the pool that a volume is copied from
@@ -424,7 +426,7 @@ crossing = make_pool ++ put_default default ++ make_instance default a [] ++ tak
 pub record CancelUndoes : Type 0 where
   pub cancelling : status_after crossing 1 ≡ Some status.Cancelling
   pub undone : status_after (crossing ++ done 1 ++ done 1) 1 ≡ Some status.Cancelled
-  pub no_row : option_map (λ s. s.instances) (state_after (crossing ++ done 1 ++ done 1)) ≡ Some []
+  pub no_row : option_map (λ state. state.instances) (state_after (crossing ++ done 1 ++ done 1)) ≡ Some []
   pub ended : last_refusal (crossing ++ done 1 ++ done 1 ++ cancel 1)
       ≡ Some (record { rule = rule.O1; kept = record nothing_told { key = codes "Cancelled"; number = 1 } })
 
@@ -453,13 +455,13 @@ gone_astray = option_and_then (λ before. option_map (λ ran. ran.state) (run be
 
 -- the targets of the live operations
 abbrev pub targets_in : State → List Target
-targets_in now = map (λ (o : Operation Task). o.work.target) now.operations.live
+targets_in now = map (λ (operation : Operation Task). operation.work.target) now.operations.live
 
 -- The facts do not hold where such a deletion is live: it removes the instance `s` while a snapshot of `s` is being
 -- made.
 pub record DeletionGoesAstray : Type 0 where
   pub not_whole : (before : State) → astray ≡ Some before → IsWhole before → ⊥
-  pub removed : option_map (λ now. map (λ i. i.name) now.instances) gone_astray ≡ Some (a ∷ [])
+  pub removed : option_map (λ now. map (λ instance. instance.name) now.instances) gone_astray ≡ Some (a ∷ [])
   pub under_way : option_map targets_in gone_astray ≡ Some (snapshot_target s (codes "snap0") ∷ [])
 
 -- ---- a busy server
@@ -480,7 +482,7 @@ busy_server =
 
 -- the deeds and statuses of live operations
 abbrev pub deeds_in : State → List (Deed × Status)
-deeds_in now = map (λ (o : Operation Task). (o.work.deed, o.status)) now.operations.live
+deeds_in now = map (λ (operation : Operation Task). (operation.work.deed, operation.status)) now.operations.live
 
 -- all facts hold while a creation, a copy and a deletion are live
 pub record BusyIsWhole : Type 0 where

@@ -20,7 +20,7 @@ use Rattle.row_machine.specs.facts.Whole.{IsWhole}
 
 -- no event at all: no answers, no ends, and the state as it is
 abbrev pub EmptyRunStays : Type 0
-EmptyRunStays = (s : State) → run s [] ≡ Some (record { answers = []; ends = []; state = s })
+EmptyRunStays = (state : State) → run state [] ≡ Some (record { answers = []; ends = []; state = state })
 
 -- a run, and another one from the state that it leaves
 abbrev pub joined : Ran → Ran → Ran
@@ -32,25 +32,27 @@ joined first second = record {
 
 -- the run of two lists of events is the run of the first and then of the second
 abbrev pub RunsJoin : Type 0
-RunsJoin = (s : State) (events more : List (Event × Outcome)) →
-    run s (events ++ more) ≡ option_and_then (λ first. option_map (joined first) (run first.state more)) (run s events)
+RunsJoin = (state : State) (events more : List (Event × Outcome)) →
+    run state (events ++ more)
+    ≡ option_and_then (λ first. option_map (joined first) (run first.state more)) (run state events)
 
 -- a request that is refused leaves the state
 abbrev pub RefusedStays : Type 0
-RefusedStays = (s : State) (c : Command) (moment : ℕ) (outcome : Outcome) (after : After) (refusal : Refusal) →
-    step s (event.Ask c moment) outcome ≡ Some after → after.answer ≡ answer.Reply (reply.Refused refusal)
-    → after.state ≡ s
+RefusedStays =
+    (state : State) (command : Command) (moment : ℕ) (outcome : Outcome) (after : After) (refusal : Refusal) →
+    step state (event.Ask command moment) outcome ≡ Some after → after.answer ≡ answer.Reply (reply.Refused refusal)
+    → after.state ≡ state
 
 -- an operation that has ended is the same in each later state that keeps it
 abbrev pub EndedStays : Type 0
-EndedStays = (s : State) (events : List (Event × Outcome)) (r : Ran) (o later : Operation Task) →
-    AreKept s.operations → run s events ≡ Some r → Mem o s.operations.ended
-    → kept_at r.state.operations o.number ≡ Some later → later ≡ o
+EndedStays = (state : State) (events : List (Event × Outcome)) (ran : Ran) (operation later : Operation Task) →
+    AreKept state.operations → run state events ≡ Some ran → Mem operation state.operations.ended
+    → kept_at ran.state.operations operation.number ≡ Some later → later ≡ operation
 
 -- no operation ends twice
 abbrev pub EndsOnce : Type 0
-EndsOnce = (s : State) (events : List (Event × Outcome)) (r : Ran) →
-    AreKept s.operations → run s events ≡ Some r → Distinct (λ (end : ℕ × Status). end.0) r.ends
+EndsOnce = (state : State) (events : List (Event × Outcome)) (ran : Ran) →
+    AreKept state.operations → run state events ≡ Some ran → Distinct (λ (end : ℕ × Status). end.0) ran.ends
 
 -- a server that is opened without entries is in a state in which all facts hold
 abbrev pub NewIsWhole : Type 0
@@ -58,12 +60,12 @@ NewIsWhole = IsWhole (with_rows first_rows)
 
 -- an operation that deletes what is no instance leaves no state in which all facts hold
 abbrev pub DeletesInstances : Type 0
-DeletesInstances = (s : State) (project : List ℕ) (of : Target) (moment : ℕ) →
-    of.kind ≢ kind.Instance → IsWhole (entered s (deletion_task project of) moment) → ⊥
+DeletesInstances = (state : State) (project : List ℕ) (of : Target) (moment : ℕ) →
+    of.kind ≢ kind.Instance → IsWhole (entered state (deletion_task project of) moment) → ⊥
 
 -- a notice of another moment
 abbrev pub at_moment : ℕ → Untold → Untold
-at_moment moment n = record n { moment = moment }
+at_moment moment notice = record notice { moment = moment }
 
 -- What the success of an operation tells is fixed when the operation is entered, but for the moment: so it can be made
 -- then, beside the operation, and no call that is handed out or done changes it.

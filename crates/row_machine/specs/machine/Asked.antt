@@ -21,29 +21,35 @@ object_of (what.Restore of snapshot) = Some of
 object_of other = None
 
 abbrev pub snapshots_of : State → List ℕ → List ℕ → List Snapshot
-snapshots_of s project instance =
-    filter (λ r. if bytes_eq r.project project then bytes_eq r.instance instance else false) s.snapshots
+snapshots_of state project instance =
+    filter (λ snapshot. if bytes_eq snapshot.project project then bytes_eq snapshot.instance instance else false)
+    state.snapshots
 
 -- the next name of the pattern after those of the instance's snapshots
 abbrev pub next_snapshot : State → Instance → List ℕ
-next_snapshot s i =
-    next_name (fold (λ numbers r. seen r.name numbers) (unseen pattern) (snapshots_of s i.project i.name)) where
+next_snapshot state instance =
+    next_name
+    (fold (λ numbers snapshot. seen snapshot.name numbers) (unseen pattern)
+    (snapshots_of state instance.project instance.name)) where
       pattern : List ℕ
       pattern =
-          unwrap_or (setting (expanded_of s.projects s.profiles i).config (codes "snapshots.pattern")) (codes "snap%d")
+          unwrap_or (setting (expanded_of state.projects state.profiles instance).config (codes "snapshots.pattern"))
+          (codes "snap%d")
 
 -- a new snapshot without a name gets the next one
 abbrev pub with_name : State → List ℕ → Target → Target
-with_name s project of =
+with_name state project of =
     if length of.name == 0
-    then option_map_or (λ i. record of { name = next_snapshot s i }) (instance_named s.instances project of.instance) of
+    then option_map_or (λ instance. record of { name = next_snapshot state instance })
+    (instance_named state.instances project of.instance) of
     else of
 
 -- the object under the name that a creation or a rename gives it
 abbrev pub named_anew : State → List ℕ → What → Option Target
-named_anew s project (what.Create of body) = Some (if is_of_kind kind.Snapshot of then with_name s project of else of)
-named_anew s project (what.Move of to) = Some (record of { name = to })
-named_anew s project other = None
+named_anew state project (what.Create of body) =
+    Some (if is_of_kind kind.Snapshot of then with_name state project of else of)
+named_anew state project (what.Move of to) = Some (record of { name = to })
+named_anew state project other = None
 
 abbrev pub copied_from : ObjectKind → Origin → Option (List ℕ)
 copied_from kind.Instance (origin.Copy from snapshot pool) = Some from
@@ -59,10 +65,10 @@ instance_in of = instance of.kind where
 
 -- the instance that a creation copies from, or to which it adds a snapshot
 abbrev pub instance_made_from : Target → Body → Option (List ℕ)
-instance_made_from of body = made of.kind where
-  made : ObjectKind → Option (List ℕ)
-  made kind.Snapshot = Some of.instance
-  made kind = copied_from kind body.origin
+instance_made_from of body = source of.kind where
+  source : ObjectKind → Option (List ℕ)
+  source kind.Snapshot = Some of.instance
+  source kind = copied_from kind body.origin
 
 -- the instance that a command would change or copy from
 abbrev pub instance_changed : What → Option (List ℕ)

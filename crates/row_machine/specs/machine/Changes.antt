@@ -8,49 +8,55 @@ use Rattle.row_machine.specs.Estate.{with_instance, with_snapshot, with_standing
 use Rattle.row_machine.specs.shown.Links.{target_of}
 
 abbrev pub has_key : List ℕ → Row → Bool
-has_key key r = bytes_eq (key_of r) key
+has_key key row = bytes_eq (key_of row) key
 
 -- the statuses with that of this instance: a new one is stopped, and one that stands keeps its own
 abbrev pub standing_with : Instance → List Standing → List Standing
-standing_with i powers =
-    if list_any (is_standing i.project i.name) powers then powers
-    else with_standing (record { project = i.project; name = i.name; power = Stopped }) powers
+standing_with instance powers =
+    if list_any (is_standing instance.project instance.name) powers then powers
+    else with_standing (record { project = instance.project; name = instance.name; power = Stopped }) powers
 
 abbrev pub with_row : Row → State → State
-with_row (row.Project r) s = record s { projects = with_project r s.projects }
-with_row (row.Profile r) s = record s { profiles = with_profile r s.profiles }
-with_row (row.Network r) s = record s { networks = with_network r s.networks }
-with_row (row.Pool r) s = record s { pools = with_pool r s.pools }
-with_row (row.Volume r) s = record s { volumes = with_volume r s.volumes }
-with_row (row.Instance r) s = record s { instances = with_instance r s.instances; powers = standing_with r s.powers }
-with_row (row.Snapshot r) s = record s { snapshots = with_snapshot r s.snapshots }
+with_row (row.Project project) state = record state { projects = with_project project state.projects }
+with_row (row.Profile profile) state = record state { profiles = with_profile profile state.profiles }
+with_row (row.Network network) state = record state { networks = with_network network state.networks }
+with_row (row.Pool pool) state = record state { pools = with_pool pool state.pools }
+with_row (row.Volume volume) state = record state { volumes = with_volume volume state.volumes }
+with_row (row.Instance instance) state =
+    record state { instances = with_instance instance state.instances; powers = standing_with instance state.powers }
+with_row (row.Snapshot snapshot) state = record state { snapshots = with_snapshot snapshot state.snapshots }
 
 abbrev pub without_row : ObjectKind → List ℕ → State → State
-without_row kind.Project key s = record s { projects = dropped (λ r. has_key key (row.Project r)) s.projects }
-without_row kind.Profile key s = record s { profiles = dropped (λ r. has_key key (row.Profile r)) s.profiles }
-without_row kind.Network key s = record s { networks = dropped (λ r. has_key key (row.Network r)) s.networks }
-without_row kind.Pool key s = record s { pools = dropped (λ r. has_key key (row.Pool r)) s.pools }
-without_row kind.Volume key s = record s { volumes = dropped (λ r. has_key key (row.Volume r)) s.volumes }
-without_row kind.Instance key s = record s {
-  instances = dropped (λ r. has_key key (row.Instance r)) s.instances;
-  powers = dropped (λ p. bytes_eq (two_names p.project p.name) key) s.powers;
+without_row kind.Project key state =
+    record state { projects = dropped (λ project. has_key key (row.Project project)) state.projects }
+without_row kind.Profile key state =
+    record state { profiles = dropped (λ profile. has_key key (row.Profile profile)) state.profiles }
+without_row kind.Network key state =
+    record state { networks = dropped (λ network. has_key key (row.Network network)) state.networks }
+without_row kind.Pool key state = record state { pools = dropped (λ pool. has_key key (row.Pool pool)) state.pools }
+without_row kind.Volume key state =
+    record state { volumes = dropped (λ volume. has_key key (row.Volume volume)) state.volumes }
+without_row kind.Instance key state = record state {
+  instances = dropped (λ instance. has_key key (row.Instance instance)) state.instances;
+  powers = dropped (λ standing. bytes_eq (two_names standing.project standing.name) key) state.powers;
 }
-without_row kind.Snapshot key s = record s { snapshots = dropped (λ r. has_key key (row.Snapshot r)) s.snapshots }
-without_row kind.Operation key s = s
+without_row kind.Snapshot key state =
+    record state { snapshots = dropped (λ snapshot. has_key key (row.Snapshot snapshot)) state.snapshots }
+without_row kind.Operation key state = state
 
 abbrev pub changed : State → RowChange → State
-changed s (change.Put r) = with_row r s
-changed s (change.Remove of key) = without_row of key s
+changed state (change.Put row) = with_row row state
+changed state (change.Remove of key) = without_row of key state
 
 abbrev pub applied : State → List RowChange → State
-applied s [] = s
-applied s (c ∷ cs) = applied (changed s c) cs
+applied state [] = state
+applied state (change ∷ changes) = applied (changed state change) changes
 
 abbrev pub removal : Row → RowChange
-removal r = change.Remove (target_of r).kind (key_of r)
+removal row = change.Remove (target_of row).kind (key_of row)
 
 abbrev pub rows_put : List RowChange → List Row
-rows_put cs = filter_map put_in cs where
+rows_put changes = filter_map put_in changes where
   put_in : RowChange → Option Row
-  put_in (change.Put r) = Some r
+  put_in (change.Put row) = Some row
   put_in (change.Remove of key) = None

@@ -8,17 +8,17 @@ use Rattle.row_machine.specs.machine.Homes.{home_of}
 -- the layer of a profile; a profile that is missing counts as one without settings
 abbrev pub layer_of : Option Profile → Expanded
 layer_of None = no_layer
-layer_of (Some r) = record { config = r.config; devices = r.devices }
+layer_of (Some profile) = record { config = profile.config; devices = profile.devices }
 
 abbrev pub own_layer : Instance → Expanded
-own_layer i = record { config = i.config; devices = i.devices }
+own_layer instance = record { config = instance.config; devices = instance.devices }
 
 -- the layers of an instance, by a look-up of its profiles: the last one goes before all others
 abbrev pub layers_by : (List ℕ → Option Profile) → Instance → List Expanded
-layers_by profile i = map (λ name. layer_of (profile name)) i.profiles ++ own_layer i ∷ []
+layers_by profile instance = map (λ name. layer_of (profile name)) instance.profiles ++ own_layer instance ∷ []
 
 -- The settings and devices of an instance: of each key the value in the last layer that has the key, of each name the
 -- device in the last layer that has the name, whole.
 unfoldable pub expanded_of : List Project → List Profile → Instance → Expanded
-expanded_of projects profiles i =
-    expanded (layers_by (profile_named profiles (home_of projects i.project kind.Profile)) i)
+expanded_of projects profiles instance =
+    expanded (layers_by (profile_named profiles (home_of projects instance.project kind.Profile)) instance)

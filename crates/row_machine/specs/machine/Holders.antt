@@ -23,39 +23,43 @@ keeps_busy project instance task =
     && (is_about instance task.target || option_map_or (is_about instance) task.source false)
 
 unfoldable pub busy_with : State → List ℕ → List ℕ → Option (Operation Task)
-busy_with s project instance = find (λ o. keeps_busy project instance o.work) s.operations.live
+busy_with state project instance = find (λ operation. keeps_busy project instance operation.work) state.operations.live
 
 abbrev pub names_profile : State → List ℕ → List ℕ → Instance → Bool
-names_profile s home profile i =
-    bytes_eq (home_of s.projects i.project kind.Profile) home && list_any (λ name. bytes_eq name profile) i.profiles
+names_profile state home profile instance =
+    bytes_eq (home_of state.projects instance.project kind.Profile) home
+    && list_any (λ name. bytes_eq name profile) instance.profiles
 
 -- the instances that a claim speaks of: the one that it would put, and the one that this one replaces
 abbrev pub claim_rows : State → Task → List Instance
-claim_rows s task = option_to_list (claimed_instance task) ++ option_to_list (replaced_instance s task)
+claim_rows state task = option_to_list (claimed_instance task) ++ option_to_list (replaced_instance state task)
 
 -- the lowest-numbered live operation whose claim names the profile
 unfoldable pub holder_of : State → List ℕ → List ℕ → Option (Operation Task)
-holder_of s home profile = find (λ o. list_any (names_profile s home profile) (claim_rows s o.work)) s.operations.live
+holder_of state home profile =
+    find (λ operation. list_any (names_profile state home profile) (claim_rows state operation.work))
+    state.operations.live
 
 -- Devices in a project name the object: a network or volume of this home, or a pool.
 abbrev pub devices_name : State → List ℕ → Target → List ℕ → NamedDevices → Bool
-devices_name s home of project devices = name of.kind where
+devices_name state home of project devices = name of.kind where
   name : ObjectKind → Bool
-  name kind.Network = bytes_eq (home_of s.projects project kind.Network) home && names_network devices of.name
+  name kind.Network = bytes_eq (home_of state.projects project kind.Network) home && names_network devices of.name
   name kind.Pool = names_pool devices of.name
-  name kind.Volume = bytes_eq (home_of s.projects project kind.Volume) home && names_volume devices of.pool of.name
+  name kind.Volume = bytes_eq (home_of state.projects project kind.Volume) home && names_volume devices of.pool of.name
   name other = false
 
 -- a profile names what its own devices name
 abbrev pub profile_uses : State → List ℕ → Target → Profile → Bool
-profile_uses s home of r = devices_name s home of r.project r.devices
+profile_uses state home of profile = devices_name state home of profile.project profile.devices
 
 -- an instance names what its expanded devices name
 abbrev pub instance_uses : State → List ℕ → Target → Instance → Bool
-instance_uses s home of i = devices_name s home of i.project (expanded_of s.projects s.profiles i).devices
+instance_uses state home of instance =
+    devices_name state home of instance.project (expanded_of state.projects state.profiles instance).devices
 
 abbrev pub volume_uses : Target → Volume → Bool
-volume_uses of v = is_of_kind kind.Pool of && bytes_eq v.pool of.name
+volume_uses of volume = is_of_kind kind.Pool of && bytes_eq volume.pool of.name
 
 -- the volume that a copy is made from names its pool and itself
 abbrev pub source_uses : List ℕ → Target → List ℕ → Target → Bool
@@ -67,43 +71,45 @@ source_uses home of project source = uses of.kind source.kind where
 
 -- A claim names what the row that it would put and the row that it replaces name, and a copy of a volume its source.
 abbrev pub claim_uses : State → List ℕ → Target → Task → Bool
-claim_uses s home of task =
-    list_any (instance_uses s home of) (claim_rows s task)
+claim_uses state home of task =
+    list_any (instance_uses state home of) (claim_rows state task)
     || option_map_or (volume_uses of) (claimed_volume task) false
     || option_map_or (source_uses home of task.project) task.source false
 
 abbrev pub user_link : Bool → Row → Option (List ℕ)
-user_link uses r = if uses then Some (link_of (project_of_row r) (target_of r)) else None
+user_link uses row = if uses then Some (link_of (project_of_row row) (target_of row)) else None
 
 abbrev pub work_link : Task → List ℕ
 work_link task = link_of task.project task.target
 
 -- the first user within a project: its profiles, instances, volumes, and then the claims of its live operations
 abbrev pub user_in : State → List ℕ → Target → List ℕ → Option (List ℕ)
-user_in s home of project =
+user_in state home of project =
     first
-    (first_of (λ r. user_link (profile_uses s home of r) (row.Profile r))
-    (filter (λ r. bytes_eq r.project project) s.profiles)
-    ∷ first_of (λ r. user_link (instance_uses s home of r) (row.Instance r))
-    (filter (λ r. bytes_eq r.project project) s.instances)
-    ∷ first_of (λ r. user_link (volume_uses of r) (row.Volume r)) (filter (λ r. bytes_eq r.project project) s.volumes)
-    ∷ first_of (λ o. work_user o.work) s.operations.live
+    (first_of (λ profile. user_link (profile_uses state home of profile) (row.Profile profile))
+    (filter (λ profile. bytes_eq profile.project project) state.profiles)
+    ∷ first_of (λ instance. user_link (instance_uses state home of instance) (row.Instance instance))
+    (filter (λ instance. bytes_eq instance.project project) state.instances)
+    ∷ first_of (λ volume. user_link (volume_uses of volume) (row.Volume volume))
+    (filter (λ volume. bytes_eq volume.project project) state.volumes)
+    ∷ first_of (λ operation. work_user operation.work) state.operations.live
     ∷ []) where
       claims_in : Task → Bool
       claims_in task = option_map_or (λ new. bytes_eq (project_of_row new) project) task.claim false
 
       work_user : Task → Option (List ℕ)
-      work_user task = if claims_in task && claim_uses s home of task then Some (work_link task) else None
+      work_user task = if claims_in task && claim_uses state home of task then Some (work_link task) else None
 
 abbrev pub profile_user : State → List ℕ → List ℕ → Option (List ℕ)
-profile_user s home profile = first_of (λ i. user_link (names_profile s home profile i) (row.Instance i)) s.instances
+profile_user state home profile =
+    first_of (λ instance. user_link (names_profile state home profile instance) (row.Instance instance)) state.instances
 
 -- The link of the first user of a profile, network, pool or volume of this home. Other kinds have no users.
 unfoldable pub first_user_of : State → List ℕ → Target → Option (List ℕ)
-first_user_of s home of = user of.kind where
+first_user_of state home of = user of.kind where
   user : ObjectKind → Option (List ℕ)
-  user kind.Profile = profile_user s home of.name
-  user kind.Network = first_of (λ p. user_in s home of p.name) s.projects
-  user kind.Pool = first_of (λ p. user_in s home of p.name) s.projects
-  user kind.Volume = first_of (λ p. user_in s home of p.name) s.projects
+  user kind.Profile = profile_user state home of.name
+  user kind.Network = first_of (λ project. user_in state home of project.name) state.projects
+  user kind.Pool = first_of (λ project. user_in state home of project.name) state.projects
+  user kind.Volume = first_of (λ project. user_in state home of project.name) state.projects
   user other = None

@@ -9,7 +9,7 @@ abbrev pub is_on : Settings → List ℕ → Bool
 is_on config key = option_map_or is_true (setting config key) false
 
 abbrev pub has_feature : List Project → List ℕ → List ℕ → Bool
-has_feature projects name key = option_map_or (λ r. is_on r.config key) (project_named projects name) false
+has_feature projects name key = option_map_or (λ project. is_on project.config key) (project_named projects name) false
 
 abbrev pub home_by : List Project → List ℕ → List ℕ → List ℕ
 home_by projects name key = if has_feature projects name key then name else default_name

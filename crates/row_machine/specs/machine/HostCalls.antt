@@ -10,7 +10,7 @@ abbrev pub volume_place : List ℕ → List ℕ → List ℕ → Place
 volume_place project pool name = record { volume = true; project = project; pool = pool; name = name }
 
 abbrev pub spec_of : Expanded → Spec
-spec_of e = record { config = e.config; devices = e.devices }
+spec_of expanded = record { config = expanded.config; devices = expanded.devices }
 
 abbrev pub create_calls : Place → List ℕ → List HostCall
 create_calls at image = Clear at ∷ MakeRoot at image ∷ []

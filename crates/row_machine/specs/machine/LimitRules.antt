@@ -2,7 +2,7 @@
 use Rattle.std.specs.Prelude.{◌∷◌}
 use Rattle.row_machine.specs.Words.{Expanded, ℕ, List, [], filter, Option, codes, option_map, option_to_list, bytes_eq}
 use Rattle.row_machine.specs.Words.{first, first_of, amount_above, Part, LimitKey, Instances, Containers, Machines, Cpu}
-use Rattle.row_machine.specs.Words.{Memory, Processes, Disk, Networks, Over, SumKey, over, limit_on, parts}
+use Rattle.row_machine.specs.Words.{Memory, Processes, Disk, Networks, Over, SumKey, exceeded, limit_on, parts}
 use Rattle.row_machine.specs.Words.{first_uncounted, volume_uncounted, limits_of, Rule, Refusal, Rule as rule}
 use Rattle.row_machine.specs.Words.{SumKey as sum, key_of_part, Project, Volume, Instance}
 use Rattle.row_machine.specs.Estate.{Task, State, expanded_of, nothing_told, on_key_of}
@@ -37,64 +37,70 @@ sum_text sum.Processes = limit_text Processes
 sum_text sum.Disk = limit_text Disk
 
 abbrev pub object_uncounted : Project → List ℕ → Option SumKey → Option Refusal
-object_uncounted p name key = option_map (λ k. on_key_of rule.L0 (sum_text k) name p.name) key
+object_uncounted project name key = option_map (λ sum. on_key_of rule.L0 (sum_text sum) name project.name) key
 
 unfoldable pub instance_uncounted : State → Project → Instance → Option Refusal
-instance_uncounted s p i =
-    object_uncounted p i.name (first_uncounted (limits_of p.config) i.kind expanded.config expanded.devices) where
+instance_uncounted state project instance =
+    object_uncounted project instance.name
+    (first_uncounted (limits_of project.config) instance.kind expanded.config expanded.devices) where
       expanded : Expanded
-      expanded = expanded_of s.projects s.profiles i
+      expanded = expanded_of state.projects state.profiles instance
 
 unfoldable pub volume_uncounts : Project → Volume → Option Refusal
-volume_uncounts p v = object_uncounted p v.name (volume_uncounted (limits_of p.config) v.config)
+volume_uncounts project volume =
+    object_uncounted project volume.name (volume_uncounted (limits_of project.config) volume.config)
 
 abbrev pub claim_uncounted : State → Project → Task → Option Refusal
-claim_uncounted s p task = first
-    (first_of (instance_uncounted s p)
-    (filter (λ i. bytes_eq i.project p.name) (option_to_list (claimed_instance task)))
-    ∷ first_of (volume_uncounts p) (filter (λ v. bytes_eq v.project p.name) (option_to_list (claimed_volume task)))
+claim_uncounted state project task = first
+    (first_of (instance_uncounted state project)
+    (filter (λ instance. bytes_eq instance.project project.name) (option_to_list (claimed_instance task)))
+    ∷ first_of (volume_uncounts project)
+    (filter (λ volume. bytes_eq volume.project project.name) (option_to_list (claimed_volume task)))
     ∷ [])
 
 abbrev pub project_uncounted : State → Project → Option Refusal
-project_uncounted s p = first
-    (first_of (instance_uncounted s p) (filter (λ i. bytes_eq i.project p.name) s.instances)
-    ∷ first_of (volume_uncounts p) (filter (λ v. bytes_eq v.project p.name) s.volumes)
-    ∷ first_of (λ o. claim_uncounted s p o.work) s.operations.live
+project_uncounted state project = first
+    (first_of (instance_uncounted state project)
+    (filter (λ instance. bytes_eq instance.project project.name) state.instances)
+    ∷ first_of (volume_uncounts project) (filter (λ volume. bytes_eq volume.project project.name) state.volumes)
+    ∷ first_of (λ operation. claim_uncounted state project operation.work) state.operations.live
     ∷ [])
 
 -- L0: a setting gives no number for a limited sum, at the first project and there its first object.
 unfoldable pub counts_broken : State → Option Refusal
-counts_broken s = first_of (project_uncounted s) s.projects
+counts_broken state = first_of (project_uncounted state) state.projects
 
 abbrev pub over_refusal : Project → Over → Refusal
-over_refusal p o = record {
-  rule = limit_rule o.key;
+over_refusal project over = record {
+  rule = limit_rule over.key;
   kept = record nothing_told {
-    asked = o.asked;
-    key = limit_text o.key;
-    limit = o.limit;
-    project = p.name;
-    used = o.used;
+    asked = over.asked;
+    key = limit_text over.key;
+    limit = over.limit;
+    project = project.name;
+    used = over.used;
   };
 }
 
 -- Of one number: what is used before, and what the change asks for above it, together exceed the limit.
 abbrev pub limit_exceeded : Project → LimitKey → Option ℕ → ℕ → ℕ → Option Refusal
-limit_exceeded p key limit before after =
-    option_map (over_refusal p) (over key limit before (amount_above after before))
+limit_exceeded project key limit before after =
+    option_map (over_refusal project) (exceeded key limit before (amount_above after before))
 
 unfoldable pub part_exceeds : State → State → Part → Project → Option Refusal
-part_exceeds s after k p =
-    limit_exceeded p (key_of_part k) (limit_on k (limits_of p.config)) (used s p.name k) (used after p.name k)
+part_exceeds state after part project =
+    limit_exceeded project (key_of_part part) (limit_on part (limits_of project.config)) (used state project.name part)
+    (used after project.name part)
 
 unfoldable pub networks_exceed : State → State → Project → Option Refusal
-networks_exceed s after p =
-    limit_exceeded p Networks (limits_of p.config).networks (networks_of s p.name) (networks_of after p.name)
+networks_exceed state after project =
+    limit_exceeded project Networks (limits_of project.config).networks (networks_of state project.name)
+    (networks_of after project.name)
 
 -- L1 to L8: the first limit that is exceeded, and the first project at which it is. The limits are those after the
 -- change.
 unfoldable pub limits_broken : State → State → Option Refusal
-limits_broken s after = first
-    (first_of (λ k. first_of (part_exceeds s after k) after.projects) parts
-    ∷ first_of (networks_exceed s after) after.projects
+limits_broken state after = first
+    (first_of (λ part. first_of (part_exceeds state after part) after.projects) parts
+    ∷ first_of (networks_exceed state after) after.projects
     ∷ [])

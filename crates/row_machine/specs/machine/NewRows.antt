@@ -110,10 +110,12 @@ pub record Source : Type 0 where
   pub devices : NamedDevices
 
 abbrev pub source_instance : Instance → Source
-source_instance i = record { kind = i.kind; profiles = i.profiles; config = i.config; devices = i.devices }
+source_instance instance =
+    record { kind = instance.kind; profiles = instance.profiles; config = instance.config; devices = instance.devices }
 
 abbrev pub source_snapshot : Instance → Snapshot → Source
-source_snapshot i r = record { kind = i.kind; profiles = r.profiles; config = r.config; devices = r.devices }
+source_snapshot instance snapshot =
+    record { kind = instance.kind; profiles = snapshot.profiles; config = snapshot.config; devices = snapshot.devices }
 
 -- A copy has the kind of its source, the source's profiles where none are given, its settings patched by the request's,
 -- and its devices replaced by the request's.
@@ -126,37 +128,37 @@ copied_instance project name body moment source = record (made_instance project 
 }
 
 abbrev pub made_snapshot : Instance → List ℕ → ℕ → Snapshot
-made_snapshot i name moment = record {
-  project = i.project;
-  instance = i.name;
+made_snapshot instance name moment = record {
+  project = instance.project;
+  instance = instance.name;
   name = name;
   created = moment;
   expires = 0;
-  profiles = i.profiles;
-  config = i.config;
-  devices = i.devices;
+  profiles = instance.profiles;
+  config = instance.config;
+  devices = instance.devices;
 }
 
 -- ---- PUT: what the body leaves out is empty
 
 abbrev pub put_project : Project → Body → Project
-put_project r body = record r { description = new_description body; config = new_config body }
+put_project project body = record project { description = new_description body; config = new_config body }
 
 abbrev pub put_profile : Profile → Body → Profile
-put_profile r body =
-    record r { description = new_description body; config = new_config body; devices = new_devices body }
+put_profile profile body =
+    record profile { description = new_description body; config = new_config body; devices = new_devices body }
 
 abbrev pub put_network : Network → Body → Network
-put_network r body = record r { description = new_description body; config = new_config body }
+put_network network body = record network { description = new_description body; config = new_config body }
 
 abbrev pub put_pool : Pool → Body → Pool
-put_pool r body = record r { description = new_description body; config = new_config body }
+put_pool pool body = record pool { description = new_description body; config = new_config body }
 
 abbrev pub put_volume : Volume → Body → Volume
-put_volume r body = record r { description = new_description body; config = new_config body }
+put_volume volume body = record volume { description = new_description body; config = new_config body }
 
 abbrev pub put_instance : Instance → Body → Instance
-put_instance i body = record i {
+put_instance instance body = record instance {
   description = new_description body;
   ephemeral = unwrap_or body.ephemeral false;
   profiles = unwrap_or body.profiles [];
@@ -167,36 +169,43 @@ put_instance i body = record i {
 -- ---- PATCH: what the body leaves out stays
 
 abbrev pub patched_project : Project → Body → Project
-patched_project r body =
-    record r { description = patched_description r.description body; config = patched_config r.config body }
+patched_project project body = record project {
+  description = patched_description project.description body;
+  config = patched_config project.config body;
+}
 
 abbrev pub patched_profile : Profile → Body → Profile
-patched_profile r body = record r {
-  description = patched_description r.description body;
-  config = patched_config r.config body;
-  devices = patched_devices r.devices body;
+patched_profile profile body = record profile {
+  description = patched_description profile.description body;
+  config = patched_config profile.config body;
+  devices = patched_devices profile.devices body;
 }
 
 abbrev pub patched_network : Network → Body → Network
-patched_network r body =
-    record r { description = patched_description r.description body; config = patched_config r.config body }
+patched_network network body = record network {
+  description = patched_description network.description body;
+  config = patched_config network.config body;
+}
 
 abbrev pub patched_pool : Pool → Body → Pool
-patched_pool r body =
-    record r { description = patched_description r.description body; config = patched_config r.config body }
+patched_pool pool body =
+    record pool { description = patched_description pool.description body; config = patched_config pool.config body }
 
 abbrev pub patched_volume : Volume → Body → Volume
-patched_volume r body =
-    record r { description = patched_description r.description body; config = patched_config r.config body }
+patched_volume volume body = record volume {
+  description = patched_description volume.description body;
+  config = patched_config volume.config body;
+}
 
 abbrev pub patched_instance : Instance → Body → Instance
-patched_instance i body = record i {
-  description = patched_description i.description body;
-  ephemeral = unwrap_or body.ephemeral i.ephemeral;
-  profiles = unwrap_or body.profiles i.profiles;
-  config = patched_config i.config body;
-  devices = patched_devices i.devices body;
+patched_instance instance body = record instance {
+  description = patched_description instance.description body;
+  ephemeral = unwrap_or body.ephemeral instance.ephemeral;
+  profiles = unwrap_or body.profiles instance.profiles;
+  config = patched_config instance.config body;
+  devices = patched_devices instance.devices body;
 }
 
 abbrev pub restored_instance : Instance → Snapshot → Instance
-restored_instance i r = record i { profiles = r.profiles; config = r.config; devices = r.devices }
+restored_instance instance snapshot =
+    record instance { profiles = snapshot.profiles; config = snapshot.config; devices = snapshot.devices }

@@ -11,13 +11,13 @@ use Rattle.row_machine.specs.Readings.{judged_instances}
 use Rattle.row_machine.specs.machine.SettingRules.{text_at}
 
 abbrev pub policy_rule : ℕ → Rule
-policy_rule n =
-    if n == 1 then rule.F1
-    else (if n == 2 then rule.F2
-    else (if n == 3 then rule.F3
-    else (if n == 4 then rule.F4
-    else (if n == 5 then rule.F5
-    else (if n == 6 then rule.F6
+policy_rule number =
+    if number == 1 then rule.F1
+    else (if number == 2 then rule.F2
+    else (if number == 3 then rule.F3
+    else (if number == 4 then rule.F4
+    else (if number == 5 then rule.F5
+    else (if number == 6 then rule.F6
     else rule.F7)))))
 
 abbrev pub subject_of : Kind → Subject
@@ -30,45 +30,51 @@ demanded_key = option_map_or (λ line. line.4) (find (λ line. demands line.5) s
 
 -- the setting or the device that is forbidden; a demanded key that is absent has the place after all settings
 abbrev pub forbidden_key : Settings → NamedDevices → Forbidden → List ℕ
-forbidden_key config devices f =
-    if nat_lt f.rule 6
-    then (if nat_lt f.place (length config) then text_at (keys_of config) f.place else demanded_key)
-    else text_at (keys_of devices) f.place
+forbidden_key config devices forbidden =
+    if nat_lt forbidden.rule 6
+    then (if nat_lt forbidden.place (length config) then text_at (keys_of config) forbidden.place else demanded_key)
+    else text_at (keys_of devices) forbidden.place
 
 -- the rule of this number, where it is the first one that the settings and devices of a subject break
 abbrev pub forbids : Project → ℕ → Subject → List ℕ → Settings → NamedDevices → Option Refusal
-forbids p number judged name config devices =
+forbids project number judged name config devices =
     option_and_then
-    (λ f. if f.rule == number then Some (on_key_of (policy_rule number) (forbidden_key config devices f) name p.name)
+    (λ forbidden. if forbidden.rule == number
+    then Some (on_key_of (policy_rule number) (forbidden_key config devices forbidden) name project.name)
     else None)
-    (first_forbidden (policy_of p.config) judged config devices)
+    (first_forbidden (policy_of project.config) judged config devices)
 
 unfoldable pub forbids_profile : Project → ℕ → Profile → Option Refusal
-forbids_profile p number r = forbids p number subject.Profile r.name r.config r.devices
+forbids_profile project number profile =
+    forbids project number subject.Profile profile.name profile.config profile.devices
 
 unfoldable pub forbids_instance : State → Project → ℕ → Instance → Option Refusal
-forbids_instance s p number i = forbids p number (subject_of i.kind) i.name expanded.config expanded.devices where
-  expanded : Expanded
-  expanded = expanded_of s.projects s.profiles i
+forbids_instance state project number instance =
+    forbids project number (subject_of instance.kind) instance.name expanded.config expanded.devices where
+      expanded : Expanded
+      expanded = expanded_of state.projects state.profiles instance
 
 -- the first profile or instance of a project that breaks the rule, those that live operations would put last
 abbrev pub project_forbids : State → ℕ → Project → Option Refusal
-project_forbids s number p = first
-    (first_of (forbids_profile p number) (filter (λ r. bytes_eq r.project p.name) s.profiles)
-    ∷ first_of (forbids_instance s p number) (filter (λ i. bytes_eq i.project p.name) (judged_instances s))
+project_forbids state number project = first
+    (first_of (forbids_profile project number)
+    (filter (λ profile. bytes_eq profile.project project.name) state.profiles)
+    ∷ first_of (forbids_instance state project number)
+    (filter (λ instance. bytes_eq instance.project project.name) (judged_instances state))
     ∷ [])
 
 -- F1 to F7: the first rule that is broken, and the first project, profile or instance at which it is.
 unfoldable pub policy_broken : State → Option Refusal
-policy_broken s = first_of (λ number. first_of (project_forbids s number) s.projects) (1 ∷ 2 ∷ 3 ∷ 4 ∷ 5 ∷ 6 ∷ 7 ∷ [])
+policy_broken state =
+    first_of (λ number. first_of (project_forbids state number) state.projects) (1 ∷ 2 ∷ 3 ∷ 4 ∷ 5 ∷ 6 ∷ 7 ∷ [])
 
 -- F8: a snapshot is made where the policy of the project blocks it.
 unfoldable pub snapshot_blocked : State → Command → Option Refusal
-snapshot_blocked s c = blocked c.what where
+snapshot_blocked state command = blocked command.what where
   by : Project → Option Refusal
-  by p = if snapshots_forbidden (policy_of p.config) then Some (on_project rule.F8 p.name) else None
+  by project = if snapshots_forbidden (policy_of project.config) then Some (on_project rule.F8 project.name) else None
 
   blocked : What → Option Refusal
   blocked (what.Create of body) =
-      if is_of_kind kind.Snapshot of then option_and_then by (project_named s.projects c.project) else None
+      if is_of_kind kind.Snapshot of then option_and_then by (project_named state.projects command.project) else None
   blocked other = None

@@ -15,56 +15,61 @@ use Rattle.row_machine.specs.machine.TableRules.{cancel_broken, entry_broken, ta
 -- Rules on names: the project is missing (N1), another object is (N2), or the new name is malformed, taken or held
 -- (N3 to N5).
 unfoldable pub names_broken : State → Command → Option Refusal
-names_broken s c = first
-    (project_missing s c
-    ∷ what_is_missing s c.project c.what
-    ∷ option_and_then (name_broken s c.project) (named_anew s c.project c.what)
+names_broken state command = first
+    (project_missing state command
+    ∷ what_is_missing state command.project command.what
+    ∷ option_and_then (name_broken state command.project) (named_anew state command.project command.what)
     ∷ [])
 
 -- Rules on what stands in the way: the instance is busy (B1) or in the wrong state (B2), the object is protected (B3)
 -- or in use (B4), the project is not empty (B5), or an operation holds the profile (B6).
 unfoldable pub standing_broken : State → Command → Option Refusal
-standing_broken s c = first
-    (instance_busy s c
-    ∷ wrong_state s c
-    ∷ object_protected s c
-    ∷ object_used s c
-    ∷ project_occupied s c
-    ∷ profile_held s c
+standing_broken state command = first
+    (instance_busy state command
+    ∷ wrong_state state command
+    ∷ object_protected state command
+    ∷ object_used state command
+    ∷ project_occupied state command
+    ∷ profile_held state command
     ∷ [])
 
 -- the state with the change made, or with the claim added
 abbrev pub after : State → Plan → ℕ → State
-after s nothing moment = s
-after s (changes cs) moment = applied s cs
-after s (starts task) moment = claiming s task moment
+after state nothing moment = state
+after state (changes row_changes) moment = applied state row_changes
+after state (starts task) moment = claiming state task moment
 
 -- Settings (V1 to V5), policy (F1 to F7, and F8 of a new snapshot) and limits (L0, then L1 to L8) are judged over the
 -- state after the change, by one definition for all commands.
 abbrev pub after_broken : State → Command → State → List Row → Option Refusal
-after_broken s c later rows = first
+after_broken state command later rows = first
     (settings_broken later rows
     ∷ policy_broken later
-    ∷ snapshot_blocked s c
+    ∷ snapshot_blocked state command
     ∷ counts_broken later
-    ∷ limits_broken s later
+    ∷ limits_broken state later
     ∷ [])
 
 -- only a background operation takes a number (O4, O5)
 abbrev pub number_broken : State → Plan → Option Refusal
-number_broken s nothing = None
-number_broken s (changes cs) = None
-number_broken s (starts task) = entry_broken s
+number_broken state nothing = None
+number_broken state (changes row_changes) = None
+number_broken state (starts task) = entry_broken state
 
 -- What a plan breaks: of a cancel O1 to O3; of a change the rules on the state after it, on numbers, and on tables.
 abbrev pub plan_broken : State → Command → Plan → ℕ → Option Refusal
-plan_broken s c nothing moment = cancel_broken s c.what
-plan_broken s c plan moment = first
-    (after_broken s c (after s plan moment) (rows_of_plan plan)
-    ∷ number_broken s plan
-    ∷ tables_broken (after s plan moment) (rows_of_plan plan)
+plan_broken state command nothing moment = cancel_broken state command.what
+plan_broken state command plan moment = first
+    (after_broken state command (after state plan moment) (rows_of_plan plan)
+    ∷ number_broken state plan
+    ∷ tables_broken (after state plan moment) (rows_of_plan plan)
     ∷ [])
 
 -- The first rule that a command breaks. The moment is that of the rows that it would make; no rule depends on it.
 unfoldable pub broken : State → Command → ℕ → Option Refusal
-broken s c moment = first (names_broken s c ∷ standing_broken s c ∷ plan_broken s c (plan_of s c moment) moment ∷ [])
+broken state command moment =
+    first
+    (names_broken state command
+    ∷ standing_broken state command
+    ∷ plan_broken state command (plan_of state command moment) moment
+    ∷ [])

@@ -8,27 +8,28 @@ use Rattle.row_machine.specs.machine.Step.{Outcome, step}
 
 -- the end of an operation that was live: its number, and the status with which it is kept
 abbrev pub end_of : State → Operation Task → Option (ℕ × Status)
-end_of later o =
-    if is_none (live_at later.operations o.number)
-    then option_map (λ e. (e.number, e.status)) (find (has_number o.number) later.operations.ended)
+end_of later operation =
+    if is_none (live_at later.operations operation.number)
+    then option_map (λ ended. (ended.number, ended.status)) (find (has_number operation.number) later.operations.ended)
     else None
 
 abbrev pub ends_between : State → State → List (ℕ × Status)
-ends_between s later = filter_map (end_of later) s.operations.live
+ends_between state later = filter_map (end_of later) state.operations.live
 
 pub record Ran : Type 0 where
   pub answers : List Answer
   pub ends : List (ℕ × Status)
   pub state : State
 
-abbrev pub behind : State → After → Ran → Ran
-behind s first rest = record {
+abbrev pub prepended : State → After → Ran → Ran
+prepended state first rest = record {
   answers = first.answer ∷ rest.answers;
-  ends = ends_between s first.state ++ rest.ends;
+  ends = ends_between state first.state ++ rest.ends;
   state = rest.state;
 }
 
 -- one step after the other; none where an outcome is not possible
 abbrev pub run : State → List (Event × Outcome) → Option Ran
-run s [] = Some (record { answers = []; ends = []; state = s })
-run s (e ∷ es) = option_and_then (λ first. option_map (behind s first) (run first.state es)) (step s e.0 e.1)
+run state [] = Some (record { answers = []; ends = []; state = state })
+run state (event ∷ events) =
+    option_and_then (λ first. option_map (prepended state first) (run first.state events)) (step state event.0 event.1)

@@ -65,82 +65,88 @@ is_one root.Several = false
 
 -- V4: not exactly one root disk.
 unfoldable pub root_missing : State → Instance → Option Refusal
-root_missing s i =
-    if is_one (root_of (expanded_of s.projects s.profiles i).devices) then None else Some (on_name rule.V4 i.name)
+root_missing state instance =
+    if is_one (root_of (expanded_of state.projects state.profiles instance).devices) then None
+    else Some (on_name rule.V4 instance.name)
 
 -- V5: the first profile of an instance that is missing; or a network, pool or volume that a device names.
 unfoldable pub profile_missing : State → Instance → Option Refusal
-profile_missing s i =
+profile_missing state instance =
     option_map (λ name. on_object rule.V5 kind.Profile name)
-    (find (λ name. is_none (profile_named s.profiles (home_of s.projects i.project kind.Profile) name)) i.profiles)
+    (find (λ name. is_none (profile_named state.profiles (home_of state.projects instance.project kind.Profile) name))
+    instance.profiles)
 
 abbrev pub network_missing : State → List ℕ → List ℕ → Option Refusal
-network_missing s project name =
-    if is_none (network_named s.networks (home_of s.projects project kind.Network) name)
+network_missing state project name =
+    if is_none (network_named state.networks (home_of state.projects project kind.Network) name)
     then Some (on_object rule.V5 kind.Network name)
     else None
 
 abbrev pub pool_missing : State → List ℕ → Option Refusal
-pool_missing s name = if is_none (pool_named s.pools name) then Some (on_object rule.V5 kind.Pool name) else None
+pool_missing state name =
+    if is_none (pool_named state.pools name) then Some (on_object rule.V5 kind.Pool name) else None
 
 abbrev pub volume_missing : State → List ℕ → List ℕ → List ℕ → Option Refusal
-volume_missing s project pool name =
-    if is_none (volume_named s.volumes (home_of s.projects project kind.Volume) pool name)
+volume_missing state project pool name =
+    if is_none (volume_named state.volumes (home_of state.projects project kind.Volume) pool name)
     then Some (on_object rule.V5 kind.Volume name)
     else None
 
 -- a disk in a pool names the pool, and with a source the volume
 abbrev pub disk_misses : State → List ℕ → Settings → List ℕ → Option Refusal
-disk_misses s project settings pool =
+disk_misses state project settings pool =
     first
-    (pool_missing s pool
-    ∷ option_and_then (volume_missing s project pool) (setting settings (codes "source"))
+    (pool_missing state pool
+    ∷ option_and_then (volume_missing state project pool) (setting settings (codes "source"))
     ∷ [])
 
 -- what a device in a project names: a nic its network, a disk its pool and then its volume
 abbrev pub device_misses : State → List ℕ → Settings → Option Refusal
-device_misses s project settings =
+device_misses state project settings =
     if has_setting settings (codes "type") (codes "nic")
-    then option_and_then (network_missing s project) (setting settings (codes "network"))
+    then option_and_then (network_missing state project) (setting settings (codes "network"))
     else if has_setting settings (codes "type") (codes "disk")
-    then option_and_then (disk_misses s project settings) (setting settings (codes "pool"))
+    then option_and_then (disk_misses state project settings) (setting settings (codes "pool"))
     else None
 
 unfoldable pub devices_miss : State → List ℕ → NamedDevices → Option Refusal
-devices_miss s project devices = first_of (device_misses s project) (values_of devices)
+devices_miss state project devices = first_of (device_misses state project) (values_of devices)
 
 -- an instance: its own settings and devices, and what its expansion names
 unfoldable pub instance_settings : State → Instance → Option Refusal
-instance_settings s i = first
-    (tables_break i.config (instance_fault i.config (scope_of i.kind)) i.devices
-    ∷ root_missing s i
-    ∷ profile_missing s i
-    ∷ devices_miss s i.project (expanded_of s.projects s.profiles i).devices
+instance_settings state instance = first
+    (tables_break instance.config (instance_fault instance.config (scope_of instance.kind)) instance.devices
+    ∷ root_missing state instance
+    ∷ profile_missing state instance
+    ∷ devices_miss state instance.project (expanded_of state.projects state.profiles instance).devices
     ∷ [])
 
 unfoldable pub profile_settings : State → Profile → Option Refusal
-profile_settings s r = first
-    (tables_break r.config (instance_fault r.config scope.Any) r.devices
-    ∷ devices_miss s r.project r.devices
+profile_settings state profile = first
+    (tables_break profile.config (instance_fault profile.config scope.Any) profile.devices
+    ∷ devices_miss state profile.project profile.devices
     ∷ [])
 
 abbrev pub naming : State → Profile → List Instance
-naming s r = filter (names_profile s r.project r.name) (judged_instances s)
+naming state profile = filter (names_profile state profile.project profile.name) (judged_instances state)
 
 -- the profile `default` of a project, where it has one: the homes of its devices change with the project's features
 abbrev pub own_default : State → Project → Option Refusal
-own_default s r =
-    option_and_then (λ p. devices_miss s p.project p.devices) (profile_named s.profiles r.name default_name)
+own_default state project =
+    option_and_then (λ profile. devices_miss state profile.project profile.devices)
+    (profile_named state.profiles project.name default_name)
 
 -- The first rule that a row of the state breaks: a profile by itself and then each instance that names it.
 unfoldable pub row_settings : State → Row → Option Refusal
-row_settings s (row.Project r) = first (tables_break r.config (project_fault r.config) [] ∷ own_default s r ∷ [])
-row_settings s (row.Profile r) = first (profile_settings s r ∷ first_of (instance_settings s) (naming s r) ∷ [])
-row_settings s (row.Network r) = tables_break r.config (network_fault r.config) []
-row_settings s (row.Pool r) = tables_break r.config (pool_fault r.config) []
-row_settings s (row.Volume r) = tables_break r.config (volume_fault r.config) []
-row_settings s (row.Instance r) = instance_settings s r
-row_settings s (row.Snapshot r) = None
+row_settings state (row.Project project) =
+    first (tables_break project.config (project_fault project.config) [] ∷ own_default state project ∷ [])
+row_settings state (row.Profile profile) =
+    first (profile_settings state profile ∷ first_of (instance_settings state) (naming state profile) ∷ [])
+row_settings state (row.Network network) = tables_break network.config (network_fault network.config) []
+row_settings state (row.Pool pool) = tables_break pool.config (pool_fault pool.config) []
+row_settings state (row.Volume volume) = tables_break volume.config (volume_fault volume.config) []
+row_settings state (row.Instance instance) = instance_settings state instance
+row_settings state (row.Snapshot snapshot) = None
 
 -- the first rule that one of the rows which a command puts would break in the state after it
 unfoldable pub settings_broken : State → List Row → Option Refusal

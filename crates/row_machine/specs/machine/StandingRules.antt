@@ -11,19 +11,21 @@ use Rattle.row_machine.specs.Readings.{power_line, busy_with, holder_of, first_u
 use Rattle.row_machine.specs.machine.NewRows.{put_project, patched_project}
 
 abbrev pub named_instance_busy : State → List ℕ → List ℕ → Option Refusal
-named_instance_busy s project name =
-    option_map (λ o. record { rule = rule.B1; kept = record nothing_told { name = name; number = o.number } })
-    (busy_with s project name)
+named_instance_busy state project name =
+    option_map
+    (λ operation. record { rule = rule.B1; kept = record nothing_told { name = name; number = operation.number } })
+    (busy_with state project name)
 
 -- B1: the instance that a command would change or copy from is busy.
 unfoldable pub instance_busy : State → Command → Option Refusal
-instance_busy s c = option_and_then (named_instance_busy s c.project) (instance_changed c.what)
+instance_busy state command =
+    option_and_then (named_instance_busy state command.project) (instance_changed command.what)
 
 abbrev pub power_text : Power → List ℕ
 power_text power = (power_line power).text
 
 abbrev pub power_of : State → List ℕ → List ℕ → Option Power
-power_of s project name = option_map (λ p. p.power) (find (is_standing project name) s.powers)
+power_of state project name = option_map (λ standing. standing.power) (find (is_standing project name) state.powers)
 
 abbrev pub on_instance : Deed → Target → Option (Deed × List ℕ)
 on_instance does of = if is_of_kind kind.Instance of then Some (does, of.name) else None
@@ -44,9 +46,9 @@ in_wrong_state does name power =
 
 -- B2: the status of the instance does not allow what a command asks for.
 unfoldable pub wrong_state : State → Command → Option Refusal
-wrong_state s c =
-    option_and_then (λ asked. option_and_then (in_wrong_state asked.0 asked.1) (power_of s c.project asked.1))
-    (deed_asked c.what)
+wrong_state state command =
+    option_and_then (λ asked. option_and_then (in_wrong_state asked.0 asked.1) (power_of state command.project asked.1))
+    (deed_asked command.what)
 
 abbrev pub feature_keys : List (List ℕ)
 feature_keys =
@@ -69,30 +71,33 @@ abbrev pub changes_features : Project → Project → Bool
 changes_features old new = list_any (feature_changes old.config new.config) feature_keys
 
 abbrev pub changes_of : State → (Project → Project) → Target → Bool
-changes_of s changed of =
+changes_of state changed of =
     is_of_kind kind.Project of
-    && option_map_or (λ r. changes_features r (changed r)) (project_named s.projects of.name) false
+    && option_map_or (λ project. changes_features project (changed project))
+    (project_named state.projects of.name) false
 
 abbrev pub asks_for_features : State → What → Bool
-asks_for_features s (what.Put of body) = changes_of s (λ r. put_project r body) of
-asks_for_features s (what.Patch of body) = changes_of s (λ r. patched_project r body) of
-asks_for_features s other = false
+asks_for_features state (what.Put of body) = changes_of state (λ project. put_project project body) of
+asks_for_features state (what.Patch of body) = changes_of state (λ project. patched_project project body) of
+asks_for_features state other = false
 
 abbrev pub protects_itself : State → List ℕ → List ℕ → Bool
-protects_itself s project name =
-    option_map_or (λ i. is_on (expanded_of s.projects s.profiles i).config (codes "security.protection.delete"))
-    (instance_named s.instances project name) false
+protects_itself state project name =
+    option_map_or
+    (λ instance. is_on (expanded_of state.projects state.profiles instance).config (codes "security.protection.delete"))
+    (instance_named state.instances project name) false
 
 abbrev pub is_deletion : What → Bool
 is_deletion (what.Delete of) = true
 is_deletion other = false
 
 abbrev pub is_protected : State → Command → Target → Bool
-is_protected s c of = protected of.kind where
+is_protected state command of = protected of.kind where
   protected : ObjectKind → Bool
-  protected kind.Project = bytes_eq of.name default_name && (is_parting c.what || asks_for_features s c.what)
-  protected kind.Profile = bytes_eq of.name default_name && is_parting c.what
-  protected kind.Instance = is_deletion c.what && protects_itself s c.project of.name
+  protected kind.Project =
+      bytes_eq of.name default_name && (is_parting command.what || asks_for_features state command.what)
+  protected kind.Profile = bytes_eq of.name default_name && is_parting command.what
+  protected kind.Instance = is_deletion command.what && protects_itself state command.project of.name
   protected other = false
 
 abbrev pub object_changed : What → Option Target
@@ -104,47 +109,51 @@ object_changed other = None
 
 -- B3: the object of a command is protected against it.
 unfoldable pub object_protected : State → Command → Option Refusal
-object_protected s c =
-    option_and_then (λ of. if is_protected s c of then Some (on_object rule.B3 of.kind of.name) else None)
-    (object_changed c.what)
+object_protected state command =
+    option_and_then (λ of. if is_protected state command of then Some (on_object rule.B3 of.kind of.name) else None)
+    (object_changed command.what)
 
 abbrev pub used_by_first : State → Command → Target → Option Refusal
-used_by_first s c of =
-    option_map used_by (first_user_of s (home_of s.projects c.project of.kind) of) where
+used_by_first state command of =
+    option_map used_by (first_user_of state (home_of state.projects command.project of.kind) of) where
       used_by : List ℕ → Refusal
       used_by link =
           record { rule = rule.B4; kept = record nothing_told { key = link; kind = kind_text of.kind; name = of.name } }
 
 -- B4: the object that a command renames or deletes has a user.
 unfoldable pub object_used : State → Command → Option Refusal
-object_used s c = if is_parting c.what then option_and_then (used_by_first s c) (object_changed c.what) else None
+object_used state command =
+    if is_parting command.what then option_and_then (used_by_first state command) (object_changed command.what)
+    else None
 
 -- It has an instance, a network, a volume, a profile other than `default`, or a live operation.
 abbrev pub is_occupied : State → List ℕ → Bool
-is_occupied s name =
-    list_any (λ r. bytes_eq r.project name) s.instances
-    || list_any (λ r. bytes_eq r.project name) s.networks
-    || list_any (λ r. bytes_eq r.project name) s.volumes
-    || list_any (λ r. bytes_eq r.project name && not (bytes_eq r.name default_name)) s.profiles
-    || list_any (λ o. bytes_eq o.work.project name) s.operations.live
+is_occupied state name =
+    list_any (λ instance. bytes_eq instance.project name) state.instances
+    || list_any (λ network. bytes_eq network.project name) state.networks
+    || list_any (λ volume. bytes_eq volume.project name) state.volumes
+    || list_any (λ profile. bytes_eq profile.project name && not (bytes_eq profile.name default_name)) state.profiles
+    || list_any (λ operation. bytes_eq operation.work.project name) state.operations.live
 
 abbrev pub must_be_empty : State → What → Target → Bool
-must_be_empty s asked of = is_of_kind kind.Project of && (is_parting asked || asks_for_features s asked)
+must_be_empty state asked of = is_of_kind kind.Project of && (is_parting asked || asks_for_features state asked)
 
 -- B5: the project that a command needs empty is not.
 unfoldable pub project_occupied : State → Command → Option Refusal
-project_occupied s c =
+project_occupied state command =
     option_and_then
-    (λ of. if must_be_empty s c.what of && is_occupied s of.name then Some (on_name rule.B5 of.name) else None)
-    (object_changed c.what)
+    (λ of.
+    if must_be_empty state command.what of && is_occupied state of.name then Some (on_name rule.B5 of.name) else None)
+    (object_changed command.what)
 
 abbrev pub held_profile : State → Command → Target → Option Refusal
-held_profile s c of =
+held_profile state command of =
     if is_of_kind kind.Profile of
-    then option_map (λ o. record { rule = rule.B6; kept = record nothing_told { name = of.name; number = o.number } })
-    (holder_of s (home_of s.projects c.project kind.Profile) of.name)
+    then option_map
+    (λ operation. record { rule = rule.B6; kept = record nothing_told { name = of.name; number = operation.number } })
+    (holder_of state (home_of state.projects command.project kind.Profile) of.name)
     else None
 
 -- B6: an operation holds the profile that a command changes.
 unfoldable pub profile_held : State → Command → Option Refusal
-profile_held s c = option_and_then (held_profile s c) (object_changed c.what)
+profile_held state command = option_and_then (held_profile state command) (object_changed command.what)

@@ -22,9 +22,9 @@ cancel_refusal number cancel_fault.Already = Some (on_number rule.O3 number)
 
 -- O1: the operation has ended. O2: it cannot be cancelled. O3: it is being cancelled.
 unfoldable pub cancel_broken : State → What → Option Refusal
-cancel_broken s (what.Cancel op) =
-    option_and_then (cancel_refusal op) (result_err (cancel_answer (kept_at s.operations op)))
-cancel_broken s other = None
+cancel_broken state (what.Cancel op) =
+    option_and_then (cancel_refusal op) (result_err (cancel_answer (kept_at state.operations op)))
+cancel_broken state other = None
 
 abbrev pub enter_refusal : EnterFault → Refusal
 enter_refusal Full = on_number rule.O4 most_live
@@ -32,43 +32,43 @@ enter_refusal Spent = on_number rule.O5 number_limit
 
 -- O4: as many operations are live as may be. O5: no number is left.
 unfoldable pub entry_broken : State → Option Refusal
-entry_broken s = option_map enter_refusal (enter_fault s.operations)
+entry_broken state = option_map enter_refusal (enter_fault state.operations)
 
 -- how many rows of a kind there are and are claimed; operations are no rows
 abbrev pub count_of : State → ObjectKind → ℕ
-count_of s kind.Project = length s.projects
-count_of s kind.Profile = length s.profiles
-count_of s kind.Network = length s.networks
-count_of s kind.Pool = length s.pools
-count_of s kind.Volume = length s.volumes + length (of_live claimed_volume s)
-count_of s kind.Instance = length s.instances + length (of_live claimed_instance s)
-count_of s kind.Snapshot = length s.snapshots + length (of_live claimed_snapshot s)
-count_of s kind.Operation = 0
+count_of state kind.Project = length state.projects
+count_of state kind.Profile = length state.profiles
+count_of state kind.Network = length state.networks
+count_of state kind.Pool = length state.pools
+count_of state kind.Volume = length state.volumes + length (of_live claimed_volume state)
+count_of state kind.Instance = length state.instances + length (of_live claimed_instance state)
+count_of state kind.Snapshot = length state.snapshots + length (of_live claimed_snapshot state)
+count_of state kind.Operation = 0
 
 abbrev pub row_kinds : List ObjectKind
 row_kinds = kind.Project ∷ kind.Profile ∷ kind.Network ∷ kind.Pool ∷ kind.Volume ∷ kind.Instance ∷ kind.Snapshot ∷ []
 
 -- C1: there are more rows of a kind than may be, with those that live operations claim.
 abbrev pub too_many : State → ObjectKind → Option Refusal
-too_many s kind =
-    if nat_lt (cap_of kind) (count_of s kind)
+too_many state kind =
+    if nat_lt (cap_of kind) (count_of state kind)
     then Some (record { rule = rule.C1; kept = record nothing_told { kind = kind_text kind; number = cap_of kind } })
     else None
 
 abbrev pub size_of : Row → ℕ
-size_of r = length (body_of r)
+size_of row = length (body_of row)
 
 abbrev pub largest_row : ℕ
 largest_row = 65536
 
 -- C2: a row is too large. The number that is told stops at the greatest one that eight bytes hold.
 abbrev pub too_large : Row → Option Refusal
-too_large r =
-    if nat_lt largest_row (size_of r)
+too_large row =
+    if nat_lt largest_row (size_of row)
     then Some (record {
       rule = rule.C2;
       kept =
-          record nothing_told { kind = kind_text (target_of r).kind; number = min (size_of r) (2 ^ 64 - 1) };
+          record nothing_told { kind = kind_text (target_of row).kind; number = min (size_of row) (2 ^ 64 - 1) };
     })
     else None
 

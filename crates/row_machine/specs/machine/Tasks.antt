@@ -65,8 +65,8 @@ volume_copy home of body moment from source = record (plain_task deed.CopyVolume
 
 -- a snapshot is made of an instance
 abbrev pub snapshot_creation : List ℕ → Target → ℕ → Instance → Task
-snapshot_creation project of moment i = record (plain_task deed.Snap project of (call.Snap at of.name ∷ [])) {
-  claim = Some (row.Snapshot (new.made_snapshot i of.name moment));
+snapshot_creation project of moment instance = record (plain_task deed.Snap project of (call.Snap at of.name ∷ [])) {
+  claim = Some (row.Snapshot (new.made_snapshot instance of.name moment));
   undo = Some (call.Unsnap at of.name);
 } where
   at : Place
@@ -74,25 +74,27 @@ snapshot_creation project of moment i = record (plain_task deed.Snap project of 
 
 -- the instance as it stands is replaced by the claimed row
 abbrev pub replacing_task : Deed → List ℕ → Target → Instance → List HostCall → Task
-replacing_task does project of i calls =
-    record (plain_task does project of calls) { claim = Some (row.Instance i); replaces = Some (project, of.name) }
+replacing_task does project of instance calls = record (plain_task does project of calls) {
+  claim = Some (row.Instance instance);
+  replaces = Some (project, of.name);
+}
 
 -- the host is told what the changed instance has
 abbrev pub update_task : State → List ℕ → Target → Instance → Task
-update_task s project of i =
-    replacing_task deed.Update project of i
-    (call.Apply (place_of project of.name) (spec_of (expanded_of s.projects s.profiles i)) ∷ [])
+update_task state project of instance =
+    replacing_task deed.Update project of instance
+    (call.Apply (place_of project of.name) (spec_of (expanded_of state.projects state.profiles instance)) ∷ [])
 
 -- an instance is taken back to its snapshot
 abbrev pub restore_task : List ℕ → Target → Instance → Snapshot → Task
-restore_task project of i r =
-    replacing_task deed.Restore project of (new.restored_instance i r)
-    (call.Restore (place_of project of.name) r.name ∷ [])
+restore_task project of instance snapshot =
+    replacing_task deed.Restore project of (new.restored_instance instance snapshot)
+    (call.Restore (place_of project of.name) snapshot.name ∷ [])
 
 -- an instance gets another name
 abbrev pub rename_task : List ℕ → Target → List ℕ → Instance → Task
-rename_task project of to i =
-    replacing_task deed.Rename project of (record i { name = to })
+rename_task project of to instance =
+    replacing_task deed.Rename project of (record instance { name = to })
     (call.Rename (place_of project of.name) (place_of project to) ∷ [])
 
 -- an instance is deleted
@@ -106,6 +108,7 @@ snapshot_deletion project of =
 
 -- the state of an instance is changed
 abbrev pub act_task : State → List ℕ → Target → Action → Instance → Task
-act_task s project of action i =
-    plain_task (deed.Act action i.ephemeral) project of
-    (act_calls action i.ephemeral (place_of project of.name) (spec_of (expanded_of s.projects s.profiles i)))
+act_task state project of action instance =
+    plain_task (deed.Act action instance.ephemeral) project of
+    (act_calls action instance.ephemeral (place_of project of.name)
+    (spec_of (expanded_of state.projects state.profiles instance)))

@@ -10,35 +10,37 @@ pub record Load : Type 0 where
   pub amounts : Amounts
 
 abbrev pub instance_load : State → Instance → Load
-instance_load s i = record { project = i.project; amounts = amounts_of_instance s i }
+instance_load state instance = record { project = instance.project; amounts = amounts_of_instance state instance }
 
 abbrev pub volume_load : Volume → Load
-volume_load v = record { project = v.project; amounts = amounts_of_volume v }
+volume_load volume = record { project = volume.project; amounts = amounts_of_volume volume }
 
 -- a live operation counts for the project of its claimed row, with its share
 abbrev pub claim_load : State → Task → Option Load
-claim_load s task = option_map (λ new. record { project = project_of_row new; amounts = share_of s task }) task.claim
+claim_load state task =
+    option_map (λ new. record { project = project_of_row new; amounts = share_of state task }) task.claim
 
 -- all that counts: instances, volumes, and the shares of live operations
 unfoldable pub loads : State → List Load
-loads s = map (instance_load s) s.instances ++ map volume_load s.volumes ++ of_live (claim_load s) s
+loads state =
+    map (instance_load state) state.instances ++ map volume_load state.volumes ++ of_live (claim_load state) state
 
 abbrev pub amount_for : List ℕ → Part → Load → ℕ
-amount_for project k load = if bytes_eq load.project project then part k load.amounts else 0
+amount_for project a_part load = if bytes_eq load.project project then part a_part load.amounts else 0
 
 abbrev pub used : State → List ℕ → Part → ℕ
-used s project k = sum_by (amount_for project k) (loads s)
+used state project part = sum_by (amount_for project part) (loads state)
 
 unfoldable pub usage_of : State → List ℕ → Amounts
-usage_of s project = record {
-  instances = used s project part_of.Instances;
-  containers = used s project part_of.Containers;
-  machines = used s project part_of.Machines;
-  cpu = used s project part_of.Cpu;
-  memory = used s project part_of.Memory;
-  processes = used s project part_of.Processes;
-  disk = used s project part_of.Disk;
+usage_of state project = record {
+  instances = used state project part_of.Instances;
+  containers = used state project part_of.Containers;
+  machines = used state project part_of.Machines;
+  cpu = used state project part_of.Cpu;
+  memory = used state project part_of.Memory;
+  processes = used state project part_of.Processes;
+  disk = used state project part_of.Disk;
 }
 
 unfoldable pub networks_of : State → List ℕ → ℕ
-networks_of s project = length (filter (λ n. bytes_eq n.project project) s.networks)
+networks_of state project = length (filter (λ network. bytes_eq network.project project) state.networks)

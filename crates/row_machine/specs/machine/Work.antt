@@ -16,23 +16,23 @@ use Rattle.row_machine.specs.machine.State.{State}
 
 -- whether it is the share of this operation
 abbrev pub is_held_by : ℕ → Hold → Bool
-is_held_by op h = h.op == op
+is_held_by op hold = hold.op == op
 
 -- the share that an operation holds
 abbrev pub held_share : State → ℕ → Amounts
-held_share s op = option_map_or (λ h. h.share) (find (is_held_by op) s.held) no_amounts
+held_share state op = option_map_or (λ hold. hold.share) (find (is_held_by op) state.held) no_amounts
 
 -- the share is no longer held
 abbrev pub without_share : ℕ → State → State
-without_share op s = record s { held = dropped (is_held_by op) s.held }
+without_share op state = record state { held = dropped (is_held_by op) state.held }
 
 -- it became its object's
 abbrev pub converted : ℕ → State → State
-converted op s = record (without_share op s) { books = converted_more (held_share s op) s.books }
+converted op state = record (without_share op state) { books = converted_more (held_share state op) state.books }
 
 -- it was returned
 abbrev pub returned : ℕ → State → State
-returned op s = record (without_share op s) { books = returned_more (held_share s op) s.books }
+returned op state = record (without_share op state) { books = returned_more (held_share state op) state.books }
 
 -- ---- entering
 
@@ -42,22 +42,26 @@ project_of_task task = option_map_or project_of_row task.claim task.project
 
 -- One more operation, which waits for its first call and claims its row. Only what has an undo call may be cancelled.
 abbrev pub claiming : State → Task → ℕ → State
-claiming s task moment = record s { operations = kept.entered (is_some (undo_of task.deed)) task moment s.operations }
+claiming state task moment =
+    record state { operations = kept.entered (is_some (undo_of task.deed)) task moment state.operations }
 
 -- the same, with the share that the operation holds from now on
 unfoldable pub entered : State → Task → ℕ → State
-entered s task moment = record (claiming s task moment) {
-  held = s.held ++ record { op = s.operations.next; project = project_of_task task; share = share_of s task } ∷ [];
-  books = granted_more (share_of s task) s.books;
+entered state task moment = record (claiming state task moment) {
+  held =
+      state.held
+      ++ record { op = state.operations.next; project = project_of_task task; share = share_of state task }
+      ∷ [];
+  books = granted_more (share_of state task) state.books;
 }
 
 -- ---- going on
 
 abbrev pub with_task : ℕ → Task → State → State
-with_task number task s = record s { operations = kept.with_work number task s.operations }
+with_task number task state = record state { operations = kept.with_work number task state.operations }
 
 abbrev pub moved : ℕ → Status → ℕ → State → State
-moved number now moment s = record s { operations = kept.moved number now moment s.operations }
+moved number now moment state = record state { operations = kept.moved number now moment state.operations }
 
 abbrev pub handing_out : Task → List HostCall → Task
 handing_out task rest = record task { calls = rest }
@@ -71,72 +75,77 @@ undone task = record task { undo = None }
 -- ---- ends
 
 abbrev pub with_power : State → List ℕ → List ℕ → Power → State
-with_power s project name power =
-    record s { powers = changed_first (is_standing project name) (λ p. record p { power = power }) s.powers }
+with_power state project name power = record state {
+  powers = changed_first (is_standing project name) (λ standing. record standing { power = power }) state.powers;
+}
 
 abbrev pub removes_instance : State → List ℕ → List ℕ → List RowChange
-removes_instance s project name = map removal
-    (map row.Snapshot (snapshots_of s project name)
-    ++ map row.Instance (option_to_list (instance_named s.instances project name)))
+removes_instance state project name = map removal
+    (map row.Snapshot (snapshots_of state project name)
+    ++ map row.Instance (option_to_list (instance_named state.instances project name)))
 
 -- a row takes the place of an instance of another name, and its snapshots go with it
 abbrev pub renames_instance : State → Task → Instance → List RowChange
-renames_instance s task i =
-    removes_instance s task.project task.target.name
+renames_instance state task instance =
+    removes_instance state task.project task.target.name
     ++ map change.Put
-    (row.Instance i ∷ map (λ r. row.Snapshot (record r { instance = i.name; project = i.project }))
-    (snapshots_of s task.project task.target.name))
+    (row.Instance instance
+    ∷ map (λ snapshot. row.Snapshot (record snapshot { instance = instance.name; project = instance.project }))
+    (snapshots_of state task.project task.target.name))
 
 abbrev pub success_changes : State → Task → List RowChange
-success_changes s task = changes task.deed where
+success_changes state task = changes task.deed where
   act_changes : Action → Bool → List RowChange
-  act_changes action.Stop true = removes_instance s task.project task.target.name
+  act_changes action.Stop true = removes_instance state task.project task.target.name
   act_changes other ephemeral = []
 
   changes : Deed → List RowChange
-  changes deed.Rename = option_map_or (renames_instance s task) (claimed_instance task) []
-  changes deed.Delete = removes_instance s task.project task.target.name
+  changes deed.Rename = option_map_or (renames_instance state task) (claimed_instance task) []
+  changes deed.Delete = removes_instance state task.project task.target.name
   changes (deed.Act does ephemeral) = act_changes does ephemeral
   changes deed.Unsnap =
       map removal
       (map row.Snapshot
-      (option_to_list (snapshot_named s.snapshots task.project task.target.instance task.target.name)))
+      (option_to_list (snapshot_named state.snapshots task.project task.target.instance task.target.name)))
   changes other = map change.Put (option_to_list task.claim)
 
 abbrev pub power_after : State → Task → Option Power
-power_after s task = after task.deed where
+power_after state task = after task.deed where
   by_action : Action → Option Power
   by_action does =
-      option_and_then (λ p. result_ok (after_of p.power does))
-      (find (is_standing task.project task.target.name) s.powers)
+      option_and_then (λ standing. result_ok (after_of standing.power does))
+      (find (is_standing task.project task.target.name) state.powers)
 
   after : Deed → Option Power
   after (deed.Act does ephemeral) = by_action does
   after other = None
 
 abbrev pub with_power_after : Task → Option Power → State → State
-with_power_after task None s = s
-with_power_after task (Some power) s = with_power s task.project task.target.name power
+with_power_after task None state = state
+with_power_after task (Some power) state = with_power state task.project task.target.name power
 
 abbrev pub ended : ℕ → Status → OpFault → ℕ → State → State
-ended number now why moment s = record s { operations = kept.ends number now why moment s.operations }
+ended number now why moment state = record state { operations = kept.ends number now why moment state.operations }
 
 -- Success: the status of the target and the rows are those that the deed makes, and the share is converted.
 unfoldable pub succeeded : State → Operation Task → ℕ → State
-succeeded s o moment =
-    converted o.number
-    (ended o.number status.Success op_fault.None moment
-    (applied (with_power_after o.work (power_after s o.work) s) (success_changes s o.work)))
+succeeded state operation moment =
+    converted operation.number
+    (ended operation.number status.Success op_fault.None moment
+    (applied (with_power_after operation.work (power_after state operation.work) state)
+    (success_changes state operation.work)))
 
 -- the status of the target after a failure, of which this many calls were done
 abbrev pub after_failure : Task → ℕ → State → State
-after_failure task done s =
-    if nat_lt 0 done && breaks_instance task.deed then with_power s task.project task.target.name Error else s
+after_failure task done state =
+    if nat_lt 0 done && breaks_instance task.deed then with_power state task.project task.target.name Error else state
 
 -- Failure after this many calls were done: all rows stay, and the share is returned.
 unfoldable pub failed : State → Operation Task → OpFault → ℕ → ℕ → State
-failed s o why done moment = returned o.number (ended o.number status.Failure why moment (after_failure o.work done s))
+failed state operation why done moment =
+    returned operation.number
+    (ended operation.number status.Failure why moment (after_failure operation.work done state))
 
 -- Cancelled: all rows stay, and the share is returned.
 unfoldable pub cancelled : State → ℕ → ℕ → State
-cancelled s number moment = returned number (ended number status.Cancelled op_fault.None moment s)
+cancelled state number moment = returned number (ended number status.Cancelled op_fault.None moment state)

@@ -59,15 +59,15 @@ first_rows = row.Project default_project ∷ row.Profile (default_profile defaul
 -- the rows of entries, or the first entry that is none
 abbrev pub rows_in : List Entry → Result (List Row) Entry
 rows_in [] = Ok []
-rows_in (e ∷ es) = one (row_of e) (rows_in es) where
+rows_in (entry ∷ entries) = one (row_of entry) (rows_in entries) where
   one : Result Row Damaged → Result (List Row) Entry → Result (List Row) Entry
-  one (Err why) rest = Err e
-  one (Ok r) (Ok rows) = Ok (r ∷ rows)
-  one (Ok r) (Err other) = Err other
+  one (Err why) rest = Err entry
+  one (Ok row) (Ok rows) = Ok (row ∷ rows)
+  one (Ok row) (Err other) = Err other
 
 -- a state with these rows alone: every instance is stopped, and there are no operations and no notices
 abbrev pub with_rows : List Row → State
-with_rows rows = fold (λ s r. with_row r s) empty_state rows
+with_rows rows = fold (λ state row. with_row row state) empty_state rows
 
 -- ---- the rules on rows, each told of one row
 
@@ -77,85 +77,97 @@ if_so breaks rule = if breaks then Some rule else None
 
 -- a row's project is missing, or is not its own home for rows of this kind
 abbrev pub home_missing : State → Row → Option Rule
-home_missing s r = if_so (lacks_home (target_of r).kind) rule.N1 where
+home_missing state row = if_so (lacks_home (target_of row).kind) rule.N1 where
   lacks_home : ObjectKind → Bool
   lacks_home kind.Project = false
   lacks_home kind.Pool = false
   lacks_home kind =
-      is_none (project_named s.projects (project_of_row r))
-      || not (bytes_eq (home_of s.projects (project_of_row r) kind) (project_of_row r))
+      is_none (project_named state.projects (project_of_row row))
+      || not (bytes_eq (home_of state.projects (project_of_row row) kind) (project_of_row row))
 
 -- a volume's pool or a snapshot's instance is missing
 abbrev pub parent_row_missing : State → Row → Option Rule
-parent_row_missing s (row.Volume v) = if_so (is_none (pool_named s.pools v.pool)) rule.N2
-parent_row_missing s (row.Snapshot r) = if_so (is_none (instance_named s.instances r.project r.instance)) rule.N2
-parent_row_missing s other = None
+parent_row_missing state (row.Volume volume) = if_so (is_none (pool_named state.pools volume.pool)) rule.N2
+parent_row_missing state (row.Snapshot snapshot) =
+    if_so (is_none (instance_named state.instances snapshot.project snapshot.instance)) rule.N2
+parent_row_missing state other = None
 
 -- an instance or a snapshot names too many profiles, or one twice
 abbrev pub profiles_malformed : State → Row → Option Rule
-profiles_malformed s (row.Instance i) = if_so (not (are_profiles i.profiles)) rule.N3
-profiles_malformed s (row.Snapshot r) = if_so (not (are_profiles r.profiles)) rule.N3
-profiles_malformed s other = None
+profiles_malformed state (row.Instance instance) = if_so (not (are_profiles instance.profiles)) rule.N3
+profiles_malformed state (row.Snapshot snapshot) = if_so (not (are_profiles snapshot.profiles)) rule.N3
+profiles_malformed state other = None
 
 -- whether a project has every feature
 abbrev pub has_all_features : Project → Bool
-has_all_features p = list_all (is_on p.config) feature_keys
+has_all_features project = list_all (is_on project.config) feature_keys
 
 -- the project `default` lacks a feature, or a project with profiles of its own has no profile `default`
 abbrev pub defaults_missing : State → Row → Option Rule
-defaults_missing s (row.Project p) =
+defaults_missing state (row.Project project) =
     if_so
-    ((bytes_eq p.name default_name && not (has_all_features p))
-    || (is_on p.config (codes "features.profiles") && is_none (profile_named s.profiles p.name default_name)))
+    ((bytes_eq project.name default_name && not (has_all_features project))
+    || (is_on project.config (codes "features.profiles")
+    && is_none (profile_named state.profiles project.name default_name)))
     rule.B3
-defaults_missing s other = None
+defaults_missing state other = None
 
 -- the rule of a refusal
 abbrev pub rule_of : Option Refusal → Option Rule
-rule_of refusal = option_map (λ r. r.rule) refusal
+rule_of refusal = option_map (λ refused. refused.rule) refusal
 
 -- a setting is refused by the tables
 abbrev pub settings_invalid : State → Row → Option Rule
-settings_invalid s (row.Project r) = rule_of (tables_break r.config (project_fault r.config) [])
-settings_invalid s (row.Profile r) = rule_of (tables_break r.config (instance_fault r.config scope.Any) [])
-settings_invalid s (row.Network r) = rule_of (tables_break r.config (network_fault r.config) [])
-settings_invalid s (row.Pool r) = rule_of (tables_break r.config (pool_fault r.config) [])
-settings_invalid s (row.Volume r) = rule_of (tables_break r.config (volume_fault r.config) [])
-settings_invalid s (row.Instance i) = rule_of (tables_break i.config (instance_fault i.config (scope_of i.kind)) [])
-settings_invalid s (row.Snapshot r) = None
+settings_invalid state (row.Project project) = rule_of (tables_break project.config (project_fault project.config) [])
+settings_invalid state (row.Profile profile) =
+    rule_of (tables_break profile.config (instance_fault profile.config scope.Any) [])
+settings_invalid state (row.Network network) = rule_of (tables_break network.config (network_fault network.config) [])
+settings_invalid state (row.Pool pool) = rule_of (tables_break pool.config (pool_fault pool.config) [])
+settings_invalid state (row.Volume volume) = rule_of (tables_break volume.config (volume_fault volume.config) [])
+settings_invalid state (row.Instance instance) =
+    rule_of (tables_break instance.config (instance_fault instance.config (scope_of instance.kind)) [])
+settings_invalid state (row.Snapshot snapshot) = None
 
 -- a device is refused by the tables
 abbrev pub devices_invalid : State → Row → Option Rule
-devices_invalid s (row.Profile r) = rule_of (tables_break [] None r.devices)
-devices_invalid s (row.Instance i) = rule_of (tables_break [] None i.devices)
-devices_invalid s other = None
+devices_invalid state (row.Profile profile) = rule_of (tables_break [] None profile.devices)
+devices_invalid state (row.Instance instance) = rule_of (tables_break [] None instance.devices)
+devices_invalid state other = None
 
 -- an instance has not exactly one root disk
 abbrev pub root_disk_missing : State → Row → Option Rule
-root_disk_missing s (row.Instance i) = rule_of (root_missing s i)
-root_disk_missing s other = None
+root_disk_missing state (row.Instance instance) = rule_of (root_missing state instance)
+root_disk_missing state other = None
 
 -- what a profile or an instance names is missing
 abbrev pub named_row_missing : State → Row → Option Rule
-named_row_missing s (row.Profile r) = rule_of (devices_miss s r.project r.devices)
-named_row_missing s (row.Instance i) =
-    rule_of (first (profile_missing s i ∷ devices_miss s i.project (expanded_of s.projects s.profiles i).devices ∷ []))
-named_row_missing s other = None
+named_row_missing state (row.Profile profile) = rule_of (devices_miss state profile.project profile.devices)
+named_row_missing state (row.Instance instance) =
+    rule_of
+    (first
+    (profile_missing state instance
+    ∷ devices_miss state instance.project (expanded_of state.projects state.profiles instance).devices
+    ∷ []))
+named_row_missing state other = None
 
 -- the policy of its project forbids a profile or an instance something
 abbrev pub forbidden : ℕ → State → Row → Option Rule
-forbidden number s (row.Profile r) =
-    rule_of (option_and_then (λ p. forbids_profile p number r) (project_named s.projects r.project))
-forbidden number s (row.Instance i) =
-    rule_of (option_and_then (λ p. forbids_instance s p number i) (project_named s.projects i.project))
-forbidden number s other = None
+forbidden number state (row.Profile profile) =
+    rule_of (option_and_then (λ project. forbids_profile project number profile)
+    (project_named state.projects profile.project))
+forbidden number state (row.Instance instance) =
+    rule_of (option_and_then (λ project. forbids_instance state project number instance)
+    (project_named state.projects instance.project))
+forbidden number state other = None
 
 -- an instance or a volume is not countable for the limits of its project
 abbrev pub uncountable : State → Row → Option Rule
-uncountable s (row.Volume v) = rule_of (option_and_then (λ p. volume_uncounts p v) (project_named s.projects v.project))
-uncountable s (row.Instance i) =
-    rule_of (option_and_then (λ p. instance_uncounted s p i) (project_named s.projects i.project))
-uncountable s other = None
+uncountable state (row.Volume volume) =
+    rule_of (option_and_then (λ project. volume_uncounts project volume) (project_named state.projects volume.project))
+uncountable state (row.Instance instance) =
+    rule_of (option_and_then (λ project. instance_uncounted state project instance)
+    (project_named state.projects instance.project))
+uncountable state other = None
 
 -- the rules in their order
 abbrev pub row_rules : List (State → Row → Option Rule)
@@ -182,41 +194,42 @@ row_rules =
 
 -- a rule that is broken at a row, which its kind and key tell
 abbrev pub broken_at : Row → Rule → Opening
-broken_at r why = broken why (kind_of r) (key_of r)
+broken_at row why = broken why (kind_of row) (key_of row)
 
 -- the project `default` is missing
 abbrev pub default_missing : State → Option Opening
-default_missing s =
-    if is_none (project_named s.projects default_name) then Some (broken rule.N1 1 default_name) else None
+default_missing state =
+    if is_none (project_named state.projects default_name) then Some (broken rule.N1 1 default_name) else None
 
 -- the first row that breaks this rule
 abbrev pub row_breaks : State → List Row → (State → Row → Option Rule) → Option Opening
-row_breaks s rows rule = first_of (λ r. option_map (broken_at r) (rule s r)) rows
+row_breaks state rows rule = first_of (λ row. option_map (broken_at row) (rule state row)) rows
 
 -- a project's usage is above a limit of its own
 abbrev pub limit_breaks : State → List Row → Option Opening
-limit_breaks s rows = first
-    (first_of (λ k. first_of (λ p. at p (part_exceeds s s k p)) s.projects) parts
-    ∷ first_of (λ p. at p (networks_exceed s s p)) s.projects
+limit_breaks state rows = first
+    (first_of (λ part. first_of (λ project. at project (part_exceeds state state part project)) state.projects) parts
+    ∷ first_of (λ project. at project (networks_exceed state state project)) state.projects
     ∷ []) where
       at : Project → Option Refusal → Option Opening
-      at p refusal = option_map (λ r. broken r.rule 1 p.name) refusal
+      at project refusal = option_map (λ refused. broken refused.rule 1 project.name) refusal
 
 -- the first row of a kind after the last one that there may be
 abbrev pub past_cap : List Row → ObjectKind → Option Opening
 past_cap rows which =
-    option_map (λ r. broken_at r rule.C1) (slice_get (filter (λ r. kind_of r == kind_number which) rows) (cap_of which))
+    option_map (λ row. broken_at row rule.C1)
+    (slice_get (filter (λ row. kind_of row == kind_number which) rows) (cap_of which))
 
 -- the first row that is too large
 abbrev pub size_breaks : List Row → Option Opening
-size_breaks rows = first_of (λ r. option_map (λ why. broken_at r rule.C2) (too_large r)) rows
+size_breaks rows = first_of (λ row. option_map (λ why. broken_at row rule.C2) (too_large row)) rows
 
 -- the first rule that the rows break, with the row
 unfoldable pub rows_break : State → List Row → Option Opening
-rows_break s rows = first
-    (default_missing s
-    ∷ first_of (row_breaks s rows) row_rules
-    ∷ limit_breaks s rows
+rows_break state rows = first
+    (default_missing state
+    ∷ first_of (row_breaks state rows) row_rules
+    ∷ limit_breaks state rows
     ∷ first_of (past_cap rows) row_kinds
     ∷ size_breaks rows
     ∷ [])
@@ -228,9 +241,9 @@ opening_with rows = unwrap_or (rows_break (with_rows rows) rows) (opened (with_r
 -- what the rows of entries open to
 abbrev pub opening_by : Result (List Row) Entry → Opening
 opening_by (Ok rows) = opening_with rows
-opening_by (Err e) = damaged e.kind e.key
+opening_by (Err entry) = damaged entry.kind entry.key
 
 -- What entries open to, in the order of kind and key: a server without any gets its first rows.
 unfoldable pub opening_of : List Entry → Opening
 opening_of [] = opened (with_rows first_rows)
-opening_of (e ∷ es) = opening_by (rows_in (e ∷ es))
+opening_of (entry ∷ entries) = opening_by (rows_in (entry ∷ entries))

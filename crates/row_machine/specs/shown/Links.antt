@@ -35,13 +35,14 @@ link_of project of = path_of of ++ query of.kind where
 
 -- what names a row
 abbrev pub target_of : Row → Target
-target_of (row.Project r) = record { kind = Project; pool = []; instance = []; name = r.name }
-target_of (row.Profile r) = record { kind = Profile; pool = []; instance = []; name = r.name }
-target_of (row.Network r) = record { kind = Network; pool = []; instance = []; name = r.name }
-target_of (row.Pool r) = record { kind = Pool; pool = []; instance = []; name = r.name }
-target_of (row.Volume r) = record { kind = Volume; pool = r.pool; instance = []; name = r.name }
-target_of (row.Instance r) = record { kind = Instance; pool = []; instance = []; name = r.name }
-target_of (row.Snapshot r) = record { kind = Snapshot; pool = []; instance = r.instance; name = r.name }
+target_of (row.Project project) = record { kind = Project; pool = []; instance = []; name = project.name }
+target_of (row.Profile profile) = record { kind = Profile; pool = []; instance = []; name = profile.name }
+target_of (row.Network network) = record { kind = Network; pool = []; instance = []; name = network.name }
+target_of (row.Pool pool) = record { kind = Pool; pool = []; instance = []; name = pool.name }
+target_of (row.Volume volume) = record { kind = Volume; pool = volume.pool; instance = []; name = volume.name }
+target_of (row.Instance instance) = record { kind = Instance; pool = []; instance = []; name = instance.name }
+target_of (row.Snapshot snapshot) =
+    record { kind = Snapshot; pool = []; instance = snapshot.instance; name = snapshot.name }
 
 -- texts in byte order
 abbrev pub sorted : List (List ℕ) → List (List ℕ)

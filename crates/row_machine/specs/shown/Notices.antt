@@ -28,18 +28,19 @@ kept_notices = 1024
 
 -- a notice gets the next number; where the numbers have come to their end it is dropped
 abbrev pub push_notice : Untold → State → State
-push_notice n s =
-    if s.next_notice == 2 ^ 64 - 1 then s
-    else record s {
+push_notice notice state =
+    if state.next_notice == 2 ^ 64 - 1 then state
+    else record state {
       notices = ring_push kept_notices
-          (record { number = s.next_notice; moment = n.moment; project = n.project; told = n.told }) s.notices;
-      next_notice = s.next_notice + 1;
+          (record { number = state.next_notice; moment = notice.moment; project = notice.project; told = notice.told })
+          state.notices;
+      next_notice = state.next_notice + 1;
     }
 
 -- several notices, in their order
 abbrev pub telling : List Untold → State → State
-telling [] s = s
-telling (n ∷ ns) s = telling ns (push_notice n s)
+telling [] state = state
+telling (notice ∷ notices) state = telling notices (push_notice notice state)
 
 -- ---- what they tell
 
@@ -59,22 +60,24 @@ life_notice moment project of action = record {
 
 -- how an operation is shown
 abbrev pub view_of : Operation Task → OpView
-view_of o = record {
-  number = o.number;
-  status = o.status;
-  may_cancel = o.may_cancel;
-  created = o.created;
-  updated = o.updated;
-  fault = o.fault;
-  project = o.work.project;
-  target = o.work.target;
+view_of operation = record {
+  number = operation.number;
+  status = operation.status;
+  may_cancel = operation.may_cancel;
+  created = operation.created;
+  updated = operation.updated;
+  fault = operation.fault;
+  project = operation.work.project;
+  target = operation.work.target;
 }
 
 -- an operation as it now stands
 abbrev pub operation_notice : State → ℕ → ℕ → List Untold
-operation_notice s number moment =
-    option_to_list (option_map (λ o. record { moment = moment; project = o.work.project; told = told.Op (view_of o) })
-    (kept_at s.operations number))
+operation_notice state number moment =
+    option_to_list
+    (option_map
+    (λ operation. record { moment = moment; project = operation.work.project; told = told.Op (view_of operation) })
+    (kept_at state.operations number))
 
 -- ---- changes at once
 
@@ -116,9 +119,10 @@ deleted_life other = None
 
 -- what a command that changes rows at once tells, after a rename with the new name
 abbrev pub change_notices : State → Command → ℕ → List Untold
-change_notices s c moment = notices c.what where
+change_notices state command moment = notices command.what where
   on : Target → Option Life → List Untold
-  on of action = option_to_list (option_map (life_notice moment (home_of s.projects c.project of.kind) of) action)
+  on of action =
+      option_to_list (option_map (life_notice moment (home_of state.projects command.project of.kind) of) action)
 
   notices : What → List Untold
   notices (what.Create of body) = on of (made_life of.kind)
@@ -176,25 +180,25 @@ takes_told filter (told.Op view) = filter.op
 
 -- a listener takes notices of its own project, of the types that it wants
 abbrev pub takes : Filter → Notice → Bool
-takes filter n = bytes_eq n.project filter.project && takes_told filter n.told
+takes filter notice = bytes_eq notice.project filter.project && takes_told filter notice.told
 
 -- the number of the oldest notice that is kept, or the next one where none is
 abbrev pub oldest_kept : State → ℕ
-oldest_kept s = oldest s.notices where
+oldest_kept state = oldest state.notices where
   oldest : List Notice → ℕ
-  oldest [] = s.next_notice
-  oldest (n ∷ ns) = n.number
+  oldest [] = state.next_notice
+  oldest (notice ∷ notices) = notice.number
 
 -- The notices from a number on that a listener takes, and the next number. Number 0 asks for the next number alone; a
 -- number below the oldest kept one has lagged.
 unfoldable pub since : State → ℕ → Filter → Fetched
-since s cursor filter =
-    if cursor == 0 then Notices [] s.next_notice
-    else if nat_lt cursor (oldest_kept s) then Lagged cursor (oldest_kept s)
-    else Notices (taken s.notices) s.next_notice where
+since state cursor filter =
+    if cursor == 0 then Notices [] state.next_notice
+    else if nat_lt cursor (oldest_kept state) then Lagged cursor (oldest_kept state)
+    else Notices (taken state.notices) state.next_notice where
       is_wanted : Notice → Bool
-      is_wanted n = nat_le cursor n.number && takes filter n
+      is_wanted notice = nat_le cursor notice.number && takes filter notice
 
       taken : List Notice → List Notice
       taken [] = []
-      taken (n ∷ ns) = if is_wanted n then n ∷ taken ns else taken ns
+      taken (notice ∷ notices) = if is_wanted notice then notice ∷ taken notices else taken notices

@@ -34,7 +34,7 @@ use Rattle.row_machine.specs.machine.Plans.{row_of}
 
 -- the link of a row
 abbrev pub row_link : Row → List ℕ
-row_link r = link_of (project_of_row r) (target_of r)
+row_link row = link_of (project_of_row row) (target_of row)
 
 -- the links of rows
 abbrev pub links : List Row → List (List ℕ)
@@ -42,46 +42,49 @@ links rows = map row_link rows
 
 -- the instances, networks, volumes and profiles of a project
 abbrev pub rows_in : State → List ℕ → List Row
-rows_in s project =
-    map row.Instance (filter (λ r. bytes_eq r.project project) s.instances)
-    ++ map row.Network (filter (λ r. bytes_eq r.project project) s.networks)
-    ++ map row.Volume (filter (λ r. bytes_eq r.project project) s.volumes)
-    ++ map row.Profile (filter (λ r. bytes_eq r.project project) s.profiles)
+rows_in state project =
+    map row.Instance (filter (λ instance. bytes_eq instance.project project) state.instances)
+    ++ map row.Network (filter (λ network. bytes_eq network.project project) state.networks)
+    ++ map row.Volume (filter (λ volume. bytes_eq volume.project project) state.volumes)
+    ++ map row.Profile (filter (λ profile. bytes_eq profile.project project) state.profiles)
 
 -- the instances and profiles that name a network, pool or volume, and the volumes of a pool
 abbrev pub rows_using : State → List ℕ → Target → List Row
-rows_using s home of =
-    map row.Instance (filter (instance_uses s home of) s.instances)
-    ++ map row.Profile (filter (profile_uses s home of) s.profiles)
-    ++ map row.Volume (filter (volume_uses of) s.volumes)
+rows_using state home of =
+    map row.Instance (filter (instance_uses state home of) state.instances)
+    ++ map row.Profile (filter (profile_uses state home of) state.profiles)
+    ++ map row.Volume (filter (volume_uses of) state.volumes)
 
 -- The links of the users of a row, in byte order. Rows count, claims do not.
 unfoldable pub used_by : State → Row → List (List ℕ)
-used_by s (row.Project r) = sorted (links (rows_in s r.name))
-used_by s (row.Profile r) = sorted (links (map row.Instance (filter (names_profile s r.project r.name) s.instances)))
-used_by s (row.Network r) = sorted (links (rows_using s r.project (target_of (row.Network r))))
-used_by s (row.Pool r) = sorted (links (rows_using s [] (target_of (row.Pool r))))
-used_by s (row.Volume r) = sorted (links (rows_using s r.project (target_of (row.Volume r))))
-used_by s (row.Instance r) = []
-used_by s (row.Snapshot r) = []
+used_by state (row.Project project) = sorted (links (rows_in state project.name))
+used_by state (row.Profile profile) =
+    sorted (links (map row.Instance (filter (names_profile state profile.project profile.name) state.instances)))
+used_by state (row.Network network) =
+    sorted (links (rows_using state network.project (target_of (row.Network network))))
+used_by state (row.Pool pool) = sorted (links (rows_using state [] (target_of (row.Pool pool))))
+used_by state (row.Volume volume) = sorted (links (rows_using state volume.project (target_of (row.Volume volume))))
+used_by state (row.Instance instance) = []
+used_by state (row.Snapshot snapshot) = []
 
 -- ---- views
 
 -- an instance with what it has and its status
 abbrev pub instance_view : State → Instance → View
-instance_view s i =
-    view.Instance i (expanded_of s.projects s.profiles i).config (expanded_of s.projects s.profiles i).devices
-    (unwrap_or (power_of s i.project i.name) Stopped)
+instance_view state instance =
+    view.Instance instance (expanded_of state.projects state.profiles instance).config
+    (expanded_of state.projects state.profiles instance).devices
+    (unwrap_or (power_of state instance.project instance.name) Stopped)
 
 -- how a row is shown
 abbrev pub row_view : State → Row → View
-row_view s (row.Project r) = view.Project r (used_by s (row.Project r))
-row_view s (row.Profile r) = view.Profile r (used_by s (row.Profile r))
-row_view s (row.Network r) = view.Network r (used_by s (row.Network r))
-row_view s (row.Pool r) = view.Pool r (used_by s (row.Pool r))
-row_view s (row.Volume r) = view.Volume r (used_by s (row.Volume r))
-row_view s (row.Instance r) = instance_view s r
-row_view s (row.Snapshot r) = view.Snapshot r
+row_view state (row.Project project) = view.Project project (used_by state (row.Project project))
+row_view state (row.Profile profile) = view.Profile profile (used_by state (row.Profile profile))
+row_view state (row.Network network) = view.Network network (used_by state (row.Network network))
+row_view state (row.Pool pool) = view.Pool pool (used_by state (row.Pool pool))
+row_view state (row.Volume volume) = view.Volume volume (used_by state (row.Volume volume))
+row_view state (row.Instance instance) = instance_view state instance
+row_view state (row.Snapshot snapshot) = view.Snapshot snapshot
 
 -- ---- the state of a project: each limit with what is used of it
 
@@ -97,33 +100,36 @@ line_key part_of.Disk = line.Disk
 
 -- a part of the usage of a project, with its limit
 abbrev pub usage_line : State → Project → Part → UsageLine
-usage_line s p k = record { key = line_key k; used = used s p.name k; limit = limit_on k (limits_of p.config) }
+usage_line state project part = record
+    { key = line_key part; used = used state project.name part; limit = limit_on part (limits_of project.config) }
 
 -- its number of networks, with its limit
 abbrev pub networks_line : State → Project → UsageLine
-networks_line s p = record { key = line.Networks; used = networks_of s p.name; limit = (limits_of p.config).networks }
+networks_line state project =
+    record { key = line.Networks; used = networks_of state project.name; limit = (limits_of project.config).networks }
 
 -- the state of a project
 unfoldable pub usage_view : State → Project → View
-usage_view s p = view.Usage (map (usage_line s p) parts ++ networks_line s p ∷ [])
+usage_view state project = view.Usage (map (usage_line state project) parts ++ networks_line state project ∷ [])
 
 -- ---- lists
 
 -- the rows of a list: of all projects or pools, of a home, of a pool in a home, of an instance
 abbrev pub listed : State → List ℕ → Target → List Row
-listed s project of = rows of.kind where
+listed state project of = rows of.kind where
   home : ObjectKind → List ℕ
-  home kind = home_of s.projects project kind
+  home kind = home_of state.projects project kind
 
   rows : ObjectKind → List Row
-  rows kind.Project = map row.Project s.projects
-  rows kind.Profile = map row.Profile (filter (λ r. bytes_eq r.project (home kind.Profile)) s.profiles)
-  rows kind.Network = map row.Network (filter (λ r. bytes_eq r.project (home kind.Network)) s.networks)
-  rows kind.Pool = map row.Pool s.pools
+  rows kind.Project = map row.Project state.projects
+  rows kind.Profile = map row.Profile (filter (λ profile. bytes_eq profile.project (home kind.Profile)) state.profiles)
+  rows kind.Network = map row.Network (filter (λ network. bytes_eq network.project (home kind.Network)) state.networks)
+  rows kind.Pool = map row.Pool state.pools
   rows kind.Volume =
-      map row.Volume (filter (λ r. bytes_eq r.project (home kind.Volume) && bytes_eq r.pool of.pool) s.volumes)
-  rows kind.Instance = map row.Instance (filter (λ r. bytes_eq r.project project) s.instances)
-  rows kind.Snapshot = map row.Snapshot (snapshots_of s project of.instance)
+      map row.Volume
+      (filter (λ volume. bytes_eq volume.project (home kind.Volume) && bytes_eq volume.pool of.pool) state.volumes)
+  rows kind.Instance = map row.Instance (filter (λ instance. bytes_eq instance.project project) state.instances)
+  rows kind.Snapshot = map row.Snapshot (snapshots_of state project of.instance)
   rows kind.Operation = []
 
 -- ---- operations
@@ -143,30 +149,31 @@ statuses = Pending ∷ Running ∷ Cancelling ∷ Success ∷ Failure ∷ Cancel
 
 -- the kept operations of a project that have a status, in the order of their numbers
 abbrev pub operations_of : State → List ℕ → Status → List (Operation Task)
-operations_of s project status =
-    filter (λ o. bytes_eq o.work.project project && status_number o.status == status_number status)
-    (by_number (s.operations.live ++ s.operations.ended))
+operations_of state project status =
+    filter
+    (λ operation. bytes_eq operation.work.project project && status_number operation.status == status_number status)
+    (by_number (state.operations.live ++ state.operations.ended))
 
 -- a status with what is told of its operations, where there are any
 abbrev pub if_any : {X : Type 0} → (Operation Task → X) → Status → List (Operation Task) → Option (Status × List X)
 if_any tell status [] = None
-if_any tell status (o ∷ os) = Some (status, map tell (o ∷ os))
+if_any tell status (operation ∷ operations) = Some (status, map tell (operation ∷ operations))
 
 -- the statuses that occur, each with its operations
 abbrev pub by_status : {X : Type 0} → (Operation Task → X) → State → List ℕ → List (Status × List X)
-by_status tell s project = filter_map (λ status. if_any tell status (operations_of s project status)) statuses
+by_status tell state project = filter_map (λ status. if_any tell status (operations_of state project status)) statuses
 
 -- ---- replies
 
 -- operations by their status, with numbers or whole
 abbrev pub operations_reply : State → List ℕ → Bool → Reply
-operations_reply s project false = reply.OpLinks (by_status (λ o. o.number) s project)
-operations_reply s project true = reply.OpMany (by_status view_of s project)
+operations_reply state project false = reply.OpLinks (by_status (λ operation. operation.number) state project)
+operations_reply state project true = reply.OpMany (by_status view_of state project)
 
 -- rows by their links or whole
 abbrev pub rows_reply : State → List Row → Bool → Reply
-rows_reply s rows false = reply.Links (links rows)
-rows_reply s rows true = reply.Many (map (row_view s) rows)
+rows_reply state rows false = reply.Links (links rows)
+rows_reply state rows true = reply.Many (map (row_view state) rows)
 
 -- whether operations are meant
 abbrev pub is_operation : ObjectKind → Bool
@@ -175,31 +182,32 @@ is_operation other = false
 
 -- a list, with recursion or without
 abbrev pub list_reply : State → List ℕ → Target → Bool → Reply
-list_reply s project of recursion =
-    if is_operation of.kind then operations_reply s project recursion else rows_reply s (listed s project of) recursion
+list_reply state project of recursion =
+    if is_operation of.kind then operations_reply state project recursion
+    else rows_reply state (listed state project of) recursion
 
 -- a view of what is there; a command without a broken rule finds it
 abbrev pub one : Option View → Reply
 one None = reply.Empty
-one (Some v) = reply.One v
+one (Some view) = reply.One view
 
 -- the state of an instance or of a project
 abbrev pub state_view : State → List ℕ → Row → Option View
-state_view s project (row.Project r) = Some (usage_view s r)
-state_view s project (row.Instance i) = option_map view.Power (power_of s i.project i.name)
-state_view s project other = None
+state_view state project (row.Project a_project) = Some (usage_view state a_project)
+state_view state project (row.Instance instance) = option_map view.Power (power_of state instance.project instance.name)
+state_view state project other = None
 
 -- how an operation is shown, if it is kept
 abbrev pub operation_view : State → ℕ → Option View
-operation_view s op = option_map (λ o. view.Op (view_of o)) (kept_at s.operations op)
+operation_view state op = option_map (λ operation. view.Op (view_of operation)) (kept_at state.operations op)
 
 -- the answer of a read
 unfoldable pub read : State → List ℕ → What → Reply
-read s project what.Root = reply.Links (codes "/1.0" ∷ [])
-read s project what.Server = reply.One view.Server
-read s project (what.List of recursion) = list_reply s project of recursion
-read s project (what.Get of) = one (option_map (row_view s) (row_of s project of))
-read s project (what.State of) = one (option_and_then (state_view s project) (row_of s project of))
-read s project (what.GetOp op) = one (operation_view s op)
-read s project (what.Wait op timeout) = one (operation_view s op)
-read s project other = reply.Empty
+read state project what.Root = reply.Links (codes "/1.0" ∷ [])
+read state project what.Server = reply.One view.Server
+read state project (what.List of recursion) = list_reply state project of recursion
+read state project (what.Get of) = one (option_map (row_view state) (row_of state project of))
+read state project (what.State of) = one (option_and_then (state_view state project) (row_of state project of))
+read state project (what.GetOp op) = one (operation_view state op)
+read state project (what.Wait op timeout) = one (operation_view state op)
+read state project other = reply.Empty

@@ -6,5 +6,5 @@ use Rattle.object_users.proofs.row_links.sort_texts.Goals as goal
 
 pub returns : goal.returns
 returns c =
-    sorted-is c.args.texts.now.items c.sort_by.new.self.items c.in_ok-sort_by.ensures.permutation
-    (c.in_ok-sort_by.ensures.sorted text_before texts-ranked (always_returns_same _ _ _ (λ a r f k. search rules)))
+    sorted-is c.args.texts.now.items c.sort_unstable_by.new.self.items c.sort_unstable_by.ensures.permutation
+    (c.sort_unstable_by.ensures.sorted text_before texts-ranked (always_returns_same _ _ _ (λ a r f k. search rules)))

@@ -5,7 +5,7 @@ pub loop-done-init : goal.loop-done-init
 loop-done-init g c = none_so_far _ _ _
 
 pub returns-in-Final : goal.returns-in-Final
-returns-in-Final g c = session_final _ _ _ _ _ c.loop-done.done c.end_behind.result c.loop-done.invariant c.loop-done-test.true c.in-Final.ensures c.end_behind.ensures
+returns-in-Final g c = session_final _ _ _ _ _ c.loop-done.done c.end_after_final.result c.loop-done.invariant c.loop-done-test.true c.in-Final.ensures c.end_after_final.ensures
 
 pub loop-done-preserved : goal.loop-done-preserved
 loop-done-preserved g c = one_more _ _ _ _ _ c.loop-done.done c.loop-done.invariant c.in-GoOn.ensures

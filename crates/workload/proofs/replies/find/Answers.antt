@@ -1,10 +1,10 @@
 use Rattle.std.proofs.Common.{◌∙◌, sym}
 use Rattle.workload.specs.Summary.{parted}
-use Rattle.workload.proofs.Parting.{behind-none, found-at, missed-at, tested}
+use Rattle.workload.proofs.Parting.{after-none, found-at, missed-at, tested}
 use Rattle.workload.proofs.replies.find.Goals as goal
 
 pub loop-place-init : goal.loop-place-init
-loop-place-init c = behind-none (parted c.args.mark.now c.args.text.now)
+loop-place-init c = after-none (parted c.args.mark.now c.args.text.now)
 
 pub loop-place-preserved : goal.loop-place-preserved
 loop-place-preserved c =

@@ -1,10 +1,9 @@
 use Rattle.std.proofs.Common.{◌+◌, ◌<◌, ◌^◌, Some, set, subst, sym, ◌∙◌, ap}
 use Rattle.std.specs.Prelude.{IfSome, option_map}
-use Rattle.std.specs.List.{find, position}
+use Rattle.std.specs.List.{position}
 use Rattle.work_reports.specs.plain_lists.proofs.EditLemmas.{changed-none}
 use Rattle.work_reports.specs.plain_lists.proofs.Places.{any-position, find-at, changed-at}
 use Rattle.work_reports.specs.size_values.specs.Amounts.{part, plus_of}
-use Rattle.work_reports.specs.size_values.specs.declared.amounts.Amounts.{Amounts}
 use Rattle.work_reports.specs.size_values.specs.declared.amounts.Part.{Part}
 use Rattle.kept_totals.specs.declared.totals.Total.{Total}
 use Rattle.kept_totals.specs.Totals.{is_of, known, grown}

@@ -1,6 +1,6 @@
 use Rattle.std.proofs.Common.{◌≡◌, ◌++◌, length, ◌∙◌, ap, arith}
 use Rattle.operations.proofs.SlotsLemmas.{length-numbers_of}
-use Rattle.operations.proofs.slots.Slots.kept.Goals as goal
+use Rattle.operations.proofs.slots.Slots.kept_count.Goals as goal
 
 pub returns-clause-count : goal.returns-clause-count
 returns-clause-count g c =
