@@ -61,7 +61,8 @@ fn committed(
     done
 }
 
-fn commits(alloc: Global, keeper: &mut SqliteKeeper, lists: &[&[Row]]) -> bool {
+/// Whether all of these changes are committed, one list after the other.
+pub fn commits(alloc: Global, keeper: &mut SqliteKeeper, lists: &[&[Row]]) -> bool {
     let mut done = true;
     for rows in lists {
         done = done && committed(alloc, keeper, rows) == Ok(());
@@ -73,7 +74,8 @@ fn is_row(entry: &Entry, row: Row) -> bool {
     entry.kind == row.0 && entry.key.view() == row.1 && Some(entry.body.view()) == row.2
 }
 
-fn finds(keeper: &mut SqliteKeeper, rows: &[Row]) -> bool {
+/// Whether a load finds these rows, in this order, and nothing else.
+pub fn finds(keeper: &mut SqliteKeeper, rows: &[Row]) -> bool {
     match keeper.load() {
         Ok(found) => {
             let same = found.len() == rows.len()

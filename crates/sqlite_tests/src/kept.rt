@@ -1,6 +1,7 @@
 //! What is committed is found again, by the same keeper and by another one.
-use crate::files::{Row, Step, all_go_at, renew};
-use sqlite_keeper::Trouble;
+use crate::files::{Row, Step, all_go, all_go_at, commits, finds, keeper_at, renew};
+use sqlite_keeper::{SqliteKeeper, Trouble};
+use std::alloc::Global;
 
 const FOLDER: &str = "sqlite_tests_kept";
 
@@ -81,16 +82,43 @@ const EARLY: &[Step<'static>] = &[
     Step::HasFailed(1, Some(Trouble::NotLoaded)),
 ];
 
-/// Whether a keeper of a new file commits these changes after its first load, and then has these rows, as another keeper
-/// of the file has.
-fn keeps(rt: &HostRuntime, made: &'static [&'static [Row]], kept: &'static [Row]) -> bool {
-    let first = [
-        Step::Finds(&[]),
-        Step::Commits(made),
-        Step::Finds(kept),
-        Step::HasFailed(0, None),
-    ];
-    renew(rt, FOLDER) && all_go_at(rt, FILE, &first) && all_go_at(rt, FILE, &[Step::Finds(kept)])
+/// The first load of a new file.
+const NEW: &[Step<'static>] = &[Step::Finds(&[])];
+
+/// No call has failed.
+const WELL: &[Step<'static>] = &[Step::HasFailed(0, None)];
+
+/// Whether a keeper commits these changes after its first load, and then has these rows.
+fn takes(alloc: Global, keeper: &mut SqliteKeeper, made: &[&[Row]], kept: &[Row]) -> bool {
+    all_go(alloc, keeper, NEW)
+        && commits(alloc, keeper, made)
+        && finds(keeper, kept)
+        && all_go(alloc, keeper, WELL)
+}
+
+/// Whether a keeper of the file does so.
+fn takes_in_new_file(rt: &HostRuntime, made: &[&[Row]], kept: &[Row]) -> bool {
+    let Ok(mut keeper) = keeper_at(rt, FILE) else {
+        return false;
+    };
+    let same = takes(rt.alloc(), &mut keeper, made, kept);
+    keeper.close();
+    same
+}
+
+/// Whether another keeper of the file has these rows.
+fn finds_again(rt: &HostRuntime, kept: &[Row]) -> bool {
+    let Ok(mut keeper) = keeper_at(rt, FILE) else {
+        return false;
+    };
+    let same = finds(&mut keeper, kept);
+    keeper.close();
+    same
+}
+
+/// Whether a new file keeps these rows after these changes.
+fn keeps(rt: &HostRuntime, made: &[&[Row]], kept: &[Row]) -> bool {
+    renew(rt, FOLDER) && takes_in_new_file(rt, made, kept) && finds_again(rt, kept)
 }
 
 #[test]
