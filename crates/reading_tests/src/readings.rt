@@ -14,7 +14,7 @@ use std::alloc::Global;
 
 /// A setting or a device that the instance has: its own before those of its profiles, and later profiles before earlier
 /// ones. The device is empty for a setting of the instance itself; its settings are counted.
-const EXPANDED: [(&str, usize, &str, &str); 4] = [
+const EXPANDED: &[(&str, usize, &str, &str)] = &[
     ("", 0, "limits.cpu", "2"),
     ("", 0, "limits.memory", "2GiB"),
     ("root", 3, "pool", "p0"),
@@ -22,7 +22,7 @@ const EXPANDED: [(&str, usize, &str, &str); 4] = [
 ];
 
 /// What a project uses: with the update or without it, how many instances, processors, and GiB of memory and disk.
-const USED: [(bool, &str, u128, u128, u128, u128); 4] = [
+const USED: &[(bool, &str, u128, u128, u128, u128)] = &[
     (false, "lab", 1, 2, 2, 3),
     (false, "default", 0, 0, 0, 0),
     (true, "lab", 1, 4, 2, 3),
@@ -32,7 +32,7 @@ const USED: [(bool, &str, u128, u128, u128, u128); 4] = [
 /// What each of two projects uses: how many instances, processors, and GiB of memory and disk. The shop has an instance
 /// like that of the lab with seven processors, two of the profile `base` alone, a volume of 5 GiB, and the claim of one
 /// of 4 GiB by an operation of the lab.
-const TWO_USED: [(&str, u128, u128, u128, u128); 3] = [
+const TWO_USED: &[(&str, u128, u128, u128, u128)] = &[
     ("lab", 1, 4, 2, 3),
     ("shop", 3, 9, 3, 11),
     ("default", 0, 0, 0, 0),
@@ -266,7 +266,7 @@ fn expands(alloc: Global, device: &str, len: usize, key: &str, value: &str) -> b
 fn the_own_settings_go_before_the_profiles(rt: HostRuntime) {
     for (device, len, key, value) in EXPANDED {
         assert!(rt;
-            expands(rt.alloc(), device, len, key, value),
+            expands(rt.alloc(), device, *len, key, value),
             "{device} {key}"
         );
     }
@@ -302,9 +302,9 @@ fn lab_uses(alloc: Global, updated: bool, project: &str, used: &Amounts) -> bool
 #[test]
 fn an_update_holds_what_it_adds(rt: HostRuntime) {
     for (updated, project, containers, cpu, memory, disk) in USED {
-        let used = amounts(containers, cpu, memory << 30, disk << 30);
+        let used = amounts(*containers, *cpu, *memory << 30, *disk << 30);
         assert!(rt;
-            lab_uses(rt.alloc(), updated, project, &used),
+            lab_uses(rt.alloc(), *updated, project, &used),
             "{project} {cpu}"
         );
     }
@@ -369,7 +369,7 @@ fn one_of_two_uses(alloc: Global, project: &str, used: &Amounts) -> bool {
 #[test]
 fn each_project_uses_its_own(rt: HostRuntime) {
     for (project, containers, cpu, memory, disk) in TWO_USED {
-        let used = amounts(containers, cpu, memory << 30, disk << 30);
+        let used = amounts(*containers, *cpu, *memory << 30, *disk << 30);
         assert!(rt;
             one_of_two_uses(rt.alloc(), project, &used),
             "{project} {cpu}"

@@ -33,7 +33,7 @@ struct Creation {
     of: &'static str,
 }
 
-const CREATIONS: [Creation; 6] = [
+const CREATIONS: &[Creation] = &[
     Creation {
         project: "web",
         name: "c1",
@@ -337,13 +337,13 @@ fn breaks(alloc: Global, case: Creation, alone: bool) -> bool {
 #[test]
 fn creations_break_the_first_rule(rt: HostRuntime) {
     for case in CREATIONS {
-        assert!(rt; breaks(rt.alloc(), case, false), "{}", case.of);
+        assert!(rt; breaks(rt.alloc(), *case, false), "{}", case.of);
     }
 }
 
 #[test]
 fn creations_are_judged_alone(rt: HostRuntime) {
     for case in CREATIONS {
-        assert!(rt; breaks(rt.alloc(), case, true), "{}", case.of);
+        assert!(rt; breaks(rt.alloc(), *case, true), "{}", case.of);
     }
 }

@@ -4,7 +4,7 @@ use standing_rules::from_object_links::link_of;
 use std::alloc::Global;
 
 /// The links of objects of the name `x`: the kind, the pool or instance that it stands in, the project, and the link.
-const LINKS: [(ObjectKind, &str, &str, &str); 6] = [
+const LINKS: &[(ObjectKind, &str, &str, &str)] = &[
     (ObjectKind::Project, "", "p", "/1.0/projects/x"),
     (ObjectKind::Operation, "", "p", "/1.0/operations/x"),
     (ObjectKind::Profile, "", "default", "/1.0/profiles/x"),
@@ -57,6 +57,6 @@ fn has_link(alloc: Global, kind: ObjectKind, outer: &str, project: &str, link: &
 #[test]
 fn links_name_the_project_where_it_matters(rt: HostRuntime) {
     for (kind, outer, project, link) in LINKS {
-        assert!(rt; has_link(rt.alloc(), kind, outer, project, link), "{link}");
+        assert!(rt; has_link(rt.alloc(), *kind, outer, project, link), "{link}");
     }
 }

@@ -19,7 +19,7 @@ enum Given {
     PatchedDevices,
 }
 
-const PARTS: [(Given, &str); 6] = [
+const PARTS: &[(Given, &str)] = &[
     (Given::NewText, "new description"),
     (Given::NewConfig, "new settings"),
     (Given::NewDevices, "new devices"),
@@ -29,7 +29,7 @@ const PARTS: [(Given, &str); 6] = [
 ];
 
 /// How many rows there may be of each kind. Operations are no rows.
-const CAPS: [(ObjectKind, u64); 8] = [
+const CAPS: &[(ObjectKind, u64)] = &[
     (ObjectKind::Project, 1_024),
     (ObjectKind::Profile, 16_384),
     (ObjectKind::Network, 1_024),
@@ -164,14 +164,14 @@ fn makes(alloc: Global, part: Given) -> bool {
 #[test]
 fn bodies_make_parts(rt: HostRuntime) {
     for (part, name) in PARTS {
-        assert!(rt; makes(rt.alloc(), part), "{name}");
+        assert!(rt; makes(rt.alloc(), *part), "{name}");
     }
 }
 
 #[test]
 fn rows_are_few_and_small(rt: HostRuntime) {
     for (kind, cap) in CAPS {
-        assert!(rt; cap_of(kind) == cap, "{cap}");
+        assert!(rt; cap_of(*kind) == *cap, "{cap}");
     }
     largest_row_is_64_kib();
     assert!(rt; LARGEST_ROW == 65_536);

@@ -12,7 +12,7 @@ use table_rules::{claim_tables_broken, tables_broken};
 
 /// How many rows of a kind there are and how many live operations claim, and the kind and the cap that a refusal tells,
 /// where they are too many. The caps of the other kinds are reached by whole runs.
-const TABLES: [(ObjectKind, u32, u32, Option<(&str, u64)>); 14] = [
+const TABLES: &[(ObjectKind, u32, u32, Option<(&str, u64)>)] = &[
     (ObjectKind::Profile, 16_384, 0, None),
     (ObjectKind::Profile, 16_385, 0, Some(("profile", 16_384))),
     (ObjectKind::Volume, 65_536, 0, None),
@@ -219,7 +219,7 @@ fn answers(
 fn full_tables_take_no_row(rt: HostRuntime) {
     for (kind, stored, claims, told) in TABLES {
         assert!(rt;
-            answers(rt.alloc(), kind, stored, claims, told),
+            answers(rt.alloc(), *kind, *stored, *claims, *told),
             "{stored} and {claims}"
         );
     }

@@ -54,6 +54,9 @@ impl SqliteKeeper {
         }
     }
 
+    /// Lets go of its file, which another keeper may open then.
+    pub fn close(self) {}
+
     /// The path of its file, as it was given.
     pub fn path(&self) -> &str
         ensures { result.now ≡ self.now.path }

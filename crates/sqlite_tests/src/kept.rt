@@ -1,6 +1,5 @@
 //! What is committed is found again, by the same keeper and by another one.
-use crate::files::{Row, commits, fails_to_commit, finds, keeper_at, renew};
-use sqlite_keeper::from_record_keeper::Keeper;
+use crate::files::{Row, Step, all_go, all_go_at, commits, finds, keeper_at, renew};
 use sqlite_keeper::{SqliteKeeper, Trouble};
 use std::alloc::Global;
 
@@ -9,7 +8,7 @@ const FOLDER: &str = "sqlite_tests_kept";
 const FILE: &str = "sqlite_tests_kept/rows.db";
 
 /// Commits one after the other, and the rows that they leave.
-const COMMITS: [(&str, &[&[Row]], &[Row]); 10] = [
+const COMMITS: &[(&str, &[&[Row]], &[Row])] = &[
     ("nothing", &[], &[]),
     ("no changes", &[&[]], &[]),
     ("a put", &[&[(1, "a", Some(b"x"))]], &[(1, "a", Some(b"x"))]),
@@ -73,22 +72,37 @@ const COMMITS: [(&str, &[&[Row]], &[Row]); 10] = [
     ),
 ];
 
+/// A commit before the first load fails and is counted, and leaves no trace in the file.
+const EARLY: &[Step<'static>] = &[
+    Step::FailsToCommit(&[(1, "a", Some(b"x"))]),
+    Step::HasFailed(1, Some(Trouble::NotLoaded)),
+    Step::Finds(&[]),
+    Step::Commits(&[&[(1, "a", Some(b"x"))]]),
+    Step::Finds(&[(1, "a", Some(b"x"))]),
+    Step::HasFailed(1, Some(Trouble::NotLoaded)),
+];
+
+/// The first load of a new file.
+const NEW: &[Step<'static>] = &[Step::Finds(&[])];
+
+/// No call has failed.
+const WELL: &[Step<'static>] = &[Step::HasFailed(0, None)];
+
 /// Whether a keeper commits these changes after its first load, and then has these rows.
 fn takes(alloc: Global, keeper: &mut SqliteKeeper, made: &[&[Row]], kept: &[Row]) -> bool {
-    let mut done = finds(keeper, &[]);
-    for rows in made {
-        done = done && commits(alloc, keeper, rows);
-    }
-    done && finds(keeper, kept) && keeper.faults() == 0 && keeper.trouble().is_none()
+    all_go(alloc, keeper, NEW)
+        && commits(alloc, keeper, made)
+        && finds(keeper, kept)
+        && all_go(alloc, keeper, WELL)
 }
 
-/// Whether a keeper of a new file takes these changes.
+/// Whether a keeper of the file does so.
 fn takes_in_new_file(rt: &HostRuntime, made: &[&[Row]], kept: &[Row]) -> bool {
     let Ok(mut keeper) = keeper_at(rt, FILE) else {
         return false;
     };
     let same = takes(rt.alloc(), &mut keeper, made, kept);
-    drop(keeper);
+    keeper.close();
     same
 }
 
@@ -98,34 +112,19 @@ fn finds_again(rt: &HostRuntime, kept: &[Row]) -> bool {
         return false;
     };
     let same = finds(&mut keeper, kept);
-    drop(keeper);
+    keeper.close();
     same
 }
 
-/// Whether a commit before a load fails, is counted, and leaves no trace in the file.
-fn fails_early(rt: &HostRuntime) -> bool {
-    let Ok(mut keeper) = keeper_at(rt, FILE) else {
-        return false;
-    };
-    let rows: &[Row] = &[(1, "a", Some(b"x"))];
-    let failed = fails_to_commit(rt.alloc(), &mut keeper, rows)
-        && keeper.faults() == 1
-        && keeper.trouble() == Some(&Trouble::NotLoaded);
-    let taken = finds(&mut keeper, &[])
-        && commits(rt.alloc(), &mut keeper, rows)
-        && finds(&mut keeper, rows)
-        && keeper.faults() == 1;
-    drop(keeper);
-    failed && taken
+/// Whether a new file keeps these rows after these changes.
+fn keeps(rt: &HostRuntime, made: &[&[Row]], kept: &[Row]) -> bool {
+    renew(rt, FOLDER) && takes_in_new_file(rt, made, kept) && finds_again(rt, kept)
 }
 
 #[test]
 fn what_is_committed_is_found_again(rt: HostRuntime) {
     for (case, made, kept) in COMMITS {
-        assert!(rt; renew(&rt, FOLDER).is_ok(), "{case}");
-        assert!(rt; takes_in_new_file(&rt, made, kept), "{case}");
-        assert!(rt; finds_again(&rt, kept), "{case}, again");
+        assert!(rt; keeps(&rt, made, kept), "{case}");
     }
-    assert!(rt; renew(&rt, FOLDER).is_ok());
-    assert!(rt; fails_early(&rt));
+    assert!(rt; renew(&rt, FOLDER) && all_go_at(&rt, FILE, EARLY));
 }

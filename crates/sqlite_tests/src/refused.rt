@@ -1,14 +1,15 @@
 //! Files that are refused, each with its trouble, and as they were.
-use crate::files::{fails_to_load, finds, keeper_at, renew};
+use crate::files::{Step, all_go, all_go_at, keeper_at, renew};
 use sqlite::{Connection, Error};
-use sqlite_keeper::from_record_keeper::Keeper;
-use sqlite_keeper::{SqliteKeeper, Trouble};
+use sqlite_keeper::Trouble;
 use std::alloc::Global;
 use std::{fs, io};
 
 const FOLDER: &str = "sqlite_tests_refused";
 
 const FILE: &str = "sqlite_tests_refused/rows.db";
+
+const MISSING: &str = "sqlite_tests_refused/missing/rows.db";
 
 /// How a file is made.
 #[derive(Clone, Copy)]
@@ -21,7 +22,7 @@ enum Made {
     Changed(&'static str),
 }
 
-const REFUSED: [(&str, Made, Trouble); 17] = [
+const REFUSED: &[(&str, Made, Trouble)] = &[
     (
         "a text",
         Made::Bytes(b"bread, milk\n"),
@@ -115,42 +116,26 @@ fn run(rt: &HostRuntime, statements: &str) -> Result<(), Error> {
     }
 }
 
-/// Makes the tables of the program in a new file.
-fn begin(rt: &HostRuntime) -> bool {
-    let Ok(mut keeper) = keeper_at(rt, FILE) else {
-        return false;
-    };
-    let done = finds(&mut keeper, &[]);
-    drop(keeper);
-    done
-}
-
 fn make(rt: &HostRuntime, made: Made) -> bool {
     match made {
         Made::Bytes(bytes) => fs::write(rt, FILE, bytes).is_ok(),
         Made::Folder => fs::create_dir(rt, FILE).is_ok(),
         Made::Database(statements) => run(rt, statements).is_ok(),
-        Made::Changed(statements) => begin(rt) && run(rt, statements).is_ok(),
+        Made::Changed(statements) => {
+            all_go_at(rt, FILE, &[Step::Finds(&[])]) && run(rt, statements).is_ok()
+        }
     }
 }
 
-/// Whether a keeper fails with this trouble, once more for each call.
-fn refuses(keeper: &mut SqliteKeeper, trouble: Trouble) -> bool {
-    fails_to_load(keeper)
-        && keeper.trouble() == Some(&trouble)
-        && fails_to_load(keeper)
-        && keeper.trouble() == Some(&trouble)
-        && keeper.faults() == 2
-}
-
-/// Whether the file is refused with this trouble.
-fn is_refused(rt: &HostRuntime, trouble: Trouble) -> bool {
-    let Ok(mut keeper) = keeper_at(rt, FILE) else {
-        return false;
-    };
-    let refused = refuses(&mut keeper, trouble);
-    drop(keeper);
-    refused
+/// Whether the file at this path is refused with this trouble, once more for each call.
+fn is_refused(rt: &HostRuntime, path: &str, trouble: Trouble) -> bool {
+    let steps = [
+        Step::FailsToLoad,
+        Step::HasFailed(1, Some(trouble)),
+        Step::FailsToLoad,
+        Step::HasFailed(2, Some(trouble)),
+    ];
+    all_go_at(rt, path, &steps)
 }
 
 /// The bytes of the file; none where it is a folder.
@@ -166,7 +151,7 @@ fn stays(rt: &HostRuntime, made: Made, trouble: Trouble) -> bool {
     let Ok(before) = bytes_of(rt, made) else {
         return false;
     };
-    let refused = is_refused(rt, trouble);
+    let refused = is_refused(rt, FILE, trouble);
     let same = match bytes_of(rt, made) {
         Ok(now) => {
             let same = now == before;
@@ -179,40 +164,33 @@ fn stays(rt: &HostRuntime, made: Made, trouble: Trouble) -> bool {
     refused && same
 }
 
+/// Whether a file that is made so in a new folder is refused with this trouble, and stays as it was.
+fn is_refused_when(rt: &HostRuntime, made: Made, trouble: Trouble) -> bool {
+    renew(rt, FOLDER) && make(rt, made) && stays(rt, made, trouble)
+}
+
 /// Whether the file that another keeper has open is refused.
 fn is_refused_beside(rt: &HostRuntime) -> bool {
     let Ok(mut first) = keeper_at(rt, FILE) else {
         return false;
     };
-    let refused = finds(&mut first, &[]) && is_refused(rt, Trouble::InUse);
-    drop(first);
-    refused
-}
-
-/// Whether a file in a folder that is missing is refused.
-fn is_refused_nowhere(rt: &HostRuntime) -> bool {
-    let Ok(mut keeper) = keeper_at(rt, "sqlite_tests_refused/missing/rows.db") else {
-        return false;
-    };
-    let refused = refuses(&mut keeper, Trouble::CannotOpen);
-    drop(keeper);
-    refused
+    let opened = all_go(rt.alloc(), &mut first, &[Step::Finds(&[])]);
+    let refused = is_refused(rt, FILE, Trouble::InUse);
+    first.close();
+    opened && refused
 }
 
 #[test]
 fn other_files_are_refused_and_stay_as_they_were(rt: HostRuntime) {
     for (case, made, trouble) in REFUSED {
-        assert!(rt; renew(&rt, FOLDER).is_ok(), "{case}");
-        assert!(rt; make(&rt, made), "{case}");
-        assert!(rt; stays(&rt, made, trouble), "{case}");
+        assert!(rt; is_refused_when(&rt, *made, *trouble), "{case}");
     }
-    assert!(rt; renew(&rt, FOLDER).is_ok());
-    assert!(rt; is_refused_beside(&rt));
-    assert!(rt; is_refused_nowhere(&rt));
+    assert!(rt; renew(&rt, FOLDER) && is_refused_beside(&rt));
+    assert!(rt; is_refused(&rt, MISSING, Trouble::CannotOpen));
 }
 
 /// What a person is told.
-const SENTENCES: [(Trouble, &str); 3] = [
+const SENTENCES: &[(Trouble, &str)] = &[
     (
         Trouble::NewerVersion(2),
         "the file was made by a newer version of this program (format 2, this one reads 1)",
@@ -241,6 +219,6 @@ fn says(alloc: Global, trouble: Trouble, sentence: &str) -> bool {
 #[test]
 fn each_trouble_is_told_in_a_sentence(rt: HostRuntime) {
     for (trouble, sentence) in SENTENCES {
-        assert!(rt; says(rt.alloc(), trouble, sentence), "{sentence}");
+        assert!(rt; says(rt.alloc(), *trouble, sentence), "{sentence}");
     }
 }

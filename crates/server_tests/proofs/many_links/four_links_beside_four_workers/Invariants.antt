@@ -1,4 +1,4 @@
-use Rattle.loop_tests.proofs.locked_links.two_links_meet_in_one_server.Given as goal
+use Rattle.server_tests.proofs.many_links.four_links_beside_four_workers.Given as goal
 
 abbrev pub ghosts-meet : goal.ghosts-meet
 ghosts-meet g a = record { name = a.blank.name; parts = a.blank.parts }

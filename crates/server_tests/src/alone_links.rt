@@ -1,16 +1,12 @@
 //! Links and a worker over a gate of one's own.
 ghost use Rattle.std.specs.Prelude.{◌≤◌};
 
-use crate::links::name_of;
-use gates::AloneGate;
-use gates::from_core_turns::Daemon;
+use crate::links::{OwnGate, is_answered, is_served, new_gate};
 use gates::from_gate_trails::Gate;
-use gates::from_http_front::{ByteSink, ByteSource, StillClock};
-use gates::from_record_keeper::MapKeeper;
+use gates::from_http_front::StillClock;
 use gates::from_row_machine::{Answer, Event};
 use host_lock::from_host_model::ModelHost;
-use host_lock::from_size_values::{NoMemory, Seq};
-use serve_loop::serve_link;
+use host_lock::from_size_values::Seq;
 use std::alloc::Global;
 use std::sync::Wait;
 use workers::work;
@@ -79,72 +75,6 @@ const SHOWN: &str =
 const SHOWN_REPLIES: &str =
     "HTTP/1.1 200 OK\r\nContent-Type: application/json\r\nContent-Length: 324\r\n\r\n{\"metadata\":{\"class\":\"task\",\"created_at\":\"1970-01-01T00:00:00Z\",\"err\":\"\",\"id\":\"00000000-0001-8000-8000-000000000001\",\"may_cancel\":false,\"metadata\":null,\"resources\":{\"instances\":[\"/1.0/instances/a\"]},\"status\":\"Success\",\"status_code\":200,\"updated_at\":\"1970-01-01T00:00:00Z\"},\"status\":\"Success\",\"status_code\":200,\"type\":\"sync\"}";
 
-type OwnGate = AloneGate<MapKeeper, ModelHost, StillClock>;
-
-/// A gate over a new server, whose clock stands still.
-fn new_gate(alloc: Global) -> Option<OwnGate> {
-    let mut keeper = MapKeeper::new(alloc, Seq::new(alloc));
-    match Daemon::begin(alloc, &mut keeper) {
-        Ok(daemon) => {
-            let host = ModelHost::new(alloc, Seq::new(alloc));
-            Some(AloneGate::new(alloc, daemon, keeper, host, StillClock::new(0)))
-        }
-        Err(fault) => {
-            drop(fault);
-            drop(keeper);
-            None
-        }
-    }
-}
-
-/// Whether a link of these bytes, at most `piece` at each read, ends so and has these replies.
-fn serves<T: Wait>(
-    rt: &T,
-    alloc: Global,
-    gate: &mut OwnGate,
-    bytes: Seq<u8>,
-    piece: usize,
-    ends: &str,
-    replies: &str,
-) -> bool
-    requires { 1 ≤ piece }
-{
-    let mut source = ByteSource::new(bytes, piece, Seq::new(alloc));
-    let mut sink = ByteSink::new(alloc, Seq::new(alloc));
-    let mut clock = StillClock::new(0);
-    let ended = serve_link(rt, alloc, gate, &mut source, &mut sink, &mut clock, 1);
-    drop(source);
-    let is_so = name_of(&ended) == ends && sink.bytes() == replies.as_bytes();
-    drop(ended);
-    drop(sink);
-    is_so
-}
-
-/// Whether a link over a new server ends so and has these replies.
-fn is_served<T: Wait>(
-    rt: &T,
-    alloc: Global,
-    text: &str,
-    piece: usize,
-    ends: &str,
-    replies: &str,
-) -> Result<bool, NoMemory>
-    requires { 1 ≤ piece }
-{
-    let bytes = Seq::of_bytes(alloc, text.as_bytes())?;
-    match new_gate(alloc) {
-        Some(mut gate) => {
-            let is_so = serves(rt, alloc, &mut gate, bytes, piece, ends, replies);
-            drop(gate);
-            Ok(is_so)
-        }
-        None => {
-            drop(bytes);
-            Ok(false)
-        }
-    }
-}
-
 /// The bytes of a link, how it ends, and its replies.
 const LINKS: &[(&str, &str, &str)] = &[
     (TWICE, "ended", TWICE_REPLIES),
@@ -159,15 +89,42 @@ const LINKS: &[(&str, &str, &str)] = &[
     ("", "ended", ""),
 ];
 
+/// Whether a link over a new server ends so and has these replies, where at most `piece` of its bytes come at each read.
+fn is_served_anew<T: Wait>(
+    rt: &T,
+    alloc: Global,
+    text: &str,
+    piece: usize,
+    ends: &str,
+    replies: &str,
+) -> bool
+    requires { 1 ≤ piece }
+{
+    let Some(mut gate) = new_gate(alloc) else {
+        return false;
+    };
+    let is_so = is_served(rt, alloc, &mut gate, text, piece, ends, replies);
+    drop(gate);
+    is_so
+}
+
+/// The same in small pieces and in large ones.
+fn is_served_in_pieces<T: Wait>(
+    rt: &T,
+    alloc: Global,
+    text: &str,
+    ends: &str,
+    replies: &str,
+) -> bool {
+    is_served_anew(rt, alloc, text, 7, ends, replies)
+        && is_served_anew(rt, alloc, text, 4096, ends, replies)
+}
+
 #[test]
 fn links_are_served(rt: HostRuntime) {
     for (text, ends, replies) in LINKS {
         assert!(rt;
-            is_served(&rt, rt.alloc(), text, 7, ends, replies) == Ok(true),
-            "{text}"
-        );
-        assert!(rt;
-            is_served(&rt, rt.alloc(), text, 4096, ends, replies) == Ok(true),
+            is_served_in_pieces(&rt, rt.alloc(), text, ends, replies),
             "{text}"
         );
     }
@@ -189,18 +146,6 @@ fn close(gate: &mut OwnGate) -> bool {
     closed
 }
 
-/// Whether a link begins the creation of an instance.
-fn is_begun<T: Wait>(rt: &T, alloc: Global, gate: &mut OwnGate) -> Result<bool, NoMemory> {
-    let bytes = Seq::of_bytes(alloc, BEGUN.as_bytes())?;
-    Ok(serves(rt, alloc, gate, bytes, 100, "ended", BEGUN_REPLIES))
-}
-
-/// Whether a link is shown that the creation succeeded.
-fn is_shown<T: Wait>(rt: &T, alloc: Global, gate: &mut OwnGate) -> Result<bool, NoMemory> {
-    let bytes = Seq::of_bytes(alloc, SHOWN.as_bytes())?;
-    Ok(serves(rt, alloc, gate, bytes, 100, "ended", SHOWN_REPLIES))
-}
-
 /// Whether a worker makes one instance on a host of its own before it returns.
 fn is_made<T: Wait>(rt: &T, alloc: Global, gate: &mut OwnGate) -> bool {
     let mut host = ModelHost::new(alloc, Seq::new(alloc));
@@ -215,12 +160,12 @@ fn is_worked<T: Wait>(rt: &T, alloc: Global) -> bool {
     let Some(mut gate) = new_gate(alloc) else {
         return false;
     };
-    let begun = is_begun(rt, alloc, &mut gate);
+    let begun = is_answered(rt, alloc, &mut gate, BEGUN, BEGUN_REPLIES);
     let closed = close(&mut gate);
     let made = is_made(rt, alloc, &mut gate);
-    let shown = is_shown(rt, alloc, &mut gate);
+    let shown = is_answered(rt, alloc, &mut gate, SHOWN, SHOWN_REPLIES);
     drop(gate);
-    begun == Ok(true) && closed && made && shown == Ok(true)
+    begun && closed && made && shown
 }
 
 #[test]

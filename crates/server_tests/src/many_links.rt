@@ -1,7 +1,7 @@
 //! Four links that create instances beside four workers that make them.
 ghost use Rattle.std.specs.Prelude.{◌≡◌};
 
-use crate::links::{INSTANCES, POOL, count_in_replies, new_machine, replies_to};
+use crate::links::{INSTANCES, POOL, count_in_replies, new_machine, requests};
 use gates::from_gate_trails::Gate;
 use gates::from_http_front::StillClock;
 use gates::from_record_keeper::MapKeeper;
@@ -57,7 +57,7 @@ fn creation(alloc: Global, link: u64, number: u32) -> Option<String> {
 fn creates<L: Ledger, T: Wait + Clock>(floor: &Floor<L, T>, gate: &mut Locked<L, T>, link: u64) {
     for number in 0..CREATIONS {
         if let Some(text) = creation(floor.alloc, link, number) {
-            drop(replies_to(&floor.rt, floor.alloc, gate, &text));
+            requests(&floor.rt, floor.alloc, gate, &text);
             drop(text);
         }
     }

@@ -1,5 +1,6 @@
 //! What a session of events sends.
-use crate::busy_gate::{BusyGate, OwnGate, new_gate, request};
+use crate::busy_gate::BusyGate;
+use crate::links::{OwnGate, POOL, new_gate, requests};
 use event_sessions::{SessionEnd, event_session};
 use gates::from_http_front::ByteSink;
 use gates::from_records::Filter;
@@ -12,10 +13,6 @@ const HEAD: &str =
     "HTTP/1.1 101 Switching Protocols\r\nUpgrade: websocket\r\nConnection: Upgrade\r\nSec-WebSocket-Accept: s3pPLMBiTxaQ9kYGzzhZRbK+xOo=\r\n\r\n";
 
 const KEY: &str = "dGhlIHNhbXBsZSBub25jZQ==";
-
-/// A pool, and the root disk of all instances in it.
-const POOL: &str =
-    "POST /1.0/storage-pools HTTP/1.1\r\nHost: localhost\r\nContent-Length: 28\r\n\r\n{\"driver\":\"dir\",\"name\":\"p0\"}PUT /1.0/profiles/default HTTP/1.1\r\nHost: localhost\r\nContent-Length: 73\r\n\r\n{\"devices\":{\"root\":{\"path\":\"/\",\"pool\":\"p0\",\"size\":\"1GiB\",\"type\":\"disk\"}}}";
 
 const NOTHING: &str = "";
 
@@ -43,7 +40,16 @@ const CREATED: &str =
 /// What was requested before a session listens, and what is while it does; whether it takes lifecycle events and whether
 /// operation events; and what it sends before it lags, with the number that it asks for then. The oldest event that is kept
 /// is then the next one.
-const SESSIONS: &[(&str, &str, bool, bool, &[&str], u64)] = &[
+type Session = (
+    &'static str,
+    &'static str,
+    bool,
+    bool,
+    &'static [&'static str],
+    u64,
+);
+
+const SESSIONS: &[Session] = &[
     (NOTHING, NOTHING, false, true, &[], 1),
     (NOTHING, NOTHING, true, true, &[], 1),
     (POOL, NOTHING, true, true, &[], 3),
@@ -89,34 +95,37 @@ fn message_bytes(alloc: Global, texts: &[&str]) -> Result<Vec<u8>, NoMemory> {
     Ok(bytes)
 }
 
-/// A gate to a server of which this was requested before.
-fn gate_after<T: Wait>(rt: &T, alloc: Global, before: &str) -> Result<Option<OwnGate>, NoMemory> {
-    let Some(mut gate) = new_gate(alloc) else {
-        return Ok(None);
-    };
-    match request(rt, alloc, &mut gate, before) {
-        Ok(()) => Ok(Some(gate)),
-        Err(why) => {
-            drop(gate);
-            Err(why)
+/// Whether bytes are the head, these messages, and a close frame.
+fn are_sent(alloc: Global, bytes: &[u8], texts: &[&str]) -> bool {
+    match message_bytes(alloc, texts) {
+        Ok(due) => {
+            let same = bytes == due.as_slice();
+            drop(due);
+            same
         }
+        Err(_) => false,
     }
 }
 
-/// How a session ends, and what it sends.
+/// A gate to a server of which this was requested before.
+fn gate_after<T: Wait>(rt: &T, alloc: Global, before: &str) -> Option<OwnGate> {
+    let mut gate = new_gate(alloc)?;
+    if requests(rt, alloc, &mut gate, before) {
+        Some(gate)
+    } else {
+        drop(gate);
+        None
+    }
+}
+
+/// How a session at a gate ends, and what it sends, while a link makes these requests.
 fn listened<T: Wait + Copy>(
     rt: T,
     alloc: Global,
-    before: &str,
+    inner: OwnGate,
     requests: &'static str,
-    life: bool,
-    op: bool,
-) -> Result<Option<(SessionEnd, ByteSink)>, NoMemory> {
-    let project = Text::from_text(alloc, "default")?;
-    let Some(inner) = gate_after(&rt, alloc, before)? else {
-        drop(project);
-        return Ok(None);
-    };
+    filter: Filter,
+) -> (SessionEnd, ByteSink) {
     let mut gate = BusyGate {
         rt,
         alloc,
@@ -126,11 +135,18 @@ fn listened<T: Wait + Copy>(
         rests: 0,
     };
     let mut sink = ByteSink::new(alloc, Seq::new(alloc));
-    let filter = Filter { life, op, project };
     let ends = event_session(&rt, alloc, &mut gate, &mut sink, KEY, &filter, 1);
     drop(filter);
     drop(gate);
-    Ok(Some((ends, sink)))
+    (ends, sink)
+}
+
+/// The events of the project `default`: those of lifecycles, and those of operations.
+fn filter_of(alloc: Global, life: bool, op: bool) -> Option<Filter> {
+    match Text::from_text(alloc, "default") {
+        Ok(project) => Some(Filter { life, op, project }),
+        Err(_) => None,
+    }
 }
 
 /// Whether a session sends these messages and then lags so.
@@ -139,27 +155,41 @@ fn sends<T: Wait + Copy>(
     alloc: Global,
     before: &str,
     requests: &'static str,
-    life: bool,
-    op: bool,
+    filter: Filter,
     texts: &[&str],
     cursor: u64,
-) -> Result<bool, NoMemory> {
-    let due = message_bytes(alloc, texts)?;
-    let Some((ends, sink)) = listened(rt, alloc, before, requests, life, op)? else {
-        return Ok(false);
+) -> bool {
+    let Some(inner) = gate_after(&rt, alloc, before) else {
+        drop(filter);
+        return false;
     };
+    let (ends, sink) = listened(rt, alloc, inner, requests, filter);
     let oldest = cursor.wrapping_add(1);
-    let is_so = ends == SessionEnd::Lagged { cursor, oldest } && sink.bytes() == due.as_slice();
+    let is_so = ends == SessionEnd::Lagged { cursor, oldest }
+        && are_sent(alloc, sink.bytes(), texts);
     drop(sink);
-    Ok(is_so)
+    is_so
+}
+
+/// Whether a session that takes these events sends these messages and then lags so.
+fn is_told<T: Wait + Copy>(rt: T, alloc: Global, session: &Session) -> bool {
+    let (before, requests, life, op, texts, cursor) = *session;
+    match filter_of(alloc, life, op) {
+        Some(filter) => sends(rt, alloc, before, requests, filter, texts, cursor),
+        None => false,
+    }
 }
 
 #[test]
 fn sessions_send_what_is_told(rt: HostRuntime) {
-    for (before, requests, life, op, texts, cursor) in SESSIONS {
+    for session in SESSIONS {
         assert!(rt;
-            sends(rt, rt.alloc(), before, requests, *life, *op, texts, *cursor) == Ok(true),
-            "{before} {requests} {life} {op}"
+            is_told(rt, rt.alloc(), session),
+            "{} {} {} {}",
+            session.0,
+            session.1,
+            session.2,
+            session.3
         );
     }
 }

@@ -3,7 +3,7 @@ ghost use Rattle.std.specs.Prelude.{◌≡◌, None};
 
 use crate::holding_gates::HoldingGate;
 use crate::links::{
-    INSTANCES, POOL, count_in_replies, gate_at, is_answered, new_machine, replies_to,
+    INSTANCES, POOL, count_in_replies, gate_at, is_answered, new_machine, requests,
 };
 use gates::from_gate_trails::Gate;
 use gates::from_http_front::StillClock;
@@ -247,7 +247,7 @@ fn meet<L: Ledger + Send + Sync, T: Threads + Wait + Clock + Copy + Send + Sync 
     let held = held_host(rt, alloc, way.looks);
     let gates = gates_at(rt, alloc, turnstile, passes, way.holds);
     let (held, (links, (mut third, worker))) = held.zip(gates)?;
-    drop(replies_to(&rt, alloc, &mut third, POOL));
+    requests(&rt, alloc, &mut third, POOL);
     let is_so = play(rt, alloc, links, worker, held);
     let is_empty = is_answered(&rt, alloc, &mut third, INSTANCES, NO_INSTANCES);
     drop(third);

@@ -1,15 +1,9 @@
 //! A gate whose rests are busy: other links have their turns at the server in them.
 ghost use Rattle.std.specs.Prelude.{None};
 
-use gates::AloneGate;
-use gates::from_core_turns::Daemon;
+use crate::links::{OwnGate, requests};
 use gates::from_gate_trails::Gate;
-use gates::from_host_model::ModelHost;
-use gates::from_http_front::{ByteSink, ByteSource, StillClock};
-use gates::from_record_keeper::MapKeeper;
 use gates::from_row_machine::{Answer, Event};
-use gates::from_size_values::{NoMemory, Seq};
-use serve_loop::serve_link;
 use std::alloc::Global;
 use std::sync::Wait;
 
@@ -23,45 +17,10 @@ const CHANGES: u32 = 1025;
 const CHANGE: &str =
     "PATCH /1.0/projects/default HTTP/1.1\r\nHost: localhost\r\nContent-Length: 25\r\n\r\n{\"description\":\"touched\"}";
 
-pub(crate) type OwnGate = AloneGate<MapKeeper, ModelHost, StillClock>;
-
-/// A gate over a new server, whose clock stands still.
-pub(crate) fn new_gate(alloc: Global) -> Option<OwnGate> {
-    let mut keeper = MapKeeper::new(alloc, Seq::new(alloc));
-    match Daemon::begin(alloc, &mut keeper) {
-        Ok(daemon) => {
-            let host = ModelHost::new(alloc, Seq::new(alloc));
-            Some(AloneGate::new(alloc, daemon, keeper, host, StillClock::new(0)))
-        }
-        Err(fault) => {
-            drop(fault);
-            drop(keeper);
-            None
-        }
-    }
-}
-
-/// Makes the requests of a text at a gate.
-pub(crate) fn request<T: Wait, G: Gate>(
-    rt: &T,
-    alloc: Global,
-    gate: &mut G,
-    text: &str,
-) -> Result<(), NoMemory> {
-    let bytes = Seq::of_bytes(alloc, text.as_bytes())?;
-    let mut source = ByteSource::new(bytes, 100, Seq::new(alloc));
-    let mut sink = ByteSink::new(alloc, Seq::new(alloc));
-    let mut clock = StillClock::new(0);
-    drop(serve_link(rt, alloc, gate, &mut source, &mut sink, &mut clock, 1));
-    drop(source);
-    drop(sink);
-    Ok(())
-}
-
 /// Changes a project more often than events are kept.
 fn change<T: Wait, G: Gate>(rt: &T, alloc: Global, gate: &mut G) {
     for _ in 0..CHANGES {
-        let _ = request(rt, alloc, gate, CHANGE);
+        requests(rt, alloc, gate, CHANGE);
     }
 }
 
@@ -93,7 +52,7 @@ impl<T: Wait> Gate for BusyGate<T> {
         if self.requests.is_empty() || self.rests >= WORKED {
             change(&self.rt, self.alloc, &mut self.inner);
         } else if self.rests == 0 {
-            let _ = request(&self.rt, self.alloc, &mut self.inner, self.requests);
+            requests(&self.rt, self.alloc, &mut self.inner, self.requests);
         } else {
             self.inner.rest();
         }

@@ -1,0 +1,32 @@
+//! Tests of a server in memory. Links and workers over gates: over a gate of their own, and on threads over gates to one
+//! server under a lock. Event sessions, in whose rests the server goes on. And random runs, turn by turn, over the public
+//! calls of `core_turns`: after each turn the usage of every project is summed anew from what the server shows. There is
+//! nothing else here.
+#![tactic(auto)]
+
+#[cfg(test)]
+mod alone_links;
+#[cfg(test)]
+mod busy_gate;
+#[cfg(test)]
+mod chance;
+#[cfg(test)]
+mod events;
+#[cfg(test)]
+mod held_links;
+#[cfg(test)]
+mod holding_gates;
+#[cfg(test)]
+mod judging;
+#[cfg(test)]
+mod links;
+#[cfg(test)]
+mod locked_links;
+#[cfg(test)]
+mod many_links;
+#[cfg(test)]
+mod random_runs;
+#[cfg(test)]
+mod server;
+#[cfg(test)]
+mod sessions;
