@@ -4,12 +4,9 @@ use Rattle.std.specs.declared.cmp.Ordering.{Ordering}
 use Rattle.std.specs.declared.cmp.Ordering.TheVariants.{Less, Equal, Greater}
 use Rattle.std.specs.Ordering.{nat_cmp, match_ordering}
 use Rattle.std.specs.Cmp.Lexicographic.{slice_cmp}
-use Rattle.config_lists.specs.Settings.{Settings}
-use Rattle.config_lists.specs.Devices.{NamedDevices}
-use Rattle.serde_json.specs.Data.{Data, string, Members, no_members, member, put}
+use Rattle.serde_json.specs.Data.{Data, Members, no_members, member, put}
 use Rattle.serde_json.specs.View.{items_of}
 use Rattle.serde_json.specs.Written.{has_float, items_have_float, members_have_float}
-use Rattle.reply_parts.specs.Settings.{put_settings, settings_data, put_devices, devices_data, texts_data}
 
 or_first : (a b : Bool) → (a || b) ≡ false → a ≡ false
 or_first true b h = cc
@@ -32,25 +29,3 @@ put_plain k d (member l e ms) plain all =
 pub items_plain : {A : Type 0} (f : A → Data) (xs : List A) → ((x : A) → has_float (f x) ≡ false) → items_have_float (items_of (map f xs)) ≡ false
 items_plain f [] each = refl
 items_plain f (x ∷ xs) each = rw (each x) (items_plain f xs each)
-
--- ---- settings, devices and texts
-
-put_settings_plain : (settings : Settings) (ms : Members) → members_have_float ms ≡ false → members_have_float (put_settings settings ms) ≡ false
-put_settings_plain [] ms all = all
-put_settings_plain (x ∷ xs) ms all = put_settings_plain xs (put x.0 (string x.1) ms) (put_plain x.0 (string x.1) ms refl all)
-
-pub settings_plain : (settings : Settings) → has_float (settings_data settings) ≡ false
-unfolding settings_data
-settings_plain settings = put_settings_plain settings no_members refl
-
-put_devices_plain : (devices : NamedDevices) (ms : Members) → members_have_float ms ≡ false → members_have_float (put_devices devices ms) ≡ false
-put_devices_plain [] ms all = all
-put_devices_plain (x ∷ xs) ms all = put_devices_plain xs (put x.0 (settings_data x.1) ms) (put_plain x.0 (settings_data x.1) ms (settings_plain x.1) all)
-
-pub devices_plain : (devices : NamedDevices) → has_float (devices_data devices) ≡ false
-unfolding devices_data
-devices_plain devices = put_devices_plain devices no_members refl
-
-pub texts_plain : (texts : List (List ℕ)) → has_float (texts_data texts) ≡ false
-unfolding texts_data
-texts_plain texts = items_plain string texts (λ text. refl)

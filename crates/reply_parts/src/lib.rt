@@ -1,5 +1,5 @@
-//! Parts of which replies and events are made: objects of JSON, moments as texts, settings and devices as JSON, and the
-//! ids of operations.
+//! Parts of which replies and events are made: JSON that is written as it is made, objects of JSON, moments as texts, and
+//! the ids of operations.
 #![tactic(auto)]
 
 /// Of `config_lists`, for the crates above.
@@ -16,12 +16,10 @@ mod ids;
 mod laws;
 mod moments;
 mod object;
-mod settings;
 mod text;
 
 pub use ids::{id_text, number_of, operation_link};
 pub use laws::ids_read_back;
 pub use moments::moment_text;
 pub use object::Object;
-pub use settings::texts_value;
 pub use text::JsonText;

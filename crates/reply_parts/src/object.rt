@@ -2,16 +2,13 @@
 ghost use Rattle.std.specs.Prelude.{◌≡◌, IfOk, OnOk};
 ghost use Rattle.serde_json.specs.Data.{no_members, put, string, boolean, object};
 ghost use Rattle.serde_json.specs.View.{view};
-ghost use Rattle.reply_parts.specs.Ids.{id_text, operation_link};
+ghost use Rattle.reply_parts.specs.Ids.{id_text};
 ghost use Rattle.reply_parts.specs.Moments.{moment_text};
 ghost use Rattle.reply_parts.specs.Objects.{whole};
-ghost use Rattle.reply_parts.specs.Settings.{settings_data, devices_data, texts_data};
 
-use crate::ids::{id_text, operation_link};
+use crate::ids::id_text;
 use crate::moments::moment_text;
-use crate::settings::{devices_value, settings_value, texts_value};
-use config_lists::from_size_values::{NoMemory, Seq, Text};
-use config_lists::{Config, Devices};
+use config_lists::from_size_values::NoMemory;
 use serde_json::{Map, Value};
 use std::alloc::Global;
 
@@ -96,39 +93,6 @@ impl Object {
     {
         let text = id_text(self.alloc, boot, number)?;
         self.with_text(key, text.view())
-    }
-
-    /// The object with the link of an operation more.
-    pub fn with_link(self, key: &str, boot: u64, number: u64) -> Result<Object, NoMemory>
-        ensures { IfOk result (λ o. members_in o
-            ≡ put key.now (string (operation_link boot number)) (members_in self)) }
-    {
-        let link = operation_link(self.alloc, boot, number)?;
-        self.with_text(key, link.view())
-    }
-
-    /// The object with settings more, as an object of texts.
-    pub fn with_settings(self, key: &str, config: &Config) -> Result<Object, NoMemory>
-        ensures { IfOk result (λ o. members_in o ≡ put key.now (settings_data config.now) (members_in self)) }
-    {
-        let settings = settings_value(self.alloc, config)?;
-        self.with(key, settings)
-    }
-
-    /// The object with devices more, as an object of their settings.
-    pub fn with_devices(self, key: &str, devices: &Devices) -> Result<Object, NoMemory>
-        ensures { IfOk result (λ o. members_in o ≡ put key.now (devices_data devices.now) (members_in self)) }
-    {
-        let devices = devices_value(self.alloc, devices)?;
-        self.with(key, devices)
-    }
-
-    /// The object with texts more, as a list.
-    pub fn with_texts(self, key: &str, texts: &Seq<Text>) -> Result<Object, NoMemory>
-        ensures { IfOk result (λ o. members_in o ≡ put key.now (texts_data texts.now) (members_in self)) }
-    {
-        let texts = texts_value(self.alloc, texts)?;
-        self.with(key, texts)
     }
 
     /// The object as a value.

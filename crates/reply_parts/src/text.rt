@@ -18,7 +18,7 @@ use serde_json::Value;
 use std::alloc::Global;
 use std::marker::Model;
 
-/// JSON that is being written, from its front on. Each call takes the text and gives it back with more behind it, so that
+/// JSON that is being written, from its front on. Each call takes the text and gives it back with more after it, so that
 /// where memory ends its caller has none to let go. Contracts see its bytes.
 #[derive(Drop)]
 pub struct JsonText {

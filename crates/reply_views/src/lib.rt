@@ -15,9 +15,7 @@ pub mod from_records {
 
 /// Of `reply_parts`, for the crates above.
 pub mod from_reply_parts {
-    pub use reply_parts::{
-        JsonText, Object, id_text, ids_read_back, number_of, operation_link, texts_value,
-    };
+    pub use reply_parts::{JsonText, Object, id_text, ids_read_back, number_of, operation_link};
 }
 
 /// Of `row_machine`, for the crates above.

@@ -7,7 +7,7 @@ use core_turns::from_rule_refusals::nothing_told;
 use rest_replies::from_http_front::{HeadFault, reply_bytes};
 use rest_replies::from_records::{Refusal, Reply, Rule};
 use rest_replies::from_size_values::{NoMemory, Seq};
-use rest_replies::{no_memory_is_known, print};
+use rest_replies::{known_reply, no_memory_is_known, print};
 use std::alloc::Global;
 
 /// What is to be written for a request.
@@ -23,13 +23,24 @@ pub enum Answered {
     Unprinted,
 }
 
-/// The bytes of a reply. The boot word is that of the ids of operations.
+/// The bytes of a reply that is made. The boot word is that of the ids of operations.
 #[tactic(auto, unfolding(crate::specs::Texts::printed))]
-fn text_of(alloc: Global, reply: &Reply, boot: u64, last: bool) -> Result<Seq<u8>, NoMemory>
+fn made_text(alloc: Global, reply: &Reply, boot: u64, last: bool) -> Result<Seq<u8>, NoMemory>
     ensures { IfOk result (λ bytes. bytes ≡ printed reply.now boot last) }
 {
     let printed = print(alloc, reply, boot, last)?;
     reply_bytes(alloc, &printed)
+}
+
+/// The bytes of a reply: those that stand ready, or else it is made.
+#[tactic(auto, unfolding(crate::specs::Texts::printed))]
+fn text_of(alloc: Global, reply: &Reply, boot: u64, last: bool) -> Result<Seq<u8>, NoMemory>
+    ensures { IfOk result (λ bytes. bytes ≡ printed reply.now boot last) }
+{
+    match known_reply(reply, last) {
+        Some(text) => Seq::of_bytes(alloc, text),
+        None => made_text(alloc, reply, boot, last),
+    }
 }
 
 /// What is to be written for a reply. The boot word is that of the ids of operations, and `last` says

@@ -24,7 +24,7 @@ fn is_server(shown: &View) -> bool
     }
 }
 
-/// The whole text of a reply that depends on nothing, where the connection stays behind it.
+/// The whole text of a reply that depends on nothing, where the connection stays open after it.
 pub fn known_reply(reply: &Reply, last: bool) -> Option<&'static [u8]>
     ensures { IfSome result (λ text. (boot : ℕ)
         → text.now ≡ reply_text (printed_of reply.now boot last)) }

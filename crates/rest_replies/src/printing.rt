@@ -21,7 +21,7 @@ use reply_views::{operation_value, status_key, write_operation, write_view};
 use serde_json::Value;
 use std::alloc::Global;
 
-/// What stands in a reply before what it tells, and behind that where the command was carried out at once.
+/// What stands in a reply before what it tells, and after that where the command was carried out at once.
 const FRONT: &str = "{\"metadata\":";
 
 const BACK: &str = ",\"status\":\"Success\",\"status_code\":200,\"type\":\"sync\"}";
