@@ -8,7 +8,7 @@ pub mod from_host_model {
 
 /// Of `operations`, for the crates above.
 pub mod from_operations {
-    pub use row_readings::from_operations::Operation;
+    pub use row_readings::from_operations::{Operation, Status};
 }
 
 /// Of `records`, for the crates above.
