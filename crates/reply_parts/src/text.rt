@@ -24,6 +24,9 @@ use std::marker::Model;
 pub struct JsonText {
     alloc: Global,
     bytes: Vec<u8>,
+    /// Where a text is quoted before it is added: a writer over all bytes would fill much of the room after them anew
+    /// for each text.
+    quoted: Vec<u8>,
 }
 
 impl Model for JsonText {
@@ -40,7 +43,11 @@ impl JsonText {
         ensures { IfOk result (λ t. t ≡ []) }
     {
         let bytes = Vec::with_capacity(alloc, room)?;
-        Ok(JsonText { alloc, bytes })
+        Ok(JsonText {
+            alloc,
+            bytes,
+            quoted: Vec::new(alloc),
+        })
     }
 
     /// The bytes.
@@ -70,27 +77,35 @@ impl JsonText {
 
     /// With a text as a JSON string.
     #[tactic(auto, unfolding(json::specs::Print::print_from))]
-    pub fn string(self, text: &str) -> Result<JsonText, NoMemory>
+    pub fn string(mut self, text: &str) -> Result<JsonText, NoMemory>
         ensures { IfOk result (λ t. t ≡ self ++ quoted text.now) }
     {
-        let mut writer = Writer::new(self.bytes);
+        self.quoted.clear();
+        let mut writer = Writer::new(self.quoted);
         writer.string(text)?;
+        let quoted = writer.into_inner();
+        self.bytes.extend_from_slice(&quoted)?;
         Ok(JsonText {
             alloc: self.alloc,
-            bytes: writer.into_inner(),
+            bytes: self.bytes,
+            quoted,
         })
     }
 
     /// With a whole number.
     #[tactic(auto, unfolding(json::specs::Print::print_from))]
-    pub fn number(self, number: u64) -> Result<JsonText, NoMemory>
+    pub fn number(mut self, number: u64) -> Result<JsonText, NoMemory>
         ensures { IfOk result (λ t. t ≡ self ++ compact_text (whole number)) }
     {
-        let mut writer = Writer::new(self.bytes);
+        self.quoted.clear();
+        let mut writer = Writer::new(self.quoted);
         writer.u64(number)?;
+        let quoted = writer.into_inner();
+        self.bytes.extend_from_slice(&quoted)?;
         Ok(JsonText {
             alloc: self.alloc,
-            bytes: writer.into_inner(),
+            bytes: self.bytes,
+            quoted,
         })
     }
 
