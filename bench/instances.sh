@@ -2,7 +2,7 @@
 # Creates instances through `incus_run run`, in a project without limits and in a restricted one with five, up to 1,000: at 10,
 # 100, 250 and 1,000 instances, and at 10,000 where MOST says so, the acceptance of a creation, its wait, lists, the usage of the project, and a change of the
 # profile that all use: requests a second and memory held, a line for each. The worker makes no step but while a request waits
-# (`--steps 0`), so an acceptance and the work behind it are told apart.
+# (`--steps 0`), so an acceptance and the work after it are told apart.
 #
 #   PROGRAM   the program, ../bin/incus_run without it
 #   RUNS      how many times each stream is run, as far as there is time, 3 without it
@@ -14,7 +14,7 @@ set -eu
 most=${MOST:-1000}
 options="--steps 0 --now 0 --boot 0"
 
-rows() { # WHAT: how a section is shown, with the number of instances behind it
+rows() { # WHAT: how a section is shown, with the number of instances after it
     printf '%-40s %6d instances' "$1" "$count"
 }
 grow() { # LAST: instances up to this number are made, each waited for; many of them while the project has no limits

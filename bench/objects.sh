@@ -18,7 +18,7 @@ begin() { # STREAM KIND LIST LETTER: the stream that sections are added to, and 
     kind=$2 list=$3 letter=$4 count=0
     begin_stream "$1"
 }
-rows() { # WHAT: how a section is shown, with the number of rows behind it
+rows() { # WHAT: how a section is shown, with the number of rows after it
     printf '%-40s %6d %-9s' "$1" "$count" "$kind"
 }
 make() { # LAST WORDS..: rows up to this number are created

@@ -121,7 +121,7 @@ def is_rough(result):
 
 
 def rank(result):
-    """The fastest goes first, and behind all others those that may be far off, the most exact of them first."""
+    """The fastest goes first, and after all others those that may be far off, the most exact of them first."""
     seconds, off, _ = result
     return (True, off / max(seconds, 1e-9)) if is_rough(result) else (False, seconds)
 

@@ -24,7 +24,7 @@ begin() { # STREAM: the stream that sections are added to
     projects=1 profiles=1
     begin_stream "$1"
 }
-rows() { # WHAT: how a section is shown, with the numbers of rows behind it
+rows() { # WHAT: how a section is shown, with the numbers of rows after it
     printf '%-36s %5d projects %6d profiles' "$1" "$projects" "$profiles"
 }
 add_projects() { # FIRST LAST [WHAT]

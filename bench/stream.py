@@ -24,7 +24,7 @@ Usage: stream.py projects COUNT          creations of the projects p1 to pCOUNT
                                                      on all that instances have, where the word `limits` stands
        stream.py creations PROJECT FIRST LAST        creations of the instances of these numbers in PROJECT, each with settings
        stream.py waits FIRST LAST                    waits for the operations of these numbers, of the boot word 0
-       stream.py made PROJECT FIRST LAST OPERATION   the same creations, each with a wait for its operation behind it; the first
+       stream.py made PROJECT FIRST LAST OPERATION   the same creations, each with a wait for its operation after it; the first
                                                      operation has the number OPERATION
        stream.py put-profile PROJECT COUNT           COUNT times the PUT of the profile `default`, with another description
        stream.py reads TARGET COUNT                  COUNT times the GET of TARGET

@@ -303,7 +303,7 @@ def cancelled(program):
         need(teller.ask("GET", f"/1.0/operations/{last}")["metadata"]["status"] == "Cancelled", "the status of the cancelled operation")
         more = (f"more{number}" for number in itertools.count())
         leave(server, [listener], lambda: teller.create(next(more)))
-    return f"behind {len(names) - 1} others, in time at try {tries}"
+    return f"after {len(names) - 1} others, in time at try {tries}"
 
 
 def later(name, count):

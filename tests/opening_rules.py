@@ -104,7 +104,7 @@ SETTINGS = [
     *((f"a malformed value, {KINDS[row[0] - 1]}", [TANK, row], row[0], row[1], "V2") for row in
       (make(config) for make, config in zip(EVERY, MALFORMED))),
     ("a limit of 2^63", [project("lab", {"limits.cpu": str(2 ** 63)})], PROJECT, "lab", "V2"),
-    ("an unknown key behind a malformed value", [project("lab", {"limits.cpu": "x", "zone": "y"})], PROJECT, "lab", "V2"),
+    ("an unknown key after a malformed value", [project("lab", {"limits.cpu": "x", "zone": "y"})], PROJECT, "lab", "V2"),
     *at_device("a device with no good name", "V3", {"a b": GPU}),
     *at_device("a device with an empty name", "V3", {"": GPU}),
     *at_device("a device without a type", "V3", {"eth0": {"network": "net0"}}),
@@ -246,7 +246,7 @@ GOOD = [project("lab", OWN, "for tests"), profile("lab/web", {"limits.cpu": "2"}
 STANDING = [profile("lab/default"), *GOOD]
 
 
-# Where the first length or count of a body begins, if not behind the version.
+# Where the first length or count of a body begins, if not after the version.
 FIRST_LENGTH = {POOL: 2, INSTANCE: 3, SNAPSHOT: 17}
 
 
@@ -297,7 +297,7 @@ def damage_cases():
     for said, row in damages():
         yield said, [*STANDING, row], row[0], row[1]
     yield "the first of two damaged entries is told", [*STANDING, with_body(GOOD[1], b""), with_body(GOOD[3], b"")], PROFILE, "lab/web"
-    yield "a damaged entry behind a row that breaks a rule", [project("ghost", OWN), with_body(GOOD[6], b"")], SNAPSHOT, "lab/box/first"
+    yield "a damaged entry after a row that breaks a rule", [project("ghost", OWN), with_body(GOOD[6], b"")], SNAPSHOT, "lab/box/first"
 
 
 # ---- what a run leaves

@@ -154,7 +154,7 @@ def main(path, words):
     for operation in session.operations:
         print(f"operation {operation}: failed for memory in {ends[operation]} runs")
     for name, status, replies in wrong[:3]:
-        print(f"wrong behind {name} requests, status {status}:", *replies, sep="\n")
+        print(f"wrong after {name} requests, status {status}:", *replies, sep="\n")
     missed = [number for number in session.operations if not ends[number] and number not in session.cancelled]
     return 1 if wrong or missed or not session.operations else 0
 
