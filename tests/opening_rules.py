@@ -274,7 +274,7 @@ def damages():
     yield "a byte that is no UTF-8 in a description", changed(GOOD[0], 5, 0xFF)
     yield "another driver", changed(GOOD[3], 1, 4)
     yield "another kind of instance", changed(GOOD[5], 1, 2)
-    yield "a truth that is neither", changed(GOOD[5], 2, 2)
+    yield "a boolean that is neither", changed(GOOD[5], 2, 2)
     yield "a moment in the year 10000", volume("lab/tank/disk", created=253_402_300_800)
     yield "an empty key of a setting", project("lab", OWN | {"": "x"})
     yield "an empty value of a setting", project("lab", OWN | {"user.x": ""})

@@ -1,6 +1,7 @@
 //! What rows of most kinds have beside their names: a description and settings.
 ghost use Rattle.std.specs.Prelude.{◌≡◌, IfOk};
-ghost use Rattle.new_rows.specs.row_machine.specs.machine.NewRows.{new_description, new_config, patched_description, patched_config};
+ghost use Rattle.new_rows.specs.row_machine.specs.machine.NewRows.{new_description, new_config};
+ghost use Rattle.new_rows.specs.row_machine.specs.machine.NewRows.{patched_description, patched_config};
 
 use new_rows::from_config_lists::Config;
 use new_rows::from_records::Body;

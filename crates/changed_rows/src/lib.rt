@@ -1,4 +1,5 @@
-//! The rows that commands make at once: of every kind but snapshots, as they are created, replaced, patched and renamed.
+//! The rows that commands make at once: of every kind but snapshots, as they are created, replaced, patched and
+//! renamed.
 #![tactic(auto)]
 
 mod contents;

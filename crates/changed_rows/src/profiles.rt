@@ -1,7 +1,8 @@
 //! The rows of profiles that commands make.
 ghost use Rattle.std.specs.Prelude.{◌≡◌, IfOk};
 ghost use Rattle.new_rows.specs.row_machine.specs.machine.NewRows.{new_devices, patched_devices};
-ghost use Rattle.new_rows.specs.row_machine.specs.machine.NewRows.{default_profile, made_profile, put_profile, patched_profile};
+ghost use Rattle.new_rows.specs.row_machine.specs.machine.NewRows.{default_profile};
+ghost use Rattle.new_rows.specs.row_machine.specs.machine.NewRows.{made_profile, put_profile, patched_profile};
 
 use crate::contents::{Content, copied_content, new_content, patched_content};
 use new_rows::from_config_lists::{Config, Devices};

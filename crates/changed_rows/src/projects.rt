@@ -1,6 +1,7 @@
 //! The rows of projects that commands make (<https://linuxcontainers.org/incus/docs/main/reference/projects/>).
 ghost use Rattle.std.specs.Prelude.{◌≡◌, ◌≢◌, [], IfOk, OnOk};
-ghost use Rattle.new_rows.specs.row_machine.specs.machine.NewRows.{new_config, feature_on, with_features, made_project, put_project};
+ghost use Rattle.new_rows.specs.row_machine.specs.machine.NewRows.{new_config, feature_on};
+ghost use Rattle.new_rows.specs.row_machine.specs.machine.NewRows.{with_features, made_project, put_project};
 ghost use Rattle.new_rows.specs.row_machine.specs.machine.NewRows.{patched_project};
 
 use crate::contents::{Content, copied_content, new_content, patched_content};

@@ -11,9 +11,9 @@ use Rattle.machine_laws.specs.row_machine.specs.machine.Task.{Task}
 use Rattle.machine_laws.specs.row_machine.specs.machine.Usage.{usage_of}
 use Rattle.machine_laws.specs.row_machine.specs.machine.Work.{claiming, project_of_task}
 
--- Where all facts hold, a rule on what is counted (L0), on policy (F1 to F7) or on limits (L1 to L8) that the state with one
--- more operation breaks is one that the claimed row breaks alone: of the limits, what its project uses before it and its share
--- decide.
+-- Where all facts hold, a rule on what is counted (L0), on policy (F1 to F7) or on limits (L1 to L8) that the state
+-- with one more operation breaks is one that the claimed row breaks alone: of the limits, what its project uses
+-- before it and its share decide.
 pub record IsJudgedAlone (state : State) (task : Task) (moment : ℕ) : Type 0 where
   pub counts : counts_broken (claiming state task moment) ≡ claim_uncounts state task
   pub policy : policy_broken (claiming state task moment) ≡ claim_forbidden state task

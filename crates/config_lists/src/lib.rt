@@ -7,8 +7,8 @@
 pub mod from_size_values {
     pub use size_values::{
         Action, Amounts, Cpu, Deed, Entry, EntryChange, FailingCalls, Kind, MOMENT_LIMIT, Memory,
-        NoMemory, ObjectKind, Or, Power, Rise, Seq, Text, ValueFault, read_address, read_cidr,
-        read_count, read_cpu, read_expiry, read_memory, read_size, read_truth,
+        NoMemory, ObjectKind, Or, Power, Rise, Seq, Text, ValueFault, read_address, read_boolean,
+        read_cidr, read_count, read_cpu, read_expiry, read_memory, read_size,
     };
 }
 

@@ -15,7 +15,8 @@ use task_plans::from_records::{Command, Reply};
 use task_plans::from_size_values::MOMENT_LIMIT;
 use task_plans::plan_task;
 
-/// Begins the operation of a command that breaks no rule on names and on what stands in the way. The store is not asked.
+/// Begins the operation of a command that breaks no rule on names and on what stands in the way. The store is not
+/// asked.
 pub(crate) fn begin_task(
     alloc: Global,
     estate: &mut Estate,

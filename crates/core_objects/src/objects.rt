@@ -74,9 +74,11 @@ pub fn change_at_once<R: Keeper>(
     requires quiet { estate.old.untold ≡ [] }
     requires formed { is_formed command.now ≡ true }
     requires moment { moment < MOMENT_LIMIT }
-    requires free { first (names_broken estate.old.state command.now ∷ standing_broken estate.old.state command.now ∷ []) ≡ None }
+    requires free { first (names_broken estate.old.state command.now
+        ∷ standing_broken estate.old.state command.now ∷ []) ≡ None }
     requires changes { changes_in (plan_of estate.old.state command.now moment) ≢ None }
-    ensures { Follows estate.old.state command.now moment estate.new.state estate.new.untold result (R.store keeper.old) (R.store keeper.new) }
+    ensures { Follows estate.old.state command.now moment estate.new.state estate.new.untold result (R.store keeper.old)
+        (R.store keeper.new) }
 {
     let Ok(planned) = plan_change(alloc, &estate.view(), command, moment) else {
         return Reply::NoMemory;

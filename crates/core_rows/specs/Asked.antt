@@ -34,13 +34,14 @@ abbrev pub unless_refused : Option Refusal → Plan → List RowChange
 unless_refused None plan = changes_at_once plan
 unless_refused (Some refusal) plan = []
 
--- the changes that a command is to commit in this state: those that its plan makes at once, and none where it breaks a rule
+-- the changes that a command is to commit in this state: those that its plan makes at once, and none where it breaks
+-- a rule
 unfoldable pub changes_of : State → Command → ℕ → List RowChange
 changes_of state command moment = unless_refused (broken state command moment) (plan_of state command moment)
 
--- A command was carried out as one step of the machine, with an outcome that the keeper's count bears out: its changes went to
--- the store, its reply is the answer of the step, and the state of the step is the state afterwards with the notices told that
--- are left untold.
+-- A command was carried out as one step of the machine, with an outcome that the keeper's count bears out: its
+-- changes went to the store, its reply is the answer of the step, and the state of the step is the state afterwards
+-- with the notices told that are left untold.
 pub record IsAsked (state : State) (command : Command) (moment : ℕ) (later : State) (untold : List Untold)
     (reply : Reply) (store store' : Store) : Type 0 where
   pub outcome : Outcome

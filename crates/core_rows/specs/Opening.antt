@@ -12,7 +12,9 @@ use Rattle.judged_changes.specs.machine_laws.specs.Openings.{HasBytes}
 use Rattle.opening_rules.specs.records.specs.declared.rows.Row.{Row}
 use Rattle.judged_changes.specs.row_drafts.specs.Drafted.{Drafted}
 use Rattle.opening_rules.specs.row_machine.specs.machine.State.{State}
-use Rattle.opening_rules.specs.row_machine.specs.opening.Opening.{Opening, opened, damaged, broken, first_rows, with_rows, rows_in, opening_by, opening_of}
+use Rattle.opening_rules.specs.row_machine.specs.opening.Opening.{Opening, opened, damaged, broken}
+use Rattle.opening_rules.specs.row_machine.specs.opening.Opening.{first_rows, with_rows, rows_in}
+use Rattle.opening_rules.specs.row_machine.specs.opening.Opening.{opening_by, opening_of}
 use Rattle.opening_rules.specs.row_machine.specs.opening.Records.{records_of}
 use Rattle.core_rows.specs.Kept.{Kept}
 use Rattle.core_rows.specs.declared.opening.OpenFault.{OpenFault}
@@ -34,7 +36,8 @@ is_refused (broken rule kind key) = true
 
 -- ---- the entries alone
 
--- A fault tells what entries open to: an entry is damaged, or the rows break a rule. Out of memory tells nothing of them.
+-- A fault tells what entries open to: an entry is damaged, or the rows break a rule. Out of memory tells nothing of
+-- them.
 abbrev pub Tells : OpenFault → Opening → Type 0
 Tells fault.KeeperFailed opening = ⊥
 Tells (fault.Damaged kind key) opening = opening ≡ damaged kind key
@@ -120,8 +123,8 @@ pub record OpensToNone (opening : Opening) (store store' : Store) : Type 0 where
   pub opens : opening_of entries ≡ opening
   pub after : store' ≡ after_calls 1 store
 
--- An opening that was refused leaves the entries. One of them is damaged, or their rows break a rule; or the load failed,
--- or the commit of the first rows; or memory was refused, after two calls at the most.
+-- An opening that was refused leaves the entries. One of them is damaged, or their rows break a rule; or the load
+-- failed, or the commit of the first rows; or memory was refused, after two calls at the most.
 abbrev pub Refuses : OpenFault → Store → Store → Type 0
 Refuses (fault.Damaged kind key) store store' = OpensToNone (damaged kind key) store store'
 Refuses (fault.Broken rule kind key) store store' = OpensToNone (broken rule kind key) store store'

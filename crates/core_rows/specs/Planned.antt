@@ -16,8 +16,8 @@ use Rattle.opening_rules.specs.row_machine.specs.machine.Rules.{standing_broken}
 use Rattle.core_rows.specs.Asked.{IsAsked}
 use Rattle.judged_changes.specs.work_reports.specs.Stores.{KeepsRecords}
 
--- A command that a client can give, before the year 10000, which breaks no rule on names and on what stands in the way, with the
--- changes that it is to make at once and the notice of them.
+-- A command that a client can give, before the year 10000, which breaks no rule on names and on what stands in the
+-- way, with the changes that it is to make at once and the notice of them.
 pub record IsToDo (state : State) (command : Command) (moment : ℕ) (row_changes : List RowChange)
     (untold : Untold) : Type 0 where
   pub formed : is_formed command ≡ true
@@ -27,8 +27,8 @@ pub record IsToDo (state : State) (command : Command) (moment : ℕ) (row_change
   pub plan : plan_of state command moment ≡ changes row_changes
   pub notice : change_notices state command moment ≡ untold ∷ []
 
--- A command that a client can give, before the year 10000, which breaks no rule on names and on what stands in the way, with the
--- background operation that it is to begin.
+-- A command that a client can give, before the year 10000, which breaks no rule on names and on what stands in the
+-- way, with the background operation that it is to begin.
 pub record IsToStart (state : State) (command : Command) (moment : ℕ) (task : Task) : Type 0 where
   pub formed : is_formed command ≡ true
   pub early : moment < moment_limit
@@ -36,7 +36,8 @@ pub record IsToStart (state : State) (command : Command) (moment : ℕ) (task : 
   pub standing : standing_broken state command ≡ None
   pub plan : plan_of state command moment ≡ starts task
 
--- A command was carried out as one step of the machine, and entries that were the records of the rows are so afterwards.
+-- A command was carried out as one step of the machine, and entries that were the records of the rows are so
+-- afterwards.
 pub record Follows (state : State) (command : Command) (moment : ℕ) (later : State) (untold : List Untold)
     (reply : Reply) (store store' : Store) : Type 0 where
   pub asked : IsAsked state command moment later untold reply store store'

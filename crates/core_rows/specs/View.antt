@@ -12,8 +12,9 @@ abbrev pub kept : Inside → Kept
 kept estate =
     record { state = estate.draft.state; untold = map (told_by estate.draft.state.operations) estate.untold.items }
 
--- the facts hold of the state, in which nothing was told; no change of it is left unsettled; there is room for the notices of
--- a step; each operation that ever held a share is below the next one; and what is known of projects is what they use
+-- the facts hold of the state, in which nothing was told; no change of it is left unsettled; there is room for the
+-- notices of a step; each operation that ever held a share is below the next one; and what is known of projects is
+-- what they use
 pub record IsEstate (estate : Inside) : Type 0 where
   pub whole : IsWhole estate.draft.state
   pub silent : IsSilent estate.draft.state

@@ -22,8 +22,8 @@ fn waits(view: &View<'_>, number: u64) -> bool
     }
 }
 
-/// A live operation that waits ends as cancelled, and its share goes back; one that runs is being cancelled from now on,
-/// and keeps its share until its deed was taken back.
+/// A live operation that waits ends as cancelled, and its share goes back; one that runs is being cancelled from now
+/// on, and keeps its share until its deed was taken back.
 fn end_or_turn(draft: &mut Draft, number: u64, moment: u64)
     requires settled { draft.old.log ≡ [] }
     requires live { IsSome (live_at draft.old.state.operations number) }

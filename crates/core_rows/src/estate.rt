@@ -31,8 +31,8 @@ use opening_rules::from_table_rules::cancel_broken;
 use std::alloc::Global;
 use std::marker::Model;
 
-/// The rows of the server, of which the facts hold at all times, what is to be told, and what projects are known to use.
-/// Contracts see the state of the row machine with these rows, and the notices that were not yet taken.
+/// The rows of the server, of which the facts hold at all times, what is to be told, and what projects are known to
+/// use. Contracts see the state of the row machine with these rows, and the notices that were not yet taken.
 #[derive(Drop)]
 pub struct Estate {
     draft: Draft,
@@ -226,8 +226,8 @@ impl Estate {
         requires asked { command.now.what ≡ what.Cancel number }
         requires names { names_broken self.old.state command.now ≡ None }
         requires standing { standing_broken self.old.state command.now ≡ None }
-        ensures { (store : Store) → Follows self.old.state command.now moment self.new.state self.new.untold result store
-            store }
+        ensures { (store : Store) → Follows self.old.state command.now moment self.new.state self.new.untold result
+            store store }
     {
         let judged = cancel_broken(alloc, &self.draft.view(), &command.what);
         if let Err(why) = judged {

@@ -2,7 +2,8 @@
 ghost use Rattle.std.specs.Prelude.{◌≢◌, ◌<◌, [], unwrap_or};
 ghost use Rattle.opening_rules.specs.plain_lists.specs.Members.{Each};
 ghost use Rattle.judged_changes.specs.machine_laws.specs.Openings.{HasBytes};
-ghost use Rattle.opening_rules.specs.row_machine.specs.opening.Opening.{damaged, opened, opening_of, opening_with, rows_break};
+ghost use Rattle.opening_rules.specs.row_machine.specs.opening.Opening.{damaged, opened};
+ghost use Rattle.opening_rules.specs.row_machine.specs.opening.Opening.{opening_of, opening_with, rows_break};
 ghost use Rattle.core_rows.specs.Opening.{Gives, GivesDraft, GivesRows, Judges, Tells};
 
 use crate::estate::Estate;

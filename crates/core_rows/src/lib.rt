@@ -1,5 +1,5 @@
-//! The rows of the server with the facts on them in the type: how they are opened, read, and changed by a command, whose changes are
-//! made, judged, committed to a keeper, and taken back where a rule is broken or the keeper fails.
+//! The rows of the server with the facts on them in the type: how they are opened, read, and changed by a command,
+//! whose changes are made, judged, committed to a keeper, and taken back where a rule is broken or the keeper fails.
 #![tactic(auto)]
 
 /// Of `host_model`, for the crates above.

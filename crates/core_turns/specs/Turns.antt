@@ -29,15 +29,15 @@ changes_by state (event.Ask command moment) = changes_of state command moment
 changes_by state (event.Done number report moment) = changes_reported state number report
 changes_by state other = []
 
--- An event with its outcome led to this answer, and from one state and store to the next: its changes went to the store in one
--- call, and without changes the keeper was not called.
+-- An event with its outcome led to this answer, and from one state and store to the next: its changes went to the
+-- store in one call, and without changes the keeper was not called.
 pub record Turns (state : State) (store : Store) (event : Event) (outcome : Outcome) (answer : Answer)
     (later : State) (store' : Store) : Type 0 where
   pub is : step state event outcome ≡ Some (and_then answer later)
   pub stored : Stores (changes_by state event) outcome store store'
 
--- An event was answered, with an outcome that the keeper's count bears out. Entries that were the records of the rows are so
--- afterwards.
+-- An event was answered, with an outcome that the keeper's count bears out. Entries that were the records of the rows
+-- are so afterwards.
 pub record IsTurn (state : State) (store : Store) (event : Event) (answer : Answer) (later : State)
     (store' : Store) : Type 0 where
   pub outcome : Outcome
@@ -45,7 +45,8 @@ pub record IsTurn (state : State) (store : Store) (event : Event) (answer : Answ
   pub caused : IsCaused outcome store.failures store'.failures
   pub kept : KeepsRecords store.told state store'.told later
 
--- An event was answered as one step of the machine, and these notices are left untold: a turn before they go to the hub.
+-- An event was answered as one step of the machine, and these notices are left untold: a turn before they go to the
+-- hub.
 pub record Comes (state : State) (store : Store) (event : Event) (answer : Answer) (later : State)
     (untold : List Untold) (store' : Store) : Type 0 where
   pub outcome : Outcome

@@ -11,7 +11,8 @@ use Rattle.core_turns.specs.declared.daemon.Daemon.TheInside.{Inside}
 abbrev pub state_in : Inside → State
 state_in daemon = with_recent daemon.hub daemon.estate.state
 
--- all notices are in the hub, and none waits to be taken; the facts hold of the whole; and the texts of operations are short
+-- all notices are in the hub, and none waits to be taken; the facts hold of the whole; and the texts of operations
+-- are short
 pub record IsDaemon (daemon : Inside) : Type 0 where
   pub quiet : daemon.estate.untold ≡ []
   pub silent : IsSilent daemon.estate.state

@@ -1,5 +1,6 @@
 -- What an accept does to what doors tell, and to the links that they have left.
-use Rattle.std.specs.Prelude.{◌≡◌, ℕ, ◌+◌, Bool, true, List, [], ◌∷◌, Option, Some, None, IfSome, option_map, Result, Ok, Err}
+use Rattle.std.specs.Prelude.{◌≡◌, ℕ, ◌+◌, Bool, true, List, [], ◌∷◌, Option}
+use Rattle.std.specs.Prelude.{Some, None, IfSome, option_map, Result, Ok, Err}
 use Rattle.http_front.specs.size_values.specs.Calls.{Calls}
 
 -- How many links were given, whether an accept answered that none is left, and how many accepts failed.

@@ -1,6 +1,6 @@
-//! How far a drill has come, for a person at a terminal. A server on one thread says nothing of its requests until all of
-//! them are answered, but it reads its clock for each of them, and its worker calls the host. So both are watched here:
-//! they pass on all that they are asked, and what they were asked is counted.
+//! How far a drill has come, for a person at a terminal. A server on one thread says nothing of its requests until
+//! all of them are answered, but it reads its clock for each of them, and its worker calls the host. So both are
+//! watched here: they pass on all that they are asked, and what they were asked is counted.
 #![tactic(auto)]
 
 mod clock;

@@ -3,7 +3,8 @@ use Rattle.std.specs.Char.{is_ascii_alphanumeric, is_ascii_alphabetic}
 use Rattle.std.specs.List.{list_all}
 use Rattle.std.specs.Option.{option_map_or}
 use Rattle.config_lists.specs.size_values.specs.declared.kinds.ObjectKind.{ObjectKind}
-use Rattle.config_lists.specs.size_values.specs.declared.kinds.ObjectKind.TheVariants.{Project, Profile, Network, Pool, Volume, Instance}
+use Rattle.config_lists.specs.size_values.specs.declared.kinds.ObjectKind.TheVariants.{Project, Profile}
+use Rattle.config_lists.specs.size_values.specs.declared.kinds.ObjectKind.TheVariants.{Network, Pool, Volume, Instance}
 use Rattle.config_lists.specs.size_values.specs.declared.kinds.ObjectKind.TheVariants.{Snapshot, Operation}
 
 -- letters, digits and '-'

@@ -20,8 +20,8 @@ fn tell_trouble(rt: HostRuntime, program: &str, keeper: &SqliteKeeper) {
     tell_line(rt, trouble_line(rt.alloc(), program, keeper));
 }
 
-/// Why a program over the rows of a file ended with this exit status, where the file or its rows are why: it keeps no rows, or
-/// they open to none.
+/// Why a program over the rows of a file ended with this exit status, where the file or its rows are why: it keeps no
+/// rows, or they open to none.
 pub fn tell_why(rt: HostRuntime, program: &str, status: u8, keeper: &mut SqliteKeeper) {
     if status == StartFault::KeeperFailed.status() {
         tell_trouble(rt, program, keeper);

@@ -10,8 +10,8 @@ use Rattle.gate_answers.specs.gate_trails.specs.Gates.{Between, Seen}
 use Rattle.gate_answers.specs.gate_trails.specs.Trails.{Item}
 use Rattle.gate_replies.specs.Waits.{ServeBy, replied, stand, unasked}
 
--- It asks for no command, by its form; or memory was refused before its command was asked. No turn and no rest was made,
--- and the clock was not read.
+-- It asks for no command, by its form; or memory was refused before its command was asked. No turn and no rest was
+-- made, and the clock was not read.
 pub record IsUnasked (asks : Result Command Refusal) (told : Readings) (trail : List Item) (a_reply : Reply)
     (told' : Readings)
     : Type 0 where

@@ -1,4 +1,5 @@
--- Trails: what was done at a gate, one thing after the other, and how it leads from one moment of the server to another.
+-- Trails: what was done at a gate, one thing after the other, and how it leads from one moment of the server to
+-- another.
 use Rattle.std.specs.Prelude.{◌≡◌, ◌<◌, ◌+◌, ◌-◌, ◌^◌, ℕ, List, [], ◌∷◌, min, Option, Some, None}
 use Rattle.std.specs.List.{sum_by}
 use Rattle.serial_steps.specs.size_values.specs.Causes.{RoseBy}

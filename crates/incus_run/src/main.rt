@@ -19,8 +19,8 @@ use std::process::ExitCode;
 /// The name of the program.
 const PROGRAM: &str = "incus_run";
 
-/// How many requests are to be answered, where standard error is told how many of them are: those of a drill at a terminal.
-/// Where memory for the words is refused, nothing is told of them.
+/// How many requests are to be answered, where standard error is told how many of them are: those of a drill at a
+/// terminal. Where memory for the words is refused, nothing is told of them.
 fn requests_to_tell(rt: HostRuntime, words: &[String]) -> Option<u64> {
     if rt.stderr().is_terminal() {
         drill_requests(rt.alloc(), words).unwrap_or(None)

@@ -1,8 +1,10 @@
 //! The rows that the creation of an instance makes.
 ghost use Rattle.std.specs.Prelude.{◌≡◌, IfOk, ◌∷◌, [], unwrap_or};
 ghost use Rattle.new_rows.specs.row_machine.specs.machine.Rows.{default_name};
-ghost use Rattle.new_rows.specs.row_machine.specs.machine.NewRows.{new_description, new_config, new_devices, patched_config};
-ghost use Rattle.new_rows.specs.row_machine.specs.machine.NewRows.{patched_devices, image_of, made_instance, copied_instance};
+ghost use Rattle.new_rows.specs.row_machine.specs.machine.NewRows.{new_description, new_config};
+ghost use Rattle.new_rows.specs.row_machine.specs.machine.NewRows.{new_devices, patched_config};
+ghost use Rattle.new_rows.specs.row_machine.specs.machine.NewRows.{patched_devices, image_of};
+ghost use Rattle.new_rows.specs.row_machine.specs.machine.NewRows.{made_instance, copied_instance};
 
 use crate::pairs::zip_or_drop;
 use new_rows::from_config_lists::{Config, Devices};

@@ -6,7 +6,8 @@ ghost use Rattle.new_rows.specs.host_model.specs.declared.call.HostCall.TheVaria
 ghost use Rattle.new_rows.specs.records.specs.declared.rows.Row.TheVariants as row_of;
 ghost use Rattle.new_rows.specs.row_machine.specs.machine.NewRows.{source_instance, source_snapshot};
 ghost use Rattle.new_rows.specs.row_machine.specs.machine.HostCalls.{place_of, create_calls, copy_calls};
-ghost use Rattle.new_rows.specs.row_machine.specs.machine.Plans.{instance_target, snapshot_target, copy_from, instance_creation};
+ghost use Rattle.new_rows.specs.row_machine.specs.machine.Plans.{instance_target};
+ghost use Rattle.new_rows.specs.row_machine.specs.machine.Plans.{snapshot_target, copy_from, instance_creation};
 ghost use Rattle.new_rows.specs.row_machine.specs.machine.Tasks.{plain_task, creation_task, copy};
 ghost use Rattle.instance_tasks.specs.Planned.{planned};
 

@@ -8,7 +8,8 @@ use Rattle.setting_rules.specs.records.specs.declared.refusals.Rule.TheVariants 
 use Rattle.setting_rules.specs.records.specs.declared.refusals.Refusal.{Refusal}
 use Rattle.setting_rules.specs.row_machine.specs.machine.Refusals.{plain_refusal}
 
--- Entries were changed in one call to the store; or that call failed, which is told; or memory was refused, before it or in it.
+-- Entries were changed in one call to the store; or that call failed, which is told; or memory was refused, before it
+-- or in it.
 abbrev pub Commits : {T : Type 0} → Result T (Or Refusal) → List EntryChange → Store → Store → Type 0
 Commits (Ok unit) changes before now = now ≡ after_commit changes before
 Commits (Err (or.Why refusal)) changes before now = (refusal ≡ plain_refusal rule.K1) × FailsAtCall 1 before now

@@ -30,8 +30,8 @@ changes_judged state later rows = first
     ∷ tables_broken later rows
     ∷ [])
 
--- The first rule that a new operation breaks, judged over the state with it, by what it claims alone: by why it could not be
--- entered, and by what the project of its share uses beside it.
+-- The first rule that a new operation breaks, judged over the state with it, by what it claims alone: by why it could
+-- not be entered, and by what the project of its share uses beside it.
 unfoldable pub claim_judged : Command → State → Option EnterFault → List ℕ → Amounts → Amounts → Task → Option Refusal
 claim_judged command later fault project used share task = first
     (settings_broken later (option_to_list task.claim)

@@ -1,4 +1,5 @@
-//! The parts of a change: what it needs is made ready, it is judged by the state after it, and it is committed or given up.
+//! The parts of a change: what it needs is made ready, it is judged by the state after it, and it is committed or
+//! given up.
 ghost use Rattle.std.specs.Prelude.{◌≡◌, [], IfOk, OnOk};
 ghost use Rattle.std.specs.List.{AllByRecursion};
 ghost use Rattle.setting_rules.specs.size_values.specs.Causes.{Says};
@@ -92,7 +93,8 @@ pub fn judge(
     after: &View<'_>,
     changes: &[RowChange],
 ) -> Result<(), Or<Refusal>>
-    ensures { (s : State) → Serves before.now s after.now → Says result (changes_judged s after.now (rows_put changes.now)) }
+    ensures { (s : State) → Serves before.now s after.now
+        → Says result (changes_judged s after.now (rows_put changes.now)) }
 {
     settings_broken(alloc, after, changes)?;
     policy_broken(alloc, after)?;

@@ -1,5 +1,5 @@
-//! The parts of a change of rows and of a beginning in the background, over a draft: what they need is made ready, they are
-//! judged by the state after them, and committed or given up.
+//! The parts of a change of rows and of a beginning in the background, over a draft: what they need is made ready,
+//! they are judged by the state after them, and committed or given up.
 #![tactic(auto)]
 
 /// Of `kept_totals`, for the crates above.

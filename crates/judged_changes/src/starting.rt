@@ -1,5 +1,7 @@
-//! The parts of a beginning: what the entry of an operation needs is made ahead, and it is judged by the state with its claim.
-ghost use Rattle.std.specs.Prelude.{◌≡◌, ◌+◌, ◌-◌, ◌^◌, ◌<◌, ◌≤◌, ◌∷◌, ◌++◌, [], vec_len, vec_capacity, IfOk, OnOk, option_and_then};
+//! The parts of a beginning: what the entry of an operation needs is made ahead, and it is judged by the state with
+//! its claim.
+ghost use Rattle.std.specs.Prelude.{◌≡◌, ◌+◌, ◌-◌, ◌^◌, ◌<◌, ◌≤◌, ◌∷◌, ◌++◌, []};
+ghost use Rattle.std.specs.Prelude.{vec_len, vec_capacity, IfOk, OnOk, option_and_then};
 ghost use Rattle.std.specs.Option.{option_copied};
 ghost use Rattle.kept_totals.specs.Totals.{AreTotals};
 ghost use Rattle.setting_rules.specs.row_machine.specs.facts.Whole.{IsWhole};
@@ -37,8 +39,9 @@ use setting_rules::from_size_values::{Amounts, NoMemory, Or, Text};
 use std::alloc::Global;
 use table_rules::{claim_tables_broken, enter_fault, refuse_entry};
 
-/// What the entry of an operation needs besides its work: what the project uses that its share counts for, as far as the share
-/// is judged by it, why it cannot be entered, its share with that project, how it is shown, and the notice of it.
+/// What the entry of an operation needs besides its work: what the project uses that its share counts for, as far as
+/// the share is judged by it, why it cannot be entered, its share with that project, how it is shown, and the notice
+/// of it.
 #[derive(Drop)]
 pub struct Beginning {
     pub used: Amounts,
@@ -79,7 +82,11 @@ fn pending_view(alloc: Global, number: u64, work: &Work, moment: u64) -> Result<
 
 /// The notice of an operation that waits for its first call.
 fn pending_notice(alloc: Global, number: u64, work: &Work, moment: u64) -> Result<Untold, NoMemory>
-    ensures { IfOk result (λ n. n ≡ record { moment = moment; project = work.now.project; told = told_of.Op (view_of (pending_of number work.now moment)) }) }
+    ensures { IfOk result (λ n. n ≡ record {
+      moment = moment;
+      project = work.now.project;
+      told = told_of.Op (view_of (pending_of number work.now moment));
+    }) }
 {
     let project = work.project.copy(alloc)?;
     let shown = pending_view(alloc, number, work, moment)?;
@@ -99,7 +106,11 @@ fn pending_view_and_notice(
 ) -> Result<(OpView, Untold), NoMemory>
     ensures shown { IfOk result (λ t. t.0 ≡ view_of (pending_of number work.now moment)) }
     ensures notice { IfOk result
-        (λ t. t.1 ≡ record { moment = moment; project = work.now.project; told = told_of.Op (view_of (pending_of number work.now moment)) }) }
+        (λ t. t.1 ≡ record {
+          moment = moment;
+          project = work.now.project;
+          told = told_of.Op (view_of (pending_of number work.now moment));
+        }) }
 {
     let shown = pending_view(alloc, number, work, moment)?;
     let notice = pending_notice(alloc, number, work, moment)?;
@@ -118,7 +129,8 @@ fn beginning_of(
     requires totals { AreTotals view.now totals.old }
     ensures few { IfOk result (λ e. (k : Part) → part k e.used ≤ 2 ^ 127 + 2 ^ 126) }
     ensures used { IfOk result (λ e. share_broken view.now.projects (project_of_task work.now) e.used e.share
-        ≡ share_broken view.now.projects (project_of_task work.now) (usage_of view.now (project_of_task work.now)) e.share) }
+        ≡ share_broken view.now.projects (project_of_task work.now)
+        (usage_of view.now (project_of_task work.now)) e.share) }
     ensures fault { IfOk result (λ e. e.fault ≡ enter_fault view.now.operations) }
     ensures share { IfOk result (λ e. e.share ≡ share_of view.now work.now) }
     ensures project { IfOk result (λ e. e.project ≡ project_of_task work.now) }
@@ -145,8 +157,8 @@ fn beginning_of(
     })
 }
 
-/// Takes all memory that the entry of an operation needs, and makes what it needs. What its project uses is read off the
-/// totals of these rows, and kept there where it was not.
+/// Takes all memory that the entry of an operation needs, and makes what it needs. What its project uses is read off
+/// the totals of these rows, and kept there where it was not.
 pub fn make_beginning(
     alloc: Global,
     draft: &mut Draft,
@@ -159,7 +171,8 @@ pub fn make_beginning(
     requires settled { draft.old.log ≡ [] }
     ensures few { IfOk result (λ e. (k : Part) → part k e.used ≤ 2 ^ 127 + 2 ^ 126) }
     ensures used { IfOk result (λ e. share_broken draft.old.state.projects (project_of_task work.now) e.used e.share
-        ≡ share_broken draft.old.state.projects (project_of_task work.now) (usage_of draft.old.state (project_of_task work.now)) e.share) }
+        ≡ share_broken draft.old.state.projects (project_of_task work.now)
+        (usage_of draft.old.state (project_of_task work.now)) e.share) }
     ensures fault { IfOk result (λ e. e.fault ≡ enter_fault draft.old.state.operations) }
     ensures share { IfOk result (λ e. e.share ≡ share_of draft.old.state work.now) }
     ensures project { IfOk result (λ e. e.project ≡ project_of_task work.now) }
@@ -220,8 +233,8 @@ fn judge_work(
     claim_tables_broken(alloc, after, claim)
 }
 
-/// The first rule that the kept operation of a number breaks, which was entered last, judged over the state with it by what it
-/// claims alone. One that is not kept breaks none.
+/// The first rule that the kept operation of a number breaks, which was entered last, judged over the state with it
+/// by what it claims alone. One that is not kept breaks none.
 pub fn judge_claim(
     alloc: Global,
     beginning: &Beginning,
@@ -241,7 +254,8 @@ pub fn judge_claim(
     }
 }
 
-/// The operation that was entered last holds its share from now on, and its notice is left to be told. It takes no memory.
+/// The operation that was entered last holds its share from now on, and its notice is left to be told. It takes no
+/// memory.
 pub fn settle_beginning(draft: &mut Draft, untold: &mut Vec<Waiting>, beginning: Beginning) -> Reply
     requires hold_room { 1 ≤ draft.old.backing.hold_room }
     requires limit { draft.old.state.operations.next - 1 < 2 ^ 40 }

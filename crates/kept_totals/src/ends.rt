@@ -6,7 +6,8 @@ ghost use Rattle.work_reports.specs.operations.specs.Kept.{kept_at};
 ghost use Rattle.work_reports.specs.size_values.specs.Amounts.{nothing};
 ghost use Rattle.work_reports.specs.row_machine.specs.machine.Claims.{claimed_instance, amounts_of_instance};
 ghost use Rattle.work_reports.specs.row_machine.specs.machine.Work.{held_share, is_held_by};
-ghost use Rattle.kept_totals.specs.Ends.{given_back, leaves_usage, has_fall, fall_of, IsCounted, after_success, after_end_of, after_end};
+ghost use Rattle.kept_totals.specs.Ends.{given_back, leaves_usage, has_fall, fall_of};
+ghost use Rattle.kept_totals.specs.Ends.{IsCounted, after_success, after_end_of, after_end};
 
 use crate::totals::Totals;
 use std::alloc::Global;
@@ -77,8 +78,8 @@ fn claimed_amounts(alloc: Global, view: &View<'_>, work: &Work) -> Result<Amount
     }
 }
 
-/// By how much it lowers what a project uses where its instance, which an operation is about, becomes what the operation
-/// would put, or goes.
+/// By how much it lowers what a project uses where its instance, which an operation is about, becomes what the
+/// operation would put, or goes.
 fn fall_of(alloc: Global, view: &View<'_>, work: &Work) -> Result<Amounts, NoMemory>
     ensures { IfOk result (λ a. a ≡ fall_of view.now work.now) }
 {
@@ -93,8 +94,8 @@ fn fall_of(alloc: Global, view: &View<'_>, work: &Work) -> Result<Amounts, NoMem
     }
 }
 
-/// By how much the success of an operation lowers what its project uses. It is known only of one whose last call is handed
-/// out, whose deed changes or removes its target, and where memory was not refused.
+/// By how much the success of an operation lowers what its project uses. It is known only of one whose last call is
+/// handed out, whose deed changes or removes its target, and where memory was not refused.
 fn known_fall(alloc: Global, view: &View<'_>, work: &Work) -> Option<Amounts>
     ensures { IfSome result (λ fall. (has_fall work.now.deed ≡ true) × (fall ≡ fall_of view.now work.now)) }
 {

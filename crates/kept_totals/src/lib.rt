@@ -1,5 +1,5 @@
-//! What projects use of their limits, kept from one request to the next, so that a new operation in a limited project sums
-//! nothing anew. A total is made where it is first needed; ends of operations change it, or it is forgotten.
+//! What projects use of their limits, kept from one request to the next, so that a new operation in a limited project
+//! sums nothing anew. A total is made where it is first needed; ends of operations change it, or it is forgotten.
 #![tactic(auto)]
 
 /// Of `limit_rules`, for the crates above.

@@ -21,8 +21,8 @@ pub struct Total {
     amounts: Amounts,
 }
 
-/// What projects use of their limits, with what live operations claim. Contracts see the list of it. A project whose total
-/// is not there is not known; of several the first counts.
+/// What projects use of their limits, with what live operations claim. Contracts see the list of it. A project whose
+/// total is not there is not known; of several the first counts.
 #[derive(Drop)]
 pub struct Totals {
     totals: Vec<Total>,
@@ -81,8 +81,9 @@ impl Totals {
         Ok(())
     }
 
-    /// What the project of this name uses, as far as a share is judged by it: where the share is nothing, or the project has
-    /// no limit, it is not looked for. Where it is not known, it is summed over all rows, and known from then on.
+    /// What the project of this name uses, as far as a share is judged by it: where the share is nothing, or the
+    /// project has no limit, it is not looked for. Where it is not known, it is summed over all rows, and known from
+    /// then on.
     pub fn used_beside(
         &mut self,
         alloc: Global,

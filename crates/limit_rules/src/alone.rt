@@ -1,5 +1,5 @@
-//! The rules on limits for a new operation, by what it claims alone: where all facts hold before it, nothing else can break
-//! them.
+//! The rules on limits for a new operation, by what it claims alone: where all facts hold before it, nothing else can
+//! break them.
 ghost use Rattle.std.specs.Prelude.{◌≡◌, ◌+◌, ◌<◌, ◌≤◌, ◌^◌, IsFalse};
 ghost use Rattle.row_machine.specs.plain_lists.specs.Firsts.{first_of};
 ghost use Rattle.row_machine.specs.size_values.specs.Amounts.{part, nothing, fits_in};
@@ -120,8 +120,8 @@ fn has_limits(projects: &[Project], name: &str) -> bool
     projects.iter().any(|project| project.name.view() == name && is_limited(project))
 }
 
-/// Whether a share is judged by what the project of this name uses: it is something, and the project has a limit. Where it
-/// is not, whatever the project uses may stand for it.
+/// Whether a share is judged by what the project of this name uses: it is something, and the project has a limit.
+/// Where it is not, whatever the project uses may stand for it.
 pub fn needs_usage(projects: &[Project], name: &str, share: &Amounts) -> bool
     ensures { IsFalse result → (used other : AmountsValue)
         → share_broken projects.now name.now used share.now ≡ share_broken projects.now name.now other share.now }

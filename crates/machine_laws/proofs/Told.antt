@@ -27,7 +27,7 @@ use Rattle.row_machine.specs.facts.Whole.{HasDefaults}
 use Rattle.machine_laws.proofs.Cases.{IsHome, IsNew, is_row}
 use Rattle.machine_laws.proofs.Found.{not-none}
 
--- ---- truths
+-- ---- booleans
 
 pub and_false : (a b : Bool) → (a && b) ≡ false → a ≡ true → b ≡ false
 and_false true b e a = e

@@ -1,4 +1,5 @@
--- What the notices of a state are to its steps: a step tells after what was told before, and nothing else depends on them.
+-- What the notices of a state are to its steps: a step tells after what was told before, and nothing else depends on
+-- them.
 use Rattle.std.specs.Prelude.{◌≡◌, List, Some}
 use Rattle.event_hub.specs.records.specs.declared.notices.Untold.{Untold}
 use Rattle.event_hub.specs.row_machine.specs.declared.events.Answer.{Answer}

@@ -3,7 +3,8 @@ ghost use Rattle.std.specs.Prelude.{◌≡◌, ℕ, List, [], ◌∷◌, ◌++�
 ghost use Rattle.object_links.specs.records.specs.declared.commands.Target.{Target as TargetValue};
 ghost use Rattle.object_links.specs.row_machine.specs.declared.changes.RowChange.TheVariants as change;
 ghost use Rattle.object_links.specs.row_machine.specs.machine.State.{State};
-ghost use Rattle.object_links.specs.row_machine.specs.machine.Plans.{plan_create, volume_creation, plan_put, plan_patch, plan_move};
+ghost use Rattle.object_links.specs.row_machine.specs.machine.Plans.{plan_create, volume_creation};
+ghost use Rattle.object_links.specs.row_machine.specs.machine.Plans.{plan_put, plan_patch, plan_move};
 ghost use Rattle.object_links.specs.row_machine.specs.machine.Plans.{plan_delete};
 ghost use Rattle.object_plans.specs.Rows.{row_at};
 ghost use Rattle.object_plans.specs.Planning.{changes_in};

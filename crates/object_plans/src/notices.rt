@@ -2,7 +2,8 @@
 ghost use Rattle.std.specs.Prelude.{◌≡◌, [], ◌∷◌, IfOk};
 ghost use Rattle.object_links.specs.row_machine.specs.machine.Homes.{home_of};
 ghost use Rattle.object_links.specs.row_machine.specs.machine.Plans.{Plan};
-ghost use Rattle.object_links.specs.row_machine.specs.shown.Notices.{life_notice, made_life, changed_life, moved_life, deleted_life};
+ghost use Rattle.object_links.specs.row_machine.specs.shown.Notices.{life_notice, made_life};
+ghost use Rattle.object_links.specs.row_machine.specs.shown.Notices.{changed_life, moved_life, deleted_life};
 ghost use Rattle.object_plans.specs.Planning.{changes_in, IsPlanned};
 
 use crate::planned::Planned;

@@ -3,8 +3,10 @@
 ghost use Rattle.std.specs.Prelude.{◌≡◌, [], ◌∷◌, ◌++◌, IfOk};
 ghost use Rattle.object_links.specs.records.specs.declared.rows.Row.TheVariants as row_of;
 ghost use Rattle.object_links.specs.row_machine.specs.declared.changes.RowChange.TheVariants as change;
-ghost use Rattle.object_links.specs.row_machine.specs.machine.NewRows.{default_profile, made_project, put_project, patched_project};
-ghost use Rattle.object_links.specs.row_machine.specs.machine.Plans.{moved_row, project_creation, project_change, project_rename};
+ghost use Rattle.object_links.specs.row_machine.specs.machine.NewRows.{default_profile};
+ghost use Rattle.object_links.specs.row_machine.specs.machine.NewRows.{made_project, put_project, patched_project};
+ghost use Rattle.object_links.specs.row_machine.specs.machine.Plans.{moved_row, project_creation};
+ghost use Rattle.object_links.specs.row_machine.specs.machine.Plans.{project_change, project_rename};
 ghost use Rattle.object_links.specs.row_machine.specs.machine.Plans.{project_deletion};
 
 use crate::changes::{and_default_removal, and_put, and_removal, one_put, one_removal};

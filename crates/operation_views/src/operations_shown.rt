@@ -6,7 +6,8 @@ ghost use Rattle.operation_views.specs.Statuses.{has_status};
 ghost use Rattle.object_links.specs.operations.specs.Kept.{by_number};
 ghost use Rattle.object_links.specs.plain_lists.specs.Edits.{inserted};
 ghost use Rattle.object_links.specs.row_machine.specs.shown.Notices.{view_of};
-ghost use Rattle.object_links.specs.row_machine.specs.shown.Views.{by_status, if_any, one, operation_view, operations_reply, status_number};
+ghost use Rattle.object_links.specs.row_machine.specs.shown.Views.{by_status, if_any, one};
+ghost use Rattle.object_links.specs.row_machine.specs.shown.Views.{operation_view, operations_reply, status_number};
 
 use crate::operation_ref::OperationRef;
 use object_links::from_operations::{Operation, Status};

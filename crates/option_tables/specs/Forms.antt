@@ -11,7 +11,7 @@ use Rattle.config_lists.specs.size_values.specs.Cpu.{cpu_of}
 use Rattle.config_lists.specs.size_values.specs.Expiry.{expiry_of}
 use Rattle.config_lists.specs.size_values.specs.MemorySize.{memory_of}
 use Rattle.config_lists.specs.size_values.specs.Size.{size_of}
-use Rattle.config_lists.specs.size_values.specs.Truth.{truth_of}
+use Rattle.config_lists.specs.size_values.specs.Boolean.{boolean_of}
 use Rattle.option_tables.specs.declared.form.Form.{Form}
 use Rattle.option_tables.specs.declared.form.Form.TheVariants as form
 use Rattle.option_tables.specs.declared.form.Words.{Words}
@@ -45,7 +45,7 @@ cidr_fault value = if bytes_eq value (codes "none") then None else result_err (c
 -- the fault of a value by its form, if it has one
 unfoldable pub value_fault : Form → List ℕ → Option ValueFault
 value_fault form.Text value = None
-value_fault form.Truth value = result_err (truth_of value)
+value_fault form.Boolean value = result_err (boolean_of value)
 value_fault (form.Count least most) value = result_err (count_of value least most)
 value_fault form.Size value = result_err (size_of value)
 value_fault form.Cpu value = result_err (cpu_of value)

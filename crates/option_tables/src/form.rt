@@ -4,8 +4,8 @@ ghost use Rattle.option_tables.specs.Forms.{value_fault, words_of, is_word, unle
 
 use crate::names::{are_network_names, is_pattern};
 use config_lists::from_size_values::{
-    ValueFault, read_address, read_cidr, read_count, read_cpu, read_expiry, read_memory, read_size,
-    read_truth,
+    ValueFault, read_address, read_boolean, read_cidr, read_count, read_cpu, read_expiry,
+    read_memory, read_size,
 };
 
 /// What values a key takes.
@@ -13,7 +13,7 @@ use config_lists::from_size_values::{
 pub enum Form {
     /// Any text.
     Text,
-    Truth,
+    Boolean,
     /// A number from the first to the second.
     Count(u64, u64),
     /// A number of bytes.
@@ -76,7 +76,7 @@ impl Form {
     {
         match self {
             Form::Text => Ok(()),
-            Form::Truth => discard_value(read_truth(value)),
+            Form::Boolean => discard_value(read_boolean(value)),
             Form::Count(least, most) => discard_value(read_count(value, least, most)),
             Form::Size => discard_value(read_size(value)),
             Form::Cpu => discard_value(read_cpu(value)),

@@ -12,7 +12,7 @@ pub mod from_config_lists {
 pub mod from_size_values {
     pub use config_lists::from_size_values::{
         Action, Amounts, Cpu, Deed, Kind, Memory, NoMemory, ObjectKind, Or, Power, Rise, Seq, Text,
-        read_count, read_cpu, read_memory, read_size, read_truth,
+        read_boolean, read_count, read_cpu, read_memory, read_size,
     };
 }
 

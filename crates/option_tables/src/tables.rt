@@ -52,7 +52,7 @@ pub const INSTANCE: &[(&str, Form, Scope)] = &[
     ("user.*", Form::Text, Scope::Any),
     ("image.*", Form::Text, Scope::Any),
     // Boot-related options
-    ("boot.autostart", Form::Truth, Scope::Any),
+    ("boot.autostart", Form::Boolean, Scope::Any),
     ("boot.autostart.delay", Form::Count(0, MANY), Scope::Any),
     ("boot.autostart.priority", Form::Count(0, MANY), Scope::Any),
     (
@@ -84,41 +84,41 @@ pub const INSTANCE: &[(&str, Form, Scope)] = &[
     ("raw.qemu", Form::Text, Scope::Machine),
     ("raw.seccomp", Form::Text, Scope::Container),
     // Security policies
-    ("security.idmap.isolated", Form::Truth, Scope::Container),
-    ("security.nesting", Form::Truth, Scope::Container),
-    ("security.privileged", Form::Truth, Scope::Container),
-    ("security.protection.delete", Form::Truth, Scope::Any),
-    ("security.secureboot", Form::Truth, Scope::Machine),
+    ("security.idmap.isolated", Form::Boolean, Scope::Container),
+    ("security.nesting", Form::Boolean, Scope::Container),
+    ("security.privileged", Form::Boolean, Scope::Container),
+    ("security.protection.delete", Form::Boolean, Scope::Any),
+    ("security.secureboot", Form::Boolean, Scope::Machine),
     (
         "security.syscalls.intercept.mknod",
-        Form::Truth,
+        Form::Boolean,
         Scope::Container,
     ),
     (
         "security.syscalls.intercept.mount",
-        Form::Truth,
+        Form::Boolean,
         Scope::Container,
     ),
     (
         "security.syscalls.intercept.setxattr",
-        Form::Truth,
+        Form::Boolean,
         Scope::Container,
     ),
     // Snapshot scheduling and configuration
     ("snapshots.expiry", Form::Expiry, Scope::Any),
     ("snapshots.pattern", Form::Pattern, Scope::Any),
     ("snapshots.schedule", Form::Text, Scope::Any),
-    ("snapshots.schedule.stopped", Form::Truth, Scope::Any),
+    ("snapshots.schedule.stopped", Form::Boolean, Scope::Any),
 ];
 
 /// The options of projects, in the order of "Project configuration" in the Incus documentation.
 pub const PROJECT: &[Line] = &[
     // Project features
-    ("features.images", Form::Truth),
-    ("features.networks", Form::Truth),
-    ("features.profiles", Form::Truth),
-    ("features.storage.buckets", Form::Truth),
-    ("features.storage.volumes", Form::Truth),
+    ("features.images", Form::Boolean),
+    ("features.networks", Form::Boolean),
+    ("features.profiles", Form::Boolean),
+    ("features.storage.buckets", Form::Boolean),
+    ("features.storage.volumes", Form::Boolean),
     // Project limits
     ("limits.containers", Form::Count(0, HUGE)),
     ("limits.cpu", Form::Count(0, HUGE)),
@@ -129,7 +129,7 @@ pub const PROJECT: &[Line] = &[
     ("limits.processes", Form::Count(0, HUGE)),
     ("limits.virtual-machines", Form::Count(0, HUGE)),
     // Project restrictions
-    ("restricted", Form::Truth),
+    ("restricted", Form::Boolean),
     (
         "restricted.containers.interception",
         Form::One(Words::BlockAllowFull),
@@ -177,8 +177,8 @@ pub const NETWORK: &[Line] = &[
     ("bridge.mtu", Form::Count(1, 65_535)),
     ("dns.domain", Form::Text),
     ("ipv4.address", Form::Cidr),
-    ("ipv4.dhcp", Form::Truth),
-    ("ipv4.nat", Form::Truth),
+    ("ipv4.dhcp", Form::Boolean),
+    ("ipv4.nat", Form::Boolean),
     ("ipv6.address", Form::One(Words::None)),
     ("user.*", Form::Text),
 ];
@@ -213,8 +213,8 @@ pub const DISK: &[Line] = &[
     ("limits.write", Form::Text),
     ("path", Form::Text),
     ("pool", Form::Text),
-    ("readonly", Form::Truth),
-    ("required", Form::Truth),
+    ("readonly", Form::Boolean),
+    ("required", Form::Boolean),
     ("size", Form::Size),
     ("source", Form::Text),
 ];
@@ -233,7 +233,7 @@ pub const NIC: &[Line] = &[
     ("network", Form::Text),
     ("nictype", Form::One(Words::NicType)),
     ("parent", Form::Text),
-    ("security.mac_filtering", Form::Truth),
+    ("security.mac_filtering", Form::Boolean),
     ("vlan", Form::Text),
 ];
 
@@ -256,7 +256,7 @@ pub const PROXY: &[Line] = &[
     ("gid", Form::Text),
     ("listen", Form::Text),
     ("mode", Form::Text),
-    ("nat", Form::Truth),
+    ("nat", Form::Boolean),
     ("uid", Form::Text),
 ];
 
@@ -267,7 +267,7 @@ pub const UNIX: &[Line] = &[
     ("minor", Form::Text),
     ("mode", Form::Text),
     ("path", Form::Text),
-    ("required", Form::Truth),
+    ("required", Form::Boolean),
     ("source", Form::Text),
     ("uid", Form::Text),
 ];
@@ -277,7 +277,7 @@ pub const USB: &[Line] = &[
     ("gid", Form::Text),
     ("mode", Form::Text),
     ("productid", Form::Text),
-    ("required", Form::Truth),
+    ("required", Form::Boolean),
     ("serial", Form::Text),
     ("uid", Form::Text),
     ("vendorid", Form::Text),

@@ -7,7 +7,7 @@ use row_readings::from_config_lists::Device;
 use row_readings::from_records::{Instance, Profile, Project, Row, Volume};
 use row_readings::from_row_machine::Work;
 use row_readings::from_size_values::{
-    Cpu, Kind, Memory, read_count, read_cpu, read_memory, read_size, read_truth,
+    Cpu, Kind, Memory, read_boolean, read_count, read_cpu, read_memory, read_size,
 };
 
 /// What a project uses, each part as its limit counts it.
@@ -77,7 +77,7 @@ fn home_of<'a>(view: &View<'_>, project: &'a str) -> &'a str {
     };
     match own {
         Some(value) => {
-            if read_truth(value) == Ok(true) {
+            if read_boolean(value) == Ok(true) {
                 project
             } else {
                 "default"

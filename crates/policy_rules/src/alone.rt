@@ -1,5 +1,5 @@
-//! The rules on policy for a new operation, by what it claims alone: where all facts hold before it, nothing else can break
-//! them.
+//! The rules on policy for a new operation, by what it claims alone: where all facts hold before it, nothing else can
+//! break them.
 ghost use Rattle.std.specs.Prelude.{IfOk};
 ghost use Rattle.restrictions.specs.plain_lists.specs.Firsts.{first_of};
 ghost use Rattle.restrictions.specs.size_values.specs.Causes.{Says};
@@ -17,8 +17,8 @@ use row_machine::from_records::{Project, Refusal};
 use row_readings::View;
 use std::alloc::Global;
 
-/// The number of the first rule that a claim breaks in a project, or one above them all. A project that is not restricted
-/// breaks none.
+/// The number of the first rule that a claim breaks in a project, or one above them all. A project that is not
+/// restricted breaks none.
 fn lowest_in(alloc: Global, view: &View<'_>, project: &Project, work: &Work) -> Result<u8, NoMemory>
     ensures { IfOk result (λ lowest. HoldBelow lowest (λ n. own_claim view.now project.now n work.now)) }
 {
@@ -35,7 +35,8 @@ fn lowest_in_all(
     projects: &[Project],
     work: &Work,
 ) -> Result<u8, NoMemory>
-    ensures { IfOk result (λ lowest. HoldBelow lowest (λ n. first_of (λ p. own_claim view.now p n work.now) projects.now)) }
+    ensures { IfOk result (λ lowest.
+        HoldBelow lowest (λ n. first_of (λ p. own_claim view.now p n work.now) projects.now)) }
 {
     let mut lowest = u8::MAX;
     for project in projects {
@@ -94,8 +95,8 @@ fn number_forbids(
     projects_forbid(alloc, view, number, view.projects, work)
 }
 
-/// F1 to F7: the first rule on policy that the instance breaks which an operation would put, in the project that it would
-/// stand in.
+/// F1 to F7: the first rule on policy that the instance breaks which an operation would put, in the project that it
+/// would stand in.
 #[tactic(auto, unfolding(crate::specs::Alone::claim_forbidden))]
 pub fn claim_forbidden(alloc: Global, view: &View<'_>, work: &Work) -> Result<(), Or<Refusal>>
     ensures { Says result (claim_forbidden view.now work.now) }

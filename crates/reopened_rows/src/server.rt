@@ -1,4 +1,5 @@
-//! What the keeper of a server has opens again, at every moment: a function that changes nothing, whose contract says it.
+//! What the keeper of a server has opens again, at every moment: a function that changes nothing, whose contract says
+//! it.
 ghost use Rattle.std.specs.Prelude.{◌≡◌};
 ghost use Rattle.core_turns.specs.core_rows.specs.Opening.{AreTold, OpensTo};
 ghost use Rattle.kept_laws.specs.Reopening.{reopened};
@@ -13,10 +14,10 @@ use crate::opening::rows_are_typed;
 use core_turns::Daemon;
 use kept_laws::kept_rows_open;
 
-/// At every moment, so after each turn: the records of the rows that the server has open to these rows again, with every
-/// instance stopped, no operations and no notices (`records`). So do the entries that a keeper tells where they are these
-/// records (`kept`): they are once the server was opened (`begun`), and after each turn that found them so (`turned`). No
-/// condition is made. It does nothing but look.
+/// At every moment, so after each turn: the records of the rows that the server has open to these rows again, with
+/// every instance stopped, no operations and no notices (`records`). So do the entries that a keeper tells where they
+/// are these records (`kept`): they are once the server was opened (`begun`), and after each turn that found them so
+/// (`turned`). No condition is made. It does nothing but look.
 pub fn daemon_opens_again(daemon: &Daemon)
     ensures records { opening_of (records_of daemon.now) ≡ opened (reopened daemon.now) }
     ensures kept { (store : Store) → AreTold (records_of daemon.now) store → OpensAgain daemon.now store }

@@ -13,7 +13,7 @@ use Rattle.serde_json.specs.Data.{Data, string, Members, no_members, member, put
 use Rattle.serde_json.specs.Written.{comma_if, compact_text, members_text}
 use Rattle.reply_parts.specs.Settings.{put_settings, settings_data, put_devices}
 
--- members, and others behind them
+-- members, and others after them
 abbrev pub joined : Members → Members → Members
 joined no_members ns = ns
 joined (member k d ms) ns = member k d (joined ms ns)
@@ -61,11 +61,11 @@ module _ {V : Type 0} (data_of : V → Data) where
   before_next ms e [] all below = tt
   before_next ms e (f ∷ es) all below = below_more ms e.0 f.0 (data_of e.1) all below.0
 
-  rising_behind : (es : List (List ℕ × V)) (ms : Members) → KeysRise es → AreBefore ms es → put_by es ms ≡ joined ms (members_by es)
-  rising_behind [] ms rises before = sym (joined_none ms)
-  rising_behind (e ∷ es) ms rises before =
+  rising_after : (es : List (List ℕ × V)) (ms : Members) → KeysRise es → AreBefore ms es → put_by es ms ≡ joined ms (members_by es)
+  rising_after [] ms rises before = sym (joined_none ms)
+  rising_after (e ∷ es) ms rises before =
       ap (put_by es) (put_last e.0 (data_of e.1) ms before)
-      ∙ rising_behind es (joined ms (member e.0 (data_of e.1) no_members)) (KeysRise-tail e es rises) (before_next ms e es before (KeysRise-head e es rises))
+      ∙ rising_after es (joined ms (member e.0 (data_of e.1) no_members)) (KeysRise-tail e es rises) (before_next ms e es before (KeysRise-head e es rises))
       ∙ joined_assoc ms (member e.0 (data_of e.1) no_members) (members_by es)
 
   nothing_before : (es : List (List ℕ × V)) → AreBefore no_members es
@@ -73,7 +73,7 @@ module _ {V : Type 0} (data_of : V → Data) where
   nothing_before (e ∷ es) = tt
 
   rising_members : (es : List (List ℕ × V)) → KeysRise es → put_by es no_members ≡ members_by es
-  rising_members es rises = rising_behind es no_members rises (nothing_before es)
+  rising_members es rises = rising_after es no_members rises (nothing_before es)
 
   -- a member at its place is written before those after it
   pub member_written : (es : List (List ℕ × V)) (i : ℕ) (key : List ℕ) (value : V) (later : Bool) (old new : List ℕ) → slice_get (keys_of es) i ≡ Some key → slice_get (values_of es) i ≡ Some value
@@ -84,7 +84,7 @@ module _ {V : Type 0} (data_of : V → Data) where
       ∙ regroup old (comma_if later) (quoted key) (compact_text (data_of value)) (members_text true (members_by (drop (i + 1) es)))
       ∙ ap (λ (more : List (List ℕ × V)). old ++ members_text later (members_by more)) (sym (drop-read es i key value k v))
 
-  -- behind the last member the object is closed
+  -- after the last member the object is closed
   pub members_written : (es : List (List ℕ × V)) (i : ℕ) (later : Bool) (start text : List ℕ) → length es ≤ i
       → text ++ members_text later (members_by (drop i es)) ≡ start ++ 123 ∷ members_text false (members_by es)
       → text ++ 125 ∷ [] ≡ start ++ 123 ∷ members_text false (members_by es)

@@ -1,5 +1,5 @@
-//! Parts of which replies and events are made: JSON that is written as it is made, objects of JSON, moments as texts, and
-//! the ids of operations.
+//! Parts of which replies and events are made: JSON that is written as it is made, objects of JSON, moments as texts,
+//! and the ids of operations.
 #![tactic(auto)]
 
 /// Of `config_lists`, for the crates above.

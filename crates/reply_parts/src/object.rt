@@ -73,10 +73,10 @@ impl Object {
     }
 
     /// The object with one more member, which is `true` or `false`.
-    pub fn with_truth(self, key: &str, truth: bool) -> Result<Object, NoMemory>
-        ensures { IfOk result (λ o. members_in o ≡ put key.now (boolean truth) (members_in self)) }
+    pub fn with_boolean(self, key: &str, value: bool) -> Result<Object, NoMemory>
+        ensures { IfOk result (λ o. members_in o ≡ put key.now (boolean value) (members_in self)) }
     {
-        self.with(key, Value::Bool(truth))
+        self.with(key, Value::Bool(value))
     }
 
     /// The object with a moment more, as its text.

@@ -18,8 +18,8 @@ use serde_json::Value;
 use std::alloc::Global;
 use std::marker::Model;
 
-/// JSON that is being written, from its front on. Each call takes the text and gives it back with more after it, so that
-/// where memory ends its caller has none to let go. Contracts see its bytes.
+/// JSON that is being written, from its front on. Each call takes the text and gives it back with more after it, so
+/// that where memory ends its caller has none to let go. Contracts see its bytes.
 #[derive(Drop)]
 pub struct JsonText {
     alloc: Global,
@@ -110,10 +110,10 @@ impl JsonText {
     }
 
     /// With `true` or `false`.
-    pub fn truth(self, truth: bool) -> Result<JsonText, NoMemory>
-        ensures { IfOk result (λ t. t ≡ self ++ compact_text (boolean truth)) }
+    pub fn boolean(self, value: bool) -> Result<JsonText, NoMemory>
+        ensures { IfOk result (λ t. t ≡ self ++ compact_text (boolean value)) }
     {
-        if truth {
+        if value {
             return self.plain("true");
         }
         self.plain("false")

@@ -111,7 +111,7 @@ pub fn operation_value(alloc: Global, boot: u64, operation: &OpView) -> Result<V
         .with_moment("created_at", operation.created)?
         .with_text("err", error_text(status, operation.fault))?
         .with_id("id", boot, operation.number)?
-        .with_truth("may_cancel", may_cancel)?;
+        .with_boolean("may_cancel", may_cancel)?;
     let fault = fault_value(alloc, operation.fault)?;
     let object = object.with("metadata", fault)?;
     let resources = resources_value(alloc, operation)?;

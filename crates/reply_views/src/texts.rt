@@ -143,7 +143,7 @@ fn write_instance(
         .plain(",\"devices\":")?
         .devices(&row.devices)?
         .plain(",\"ephemeral\":")?
-        .truth(row.ephemeral)?
+        .boolean(row.ephemeral)?
         .plain(",\"expanded_config\":")?
         .settings(config)?
         .plain(",\"expanded_devices\":")?

@@ -11,7 +11,7 @@ pub mod from_plain_lists {
 pub mod from_size_values {
     pub use size_values::{
         Action, Amounts, Deed, Entry, EntryChange, Kind, MOMENT_LIMIT, NoMemory, ObjectKind, Or,
-        Part, Power, Seq, Text, read_truth,
+        Part, Power, Seq, Text, read_boolean,
     };
 }
 

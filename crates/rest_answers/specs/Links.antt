@@ -27,9 +27,9 @@ pub record Outlet : Type 0 where
 abbrev pub outlet : {K : Type 0} → (K → Option (List ℕ)) → (K → ℕ) → K → Outlet
 outlet held failures sink = record { held = held sink; failures = failures sink }
 
--- One call of `read_request`, with these bytes held before and after it, answered this of the bytes to come: those held,
--- and then those that the source has left. The source was read only where the bytes held began with no whole message
--- and no malformed place, and afterwards at most one head, one body and one piece is held.
+-- One call of `read_request`, with these bytes held before and after it, answered this of the bytes to come: those
+-- held, and then those that the source has left. The source was read only where the bytes held began with no whole
+-- message and no malformed place, and afterwards at most one head, one body and one piece is held.
 pub record ReadsFrom (before : List ℕ) (source : Inlet) (answer : Got) (after : List ℕ) (source' : Inlet) : Type 0 where
   pub next : IfSome (prepend_known before source.left)
       (λ bytes. ReadsNext bytes (prepend_known after source'.left) after answer)

@@ -13,7 +13,7 @@ use Rattle.rest_bodies.specs.Copies.{copied_fault}
 use Rattle.rest_bodies.specs.Members.{non_null_member, text_at, unless}
 use Rattle.rest_bodies.specs.Origins.{has_word}
 
--- ---- kinds and truth values
+-- ---- kinds and boolean values
 
 -- the kind of this name
 unfoldable pub kind_of : List ℕ → Option Kind

@@ -35,7 +35,7 @@ pub enum Field {
     Devices,
     /// A list of texts, each once.
     Profiles,
-    /// A truth value.
+    /// A boolean value.
     Ephemeral,
     /// An object that names the volume to copy.
     VolumeSource,

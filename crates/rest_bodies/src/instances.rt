@@ -53,7 +53,7 @@ pub(crate) fn is_false(value: &Value) -> bool
     ensures { result ≡ is_false (view value.now) }
 {
     match value.as_bool() {
-        Some(truth) => !truth,
+        Some(boolean) => !boolean,
         None => false,
     }
 }

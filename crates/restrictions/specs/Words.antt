@@ -1,10 +1,10 @@
--- The words of restrictions, truths, and which subjects a line judges.
+-- The words of restrictions, booleans, and which subjects a line judges.
 use Rattle.std.specs.Prelude.{ℕ, ◌==◌, Bool, true, false, List, [], ◌∷◌, Option, Ok, Err, Result, find, codes}
 use Rattle.std.specs.Prelude.{unwrap_or}
 use Rattle.std.specs.Option.{option_map, option_and_then}
 use Rattle.std.specs.Str.{bytes_eq}
 use Rattle.option_tables.specs.size_values.specs.declared.fault.ValueFault.{ValueFault}
-use Rattle.option_tables.specs.size_values.specs.Truth.{truth_of}
+use Rattle.option_tables.specs.size_values.specs.Boolean.{boolean_of}
 use Rattle.option_tables.specs.config_lists.specs.Settings.{Settings, setting}
 use Rattle.restrictions.specs.declared.rows.Word.{Word}
 use Rattle.restrictions.specs.declared.rows.Word.TheVariants.{Block, Allow, Managed, Unprivileged, Isolated, Full}
@@ -41,12 +41,12 @@ is_word word other = word_number word == word_number other
 
 -- what was read is true
 abbrev pub read_true : Result Bool ValueFault → Bool
-read_true (Ok truth) = truth
+read_true (Ok boolean) = boolean
 read_true (Err fault) = false
 
 -- whether a text reads as true
 unfoldable pub is_true : List ℕ → Bool
-is_true text = read_true (truth_of text)
+is_true text = read_true (boolean_of text)
 
 -- whether a line for these subjects judges this one
 abbrev pub is_judged : Judged → Subject → Bool

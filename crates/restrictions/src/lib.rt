@@ -19,7 +19,7 @@ pub mod from_option_tables {
 pub mod from_size_values {
     pub use option_tables::from_size_values::{
         Action, Amounts, Cpu, Deed, Kind, Memory, NoMemory, ObjectKind, Or, Power, Rise, Seq, Text,
-        read_count, read_cpu, read_memory, read_size, read_truth,
+        read_boolean, read_count, read_cpu, read_memory, read_size,
     };
 }
 

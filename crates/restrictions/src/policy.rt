@@ -4,7 +4,7 @@ ghost use Rattle.restrictions.specs.Policies.{seen, policy_of, word_in};
 
 use crate::rows::{Restriction, Word};
 use option_tables::from_config_lists::Config;
-use option_tables::from_size_values::read_truth;
+use option_tables::from_size_values::read_boolean;
 
 /// The restrictions of a project, each with its word. They act only where the project is restricted. `access`
 /// lists the names of the networks that may be used, joined by commas; without it any may.
@@ -103,8 +103,8 @@ fn word_of(project: &Config, key: &str, default: Word) -> Word
 pub(crate) fn is_true(text: &str) -> bool
     ensures { result ≡ is_true text.now }
 {
-    match read_truth(text) {
-        Ok(truth) => truth,
+    match read_boolean(text) {
+        Ok(boolean) => boolean,
         Err(_) => false,
     }
 }

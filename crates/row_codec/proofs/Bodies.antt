@@ -15,19 +15,19 @@ use Rattle.row_parts.specs.records.specs.declared.rows.Instance.{Instance}
 use Rattle.row_parts.specs.records.specs.declared.rows.Snapshot.{Snapshot}
 use Rattle.row_parts.specs.declared.parts.Shape.{Shape}
 use Rattle.row_codec.specs.Rows.{IsMoment}
-use Rattle.row_codec.specs.Spelling.{text_bytes, number_bytes, truth_byte, kind_byte, driver_byte, settings_bytes, devices_bytes, texts_bytes, project_bytes, profile_bytes, network_bytes, pool_bytes, volume_bytes, instance_bytes, snapshot_bytes}
-use Rattle.row_codec.specs.Reading.{◌>>=◌, stops_at, code_at, truth_of, instance_kind_of, driver_of, text_at, moment_at, settings_at, texts_at, devices_at, shape_at, version_at, ended, project_in, profile_in, network_in, pool_in, volume_in, instance_in, snapshot_in}
+use Rattle.row_codec.specs.Spelling.{text_bytes, number_bytes, boolean_byte, kind_byte, driver_byte, settings_bytes, devices_bytes, texts_bytes, project_bytes, profile_bytes, network_bytes, pool_bytes, volume_bytes, instance_bytes, snapshot_bytes}
+use Rattle.row_codec.specs.Reading.{◌>>=◌, stops_at, code_at, boolean_of, instance_kind_of, driver_of, text_at, moment_at, settings_at, texts_at, devices_at, shape_at, version_at, ended, project_in, profile_in, network_in, pool_in, volume_in, instance_in, snapshot_in}
 use Rattle.row_codec.proofs.Fields.{IsBytes, IsBytes-tail, went, ok_is, Takes, Takes-then, IsPart, IsText, text_part, moment_part, code_part}
 use Rattle.row_codec.proofs.Settings.{FitsTexts, FitsSettings, FitsDevices, texts_part, settings_part, devices_part}
 
-truth_part : IsPart (code_at truth_of) (λ b. truth_byte b ∷ []) (λ b. Unit {0})
-truth_part = code_part truth_of truth_byte back again
+boolean_part : IsPart (code_at boolean_of) (λ b. boolean_byte b ∷ []) (λ b. Unit {0})
+boolean_part = code_part boolean_of boolean_byte back again
   where
-    back : (b : ℕ) (x : Bool) → truth_of b ≡ Some x → truth_byte x ≡ b
+    back : (b : ℕ) (x : Bool) → boolean_of b ≡ Some x → boolean_byte x ≡ b
     back b false e = grind (arith, nat_tests)
     back b true e = grind (arith, nat_tests)
 
-    again : (x : Bool) → truth_of (truth_byte x) ≡ Some x
+    again : (x : Bool) → boolean_of (boolean_byte x) ≡ Some x
     again false = refl
     again true = refl
 
@@ -326,7 +326,7 @@ unfolding instance_in
 instance_took project name body r all e =
     let s0 = went (version_at body) _ r e in
     let s1 = went (code_at instance_kind_of s0.got) _ r s0.next_is in
-    let s2 = went (code_at truth_of s1.got.1) _ r s1.next_is in
+    let s2 = went (code_at boolean_of s1.got.1) _ r s1.next_is in
     let s3 = went (text_at s2.got.1) _ r s2.next_is in
     let s4 = went (text_at s3.got.1) _ r s3.next_is in
     let s5 = went (moment_at s4.got.1) _ r s4.next_is in
@@ -334,7 +334,7 @@ instance_took project name body r all e =
     let end = went (ended s6.got.1) _ r s6.next_is in
     let t0 = version_took body s0.got all s0.read_is in
     let t1 = kind_part.takes s0.got s1.got t0.rest_fits s1.read_is in
-    let t2 = truth_part.takes s1.got.1 s2.got t1.rest_fits s2.read_is in
+    let t2 = boolean_part.takes s1.got.1 s2.got t1.rest_fits s2.read_is in
     let t3 = text_part.takes s2.got.1 s3.got t2.rest_fits s3.read_is in
     let t4 = text_part.takes s3.got.1 s4.got t3.rest_fits s4.read_is in
     let t5 = moment_part.takes s4.got.1 s5.got t4.rest_fits s5.read_is in
@@ -363,9 +363,9 @@ instance_again project name more r fits =
     let from_created : List ℕ = number_bytes r.created ++ from_profiles in
     let from_origin : List ℕ = text_bytes r.origin ++ from_created in
     let from_description : List ℕ = text_bytes r.description ++ from_origin in
-    let from_ephemeral : List ℕ = truth_byte r.ephemeral ∷ from_description in
-    ap (instance_in project name) (regroup_6 (1 ∷ kind_byte r.kind ∷ truth_byte r.ephemeral ∷ text_bytes r.description) (text_bytes r.origin) (number_bytes r.created) (texts_bytes r.profiles) (settings_bytes r.config) (devices_bytes r.devices) more)
-    ∙ rw (kind_part.again r.kind from_ephemeral tt, truth_part.again r.ephemeral from_description tt, text_part.again r.description from_origin fits.description, text_part.again r.origin from_created fits.origin, moment_part.again r.created from_profiles fits.created, shape_again (record { profiles = r.profiles; config = r.config; devices = r.devices }) more fits.profiles fits.config fits.devices) refl
+    let from_ephemeral : List ℕ = boolean_byte r.ephemeral ∷ from_description in
+    ap (instance_in project name) (regroup_6 (1 ∷ kind_byte r.kind ∷ boolean_byte r.ephemeral ∷ text_bytes r.description) (text_bytes r.origin) (number_bytes r.created) (texts_bytes r.profiles) (settings_bytes r.config) (devices_bytes r.devices) more)
+    ∙ rw (kind_part.again r.kind from_ephemeral tt, boolean_part.again r.ephemeral from_description tt, text_part.again r.description from_origin fits.description, text_part.again r.origin from_created fits.origin, moment_part.again r.created from_profiles fits.created, shape_again (record { profiles = r.profiles; config = r.config; devices = r.devices }) more fits.profiles fits.config fits.devices) refl
 
 -- ---- snapshots
 

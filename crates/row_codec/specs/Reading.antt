@@ -41,7 +41,7 @@ pub use Rattle.row_parts.specs.Reading.{
   IsRead,
   Read,
   stops_at,
-  truth_of,
+  boolean_of,
   instance_kind_of,
   driver_of,
   meant_at,
@@ -128,7 +128,7 @@ unfoldable pub instance_in : List ℕ → List ℕ → List ℕ → Result Insta
 instance_in project name body = do
   rest ← version_at body
   kind ← code_at instance_kind_of rest
-  ephemeral ← code_at truth_of kind.1
+  ephemeral ← code_at boolean_of kind.1
   description ← text_at ephemeral.1
   origin ← text_at description.1
   created ← moment_at origin.1

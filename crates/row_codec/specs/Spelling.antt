@@ -12,7 +12,7 @@ use Rattle.row_parts.specs.records.specs.declared.rows.Row.{Row}
 use Rattle.row_parts.specs.records.specs.declared.rows.Row.TheVariants as row
 unfoldable pub use Rattle.row_parts.specs.Spelling.{text_bytes, number_bytes, list_bytes}
 pub use Rattle.row_parts.specs.Spelling.{
-  truth_byte,
+  boolean_byte,
   kind_byte,
   driver_byte,
   setting_bytes,
@@ -49,7 +49,7 @@ volume_bytes volume = (1 ∷ text_bytes volume.description) ++ settings_bytes vo
 -- devices
 abbrev pub instance_bytes : Instance → List ℕ
 instance_bytes instance =
-    (1 ∷ kind_byte instance.kind ∷ truth_byte instance.ephemeral ∷ text_bytes instance.description)
+    (1 ∷ kind_byte instance.kind ∷ boolean_byte instance.ephemeral ∷ text_bytes instance.description)
     ++ text_bytes instance.origin
     ++ number_bytes instance.created
     ++ texts_bytes instance.profiles

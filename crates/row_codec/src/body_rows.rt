@@ -6,8 +6,8 @@ ghost use Rattle.row_codec.specs.Reading.{pool_in, volume_in, instance_in, snaps
 use estate_rules::from_size_values::{NoMemory, Or, Text};
 use row_parts::from_records::{Instance, Network, Pool, Profile, Project, Snapshot, Volume};
 use row_parts::{
-    Unreadable, devices_at, driver_at, kind_at, moment_at, settings_at, shape_at, stops_at, str_at,
-    truth_at,
+    Unreadable, boolean_at, devices_at, driver_at, kind_at, moment_at, settings_at, shape_at,
+    stops_at, str_at,
 };
 use std::alloc::Global;
 
@@ -219,7 +219,7 @@ pub(crate) fn instance_in(
 {
     let rest = version_at(body)?;
     let (kind, rest) = kind_at(rest)?;
-    let (ephemeral, rest) = truth_at(rest)?;
+    let (ephemeral, rest) = boolean_at(rest)?;
     let (description, rest) = str_at(rest)?;
     let (origin, rest) = str_at(rest)?;
     let (created, rest) = moment_at(rest)?;

@@ -10,7 +10,8 @@ ghost use Rattle.row_codec.specs.Spelling.{three_names};
 use estate_rules::from_size_values::{Entry, NoMemory, Seq, Text};
 use row_parts::from_records::{Instance, Network, Pool, Profile, Project, Row, Snapshot, Volume};
 use row_parts::{
-    driver_byte, kind_byte, put_devices, put_number, put_settings, put_text, put_texts, truth_byte,
+    boolean_byte, driver_byte, kind_byte, put_devices, put_number, put_settings, put_text,
+    put_texts,
 };
 use std::alloc::Global;
 
@@ -79,7 +80,7 @@ fn put_instance(out: &mut Vec<u8>, instance: &Instance) -> Result<(), NoMemory>
 {
     out.push(1)?;
     out.push(kind_byte(instance.kind))?;
-    out.push(truth_byte(instance.ephemeral))?;
+    out.push(boolean_byte(instance.ephemeral))?;
     put_text(out, instance.description.view())?;
     put_text(out, instance.origin.view())?;
     put_number(out, instance.created)?;

@@ -3,10 +3,12 @@ ghost use Rattle.std.specs.Prelude.{◌≡◌, ◌+◌, ◌-◌, ◌^◌, ◌≤
 ghost use Rattle.std.specs.Prelude.{is_some, find, length, take, vec_capacity};
 ghost use Rattle.machine_laws.specs.host_model.specs.declared.call.HostCall.{HostCall as HostCallValue};
 ghost use Rattle.machine_laws.specs.instance_states.specs.Plans.{undo_of};
-ghost use Rattle.machine_laws.specs.operations.specs.Kept.{no_operations, entered, has_number, live_at, with_work, moved, ends};
+ghost use Rattle.machine_laws.specs.operations.specs.Kept.{no_operations, entered};
+ghost use Rattle.machine_laws.specs.operations.specs.Kept.{has_number, live_at, with_work, moved, ends};
 ghost use Rattle.machine_laws.specs.operations.specs.declared.operation.Operation.{Operation as OperationValue};
 ghost use Rattle.machine_laws.specs.plain_lists.specs.Edits.{changed_first, dropped};
-ghost use Rattle.machine_laws.specs.reservations.specs.Holdings.{no_books, has_op, granted_more, converted_more, returned_more};
+ghost use Rattle.machine_laws.specs.reservations.specs.Holdings.{no_books, has_op};
+ghost use Rattle.machine_laws.specs.reservations.specs.Holdings.{granted_more, converted_more, returned_more};
 ghost use Rattle.row_drafts.specs.Background.{before_claim, pending_of, share_in, handed, handed_at, HasCount};
 ghost use Rattle.row_drafts.specs.Background.{HasCountAt};
 ghost use Rattle.machine_laws.specs.row_machine.specs.machine.Task.{Task};

@@ -7,7 +7,8 @@ ghost use Rattle.machine_laws.specs.row_machine.specs.declared.changes.RowChange
 ghost use Rattle.machine_laws.specs.row_machine.specs.machine.Changes.{changed, applied};
 ghost use Rattle.machine_laws.specs.row_machine.specs.machine.State.{empty_state};
 ghost use Rattle.machine_laws.specs.row_machine.specs.machine.Task.{Task};
-ghost use Rattle.machine_laws.specs.row_machine.specs.machine.Work.{claiming, moved, with_task, with_power, ended, is_held_by, converted};
+ghost use Rattle.machine_laws.specs.row_machine.specs.machine.Work.{claiming, moved, with_task};
+ghost use Rattle.machine_laws.specs.row_machine.specs.machine.Work.{with_power, ended, is_held_by, converted};
 ghost use Rattle.machine_laws.specs.row_machine.specs.machine.Work.{returned};
 ghost use Rattle.row_drafts.specs.Background.{holding, handed_at, HasCountAt};
 ghost use Rattle.row_drafts.specs.Drafted.{former, stopped, spares_for, spares_of, IsReady, CanClaim};

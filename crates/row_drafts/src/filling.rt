@@ -108,9 +108,9 @@ impl Lists {
 }
 
 impl Draft {
-    /// A draft of copies of these rows, put in one after the other: every instance is stopped, there is no operation, and
-    /// nothing can be taken back. The place of each row is found by binary search; rows that come in the order of their
-    /// names are put at the end, so that none is moved.
+    /// A draft of copies of these rows, put in one after the other: every instance is stopped, there is no operation,
+    /// and nothing can be taken back. The place of each row is found by binary search; rows that come in the order of
+    /// their names are put at the end, so that none is moved.
     pub fn of_rows(alloc: Global, rows: &[Row]) -> Result<Draft, NoMemory>
         ensures state { IfOk result (λ d. d.state ≡ with_rows rows.now) }
         ensures log { IfOk result (λ d. d.log ≡ []) }

@@ -12,7 +12,8 @@ ghost use Rattle.machine_laws.specs.row_machine.specs.machine.Rows.{is_standing,
 ghost use Rattle.machine_laws.specs.row_machine.specs.machine.Changes.{with_row, without_row, changed};
 ghost use Rattle.machine_laws.specs.row_machine.specs.machine.State.{Standing, empty_state};
 ghost use Rattle.machine_laws.specs.row_machine.specs.machine.Task.{Task};
-ghost use Rattle.machine_laws.specs.row_machine.specs.machine.Work.{claiming, moved, with_task, with_power, ended, is_held_by, converted};
+ghost use Rattle.machine_laws.specs.row_machine.specs.machine.Work.{claiming, moved, with_task};
+ghost use Rattle.machine_laws.specs.row_machine.specs.machine.Work.{with_power, ended, is_held_by, converted};
 ghost use Rattle.machine_laws.specs.row_machine.specs.machine.Work.{returned};
 ghost use Rattle.row_drafts.specs.Background.{holding, handed_at, HasCountAt};
 ghost use Rattle.row_drafts.specs.declared.lists.Undone.TheVariants as undone_of;

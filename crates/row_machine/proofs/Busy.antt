@@ -42,7 +42,7 @@ use Rattle.reservations.specs.size_values.specs.Cpu.{set_of, cpu_of}
 use Rattle.reservations.specs.size_values.specs.Expiry.{expiry_of}
 use Rattle.reservations.specs.size_values.specs.MemorySize.{memory_of}
 use Rattle.reservations.specs.size_values.specs.Size.{size_of}
-use Rattle.reservations.specs.size_values.specs.Truth.{truth_of}
+use Rattle.reservations.specs.size_values.specs.Boolean.{boolean_of}
 use Rattle.expansion.specs.config_lists.specs.Changes.{settled, patched}
 use Rattle.expansion.specs.config_lists.specs.Devices.{is_root_disk, root_of}
 use Rattle.expansion.specs.config_lists.specs.Entries.{value_of, put, without, replaced}
@@ -166,7 +166,7 @@ some-is same = cc
 names : AreNamed busy
 unfolding
     digits address_of cidr_of plus_of minus_of excess_of fits_in count_of set_of cpu_of expiry_of memory_of size_of
-    truth_of settled patched is_root_disk root_of value_of put without replaced keys_fault instance_fault project_fault
+    boolean_of settled patched is_root_disk root_of value_of put without replaced keys_fault instance_fault project_fault
     network_fault pool_fault volume_fault device_fault devices_fault value_fault instance_lines project_lines
     network_lines pool_lines volume_lines option_tables_tables_device_lines device_form device_type listed_form form_of
     is_instance_name is_project_name is_object_name names_network names_pool names_volume laid expanded expanded_setting
@@ -211,7 +211,7 @@ names = record {
 links : AreLinked busy
 unfolding
     digits address_of cidr_of plus_of minus_of excess_of fits_in count_of set_of cpu_of expiry_of memory_of size_of
-    truth_of settled patched is_root_disk root_of value_of put without replaced keys_fault instance_fault project_fault
+    boolean_of settled patched is_root_disk root_of value_of put without replaced keys_fault instance_fault project_fault
     network_fault pool_fault volume_fault device_fault devices_fault value_fault instance_lines project_lines
     network_lines pool_lines volume_lines option_tables_tables_device_lines device_form device_type listed_form form_of
     is_instance_name is_project_name is_object_name names_network names_pool names_volume laid expanded expanded_setting
@@ -273,7 +273,7 @@ links = record {
 defaults : HasDefaults busy
 unfolding
     digits address_of cidr_of plus_of minus_of excess_of fits_in count_of set_of cpu_of expiry_of memory_of size_of
-    truth_of settled patched is_root_disk root_of value_of put without replaced keys_fault instance_fault project_fault
+    boolean_of settled patched is_root_disk root_of value_of put without replaced keys_fault instance_fault project_fault
     network_fault pool_fault volume_fault device_fault devices_fault value_fault instance_lines project_lines
     network_lines pool_lines volume_lines option_tables_tables_device_lines device_form device_type listed_form form_of
     is_instance_name is_project_name is_object_name names_network names_pool names_volume laid expanded expanded_setting
@@ -295,7 +295,7 @@ defaults = record { project = refl; profiles = Each-cons _ (λ on. refl) Each-no
 settings : AreSettled busy
 unfolding
     digits address_of cidr_of plus_of minus_of excess_of fits_in count_of set_of cpu_of expiry_of memory_of size_of
-    truth_of settled patched is_root_disk root_of value_of put without replaced keys_fault instance_fault project_fault
+    boolean_of settled patched is_root_disk root_of value_of put without replaced keys_fault instance_fault project_fault
     network_fault pool_fault volume_fault device_fault devices_fault value_fault instance_lines project_lines
     network_lines pool_lines volume_lines option_tables_tables_device_lines device_form device_type listed_form form_of
     is_instance_name is_project_name is_object_name names_network names_pool names_volume laid expanded expanded_setting
@@ -321,7 +321,7 @@ settings = record {
 busy-once : IsBusyOnce busy
 unfolding
     digits address_of cidr_of plus_of minus_of excess_of fits_in count_of set_of cpu_of expiry_of memory_of size_of
-    truth_of settled patched is_root_disk root_of value_of put without replaced keys_fault instance_fault project_fault
+    boolean_of settled patched is_root_disk root_of value_of put without replaced keys_fault instance_fault project_fault
     network_fault pool_fault volume_fault device_fault devices_fault value_fault instance_lines project_lines
     network_lines pool_lines volume_lines option_tables_tables_device_lines device_form device_type listed_form form_of
     is_instance_name is_project_name is_object_name names_network names_pool names_volume laid expanded expanded_setting
@@ -360,7 +360,7 @@ busy-once = one-by-one where
 kept : AreKept busy.operations
 unfolding
     digits address_of cidr_of plus_of minus_of excess_of fits_in count_of set_of cpu_of expiry_of memory_of size_of
-    truth_of settled patched is_root_disk root_of value_of put without replaced keys_fault instance_fault project_fault
+    boolean_of settled patched is_root_disk root_of value_of put without replaced keys_fault instance_fault project_fault
     network_fault pool_fault volume_fault device_fault devices_fault value_fault instance_lines project_lines
     network_lines pool_lines volume_lines option_tables_tables_device_lines device_form device_type listed_form form_of
     is_instance_name is_project_name is_object_name names_network names_pool names_volume laid expanded expanded_setting
@@ -410,7 +410,7 @@ kept = record {
 deeds : Each (λ o. IsByDeed o.work) busy.operations.live
 unfolding
     digits address_of cidr_of plus_of minus_of excess_of fits_in count_of set_of cpu_of expiry_of memory_of size_of
-    truth_of settled patched is_root_disk root_of value_of put without replaced keys_fault instance_fault project_fault
+    boolean_of settled patched is_root_disk root_of value_of put without replaced keys_fault instance_fault project_fault
     network_fault pool_fault volume_fault device_fault devices_fault value_fault instance_lines project_lines
     network_lines pool_lines volume_lines option_tables_tables_device_lines device_form device_type listed_form form_of
     is_instance_name is_project_name is_object_name names_network names_pool names_volume laid expanded expanded_setting
@@ -437,7 +437,7 @@ deeds = Each-cons _
 under-way : Each IsUnderWay busy.operations.live
 unfolding
     digits address_of cidr_of plus_of minus_of excess_of fits_in count_of set_of cpu_of expiry_of memory_of size_of
-    truth_of settled patched is_root_disk root_of value_of put without replaced keys_fault instance_fault project_fault
+    boolean_of settled patched is_root_disk root_of value_of put without replaced keys_fault instance_fault project_fault
     network_fault pool_fault volume_fault device_fault devices_fault value_fault instance_lines project_lines
     network_lines pool_lines volume_lines option_tables_tables_device_lines device_form device_type listed_form form_of
     is_instance_name is_project_name is_object_name names_network names_pool names_volume laid expanded expanded_setting
@@ -464,7 +464,7 @@ under-way = Each-cons _
 limits : AreWithin busy
 unfolding
     digits address_of cidr_of plus_of minus_of excess_of fits_in count_of set_of cpu_of expiry_of memory_of size_of
-    truth_of settled patched is_root_disk root_of value_of put without replaced keys_fault instance_fault project_fault
+    boolean_of settled patched is_root_disk root_of value_of put without replaced keys_fault instance_fault project_fault
     network_fault pool_fault volume_fault device_fault devices_fault value_fault instance_lines project_lines
     network_lines pool_lines volume_lines option_tables_tables_device_lines device_form device_type listed_form form_of
     is_instance_name is_project_name is_object_name names_network names_pool names_volume laid expanded expanded_setting
@@ -505,7 +505,7 @@ limits = record {
 balanced : AreBalanced busy
 unfolding
     digits address_of cidr_of plus_of minus_of excess_of fits_in count_of set_of cpu_of expiry_of memory_of size_of
-    truth_of settled patched is_root_disk root_of value_of put without replaced keys_fault instance_fault project_fault
+    boolean_of settled patched is_root_disk root_of value_of put without replaced keys_fault instance_fault project_fault
     network_fault pool_fault volume_fault device_fault devices_fault value_fault instance_lines project_lines
     network_lines pool_lines volume_lines option_tables_tables_device_lines device_form device_type listed_form form_of
     is_instance_name is_project_name is_object_name names_network names_pool names_volume laid expanded expanded_setting
@@ -535,7 +535,7 @@ balanced = by_part where
 shares : busy.held ≡ map (held_by busy) busy.operations.live
 unfolding
     digits address_of cidr_of plus_of minus_of excess_of fits_in count_of set_of cpu_of expiry_of memory_of size_of
-    truth_of settled patched is_root_disk root_of value_of put without replaced keys_fault instance_fault project_fault
+    boolean_of settled patched is_root_disk root_of value_of put without replaced keys_fault instance_fault project_fault
     network_fault pool_fault volume_fault device_fault devices_fault value_fault instance_lines project_lines
     network_lines pool_lines volume_lines option_tables_tables_device_lines device_form device_type listed_form form_of
     is_instance_name is_project_name is_object_name names_network names_pool names_volume laid expanded expanded_setting
@@ -573,7 +573,7 @@ shares = as-held ∙ sym as-stands where
 sizes : AreFew busy
 unfolding
     digits address_of cidr_of plus_of minus_of excess_of fits_in count_of set_of cpu_of expiry_of memory_of size_of
-    truth_of settled patched is_root_disk root_of value_of put without replaced keys_fault instance_fault project_fault
+    boolean_of settled patched is_root_disk root_of value_of put without replaced keys_fault instance_fault project_fault
     network_fault pool_fault volume_fault device_fault devices_fault value_fault instance_lines project_lines
     network_lines pool_lines volume_lines option_tables_tables_device_lines device_form device_type listed_form form_of
     is_instance_name is_project_name is_object_name names_network names_pool names_volume laid expanded expanded_setting
@@ -602,7 +602,7 @@ sizes = record {
 pub busy-whole : BusyIsWhole
 unfolding
     digits address_of cidr_of plus_of minus_of excess_of fits_in count_of set_of cpu_of expiry_of memory_of size_of
-    truth_of settled patched is_root_disk root_of value_of put without replaced keys_fault instance_fault project_fault
+    boolean_of settled patched is_root_disk root_of value_of put without replaced keys_fault instance_fault project_fault
     network_fault pool_fault volume_fault device_fault devices_fault value_fault instance_lines project_lines
     network_lines pool_lines volume_lines option_tables_tables_device_lines device_form device_type listed_form form_of
     is_instance_name is_project_name is_object_name names_network names_pool names_volume laid expanded expanded_setting

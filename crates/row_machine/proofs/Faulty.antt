@@ -7,7 +7,7 @@ use Rattle.reservations.specs.size_values.specs.Cpu.{set_of, cpu_of}
 use Rattle.reservations.specs.size_values.specs.Expiry.{expiry_of}
 use Rattle.reservations.specs.size_values.specs.MemorySize.{memory_of}
 use Rattle.reservations.specs.size_values.specs.Size.{size_of}
-use Rattle.reservations.specs.size_values.specs.Truth.{truth_of}
+use Rattle.reservations.specs.size_values.specs.Boolean.{boolean_of}
 use Rattle.expansion.specs.config_lists.specs.Changes.{settled, patched}
 use Rattle.expansion.specs.config_lists.specs.Devices.{is_root_disk, root_of}
 use Rattle.expansion.specs.config_lists.specs.Entries.{value_of, put, without, replaced}
@@ -54,7 +54,7 @@ use Rattle.row_machine.specs.examples.Faults.{AreTold}
 pub are_told : AreTold
 unfolding
     digits address_of cidr_of plus_of minus_of excess_of fits_in count_of set_of cpu_of expiry_of memory_of size_of
-    truth_of settled patched is_root_disk root_of value_of put without replaced keys_fault instance_fault project_fault
+    boolean_of settled patched is_root_disk root_of value_of put without replaced keys_fault instance_fault project_fault
     network_fault pool_fault volume_fault device_fault devices_fault value_fault instance_lines project_lines
     network_lines pool_lines volume_lines option_tables_tables_device_lines device_form device_type listed_form form_of
     is_instance_name is_project_name is_object_name names_network names_pool names_volume laid expanded expanded_setting

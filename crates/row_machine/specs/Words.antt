@@ -20,7 +20,8 @@ pub use Rattle.row_codec.specs.estate_rules.specs.Uses.{names_network, names_poo
 pub use Rattle.expansion.specs.Layers.{expanded, nothing as no_layer}
 pub use Rattle.expansion.specs.declared.expanded.Expanded.{Expanded}
 pub use Rattle.instance_states.specs.host_model.specs.declared.call.HostCall.{HostCall}
-pub use Rattle.instance_states.specs.host_model.specs.declared.call.HostCall.TheVariants.{Clear, CopyRoot, Freeze, MakeRoot, Start, Stop}
+pub use Rattle.instance_states.specs.host_model.specs.declared.call.HostCall.TheVariants.{Clear, CopyRoot}
+pub use Rattle.instance_states.specs.host_model.specs.declared.call.HostCall.TheVariants.{Freeze, MakeRoot, Start, Stop}
 pub use Rattle.instance_states.specs.host_model.specs.declared.call.HostCall.TheVariants.{Thaw}
 pub use Rattle.instance_states.specs.host_model.specs.declared.place.Place.{Place}
 pub use Rattle.instance_states.specs.host_model.specs.declared.report.Report.{Report}
@@ -29,7 +30,8 @@ pub use Rattle.instance_states.specs.Numbers.{next_name, seen, unseen}
 pub use Rattle.instance_states.specs.Plans.{calls_of, name_of, undo_of}
 pub use Rattle.instance_states.specs.States.{after_of, is_allowed}
 pub use Rattle.row_codec.specs.operations.specs.Facts.{AreKept}
-pub use Rattle.row_codec.specs.operations.specs.Kept.{by_number, cancel_answer, enter_fault, has_number, kept_at, live_at}
+pub use Rattle.row_codec.specs.operations.specs.Kept.{by_number, cancel_answer}
+pub use Rattle.row_codec.specs.operations.specs.Kept.{enter_fault, has_number, kept_at, live_at}
 pub use Rattle.row_codec.specs.operations.specs.Kept.{no_operations}
 pub use Rattle.row_codec.specs.operations.specs.Limits.{most_live, number_limit}
 pub use Rattle.row_codec.specs.operations.specs.Statuses.{is_pending}
@@ -39,8 +41,10 @@ pub use Rattle.row_codec.specs.operations.specs.declared.faults.EnterFault.TheVa
 pub use Rattle.row_codec.specs.operations.specs.declared.operation.OpFault.{OpFault}
 pub use Rattle.row_codec.specs.operations.specs.declared.operation.Operation.{Operation}
 pub use Rattle.row_codec.specs.operations.specs.declared.status.Status.{Status}
-pub use Rattle.row_codec.specs.operations.specs.declared.status.Status.TheVariants.{Cancelled, Cancelling, Failure, Pending, Success}
-pub use Rattle.restrictions.specs.option_tables.specs.Checks.{devices_fault, instance_fault, network_fault, pool_fault, project_fault}
+pub use Rattle.row_codec.specs.operations.specs.declared.status.Status.TheVariants.{Cancelled, Cancelling}
+pub use Rattle.row_codec.specs.operations.specs.declared.status.Status.TheVariants.{Failure, Pending, Success}
+pub use Rattle.restrictions.specs.option_tables.specs.Checks.{devices_fault, instance_fault}
+pub use Rattle.restrictions.specs.option_tables.specs.Checks.{network_fault, pool_fault, project_fault}
 pub use Rattle.restrictions.specs.option_tables.specs.Checks.{volume_fault}
 pub use Rattle.restrictions.specs.option_tables.specs.declared.faults.DeviceFault.{DeviceFault}
 pub use Rattle.restrictions.specs.option_tables.specs.declared.faults.SettingFault.{SettingFault}
@@ -101,7 +105,7 @@ pub use Rattle.row_machine.specs.declared.events.Answer.{Answer}
 pub use Rattle.row_machine.specs.declared.events.Event.{Event}
 pub use Rattle.reservations.specs.size_values.specs.Amounts.{amount_above, excess_of, part, nothing as no_amounts}
 pub use Rattle.reservations.specs.size_values.specs.Fault.{fault_number}
-pub use Rattle.reservations.specs.size_values.specs.Truth.{truth_of}
+pub use Rattle.reservations.specs.size_values.specs.Boolean.{boolean_of}
 pub use Rattle.reservations.specs.size_values.specs.declared.amounts.Amounts.{Amounts}
 pub use Rattle.reservations.specs.size_values.specs.declared.amounts.Part.{Part}
 pub use Rattle.reservations.specs.size_values.specs.declared.entry.Entry.{Entry}

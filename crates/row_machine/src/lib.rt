@@ -87,7 +87,7 @@ pub mod from_row_codec {
 pub mod from_size_values {
     pub use reservations::from_size_values::{
         Action, Amounts, Deed, Entry, EntryChange, Kind, MOMENT_LIMIT, NoMemory, ObjectKind, Or,
-        Part, Power, Seq, Text, read_truth,
+        Part, Power, Seq, Text, read_boolean,
     };
 }
 

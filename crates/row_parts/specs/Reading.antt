@@ -66,8 +66,8 @@ moment_at bytes = do
   if nat_lt moment.0 moment_limit then Ok moment else stops_at bytes
 
 -- the boolean that a byte stands for, if any
-abbrev pub truth_of : ℕ → Option Bool
-truth_of byte = if byte == 0 then Some false else (if byte == 1 then Some true else None)
+abbrev pub boolean_of : ℕ → Option Bool
+boolean_of byte = if byte == 0 then Some false else (if byte == 1 then Some true else None)
 
 -- the same as the kind of an instance
 abbrev pub instance_kind_of : ℕ → Option Kind

@@ -22,9 +22,9 @@ unfoldable pub list_bytes : {X : Type 0} → (X → List ℕ) → List X → Lis
 list_bytes item items = to_be_bytes w32 (length items) ++ flat_map item items
 
 -- a boolean, as one byte
-abbrev pub truth_byte : Bool → ℕ
-truth_byte false = 0
-truth_byte true = 1
+abbrev pub boolean_byte : Bool → ℕ
+boolean_byte false = 0
+boolean_byte true = 1
 
 -- the kind of an instance, as one byte
 abbrev pub kind_byte : Kind → ℕ

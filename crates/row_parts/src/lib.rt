@@ -30,8 +30,9 @@ mod unreadable;
 mod writing;
 
 pub use lists::{devices_at, settings_at, shape_at};
-pub use parts::{Shape, driver_at, kind_at, moment_at, stops_at, str_at, truth_at};
+pub use parts::{Shape, boolean_at, driver_at, kind_at, moment_at, stops_at, str_at};
 pub use unreadable::Unreadable;
 pub use writing::{
-    driver_byte, kind_byte, put_devices, put_number, put_settings, put_text, put_texts, truth_byte,
+    boolean_byte, driver_byte, kind_byte, put_devices, put_number, put_settings, put_text,
+    put_texts,
 };

@@ -1,6 +1,6 @@
 //! Numbers, codes and texts, read from the front of bytes: each reader gives the part and the bytes after it.
 ghost use Rattle.std.specs.Prelude.{◌≡◌, List, length};
-ghost use Rattle.row_parts.specs.Reading.{Gives, IsRead, count_at, number_at, moment_at, code_at, truth_of};
+ghost use Rattle.row_parts.specs.Reading.{Gives, IsRead, count_at, number_at, moment_at, code_at, boolean_of};
 ghost use Rattle.row_parts.specs.Reading.{instance_kind_of, driver_of, text_at};
 
 use crate::unreadable::Unreadable;
@@ -63,10 +63,10 @@ pub fn moment_at(bytes: &[u8]) -> Result<(u64, &[u8]), Unreadable>
     }
 }
 
-/// A truth, as one byte.
+/// A boolean, as one byte.
 #[tactic(auto, unfolding(crate::specs::Reading::code_at))]
-pub fn truth_at(bytes: &[u8]) -> Result<(bool, &[u8]), Unreadable>
-    ensures { IsRead (λ x. (x.0, x.1.now)) result (code_at truth_of bytes.now) }
+pub fn boolean_at(bytes: &[u8]) -> Result<(bool, &[u8]), Unreadable>
+    ensures { IsRead (λ x. (x.0, x.1.now)) result (code_at boolean_of bytes.now) }
 {
     match bytes {
         [0, rest @ ..] => Ok((false, rest)),

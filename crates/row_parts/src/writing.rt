@@ -4,7 +4,7 @@ ghost use Rattle.std.specs.Str.{IsUtf8};
 ghost use Rattle.row_parts.specs.Parts.{IsShort, AreShortTexts, AreShortSettings, AreShortDevices, AreUtf8};
 ghost use Rattle.row_parts.specs.Parts.{AreTypedSettings, AreTypedDevices};
 ghost use Rattle.row_parts.specs.Spelling.{text_bytes, number_bytes, texts_bytes, settings_bytes, devices_bytes};
-ghost use Rattle.row_parts.specs.Spelling.{truth_byte, kind_byte, driver_byte};
+ghost use Rattle.row_parts.specs.Spelling.{boolean_byte, kind_byte, driver_byte};
 
 use records::Driver;
 use records::from_config_lists::{Config, Devices};
@@ -76,10 +76,10 @@ pub fn put_devices(out: &mut Vec<u8>, devices: &Devices) -> Result<(), NoMemory>
 }
 
 /// 1 for true and 0 for false.
-pub fn truth_byte(truth: bool) -> u8
-    ensures { result ≡ truth_byte truth }
+pub fn boolean_byte(boolean: bool) -> u8
+    ensures { result ≡ boolean_byte boolean }
 {
-    if truth { 1 } else { 0 }
+    if boolean { 1 } else { 0 }
 }
 
 /// The kind of an instance, as one byte.

@@ -6,7 +6,7 @@ ghost use Rattle.row_machine.specs.machine.Homes.{is_on, has_feature, home_by, h
 
 use crate::lookups::project_named;
 use restrictions::from_config_lists::Config;
-use restrictions::from_size_values::{ObjectKind, read_truth};
+use restrictions::from_size_values::{ObjectKind, read_boolean};
 use row_machine::from_records::Project;
 
 /// Whether a text reads as true.
@@ -14,8 +14,8 @@ use row_machine::from_records::Project;
 pub fn is_true(text: &str) -> bool
     ensures { result ≡ is_true text.now }
 {
-    match read_truth(text) {
-        Ok(truth) => truth,
+    match read_boolean(text) {
+        Ok(boolean) => boolean,
         Err(_) => false,
     }
 }

@@ -54,7 +54,7 @@ pub mod from_row_machine {
 pub mod from_size_values {
     pub use restrictions::from_size_values::{
         Action, Amounts, Cpu, Deed, Kind, Memory, NoMemory, ObjectKind, Or, Rise, Seq, Text,
-        read_count, read_cpu, read_memory, read_size, read_truth,
+        read_boolean, read_count, read_cpu, read_memory, read_size,
     };
 }
 

@@ -1,5 +1,5 @@
-//! Rows and statuses by their names. Profiles, volumes, instances, snapshots and statuses, of which there may be many, are
-//! found by binary search; projects, networks and pools, of which there are few, from the front.
+//! Rows and statuses by their names. Profiles, volumes, instances, snapshots and statuses, of which there may be
+//! many, are found by binary search; projects, networks and pools, of which there are few, from the front.
 ghost use Rattle.std.specs.Prelude.{◌≡◌, find};
 ghost use Rattle.std.specs.Option.{option_copied};
 ghost use Rattle.row_machine.specs.operations.specs.Kept.{has_number, kept_at};

@@ -9,7 +9,7 @@ use Rattle.row_codec.specs.records.specs.declared.rows.Pool.{Pool}
 use Rattle.row_codec.specs.records.specs.declared.rows.Volume.{Volume}
 use Rattle.row_codec.specs.records.specs.declared.rows.Instance.{Instance}
 use Rattle.row_codec.specs.records.specs.declared.rows.Snapshot.{Snapshot}
-use Rattle.row_codec.specs.Spelling.{text_bytes, number_bytes, list_bytes, texts_bytes, settings_bytes, devices_bytes, driver_byte, kind_byte, truth_byte, project_bytes, profile_bytes, network_bytes, pool_bytes, volume_bytes, instance_bytes, snapshot_bytes}
+use Rattle.row_codec.specs.Spelling.{text_bytes, number_bytes, list_bytes, texts_bytes, settings_bytes, devices_bytes, driver_byte, kind_byte, boolean_byte, project_bytes, profile_bytes, network_bytes, pool_bytes, volume_bytes, instance_bytes, snapshot_bytes}
 
 pub list-length : {X : Type 0} (f : X → List ℕ) (xs : List X) → length (list_bytes f xs) ≡ 4 + length (flat_map f xs)
 unfolding list_bytes
@@ -51,7 +51,7 @@ volume-length r =
 pub instance-length : (r : Instance) → length (instance_bytes r)
     ≡ 11 + ((length (text_bytes r.description) + length (text_bytes r.origin)) + (length (texts_bytes r.profiles) + (length (settings_bytes r.config) + length (devices_bytes r.devices))))
 instance-length r =
-    let texts : List ℕ = 1 ∷ kind_byte r.kind ∷ truth_byte r.ephemeral ∷ text_bytes r.description in
+    let texts : List ℕ = 1 ∷ kind_byte r.kind ∷ boolean_byte r.ephemeral ∷ text_bytes r.description in
     let number : List ℕ = number_bytes r.created in
     let a = length-append texts (text_bytes r.origin) in
     let b = length-append (texts ++ text_bytes r.origin) number in

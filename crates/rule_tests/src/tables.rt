@@ -88,8 +88,8 @@ fn snapshot(alloc: Global, name: Text) -> Snapshot {
     }
 }
 
-/// Adds a row of a kind, whose name is after those of smaller numbers. Its other texts are empty: that does not matter to
-/// the number of rows.
+/// Adds a row of a kind, whose name is after those of smaller numbers. Its other texts are empty: that does not
+/// matter to the number of rows.
 fn add_row(alloc: Global, rows: &mut Rows, kind: ObjectKind, number: u32) -> Result<(), NoMemory> {
     let name = Text::from_string(format!(in alloc; "{number:08}")?);
     match kind {

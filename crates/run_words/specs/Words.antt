@@ -1,5 +1,6 @@
 -- The words of the command line: a command of the program, with its numbers and options.
-use Rattle.std.specs.Prelude.{◌<◌, ◌≤◌, ℕ, Bool, true, not, ◌&&◌, if◌then◌else◌, List, [], ◌∷◌, ◌++◌, map, Option, Some, None}
+use Rattle.std.specs.Prelude.{◌<◌, ◌≤◌, ℕ, Bool, true, not, ◌&&◌}
+use Rattle.std.specs.Prelude.{if◌then◌else◌, List, [], ◌∷◌, ◌++◌, map, Option, Some, None}
 use Rattle.std.specs.Prelude.{is_some, IfSome, option_map, codes, false}
 use Rattle.std.specs.List.{list_all}
 use Rattle.std.specs.Option.{option_and_then, option_map_or, unwrap_or}
@@ -115,7 +116,9 @@ make_command_words given = option_map (λ stream. Make stream.0 stream.1) (strea
 
 abbrev pub drill_command_words : List Row → Option CommandWords
 drill_command_words given =
-    if are_values store_options given then option_map (λ stream. Drill stream.0 stream.1) (stream_numbers given) else None
+    if are_values store_options given
+    then option_map (λ stream. Drill stream.0 stream.1) (stream_numbers given)
+    else None
 
 abbrev pub check_command_words : List Row → Option CommandWords
 check_command_words given = if are_values store_options given then Some Check else None
@@ -187,4 +190,6 @@ no_setup = record { db = []; fail_host = []; fail_keeper = [] }
 -- what the words say of the outside, and nothing where they are not read
 abbrev pub setup_of : List (List ℕ) → Setup
 setup_of words =
-    if is_some (words_of words) then setup_of_options (option_map_or (λ command. command.1) (parsed_command words) []) else no_setup
+    if is_some (words_of words)
+    then setup_of_options (option_map_or (λ command. command.1) (parsed_command words) [])
+    else no_setup

@@ -58,8 +58,8 @@ fn no_setup(alloc: Global) -> Setup
 
 /// What the words say of the outside, where they name a command that says something.
 fn setup_of_command(alloc: Global, given: &ArgMatches<'_>) -> Result<Setup, NoMemory>
-    ensures { IfOk result (λ setup. setup ≡ (if is_some (option_and_then (λ command. words_of_command command.0 command.1)
-        (subcommand_rows_of given.now))
+    ensures { IfOk result (λ setup. setup ≡ (if is_some
+        (option_and_then (λ command. words_of_command command.0 command.1) (subcommand_rows_of given.now))
         then setup_of_options (option_map_or (λ command. command.1) (subcommand_rows_of given.now) []) else no_setup)) }
 {
     if command_words_of(given).is_none() {
@@ -73,7 +73,8 @@ fn setup_of_command(alloc: Global, given: &ArgMatches<'_>) -> Result<Setup, NoMe
 
 /// The same, where the words name a command.
 fn setup_of_matches(alloc: Global, given: &Option<ArgMatches<'_>>) -> Result<Setup, NoMemory>
-    ensures { IfOk result (λ setup. setup ≡ (if is_some (option_and_then (λ command. words_of_command command.0 command.1)
+    ensures { IfOk result (λ setup. setup ≡ (if is_some
+        (option_and_then (λ command. words_of_command command.0 command.1)
         (option_and_then subcommand_rows_of given.now))
         then setup_of_options (option_map_or (λ command. command.1) (option_and_then subcommand_rows_of given.now) [])
         else no_setup)) }

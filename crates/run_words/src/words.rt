@@ -4,8 +4,10 @@ ghost use Rattle.std.specs.Option.{option_and_then, option_map_or};
 ghost use Rattle.clap.specs.Words.{first_of, found_of, rows_of, subcommand_rows_of};
 ghost use Rattle.option_words.specs.size_values.specs.Moments.{moment_limit};
 ghost use Rattle.run_words.specs.Values.{are_call_numbers, boot_said, is_path, moment_said, pace_said};
-ghost use Rattle.run_words.specs.Words.{AreInRange, are_values, check_command_words, words_of_command, drill_command_words, is_given, make_command_words};
-ghost use Rattle.run_words.specs.Words.{run_words_in, run_options, run_command_words, store_options, stream_numbers, words_of};
+ghost use Rattle.run_words.specs.Words.{AreInRange, are_values, check_command_words};
+ghost use Rattle.run_words.specs.Words.{words_of_command, drill_command_words, is_given, make_command_words};
+ghost use Rattle.run_words.specs.Words.{run_words_in, run_options};
+ghost use Rattle.run_words.specs.Words.{run_command_words, store_options, stream_numbers, words_of};
 
 use crate::program::parsed_command;
 use crate::values::{

@@ -1,5 +1,5 @@
--- The commands of the program that serve no client: `make` writes requests, `check` tells what is kept, and `drill` answers made
--- requests in memory and tells what they came to.
+-- The commands of the program that serve no client: `make` writes requests, `check` tells what is kept, and `drill`
+-- answers made requests in memory and tells what they came to.
 use Rattle.std.specs.Prelude.{◌≡◌, ◌<◌, ◌++◌, ◌⊎◌, ℕ, List, [], Some, None, option_map}
 use Rattle.std.specs.List.{All}
 use Rattle.workload.specs.size_values.specs.Causes.{RoseBy}
@@ -27,11 +27,13 @@ use Rattle.workload.specs.Summary.{summary}
 
 -- ---- what is written
 
--- A text was written: all of it (status 0); or a write of it failed, which took a part of its front (5); or memory was refused
--- before any of it was written (9).
+-- A text was written: all of it (status 0); or a write of it failed, which took a part of its front (5); or memory
+-- was refused before any of it was written (9).
 abbrev pub Tells : ℕ → List ℕ → Outlet → Outlet → Type 0
 Tells status text sink sink' =
-    ((status ≡ 0) × Takes sink sink' text) ⊎ ((status ≡ 5) × BreaksOff sink sink' text) ⊎ ((status ≡ 9) × (sink' ≡ sink))
+    ((status ≡ 0) × Takes sink sink' text)
+    ⊎ ((status ≡ 5) × BreaksOff sink sink' text)
+    ⊎ ((status ≡ 9) × (sink' ≡ sink))
 
 -- ---- `check`
 
@@ -65,8 +67,8 @@ Checks status sink sink' store store' =
 abbrev pub drilled_text : List ℕ → State → List ℕ
 drilled_text replies state = summary replies ++ report_of state
 
--- Requests were answered from an empty buffer on, over a source that gives them all and a sink that had taken nothing, and the
--- worker made all of its steps after each. The replies are what the sink took.
+-- Requests were answered from an empty buffer on, over a source that gives them all and a sink that had taken
+-- nothing, and the worker made all of its steps after each. The replies are what the sink took.
 pub record Answers (boot : ℕ) (stream : List ℕ) (site later : Site) (replies : List ℕ)
     (ends : SessionEnd) : Type 0 where
   pub source : Inlet
@@ -123,8 +125,8 @@ pub record OpenedDrill (boot : ℕ) (stream : List ℕ) (status : ℕ) (store : 
   pub over : DrillsOver boot stream status (site (serial state None) opened host clock) sink store' host' clock' sink'
 
 -- the rows were not opened: no call of the host or of the clock was made either
-pub record UnopenedDrill (status : ℕ) (store : Store) (host : Hosted) (clock : Readings) (sink : Outlet) (store' : Store)
-    (host' : Hosted) (clock' : Readings) (sink' : Outlet) : Type 0 where
+pub record UnopenedDrill (status : ℕ) (store : Store) (host : Hosted) (clock : Readings) (sink : Outlet)
+    (store' : Store) (host' : Hosted) (clock' : Readings) (sink' : Outlet) : Type 0 where
   pub unopened : Unopened status sink sink' store store'
   pub same_host : host' ≡ host
   pub same_clock : clock' ≡ clock
@@ -134,19 +136,21 @@ Drills boot stream status store host clock sink store' host' clock' sink' =
     OpenedDrill boot stream status store host clock sink store' host' clock' sink'
     ⊎ UnopenedDrill status store host clock sink store' host' clock' sink'
 
--- The drill did what its requests ask, and nothing else. They lead, each with its moment, its outcome, its reply and the steps of
--- the worker, from the rows that the keeper's entries open to, with no call in hand, to some rows, and with them the store and the
--- host to those at the end. What was written is the summary of their replies and the report of the rows. The keeper has the records
--- of the rows, and the counts of failures bear the outcomes out.
-pub record DrillsText (boot : ℕ) (messages : List Request) (status : ℕ) (store : Store) (host : Hosted) (clock : Readings)
-    (sink : Outlet) (store' : Store) (host' : Hosted) (clock' : Readings) (sink' : Outlet) : Type 0 where
+-- The drill did what its requests ask, and nothing else. They lead, each with its moment, its outcome, its reply and
+-- the steps of the worker, from the rows that the keeper's entries open to, with no call in hand, to some rows, and
+-- with them the store and the host to those at the end. What was written is the summary of their replies and the
+-- report of the rows. The keeper has the records of the rows, and the counts of failures bear the outcomes out.
+pub record DrillsText (boot : ℕ) (messages : List Request) (status : ℕ) (store : Store) (host : Hosted)
+    (clock : Readings) (sink : Outlet) (store' : Store) (host' : Hosted) (clock' : Readings) (sink' : Outlet)
+    : Type 0 where
   pub state : State
   pub opened : Store
   pub opens : OpensTo state store opened
   pub exchanges : List Exchange
   pub last : Serial
   pub requests_are : requests_of exchanges ≡ answered messages
-  pub leads : LeadTo boot pace.All (site (serial state None) opened host clock) exchanges (site last store' host' clock')
+  pub leads : LeadTo boot pace.All (site (serial state None) opened host clock) exchanges
+      (site last store' host' clock')
   pub moments : Reads clock (moments_of exchanges) clock'
   pub early : All (λ moment. moment < moment_limit) (moments_of exchanges)
   pub written : Tells status (drilled_text (printed_replies boot exchanges) last.state) sink sink'

@@ -1,7 +1,8 @@
 ghost use Rattle.std.specs.Prelude.{◌≡◌, ◌≤◌, ◌++◌, ◌⊎◌, [], List, IfOk, string_bytes};
 ghost use Rattle.serial_sessions.specs.http_heads.specs.Messages.{ended, Splits};
 ghost use Rattle.serial_sessions.specs.http_heads.specs.declared.request.Request.{Request as RequestValue};
-ghost use Rattle.serial_commands.specs.Commands.{Answers, Drills, DrillsOver, DrillsText, Tells, TellsDrill, drilled_text};
+ghost use Rattle.serial_commands.specs.Commands.{Answers, Drills, DrillsOver};
+ghost use Rattle.serial_commands.specs.Commands.{DrillsText, Tells, TellsDrill, drilled_text};
 ghost use Rattle.serial_sessions.specs.Worlds.{outlet};
 ghost use Rattle.serial_sessions.specs.serial_steps.specs.Steps.{hosted, site};
 ghost use Rattle.workload.specs.Stream.{stream_of};
@@ -180,8 +181,8 @@ fn drill_over<K: Sink, R: Keeper, H: Host, C: Clock>(
 }
 
 /// Answers the requests that a number stands for, over the rows that a keeper has and in memory, and tells how many
-/// replies of each code that gave, and what the rows are afterwards. The worker makes all of its steps after each reply.
-/// It gives the exit status.
+/// replies of each code that gave, and what the rows are afterwards. The worker makes all of its steps after each
+/// reply. It gives the exit status.
 pub fn drill<K: Sink, R: Keeper, H: Host, C: Clock>(
     alloc: Global,
     sink: &mut K,

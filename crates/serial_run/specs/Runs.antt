@@ -48,8 +48,8 @@ pub record SessionFrom (boot : ℕ) (pace : Pace) (start : World) (after : Outsi
   pub serial : Serial
   pub session : Session boot pace start (world held after serial) ends
 
--- what a session sees at its begin of an outside whose keeper had these entries, which open to this state: its rows, whose
--- records the entries are now, and no call in hand
+-- what a session sees at its begin of an outside whose keeper had these entries, which open to this state: its rows,
+-- whose records the entries are now, and no call in hand
 abbrev pub begun : List Entry → State → Outside → World
 begun entries state before =
     world [] (record before { keeper = opened_store entries state before.keeper }) (serial state None)
@@ -71,8 +71,8 @@ pub record Ran (words : List (List ℕ)) (handed : ℕ) (before after : Outside)
   pub opened : Opened (boot_with words handed) (pace_of words) (seen_with words before) (seen_with words after) status
   pub unread : IsUnread (now_of words) before.clock after.clock
 
--- Why there was no session. Words that are not read leave the keeper as it was, as does out of memory while they are read, and a
--- refused opening does what it may do to it.
+-- Why there was no session. Words that are not read leave the keeper as it was, as does out of memory while they are
+-- read, and a refused opening does what it may do to it.
 abbrev pub HasCauseToRefuse : StartFault → List (List ℕ) → Store → Store → Type 0
 HasCauseToRefuse start.Words words keeper keeper' = (words_of words ≡ None) × (keeper' ≡ keeper)
 HasCauseToRefuse start.KeeperFailed words keeper keeper' = (is_run words ≡ true)

@@ -24,11 +24,12 @@ use Rattle.serial_commands.specs.serial_sessions.specs.Worlds.{Outside, within}
 
 -- The run did what its input asks, and nothing else. The requests that are answered, each with its moment, its outcome,
 -- its reply and the steps of the worker, lead from the rows that the keeper's entries open to, with no call in hand, to
--- some rows and some call, and with them the store from the one after the opening to the one at the end, and the host from its roots before to
--- those at the end. The moments are the readings that the clock told, in their order, one for each command that was
--- asked, each call that was asked for and each report, and all before the year 10000. The exit status is the one that
--- is due, the sink took the replies in their order, the keeper has the records of the rows at the end, its count rose
--- at least once for each outcome in which it failed, and the host's for each report of a failed call.
+-- some rows and some call, and with them the store from the one after the opening to the one at the end, and the host
+-- from its roots before to those at the end. The moments are the readings that the clock told, in their order, one
+-- for each command that was asked, each call that was asked for and each report, and all before the year 10000. The
+-- exit status is the one that is due, the sink took the replies in their order, the keeper has the records of the
+-- rows at the end, its count rose at least once for each outcome in which it failed, and the host's for each report
+-- of a failed call.
 pub record RunsText (boot : ℕ) (pace : Pace) (messages : List Request) (ending : Ending) (status : ℕ)
     (before after : Outside)
     : Type 0 where

@@ -85,7 +85,8 @@ sides sink gate clock = record { sink = sink; gate = gate; clock = clock }
 
 -- The link did what its input asks, and nothing else. The requests up to and with the first that is the last on its
 -- connection, or before the first that subscribes to events, are answered, each by the turns and rests that it is due.
--- These are all that was done at the gate, and the clock was read for nothing else. The end is the one that is due, and the sink took the replies in their order.
+-- These are all that was done at the gate, and the clock was read for nothing else. The end is the one that is due,
+-- and the sink took the replies in their order.
 pub record ServesText (boot : ℕ) (messages : List Request) (ending : Ending) (ends : LinkEnd) (sides later : Sides)
     : Type 0 where
   pub exchanges : List Exchange

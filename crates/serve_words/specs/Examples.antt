@@ -15,7 +15,8 @@ pub record AreWorked : Type 0 where
   -- the two options that have to be given, and all four
   pub plain : serve_words_of both ≡ Some (record { connections = 4; workers = 2 })
   pub plain_setup : serve_setup_of both ≡ record { port = 8443; db = []; passes = 7 }
-  pub all : serve_setup_of (codes "--db=f" ∷ codes "--workers=8" ∷ codes "--connections=1000000" ∷ codes "--port=1" ∷ [])
+  pub all : serve_setup_of
+      (codes "--db=f" ∷ codes "--workers=8" ∷ codes "--connections=1000000" ∷ codes "--port=1" ∷ [])
       ≡ record { port = 1; db = codes "f"; passes = 1000009 }
   -- one of the two is missing, a number is out of range, or there is a word more
   pub nothing : serve_setup_of [] ≡ not_read

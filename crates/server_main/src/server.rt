@@ -82,7 +82,7 @@ where
 
 /// Opens the rows of the keeper and serves links and workers over them. Where they are not opened,
 /// the keeper is given back.
-#[tactic(auto, using(crate::proofs::Beginning::server_begun, crate::proofs::Beginning::rows_unopened, crate::proofs::Beginning::gives_none,))]
+#[tactic(auto, using(crate::proofs::Beginning::server_begun, crate::proofs::Beginning::rows_unopened, crate::proofs::Beginning::gives_none))]
 fn serve_said<R, H, C, L, T, D, P>(
     rt: T,
     alloc: Global,
@@ -131,7 +131,7 @@ where
 }
 
 /// Reads the words, and serves what they ask for.
-#[tactic(auto, using(crate::proofs::Beginning::words_unread, crate::proofs::Beginning::words_refused, crate::proofs::Beginning::gives_none,))]
+#[tactic(auto, using(crate::proofs::Beginning::words_unread, crate::proofs::Beginning::words_refused, crate::proofs::Beginning::gives_none))]
 fn serve_any<R, H, C, L, T, D, P>(
     rt: T,
     alloc: Global,

@@ -89,7 +89,8 @@ const LINKS: &[(&str, &str, &str)] = &[
     ("", "ended", ""),
 ];
 
-/// Whether a link over a new server ends so and has these replies, where at most `piece` of its bytes come at each read.
+/// Whether a link over a new server ends so and has these replies, where at most `piece` of its bytes come at each
+/// read.
 fn is_served_anew<T: Wait>(
     rt: &T,
     alloc: Global,

@@ -8,8 +8,8 @@ use std::sync::atomic::{AtomicBool, Ordering};
 use std::sync::{Arc, Wait};
 use std::thread;
 
-/// Gates that share a word turn one at a time. Where it `holds`, a gate keeps the word from a turn that hands out a call up to
-/// its next turn, as a server does whose lock is held during calls of the host.
+/// Gates that share a word turn one at a time. Where it `holds`, a gate keeps the word from a turn that hands out a
+/// call up to its next turn, as a server does whose lock is held during calls of the host.
 #[derive(Drop)]
 pub(crate) struct HoldingGate<G, T> {
     pub(crate) rt: T,

@@ -1,7 +1,7 @@
-//! Tests of a server in memory. Links and workers over gates: over a gate of their own, and on threads over gates to one
-//! server under a lock. Event sessions, in whose rests the server goes on. And random runs, turn by turn, over the public
-//! calls of `core_turns`: after each turn the usage of every project is summed anew from what the server shows. And sixty
-//! thousand instances on one server. There is nothing else here.
+//! Tests of a server in memory. Links and workers over gates: over a gate of their own, and on threads over gates to
+//! one server under a lock. Event sessions, in whose rests the server goes on. And random runs, turn by turn, over
+//! the public calls of `core_turns`: after each turn the usage of every project is summed anew from what the server
+//! shows. And sixty thousand instances on one server. There is nothing else here.
 #![tactic(auto)]
 
 #[cfg(test)]

@@ -1,6 +1,6 @@
-//! Many instances on one server. Sixty thousand are made one after the other, each by a request, a call that is taken and
-//! two reports; and a profile of a thousand is raised to what the limits of its project allow. What a project uses is told
-//! by the server each time.
+//! Many instances on one server. Sixty thousand are made one after the other, each by a request, a call that is taken
+//! and two reports; and a profile of a thousand is raised to what the limits of its project allow. What a project
+//! uses is told by the server each time.
 ghost use Rattle.std.specs.Prelude.{None};
 
 use gates::from_core_turns::Daemon;

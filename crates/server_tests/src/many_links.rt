@@ -133,7 +133,8 @@ fn floor_of<L: Ledger, T: Wait + Clock + Copy>(
     }
 }
 
-/// How often a text stands in the replies to another one that a link by the last of the passes sends, which are given back.
+/// How often a text stands in the replies to another one that a link by the last of the passes sends, which are given
+/// back.
 fn counted<L: Ledger, T: Wait + Clock + Copy + Drop>(
     floor: &Floor<L, T>,
     mut passes: Vec<Pass<L>>,

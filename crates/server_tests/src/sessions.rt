@@ -37,9 +37,9 @@ const CANCELLED: &str =
 const CREATED: &str =
     "{\"metadata\":{\"action\":\"instance-created\",\"source\":\"/1.0/instances/a\"},\"project\":\"default\",\"timestamp\":\"1970-01-01T00:00:00Z\",\"type\":\"lifecycle\"}";
 
-/// What was requested before a session listens, and what is while it does; whether it takes lifecycle events and whether
-/// operation events; and what it sends before it lags, with the number that it asks for then. The oldest event that is kept
-/// is then the next one.
+/// What was requested before a session listens, and what is while it does; whether it takes lifecycle events and
+/// whether operation events; and what it sends before it lags, with the number that it asks for then. The oldest
+/// event that is kept is then the next one.
 type Session = (
     &'static str,
     &'static str,

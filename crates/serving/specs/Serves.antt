@@ -1,5 +1,6 @@
 -- What a server does with the links that its doors give, and with its workers.
-use Rattle.std.specs.Prelude.{◌≡◌, ℕ, ◌+◌, ◌^◌, ◌≤◌, ◌⊎◌, Bool, true, false, List, ◌++◌, length, Option, option_map, Result, Ok, Err}
+use Rattle.std.specs.Prelude.{◌≡◌, ℕ, ◌+◌, ◌^◌, ◌≤◌, ◌⊎◌, Bool, true, false}
+use Rattle.std.specs.Prelude.{List, ◌++◌, length, Option, option_map, Result, Ok, Err}
 use Rattle.spawners.specs.Counts.{Counts}
 use Rattle.doors.specs.Accepts.{Seen}
 
@@ -44,9 +45,9 @@ AcceptsOne old new (Err error) = new.given ≡ old.given
 abbrev pub IsEnough : ℕ → ℕ → Seen → Type 0
 IsEnough given count new = (new.given ≡ given + count) ⊎ (new.none_left ≡ true)
 
--- The doors gave as many links as were asked for, or said that none is left. A link job was begun for each of them, another
--- job for each worker, and every task was taken in. No job was begun after one had been waited for, so all that were started
--- ran beside each other.
+-- The doors gave as many links as were asked for, or said that none is left. A link job was begun for each of them,
+-- another job for each worker, and every task was taken in. No job was begun after one had been waited for, so all
+-- that were started ran beside each other.
 pub record IsServed (connections workers : ℕ) (seen : Seen) (counts : Counts) : Type 0 where
   pub enough : IsEnough 0 connections seen
   pub links : counts.links ≡ seen.given
@@ -61,8 +62,8 @@ pub record TakesIn (n : ℕ) (old new : Counts) : Type 0 where
   pub out : new.out + n ≡ old.out
   pub late : new.late ≡ old.late
 
--- Of a server that had begun nothing: a link job for each link that was given, a worker for each of those that are held,
--- all tasks that are out are held, and none was waited for yet.
+-- Of a server that had begun nothing: a link job for each link that was given, a worker for each of those that are
+-- held, all tasks that are out are held, and none was waited for yet.
 pub record BeginsAll (counts : Counts) (link_tasks worker_tasks given : ℕ) : Type 0 where
   pub links : counts.links ≡ given
   pub others : counts.others ≡ worker_tasks

@@ -1,5 +1,5 @@
-//! A server's links and workers, over any doors, any spawner and any jobs: the workers are started, each link that comes
-//! is served by a job of its own, and all that was started is taken in at the end.
+//! A server's links and workers, over any doors, any spawner and any jobs: the workers are started, each link that
+//! comes is served by a job of its own, and all that was started is taken in at the end.
 #![tactic(auto)]
 
 /// Of `doors`, for the crates above.

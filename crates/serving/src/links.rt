@@ -8,7 +8,7 @@ use spawners::from_size_values::Or;
 use spawners::{Job, Spawner};
 
 /// Accepts so many links, or all that there are, and begins a job for each.
-#[tactic(auto, using(crate::proofs::Beginning::links_more, crate::proofs::Beginning::room_for_link, crate::proofs::Beginning::first_more,))]
+#[tactic(auto, using(crate::proofs::Beginning::links_more, crate::proofs::Beginning::room_for_link, crate::proofs::Beginning::first_more))]
 pub(crate) fn accept_links<
     J: Job,
     B: Jobs<J>,
@@ -92,7 +92,8 @@ fn begin<J: Job, B: Jobs<J>, P: Spawner<J>>(
     requires held { vec_len tasks.old < vec_capacity tasks.old }
     requires room { HasRoom (P.counts spawner.old) 1 }
     requires ready { P.ready spawner.old }
-    ensures begun { BeginsLinks (P.counts spawner.old) (P.counts spawner.new) (vec_len tasks.old) (vec_len tasks.new) 0 1 }
+    ensures begun { BeginsLinks (P.counts spawner.old) (P.counts spawner.new) (vec_len tasks.old) (vec_len tasks.new)
+        0 1 }
     ensures later { P.failures spawner.old ≤ P.failures spawner.new }
     ensures seats { B.seats jobs.old ≤ B.seats jobs.new }
     ensures ready { P.ready spawner.new }

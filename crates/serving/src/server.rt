@@ -30,8 +30,8 @@ pub fn serve<J: Job, B: Jobs<J>, D: Doors<Source = B::Source, Sink = B::Sink>, P
     ensures cause { IfErr result (λ t. IsCaused t (D.seen doors.old).failed (D.seen doors.new).failed
         (P.failures spawner.old) (P.failures spawner.new)) }
 
-    // Of every end: a job was begun for each link that was given, which were the first of those that the doors told, all
-    // that were started ran beside each other, and nothing that was started is left.
+    // Of every end: a job was begun for each link that was given, which were the first of those that the doors told,
+    // all that were started ran beside each other, and nothing that was started is left.
     ensures begun { (P.counts spawner.new).links ≡ (D.seen doors.new).given }
     ensures first { GivesFirst 0 (D.seen doors.new).given (D.left doors.old) (D.left doors.new) }
     ensures few { (D.seen doors.new).given ≤ connections }
@@ -58,7 +58,7 @@ pub fn serve<J: Job, B: Jobs<J>, D: Doors<Source = B::Source, Sink = B::Sink>, P
 }
 
 /// Starts the workers, and then begins the jobs of the links as they come.
-#[tactic(auto, using(crate::proofs::Beginning::begins_workers, crate::proofs::Beginning::begins_all, crate::proofs::Beginning::first_none, crate::proofs::Beginning::start_caused, crate::proofs::Beginning::accept_caused,))]
+#[tactic(auto, using(crate::proofs::Beginning::begins_workers, crate::proofs::Beginning::begins_all, crate::proofs::Beginning::first_none, crate::proofs::Beginning::start_caused, crate::proofs::Beginning::accept_caused))]
 fn begin_all<J: Job, B: Jobs<J>, D: Doors<Source = B::Source, Sink = B::Sink>, P: Spawner<J>>(
     jobs: &mut B,
     doors: &mut D,

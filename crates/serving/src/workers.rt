@@ -17,7 +17,8 @@ pub(crate) fn start_workers<J: Job, B: Jobs<J>, P: Spawner<J>>(
     requires seats { workers ≤ B.seats jobs.old }
     requires room { HasRoom (P.counts spawner.old) workers }
     requires ready { P.ready spawner.old }
-    ensures started { StartsWorkers (P.counts spawner.old) (P.counts spawner.new) (vec_len tasks.old) (vec_len tasks.new) }
+    ensures started { StartsWorkers (P.counts spawner.old) (P.counts spawner.new) (vec_len tasks.old)
+        (vec_len tasks.new) }
     ensures all { OnOk result (vec_len tasks.new ≡ vec_len tasks.old + workers) }
     ensures few { vec_len tasks.new ≤ vec_len tasks.old + workers }
     ensures cause { HasCauseOrMemory (P.failures spawner.old) (P.failures spawner.new) result }
@@ -43,7 +44,8 @@ fn start_worker<J: Job, B: Jobs<J>, P: Spawner<J>>(
     requires seats { 1 ≤ B.seats jobs.old }
     requires room { HasRoom (P.counts spawner.old) 1 }
     requires ready { P.ready spawner.old }
-    ensures started { StartsWorkers (P.counts spawner.old) (P.counts spawner.new) (vec_len tasks.old) (vec_len tasks.new) }
+    ensures started { StartsWorkers (P.counts spawner.old) (P.counts spawner.new) (vec_len tasks.old)
+        (vec_len tasks.new) }
     ensures one { OnOk result (vec_len tasks.new ≡ vec_len tasks.old + 1) }
     ensures few { vec_len tasks.new ≤ vec_len tasks.old + 1 }
     ensures cause { HasCauseOrMemory (P.failures spawner.old) (P.failures spawner.new) result }

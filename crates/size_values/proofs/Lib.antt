@@ -2,7 +2,7 @@ pub mod AmountParts
 pub mod Forms
 pub mod Runs
 pub mod Counts
-pub mod Truths
+pub mod Booleans
 pub mod Sizes
 pub mod MemorySizes
 pub mod Fronts

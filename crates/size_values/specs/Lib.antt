@@ -16,4 +16,4 @@ pub mod Quad
 pub mod Reading
 pub mod Set
 pub mod Size
-pub mod Truth
+pub mod Boolean

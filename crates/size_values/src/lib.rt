@@ -5,6 +5,7 @@
 
 mod address;
 mod amounts;
+mod boolean;
 mod calls;
 mod count;
 mod cpu;
@@ -20,10 +21,10 @@ mod rise;
 mod seq;
 mod size;
 mod text;
-mod truth;
 
 pub use address::{read_address, read_cidr};
 pub use amounts::{Amounts, Part};
+pub use boolean::read_boolean;
 pub use calls::FailingCalls;
 pub use count::read_count;
 pub use cpu::{Cpu, read_cpu};
@@ -38,4 +39,3 @@ pub use rise::Rise;
 pub use seq::Seq;
 pub use size::read_size;
 pub use text::Text;
-pub use truth::read_truth;

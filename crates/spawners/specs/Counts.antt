@@ -2,8 +2,8 @@
 use Rattle.std.specs.Prelude.{◌≡◌, ℕ, ◌+◌, ◌-◌, ◌^◌, ◌<◌, Bool, true, false, ◌||◌, Result, Ok, Err}
 use Rattle.size_values.specs.Calls.{Calls}
 
--- How many link jobs and how many others were begun, and how many tasks were given and not taken in again; whether any task
--- was waited for, which is what taking it in does, and whether a job was begun after that.
+-- How many link jobs and how many others were begun, and how many tasks were given and not taken in again; whether
+-- any task was waited for, which is what taking it in does, and whether a job was begun after that.
 pub record Counts : Type 0 where
   pub links : ℕ
   pub others : ℕ

@@ -1,5 +1,5 @@
-//! Jobs that are started beside each other: the trait of a job, the trait of what starts jobs, one spawner over threads,
-//! and one that runs each job when it is taken in.
+//! Jobs that are started beside each other: the trait of a job, the trait of what starts jobs, one spawner over
+//! threads, and one that runs each job when it is taken in.
 #![tactic(auto)]
 
 /// Of `size_values`, for the crates above.

@@ -3,8 +3,8 @@ ghost use Rattle.spawners.specs.Counts.{AreSmall, begun, none_begun, with_task, 
 
 use std::marker::Model;
 
-/// Counts the jobs of a spawner that were begun and the tasks that are out, and tells whether a job was begun after a task
-/// was waited for.
+/// Counts the jobs of a spawner that were begun and the tasks that are out, and tells whether a job was begun after a
+/// task was waited for.
 #[derive(Drop)]
 pub(crate) struct Tally {
     links: u64,

@@ -4,8 +4,8 @@ use Rattle.sqlite_rows.specs.size_values.specs.declared.memory.Or.TheVariants as
 use Rattle.sqlite_rows.specs.size_values.specs.Calls.{last_number}
 use Rattle.sqlite_rows.specs.sqlite_tables.specs.declared.trouble.Trouble.{Trouble}
 
--- What is seen of a keeper of a file: the path of the file; whether it has its file open; how many calls were made, and how many of them
--- failed, both up to 2^64 - 1; and why the last of those failed.
+-- What is seen of a keeper of a file: the path of the file; whether it has its file open; how many calls were made,
+-- and how many of them failed, both up to 2^64 - 1; and why the last of those failed.
 pub record Kept : Type 0 where
   pub path : List ℕ
   pub is_open : Bool

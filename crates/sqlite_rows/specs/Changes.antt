@@ -1,4 +1,5 @@
--- What changes of entries do to a database: each is one statement over its table `records`, and all are one transaction.
+-- What changes of entries do to a database: each is one statement over its table `records`, and all are one
+-- transaction.
 use Rattle.std.specs.Prelude.{◌≡◌, ℕ, pos, true, List, [], ◌∷◌, Ok}
 use Rattle.record_keeper.specs.size_values.specs.declared.entry.EntryChange.{EntryChange}
 use Rattle.record_keeper.specs.size_values.specs.declared.entry.EntryChange.TheVariants.{Put, Remove}

@@ -21,7 +21,8 @@ fn put<S: Alter>(transaction: &mut Transaction<'_, S>, entry: &Entry) -> Result<
         HasCleanDisk (state S.Store transaction.new.conn.now) → IsTrue transaction.old.conn.now.in_transaction
         → ExecutesInside 0 (statement_of change) (values_of change) (state S.Store transaction.old.conn.now)
         (state S.Store transaction.new.conn.now) result }
-    ensures survives { Survives (state S.Store transaction.old.conn.now) (state S.Store transaction.new.conn.now) (λ _. ⊥) }
+    ensures survives { Survives (state S.Store transaction.old.conn.now) (state S.Store transaction.new.conn.now)
+        (λ _. ⊥) }
 {
     transaction.execute(
         PUT,
@@ -39,7 +40,8 @@ fn remove<S: Alter>(
         HasCleanDisk (state S.Store transaction.new.conn.now) → IsTrue transaction.old.conn.now.in_transaction
         → ExecutesInside 0 (statement_of change) (values_of change) (state S.Store transaction.old.conn.now)
         (state S.Store transaction.new.conn.now) result }
-    ensures survives { Survives (state S.Store transaction.old.conn.now) (state S.Store transaction.new.conn.now) (λ _. ⊥) }
+    ensures survives { Survives (state S.Store transaction.old.conn.now) (state S.Store transaction.new.conn.now)
+        (λ _. ⊥) }
 {
     transaction.execute(REMOVE, params![u32::from(kind), key.view()])
 }
@@ -49,10 +51,12 @@ fn change_one<S: Alter>(
     change: &EntryChange,
 ) -> Result<usize, Error>
     ensures same_reference { transaction.new.conn.ghost_name ≡ transaction.old.conn.ghost_name }
-    ensures runs { HasCleanDisk (state S.Store transaction.new.conn.now) → IsTrue transaction.old.conn.now.in_transaction
+    ensures runs { HasCleanDisk (state S.Store transaction.new.conn.now)
+        → IsTrue transaction.old.conn.now.in_transaction
         → ExecutesInside 0 (statement_of change.now) (values_of change.now) (state S.Store transaction.old.conn.now)
         (state S.Store transaction.new.conn.now) result }
-    ensures survives { Survives (state S.Store transaction.old.conn.now) (state S.Store transaction.new.conn.now) (λ _. ⊥) }
+    ensures survives { Survives (state S.Store transaction.old.conn.now) (state S.Store transaction.new.conn.now)
+        (λ _. ⊥) }
 {
     match change {
         EntryChange::Put(entry) => put(transaction, entry),
@@ -66,12 +70,15 @@ fn change_each<S: Alter>(
     changes: &[EntryChange],
 ) -> Result<(), Error>
     ensures same_reference { transaction.new.conn.ghost_name ≡ transaction.old.conn.ghost_name }
-    ensures made { HasCleanDisk (state S.Store transaction.new.conn.now) → IsTrue transaction.old.conn.now.in_transaction
+    ensures made { HasCleanDisk (state S.Store transaction.new.conn.now)
+        → IsTrue transaction.old.conn.now.in_transaction
         → OnOk result (Makes S.Store changes.now transaction.old.conn.now transaction.new.conn.now
         × IsTrue transaction.new.conn.now.in_transaction) }
-    ensures kept { HasCleanDisk (state S.Store transaction.new.conn.now) → IsTrue transaction.old.conn.now.in_transaction
+    ensures kept { HasCleanDisk (state S.Store transaction.new.conn.now)
+        → IsTrue transaction.old.conn.now.in_transaction
         → KeepsCommit (state S.Store transaction.old.conn.now) (state S.Store transaction.new.conn.now) }
-    ensures survives { Survives (state S.Store transaction.old.conn.now) (state S.Store transaction.new.conn.now) (λ _. ⊥) }
+    ensures survives { Survives (state S.Store transaction.old.conn.now) (state S.Store transaction.new.conn.now)
+        (λ _. ⊥) }
 {
     'changes: for change in changes {
         change_one(transaction, change)?;

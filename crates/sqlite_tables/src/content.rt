@@ -129,7 +129,8 @@ fn content_of<S: Alter>(database: &mut Connection<S>) -> Result<Content, Error>
 /// Runs the statements that make the tables.
 fn run_makers<S: Alter>(transaction: &mut Transaction<'_, S>) -> Result<(), Error>
     ensures same_reference { transaction.new.conn.ghost_name ≡ transaction.old.conn.ghost_name }
-    ensures shield { (state S.Store transaction.old.conn.now).IsShielded → (state S.Store transaction.new.conn.now).IsShielded }
+    ensures shield { (state S.Store transaction.old.conn.now).IsShielded
+        → (state S.Store transaction.new.conn.now).IsShielded }
 {
     transaction.execute(FORMAT, &[])?;
     transaction.execute(RECORDS, &[])?;

@@ -10,17 +10,17 @@ use new_rows::{new_config, patched_config};
 use object_users::from_row_readings::{View, is_on, project_named};
 use row_machine::from_config_lists::Config;
 use row_machine::from_records::{Body, Project, Target, What};
-use row_machine::from_size_values::{NoMemory, ObjectKind, read_truth};
+use row_machine::from_size_values::{NoMemory, ObjectKind, read_boolean};
 use std::alloc::Global;
 
-/// A feature changes where the new value reads as another truth. A value that cannot be read changes nothing.
+/// A feature changes where the new value reads as the other boolean. A value that cannot be read changes nothing.
 fn feature_changes(old: &Config, new: &Config, key: &str) -> bool
     ensures { result ≡ feature_changes old.now new.now key.now }
 {
     let Some(text) = new.get(key) else {
         return is_on(old, key);
     };
-    match read_truth(text) {
+    match read_boolean(text) {
         Ok(true) => !is_on(old, key),
         Ok(false) => is_on(old, key),
         Err(_) => false,

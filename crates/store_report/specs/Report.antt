@@ -3,7 +3,8 @@
 use Rattle.std.specs.Prelude.{ℕ, List, ◌++◌, length, codes, decimal}
 use Rattle.row_readings.specs.size_values.specs.Amounts.{part}
 use Rattle.row_readings.specs.size_values.specs.declared.amounts.Part.{Part}
-use Rattle.row_readings.specs.size_values.specs.declared.amounts.Part.TheVariants.{Instances, Containers, Machines, Cpu, Memory, Processes}
+use Rattle.row_readings.specs.size_values.specs.declared.amounts.Part.TheVariants.{Instances, Containers}
+use Rattle.row_readings.specs.size_values.specs.declared.amounts.Part.TheVariants.{Machines, Cpu, Memory, Processes}
 use Rattle.row_readings.specs.size_values.specs.declared.amounts.Part.TheVariants.{Disk}
 use Rattle.row_readings.specs.reservations.specs.Holdings.{all_part}
 use Rattle.row_readings.specs.row_machine.specs.machine.State.{State}

@@ -2,7 +2,8 @@
 ghost use Rattle.std.specs.Prelude.{◌≡◌, [], ◌∷◌, ◌++◌, IfOk, OnOk, map};
 ghost use Rattle.std.specs.Option.{option_copied, option_map_or, option_to_list};
 ghost use Rattle.object_links.specs.records.specs.declared.notices.Told.TheVariants as told_of;
-ghost use Rattle.object_links.specs.row_machine.specs.shown.Notices.{action_life, deed_lives, life_notice, object_told, success_notices};
+ghost use Rattle.object_links.specs.row_machine.specs.shown.Notices.{action_life, deed_lives};
+ghost use Rattle.object_links.specs.row_machine.specs.shown.Notices.{life_notice, object_told, success_notices};
 ghost use Rattle.object_links.specs.row_machine.specs.shown.Notices.{view_of};
 ghost use Rattle.object_links.specs.row_machine.specs.shown.Links.{target_of};
 

@@ -1,13 +1,13 @@
 //! The readers of option values, each over texts with the answers that they must give.
 use size_values::ValueFault::{self, BadByte, Empty, OutOfRange, TooLarge, UnknownSuffix};
 use size_values::{
-    Cpu, Memory, read_address, read_cidr, read_count, read_cpu, read_expiry, read_memory,
-    read_size, read_truth,
+    Cpu, Memory, read_address, read_boolean, read_cidr, read_count, read_cpu, read_expiry,
+    read_memory, read_size,
 };
 
 /// What a reader must give for a text.
 enum Answer {
-    Truth(Result<bool, ValueFault>),
+    Boolean(Result<bool, ValueFault>),
     Cpu(Result<Cpu, ValueFault>),
     Address(Result<u32, ValueFault>),
     Cidr(Result<(u32, u8), ValueFault>),
@@ -24,7 +24,7 @@ enum Answer {
 /// Whether the reader of the answer gives it for the text.
 fn is_read(text: &str, answer: &Answer) -> bool {
     match answer {
-        Answer::Truth(want) => read_truth(text) == *want,
+        Answer::Boolean(want) => read_boolean(text) == *want,
         Answer::Cpu(want) => read_cpu(text) == *want,
         Answer::Address(want) => read_address(text) == *want,
         Answer::Cidr(want) => read_cidr(text) == *want,
@@ -51,25 +51,25 @@ fn units_of(text: &str) -> Result<[u32; 6], ValueFault> {
 
 /// Texts, and what a reader must give for each.
 const READINGS: [(&str, Answer); 201] = [
-    ("true", Answer::Truth(Ok(true))),
-    ("1", Answer::Truth(Ok(true))),
-    ("yes", Answer::Truth(Ok(true))),
-    ("on", Answer::Truth(Ok(true))),
-    ("TRUE", Answer::Truth(Ok(true))),
-    ("yEs", Answer::Truth(Ok(true))),
-    ("On", Answer::Truth(Ok(true))),
-    ("false", Answer::Truth(Ok(false))),
-    ("0", Answer::Truth(Ok(false))),
-    ("no", Answer::Truth(Ok(false))),
-    ("off", Answer::Truth(Ok(false))),
-    ("False", Answer::Truth(Ok(false))),
-    ("NO", Answer::Truth(Ok(false))),
-    ("oFF", Answer::Truth(Ok(false))),
-    ("", Answer::Truth(Err(Empty))),
-    ("2", Answer::Truth(Err(OutOfRange))),
-    ("t", Answer::Truth(Err(OutOfRange))),
-    ("true ", Answer::Truth(Err(OutOfRange))),
-    ("01", Answer::Truth(Err(OutOfRange))),
+    ("true", Answer::Boolean(Ok(true))),
+    ("1", Answer::Boolean(Ok(true))),
+    ("yes", Answer::Boolean(Ok(true))),
+    ("on", Answer::Boolean(Ok(true))),
+    ("TRUE", Answer::Boolean(Ok(true))),
+    ("yEs", Answer::Boolean(Ok(true))),
+    ("On", Answer::Boolean(Ok(true))),
+    ("false", Answer::Boolean(Ok(false))),
+    ("0", Answer::Boolean(Ok(false))),
+    ("no", Answer::Boolean(Ok(false))),
+    ("off", Answer::Boolean(Ok(false))),
+    ("False", Answer::Boolean(Ok(false))),
+    ("NO", Answer::Boolean(Ok(false))),
+    ("oFF", Answer::Boolean(Ok(false))),
+    ("", Answer::Boolean(Err(Empty))),
+    ("2", Answer::Boolean(Err(OutOfRange))),
+    ("t", Answer::Boolean(Err(OutOfRange))),
+    ("true ", Answer::Boolean(Err(OutOfRange))),
+    ("01", Answer::Boolean(Err(OutOfRange))),
     ("", Answer::Cpu(Err(Empty))),
     ("0", Answer::Cpu(Err(OutOfRange))),
     ("1", Answer::Cpu(Ok(Cpu::Count(1)))),

@@ -267,8 +267,8 @@ const FULL: RunWords = RunWords {
     boot: Some(9),
 };
 
-/// Lists of words of `run` with these options, in any order and in both forms; and the file, and the calls of the host and of the
-/// keeper, that they name beside them.
+/// Lists of words of `run` with these options, in any order and in both forms; and the file, and the calls of the
+/// host and of the keeper, that they name beside them.
 const TOGETHER: &[(&[&str], &str, &[u64], &[u64])] = &[
     (
         &[
@@ -422,7 +422,8 @@ const NO_COMMANDS: &[&[&str]] = &[
     &["drill", "7", "40", "drill"],
 ];
 
-/// Lists of words that give an option which the command does not have, or two that do not stand together, or a sign without an option. No call is listed by them.
+/// Lists of words that give an option which the command does not have, or two that do not stand together, or a sign
+/// without an option. No call is listed by them.
 const NO_OPTIONS: &[&[&str]] = &[
     // The command does not have the option.
     &["make", "7", "40", "--db", "rows"],

@@ -58,8 +58,9 @@ changes_by state report (Some operation) = changes_while state operation report 
 unfoldable pub changes_reported : State → ℕ → Report → List RowChange
 changes_reported state op report = changes_by state report (live_at state.operations op)
 
--- A report was taken as one step of the machine, with an outcome that the keeper's count bears out: the changes of rows went
--- to the store, and these notices are left untold. Entries that were the records of the rows are so afterwards.
+-- A report was taken as one step of the machine, with an outcome that the keeper's count bears out: the changes of
+-- rows went to the store, and these notices are left untold. Entries that were the records of the rows are so
+-- afterwards.
 pub record IsReported (state : State) (op : ℕ) (report : Report) (moment : ℕ) (later : State)
     (untold : List Untold) (result : Turned) (store store' : Store) : Type 0 where
   pub outcome : Outcome

@@ -8,16 +8,17 @@ use Rattle.row_machine.specs.machine.State.{State}
 use Rattle.row_machine.specs.machine.Step.{Outcome, well, keeper_failed, no_memory}
 use Rattle.row_drafts.specs.machine_laws.specs.Entries.{entry_changes}
 
--- The keeper's count of failures bears the outcome out: where the keeper failed it rose from before to now (that it rose is part
--- of the outcome), and else it is as it was.
+-- The keeper's count of failures bears the outcome out: where the keeper failed it rose from before to now (that it
+-- rose is part of the outcome), and else it is as it was.
 abbrev pub IsCaused : Outcome → ℕ → ℕ → Type 0
 IsCaused well before now = now ≡ before
 IsCaused (keeper_failed rise) before now = (rise.before ≡ before) × (rise.after ≡ now) × (before ≤ now)
 IsCaused no_memory before now = now ≡ before
 
--- Changes go to the store in one call. Where there are none, the keeper is not called and so cannot fail. Where all is well their
--- entries are changed; where the keeper failed the entries are as before, and the rise of its count is the one that the outcome
--- tells; and where memory was refused, before that call or in it, the store is as before but for the call.
+-- Changes go to the store in one call. Where there are none, the keeper is not called and so cannot fail. Where all
+-- is well their entries are changed; where the keeper failed the entries are as before, and the rise of its count is
+-- the one that the outcome tells; and where memory was refused, before that call or in it, the store is as before but
+-- for the call.
 abbrev pub Stores : List RowChange → Outcome → Store → Store → Type 0
 Stores [] well before now = now ≡ before
 Stores [] (keeper_failed rise) before now = ⊥

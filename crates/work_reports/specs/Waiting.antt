@@ -1,5 +1,5 @@
--- Notices that wait to be taken, some in a short form: an operation as it was then, whose project and target are read off the
--- operation as it is kept. These two never change.
+-- Notices that wait to be taken, some in a short form: an operation as it was then, whose project and target are read
+-- off the operation as it is kept. These two never change.
 use Rattle.std.specs.Prelude.{◌≡◌, ℕ, List, [], Option}
 use Rattle.std.specs.Option.{option_map_or}
 use Rattle.row_sizes.specs.size_values.specs.declared.kinds.ObjectKind.TheVariants as kind

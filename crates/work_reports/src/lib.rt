@@ -1,5 +1,5 @@
-//! What the worker's calls make of the rows: the first call of an operation is handed out, and the report of a call hands
-//! out the next one or ends the operation. And the notices that wait to be taken meanwhile.
+//! What the worker's calls make of the rows: the first call of an operation is handed out, and the report of a call
+//! hands out the next one or ends the operation. And the notices that wait to be taken meanwhile.
 #![tactic(auto)]
 
 /// Of `operations`, for the crates above.

@@ -26,14 +26,16 @@ started state number =
 -- it is entered under the next number, and shown as it waits
 abbrev pub begun : State → Task → ℕ → After
 begun state task moment =
-    and_then (answer.Reply (started after state.operations.next)) (with_operation_notice after state.operations.next moment) where
+    and_then (answer.Reply (started after state.operations.next))
+    (with_operation_notice after state.operations.next moment) where
       after : State
       after = entered state task moment
 
 -- one that waits is cancelled at once, one that runs becomes Cancelling
 abbrev pub after_cancel : State → ℕ → ℕ → Result Status CancelFault → State
 after_cancel state number moment (Err why) = state
-after_cancel state number moment (Ok status.Cancelled) = with_operation_notice (cancelled state number moment) number moment
+after_cancel state number moment (Ok status.Cancelled) =
+    with_operation_notice (cancelled state number moment) number moment
 after_cancel state number moment (Ok now) = with_operation_notice (moved number now moment state) number moment
 
 abbrev pub cancel : State → ℕ → ℕ → After

@@ -1,7 +1,7 @@
 -- Rules on what stands in the way: B1 to B6.
 use Rattle.std.specs.Prelude.{◌&&◌, ◌||◌, ◌∷◌, if◌then◌else◌}
 use Rattle.row_machine.specs.Words.{ℕ, Bool, true, false, not, List, [], Option, Some, None, codes, option_and_then}
-use Rattle.row_machine.specs.Words.{find, option_map, list_any, option_map_or, result_ok, bytes_eq, truth_of, Power}
+use Rattle.row_machine.specs.Words.{find, option_map, list_any, option_map_or, result_ok, bytes_eq, boolean_of, Power}
 use Rattle.row_machine.specs.Words.{Stopped, Frozen, Error, Deed, ObjectKind, Settings, setting, is_allowed, Refusal}
 use Rattle.row_machine.specs.Words.{Target, Command, What, Deed as deed, ObjectKind as kind, Rule as rule, What as what}
 use Rattle.row_machine.specs.Words.{Project}
@@ -59,13 +59,14 @@ feature_keys =
     ∷ codes "features.storage.buckets"
     ∷ []
 
--- a feature changes where the new value reads as another truth; a value that cannot be read changes nothing
+-- a feature changes where the new value reads as the other boolean; a value that cannot be read changes nothing
 abbrev pub feature_changes : Settings → Settings → List ℕ → Bool
 feature_changes old new key = changes (setting new key) where
   changes : Option (List ℕ) → Bool
   changes None = is_on old key
   changes (Some text) =
-      option_map_or (λ truth. if truth then not (is_on old key) else is_on old key) (result_ok (truth_of text)) false
+      option_map_or (λ boolean. if boolean then not (is_on old key) else is_on old key)
+      (result_ok (boolean_of text)) false
 
 abbrev pub changes_features : Project → Project → Bool
 changes_features old new = list_any (feature_changes old.config new.config) feature_keys

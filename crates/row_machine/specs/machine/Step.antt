@@ -50,7 +50,8 @@ after_end state number moment = and_then (answer.Ended number) (with_operation_n
 
 abbrev pub success : State → Operation Task → ℕ → After
 success state operation moment =
-    after_end (telling (success_notices operation.work moment) (succeeded state operation moment)) operation.number moment
+    after_end (telling (success_notices operation.work moment) (succeeded state operation moment))
+    operation.number moment
 
 abbrev pub failure : State → Operation Task → OpFault → ℕ → ℕ → After
 failure state operation why done moment = after_end (failed state operation why done moment) operation.number moment

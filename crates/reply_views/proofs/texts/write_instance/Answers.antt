@@ -8,7 +8,7 @@ use Rattle.reply_parts.specs.Moments.{moment_text}
 use Rattle.reply_parts.specs.Objects.{whole}
 use Rattle.reply_parts.specs.Settings.{settings_data, devices_data, texts_data}
 use Rattle.reply_views.specs.Views.{instance_data}
-use Rattle.reply_views.proofs.Gathered.{more, all_behind}
+use Rattle.reply_views.proofs.Gathered.{more, all_followed}
 use Rattle.reply_views.proofs.texts.write_instance.Goals as goal
 
 pub returns : goal.returns
@@ -24,7 +24,7 @@ returns c =
     let t7 = more (codes ",\"devices\":") c.in_ok-plain-4.ensures t6 in
     let t8 = more (compact_text (devices_data c.args.row.now.devices)) c.in_ok-devices.ensures t7 in
     let t9 = more (codes ",\"ephemeral\":") c.in_ok-plain-5.ensures t8 in
-    let t10 = more (compact_text (boolean c.args.row.now.ephemeral)) c.in_ok-truth.ensures t9 in
+    let t10 = more (compact_text (boolean c.args.row.now.ephemeral)) c.in_ok-boolean.ensures t9 in
     let t11 = more (codes ",\"expanded_config\":") c.in_ok-plain-6.ensures t10 in
     let t12 = more (compact_text (settings_data c.args.config.now)) c.in_ok-settings-2.ensures t11 in
     let t13 = more (codes ",\"expanded_devices\":") c.in_ok-plain-7.ensures t12 in
@@ -43,5 +43,5 @@ returns c =
     let t24 = more (compact_text (whole (power_code c.args.power))) (rw c.power_code.ensures at c.in_ok-number.ensures) t23 in
     let t25 = more (codes ",\"type\":") c.in_ok-plain-13.ensures t24 in
     let t26 = more (quoted (instance_kind c.args.row.now.kind)) (rw c.instance_kind.ensures at c.in_ok-string-5.ensures) t25 in
-    let all = all_behind c.args.text (codes "{\"config\":") ((compact_text (settings_data c.args.row.now.config)) ∷ (codes ",\"created_at\":") ∷ (quoted (moment_text c.args.row.now.created)) ∷ (codes ",\"description\":") ∷ (quoted c.args.row.now.description) ∷ (codes ",\"devices\":") ∷ (compact_text (devices_data c.args.row.now.devices)) ∷ (codes ",\"ephemeral\":") ∷ (compact_text (boolean c.args.row.now.ephemeral)) ∷ (codes ",\"expanded_config\":") ∷ (compact_text (settings_data c.args.config.now)) ∷ (codes ",\"expanded_devices\":") ∷ (compact_text (devices_data c.args.devices.now)) ∷ (codes ",\"name\":") ∷ (quoted c.args.row.now.name) ∷ (codes ",\"profiles\":") ∷ (compact_text (texts_data c.args.row.now.profiles)) ∷ (codes ",\"project\":") ∷ (quoted c.args.row.now.project) ∷ (codes ",\"stateful\":false,\"status\":") ∷ (quoted (power_text c.args.power)) ∷ (codes ",\"status_code\":") ∷ (compact_text (whole (power_code c.args.power))) ∷ (codes ",\"type\":") ∷ (quoted (instance_kind c.args.row.now.kind)) ∷ (codes "}") ∷ []) in
+    let all = all_followed c.args.text (codes "{\"config\":") ((compact_text (settings_data c.args.row.now.config)) ∷ (codes ",\"created_at\":") ∷ (quoted (moment_text c.args.row.now.created)) ∷ (codes ",\"description\":") ∷ (quoted c.args.row.now.description) ∷ (codes ",\"devices\":") ∷ (compact_text (devices_data c.args.row.now.devices)) ∷ (codes ",\"ephemeral\":") ∷ (compact_text (boolean c.args.row.now.ephemeral)) ∷ (codes ",\"expanded_config\":") ∷ (compact_text (settings_data c.args.config.now)) ∷ (codes ",\"expanded_devices\":") ∷ (compact_text (devices_data c.args.devices.now)) ∷ (codes ",\"name\":") ∷ (quoted c.args.row.now.name) ∷ (codes ",\"profiles\":") ∷ (compact_text (texts_data c.args.row.now.profiles)) ∷ (codes ",\"project\":") ∷ (quoted c.args.row.now.project) ∷ (codes ",\"stateful\":false,\"status\":") ∷ (quoted (power_text c.args.power)) ∷ (codes ",\"status_code\":") ∷ (compact_text (whole (power_code c.args.power))) ∷ (codes ",\"type\":") ∷ (quoted (instance_kind c.args.row.now.kind)) ∷ (codes "}") ∷ []) in
     subst (λ (b : List ℕ). IfOk c.plain-14.result (λ t. t ≡ b)) (ap (λ (t : List ℕ). t ++ codes "}") t26 ∙ all) c.plain-14.ensures

@@ -3,7 +3,7 @@ use Rattle.json.specs.Print.{escape_byte, quoted}
 use Rattle.serde_json.specs.Written.{compact_text}
 use Rattle.reply_parts.specs.Settings.{settings_data, texts_data}
 use Rattle.reply_views.specs.Views.{network_data}
-use Rattle.reply_views.proofs.Gathered.{more, all_behind}
+use Rattle.reply_views.proofs.Gathered.{more, all_followed}
 use Rattle.reply_views.proofs.texts.write_network.Goals as goal
 
 pub returns : goal.returns
@@ -22,5 +22,5 @@ returns c =
     let t8 = more (quoted c.args.row.now.project) (rw v7 at c.in_ok-string-3.ensures) t7 in
     let t9 = more (codes ",\"type\":\"bridge\",\"used_by\":") c.in_ok-plain-5.ensures t8 in
     let t10 = more (compact_text (texts_data c.args.used.now)) c.in_ok-texts.ensures t9 in
-    let all = all_behind c.args.text (codes "{\"config\":") ((compact_text (settings_data c.args.row.now.config)) ∷ (codes ",\"description\":") ∷ (quoted c.args.row.now.description) ∷ (codes ",\"managed\":true,\"name\":") ∷ (quoted c.args.row.now.name) ∷ (codes ",\"project\":") ∷ (quoted c.args.row.now.project) ∷ (codes ",\"type\":\"bridge\",\"used_by\":") ∷ (compact_text (texts_data c.args.used.now)) ∷ (codes "}") ∷ []) in
+    let all = all_followed c.args.text (codes "{\"config\":") ((compact_text (settings_data c.args.row.now.config)) ∷ (codes ",\"description\":") ∷ (quoted c.args.row.now.description) ∷ (codes ",\"managed\":true,\"name\":") ∷ (quoted c.args.row.now.name) ∷ (codes ",\"project\":") ∷ (quoted c.args.row.now.project) ∷ (codes ",\"type\":\"bridge\",\"used_by\":") ∷ (compact_text (texts_data c.args.used.now)) ∷ (codes "}") ∷ []) in
     subst (λ (b : List ℕ). IfOk c.plain-6.result (λ t. t ≡ b)) (ap (λ (t : List ℕ). t ++ codes "}") t10 ∙ all) c.plain-6.ensures

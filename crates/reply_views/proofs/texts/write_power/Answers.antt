@@ -5,7 +5,7 @@ use Rattle.object_links.specs.row_machine.specs.machine.StandingRules.{power_tex
 use Rattle.reply_views.specs.Words.{power_code}
 use Rattle.reply_parts.specs.Objects.{whole}
 use Rattle.reply_views.specs.Views.{power_data}
-use Rattle.reply_views.proofs.Gathered.{more, all_behind}
+use Rattle.reply_views.proofs.Gathered.{more, all_followed}
 use Rattle.reply_views.proofs.texts.write_power.Goals as goal
 
 pub returns : goal.returns
@@ -15,5 +15,5 @@ returns c =
     let t2 = more (quoted (power_text c.args.power)) (rw c.power_text.ensures at c.in_ok-string.ensures) t1 in
     let t3 = more (codes ",\"status_code\":") c.in_ok-plain-2.ensures t2 in
     let t4 = more (compact_text (whole (power_code c.args.power))) (rw c.power_code.ensures at c.in_ok-number.ensures) t3 in
-    let all = all_behind c.args.text (codes "{\"status\":") ((quoted (power_text c.args.power)) ∷ (codes ",\"status_code\":") ∷ (compact_text (whole (power_code c.args.power))) ∷ (codes "}") ∷ []) in
+    let all = all_followed c.args.text (codes "{\"status\":") ((quoted (power_text c.args.power)) ∷ (codes ",\"status_code\":") ∷ (compact_text (whole (power_code c.args.power))) ∷ (codes "}") ∷ []) in
     subst (λ (b : List ℕ). IfOk c.plain-3.result (λ t. t ≡ b)) (ap (λ (t : List ℕ). t ++ codes "}") t4 ∙ all) c.plain-3.ensures

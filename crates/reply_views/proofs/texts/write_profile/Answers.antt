@@ -3,7 +3,7 @@ use Rattle.json.specs.Print.{escape_byte, quoted}
 use Rattle.serde_json.specs.Written.{compact_text}
 use Rattle.reply_parts.specs.Settings.{settings_data, devices_data, texts_data}
 use Rattle.reply_views.specs.Views.{profile_data}
-use Rattle.reply_views.proofs.Gathered.{more, all_behind}
+use Rattle.reply_views.proofs.Gathered.{more, all_followed}
 use Rattle.reply_views.proofs.texts.write_profile.Goals as goal
 
 pub returns : goal.returns
@@ -24,5 +24,5 @@ returns c =
     let t10 = more (quoted c.args.row.now.project) (rw v9 at c.in_ok-string-3.ensures) t9 in
     let t11 = more (codes ",\"used_by\":") c.in_ok-plain-6.ensures t10 in
     let t12 = more (compact_text (texts_data c.args.used.now)) c.in_ok-texts.ensures t11 in
-    let all = all_behind c.args.text (codes "{\"config\":") ((compact_text (settings_data c.args.row.now.config)) ∷ (codes ",\"description\":") ∷ (quoted c.args.row.now.description) ∷ (codes ",\"devices\":") ∷ (compact_text (devices_data c.args.row.now.devices)) ∷ (codes ",\"name\":") ∷ (quoted c.args.row.now.name) ∷ (codes ",\"project\":") ∷ (quoted c.args.row.now.project) ∷ (codes ",\"used_by\":") ∷ (compact_text (texts_data c.args.used.now)) ∷ (codes "}") ∷ []) in
+    let all = all_followed c.args.text (codes "{\"config\":") ((compact_text (settings_data c.args.row.now.config)) ∷ (codes ",\"description\":") ∷ (quoted c.args.row.now.description) ∷ (codes ",\"devices\":") ∷ (compact_text (devices_data c.args.row.now.devices)) ∷ (codes ",\"name\":") ∷ (quoted c.args.row.now.name) ∷ (codes ",\"project\":") ∷ (quoted c.args.row.now.project) ∷ (codes ",\"used_by\":") ∷ (compact_text (texts_data c.args.used.now)) ∷ (codes "}") ∷ []) in
     subst (λ (b : List ℕ). IfOk c.plain-7.result (λ t. t ≡ b)) (ap (λ (t : List ℕ). t ++ codes "}") t12 ∙ all) c.plain-7.ensures

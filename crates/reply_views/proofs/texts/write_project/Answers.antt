@@ -3,7 +3,7 @@ use Rattle.json.specs.Print.{escape_byte, quoted}
 use Rattle.serde_json.specs.Written.{compact_text}
 use Rattle.reply_parts.specs.Settings.{settings_data, texts_data}
 use Rattle.reply_views.specs.Views.{project_data}
-use Rattle.reply_views.proofs.Gathered.{more, all_behind}
+use Rattle.reply_views.proofs.Gathered.{more, all_followed}
 use Rattle.reply_views.proofs.texts.write_project.Goals as goal
 
 pub returns : goal.returns
@@ -19,5 +19,5 @@ returns c =
     let t6 = more (quoted c.args.row.now.name) (rw v5 at c.in_ok-string-2.ensures) t5 in
     let t7 = more (codes ",\"used_by\":") c.in_ok-plain-4.ensures t6 in
     let t8 = more (compact_text (texts_data c.args.used.now)) c.in_ok-texts.ensures t7 in
-    let all = all_behind c.args.text (codes "{\"config\":") ((compact_text (settings_data c.args.row.now.config)) ∷ (codes ",\"description\":") ∷ (quoted c.args.row.now.description) ∷ (codes ",\"name\":") ∷ (quoted c.args.row.now.name) ∷ (codes ",\"used_by\":") ∷ (compact_text (texts_data c.args.used.now)) ∷ (codes "}") ∷ []) in
+    let all = all_followed c.args.text (codes "{\"config\":") ((compact_text (settings_data c.args.row.now.config)) ∷ (codes ",\"description\":") ∷ (quoted c.args.row.now.description) ∷ (codes ",\"name\":") ∷ (quoted c.args.row.now.name) ∷ (codes ",\"used_by\":") ∷ (compact_text (texts_data c.args.used.now)) ∷ (codes "}") ∷ []) in
     subst (λ (b : List ℕ). IfOk c.plain-5.result (λ t. t ≡ b)) (ap (λ (t : List ℕ). t ++ codes "}") t8 ∙ all) c.plain-5.ensures

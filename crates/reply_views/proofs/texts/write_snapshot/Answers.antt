@@ -4,7 +4,7 @@ use Rattle.serde_json.specs.Written.{compact_text}
 use Rattle.reply_parts.specs.Moments.{moment_text}
 use Rattle.reply_parts.specs.Settings.{settings_data, devices_data, texts_data}
 use Rattle.reply_views.specs.Views.{snapshot_data, expiry_text}
-use Rattle.reply_views.proofs.Gathered.{more, all_behind}
+use Rattle.reply_views.proofs.Gathered.{more, all_followed}
 use Rattle.reply_views.proofs.texts.write_snapshot.Goals as goal
 
 pub returns : goal.returns
@@ -23,5 +23,5 @@ returns c =
     let t10 = more (quoted c.args.row.now.name) (rw v9 at c.in_ok-string.ensures) t9 in
     let t11 = more (codes ",\"profiles\":") c.in_ok-plain-5.ensures t10 in
     let t12 = more (compact_text (texts_data c.args.row.now.profiles)) c.in_ok-texts.ensures t11 in
-    let all = all_behind c.args.text (codes "{\"config\":") ((compact_text (settings_data c.args.row.now.config)) ∷ (codes ",\"created_at\":") ∷ (quoted (moment_text c.args.row.now.created)) ∷ (codes ",\"devices\":") ∷ (compact_text (devices_data c.args.row.now.devices)) ∷ (codes ",\"expires_at\":") ∷ (quoted (expiry_text c.args.row.now.expires)) ∷ (codes ",\"name\":") ∷ (quoted c.args.row.now.name) ∷ (codes ",\"profiles\":") ∷ (compact_text (texts_data c.args.row.now.profiles)) ∷ (codes ",\"stateful\":false}") ∷ []) in
+    let all = all_followed c.args.text (codes "{\"config\":") ((compact_text (settings_data c.args.row.now.config)) ∷ (codes ",\"created_at\":") ∷ (quoted (moment_text c.args.row.now.created)) ∷ (codes ",\"devices\":") ∷ (compact_text (devices_data c.args.row.now.devices)) ∷ (codes ",\"expires_at\":") ∷ (quoted (expiry_text c.args.row.now.expires)) ∷ (codes ",\"name\":") ∷ (quoted c.args.row.now.name) ∷ (codes ",\"profiles\":") ∷ (compact_text (texts_data c.args.row.now.profiles)) ∷ (codes ",\"stateful\":false}") ∷ []) in
     subst (λ (b : List ℕ). IfOk c.plain-7.result (λ t. t ≡ b)) (ap (λ (t : List ℕ). t ++ codes ",\"stateful\":false}") t12 ∙ all) c.plain-7.ensures

@@ -4,7 +4,7 @@ use Rattle.serde_json.specs.Written.{compact_text}
 use Rattle.reply_parts.specs.Moments.{moment_text}
 use Rattle.reply_parts.specs.Settings.{settings_data, texts_data}
 use Rattle.reply_views.specs.Views.{volume_data}
-use Rattle.reply_views.proofs.Gathered.{more, all_behind}
+use Rattle.reply_views.proofs.Gathered.{more, all_followed}
 use Rattle.reply_views.proofs.texts.write_volume.Goals as goal
 
 pub returns : goal.returns
@@ -28,5 +28,5 @@ returns c =
     let t12 = more (quoted c.args.row.now.project) (rw v11 at c.in_ok-string-4.ensures) t11 in
     let t13 = more (codes ",\"type\":\"custom\",\"used_by\":") c.in_ok-plain-7.ensures t12 in
     let t14 = more (compact_text (texts_data c.args.used.now)) c.in_ok-texts.ensures t13 in
-    let all = all_behind c.args.text (codes "{\"config\":") ((compact_text (settings_data c.args.row.now.config)) ∷ (codes ",\"created_at\":") ∷ (quoted (moment_text c.args.row.now.created)) ∷ (codes ",\"description\":") ∷ (quoted c.args.row.now.description) ∷ (codes ",\"name\":") ∷ (quoted c.args.row.now.name) ∷ (codes ",\"pool\":") ∷ (quoted c.args.row.now.pool) ∷ (codes ",\"project\":") ∷ (quoted c.args.row.now.project) ∷ (codes ",\"type\":\"custom\",\"used_by\":") ∷ (compact_text (texts_data c.args.used.now)) ∷ (codes "}") ∷ []) in
+    let all = all_followed c.args.text (codes "{\"config\":") ((compact_text (settings_data c.args.row.now.config)) ∷ (codes ",\"created_at\":") ∷ (quoted (moment_text c.args.row.now.created)) ∷ (codes ",\"description\":") ∷ (quoted c.args.row.now.description) ∷ (codes ",\"name\":") ∷ (quoted c.args.row.now.name) ∷ (codes ",\"pool\":") ∷ (quoted c.args.row.now.pool) ∷ (codes ",\"project\":") ∷ (quoted c.args.row.now.project) ∷ (codes ",\"type\":\"custom\",\"used_by\":") ∷ (compact_text (texts_data c.args.used.now)) ∷ (codes "}") ∷ []) in
     subst (λ (b : List ℕ). IfOk c.plain-8.result (λ t. t ≡ b)) (ap (λ (t : List ℕ). t ++ codes "}") t14 ∙ all) c.plain-8.ensures

@@ -2,7 +2,7 @@ use Rattle.std.proofs.Common.{◌≡◌, ℕ, List, [], ◌∷◌, ◌++◌, map
 use Rattle.std.specs.Fmt.{digits}
 use Rattle.json.specs.Print.{escape_byte}
 use Rattle.serde_json.specs.Written.{compact_text}
-use Rattle.reply_views.proofs.Gathered.{more, all_behind}
+use Rattle.reply_views.proofs.Gathered.{more, all_followed}
 use Rattle.reply_views.specs.Views.{view_data}
 use Rattle.rest_replies.specs.Replies.{success_data}
 use Rattle.rest_replies.proofs.printing.one_body.Goals as goal
@@ -14,4 +14,4 @@ returns c =
     let t1 = more (codes "{\"metadata\":") c.in_ok-front.ensures c.in_ok-new.ensures in
     let t2 = more told c.in_ok-write_view.ensures t1 in
     let t3 = more (codes ",\"status\":\"Success\",\"status_code\":200,\"type\":\"sync\"}") c.in_ok-text.ensures t2 in
-    c.into_bytes.ensures ∙ t3 ∙ all_behind [] (codes "{\"metadata\":") (told ∷ (codes ",\"status\":\"Success\",\"status_code\":200,\"type\":\"sync\"}") ∷ [])
+    c.into_bytes.ensures ∙ t3 ∙ all_followed [] (codes "{\"metadata\":") (told ∷ (codes ",\"status\":\"Success\",\"status_code\":200,\"type\":\"sync\"}") ∷ [])

@@ -2,7 +2,7 @@ use Rattle.std.proofs.Common.{◌≡◌, ℕ, List, [], ◌∷◌, ◌++◌, map
 use Rattle.std.specs.Fmt.{digits}
 use Rattle.json.specs.Print.{escape_byte}
 use Rattle.serde_json.specs.Written.{compact_text}
-use Rattle.reply_views.proofs.Gathered.{more, all_behind}
+use Rattle.reply_views.proofs.Gathered.{more, all_followed}
 use Rattle.json.specs.Print.{quoted}
 use Rattle.reply_views.specs.reply_parts.specs.Ids.{operation_link}
 use Rattle.reply_views.specs.Operations.{operation_data}
@@ -19,4 +19,4 @@ returns c =
     let t3 = more (codes ",\"operation\":") c.in_ok-plain.ensures t2 in
     let t4 = more link c.in_ok-link.ensures t3 in
     let t5 = more (codes ",\"status\":\"Operation created\",\"status_code\":100,\"type\":\"async\"}") c.in_ok-text.ensures t4 in
-    c.into_bytes.ensures ∙ t5 ∙ all_behind [] (codes "{\"metadata\":") (told ∷ codes ",\"operation\":" ∷ link ∷ codes ",\"status\":\"Operation created\",\"status_code\":100,\"type\":\"async\"}" ∷ [])
+    c.into_bytes.ensures ∙ t5 ∙ all_followed [] (codes "{\"metadata\":") (told ∷ codes ",\"operation\":" ∷ link ∷ codes ",\"status\":\"Operation created\",\"status_code\":100,\"type\":\"async\"}" ∷ [])
