@@ -15,6 +15,12 @@ is_read (what.State of) = true
 is_read (what.GetOp op) = true
 is_read other = false
 
+-- whether a command speaks of no row
+abbrev pub speaks_of_no_row : What → Bool
+speaks_of_no_row what.Root = true
+speaks_of_no_row what.Server = true
+speaks_of_no_row other = false
+
 -- a reply is this answer, or that memory was refused
 abbrev pub IsAnswer : Reply → Reply → Type 0
 IsAnswer reply.NoMemory answer = Unit {0}

@@ -7,11 +7,6 @@ pub mod from_core_rows {
     pub use core_rows::{Estate, OpenFault, load_rows, refused_reply};
 }
 
-/// Of `name_rules`, for the crates above.
-pub mod from_name_rules {
-    pub use name_rules::names_broken;
-}
-
 /// Of `record_keeper`, for the crates above.
 pub mod from_record_keeper {
     pub use core_rows::from_record_keeper::{Keeper, MapKeeper};

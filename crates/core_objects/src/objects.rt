@@ -8,7 +8,7 @@ ghost use Rattle.name_rules.specs.row_machine.specs.machine.Plans.{plan_of};
 ghost use Rattle.name_rules.specs.row_machine.specs.shown.Views.{read};
 ghost use Rattle.object_plans.specs.Planning.{changes_in};
 ghost use Rattle.core_rows.specs.Planned.{Follows};
-ghost use Rattle.core_objects.specs.Answers.{IsAnswer, is_read};
+ghost use Rattle.core_objects.specs.Answers.{IsAnswer, is_read, speaks_of_no_row};
 ghost use Rattle.core_objects.specs.Commands.{is_object_command};
 
 use core_rows::from_record_keeper::Keeper;
@@ -45,10 +45,25 @@ fn is_read(asked: &What) -> bool
     }
 }
 
-/// The first rule that a command breaks on names and on what stands in the way.
+/// Whether a command speaks of no row.
+fn speaks_of_no_row(asked: &What) -> bool
+    ensures { result ≡ speaks_of_no_row asked.now }
+{
+    match asked {
+        What::Root | What::Server => true,
+        _ => false,
+    }
+}
+
+/// The first rule that a command breaks on names and on what stands in the way. One that speaks of no row breaks none,
+/// and most requests of those who only look whether the server is there are such.
+#[tactic(auto, using(crate::proofs::FirstRules::unbroken))]
 pub fn first_broken(alloc: Global, view: &View<'_>, command: &Command) -> Result<(), Or<Refusal>>
     ensures { Says result (first (names_broken view.now command.now ∷ standing_broken view.now command.now ∷ [])) }
 {
+    if speaks_of_no_row(&command.what) {
+        return Ok(());
+    }
     names_broken(alloc, view, command)?;
     standing_broken(alloc, view, command)
 }

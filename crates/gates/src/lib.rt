@@ -11,11 +11,6 @@ pub mod from_gate_trails {
     pub use gate_trails::Gate;
 }
 
-/// Of `host_model`, for the crates above.
-pub mod from_host_model {
-    pub use gate_trails::from_host_model::ModelHost;
-}
-
 /// Of `http_front`, for the crates above.
 pub mod from_http_front {
     pub use gate_trails::from_http_front::{ByteSink, ByteSource, StillClock};

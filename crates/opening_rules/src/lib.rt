@@ -8,7 +8,7 @@ pub mod from_host_model {
 
 /// Of `operations`, for the crates above.
 pub mod from_operations {
-    pub use row_machine::from_operations::{OpFault, Status};
+    pub use row_machine::from_operations::Status;
 }
 
 /// Of `plain_lists`, for the crates above.
@@ -18,7 +18,7 @@ pub mod from_plain_lists {
 
 /// Of `records`, for the crates above.
 pub mod from_records {
-    pub use row_machine::from_records::{Command, Project, Reply, Row, Rule, Untold, What};
+    pub use row_machine::from_records::{Command, Project, Reply, Row, Rule, Untold};
 }
 
 /// Of `row_machine`, for the crates above.

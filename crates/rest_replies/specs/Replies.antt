@@ -1,5 +1,5 @@
 -- Replies: the code, the Location and the body of each.
-use Rattle.std.specs.Prelude.{◌≡◌, ℕ, List, [], ◌∷◌, Bool, map, codes}
+use Rattle.std.specs.Prelude.{◌≡◌, ℕ, List, [], ◌∷◌, Bool, true, false, not, ◌&&◌, map, codes}
 use Rattle.reply_views.specs.operations.specs.declared.status.Status.{Status}
 use Rattle.http_front.specs.declared.reply.Printed.{Printed}
 use Rattle.http_front.specs.Replies.{no_memory_body}
@@ -8,6 +8,8 @@ use Rattle.reply_views.specs.records.specs.declared.refusals.Refusal.{Refusal}
 use Rattle.reply_views.specs.records.specs.declared.replies.OpView.{OpView}
 use Rattle.reply_views.specs.records.specs.declared.replies.Reply.{Reply}
 use Rattle.reply_views.specs.records.specs.declared.replies.Reply.TheVariants as reply
+use Rattle.reply_views.specs.records.specs.declared.replies.View.{View}
+use Rattle.reply_views.specs.records.specs.declared.replies.View.TheVariants as view
 use Rattle.serde_json.specs.Data.{Data, string, object, Members, no_members, put}
 use Rattle.serde_json.specs.Written.{compact_text}
 use Rattle.reply_views.specs.row_machine.specs.machine.Refusals.{nothing_told}
@@ -102,6 +104,20 @@ printed_of reply boot last = record {
   location = reply_location boot reply;
   last = last;
 }
+
+abbrev pub is_server : View → Bool
+is_server view.Server = true
+is_server other = false
+
+-- whether a reply depends on nothing: it tells nothing, or of the server alone
+abbrev pub depends_on_nothing : Reply → Bool
+depends_on_nothing reply.Empty = true
+depends_on_nothing (reply.One shown) = is_server shown
+depends_on_nothing other = false
+
+-- such a reply stands ready where the connection stays open after it
+abbrev pub stands_ready : Reply → Bool → Bool
+stands_ready reply last = not last && depends_on_nothing reply
 
 -- the body where there is no memory is the one that is sent without making it
 abbrev pub NoMemoryIsKnown : Type 0

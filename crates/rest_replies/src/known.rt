@@ -1,8 +1,7 @@
 //! Replies that depend on nothing: they are sent as they stand here, and not made anew.
-ghost use Rattle.std.specs.Prelude.{◌≡◌, ℕ, true, IfSome};
+ghost use Rattle.std.specs.Prelude.{◌≡◌, ℕ, IfSome, is_some};
 ghost use Rattle.http_front.specs.Replies.{reply_text};
-ghost use Rattle.reply_views.specs.records.specs.declared.replies.View.TheVariants as view_of;
-ghost use Rattle.rest_replies.specs.Replies.{printed_of};
+ghost use Rattle.rest_replies.specs.Replies.{printed_of, is_server, stands_ready};
 
 use reply_views::from_records::{Reply, View};
 
@@ -16,7 +15,7 @@ const SERVER: &[u8] =
 
 /// Whether the server is shown.
 fn is_server(shown: &View) -> bool
-    ensures { result ≡ true → shown.now ≡ view_of.Server }
+    ensures { result ≡ is_server shown.now }
 {
     match shown {
         View::Server => true,
@@ -26,8 +25,9 @@ fn is_server(shown: &View) -> bool
 
 /// The whole text of a reply that depends on nothing, where the connection stays open after it.
 pub fn known_reply(reply: &Reply, last: bool) -> Option<&'static [u8]>
-    ensures { IfSome result (λ text. (boot : ℕ)
+    ensures text { IfSome result (λ text. (boot : ℕ)
         → text.now ≡ reply_text (printed_of reply.now boot last)) }
+    ensures when { is_some result ≡ stands_ready reply.now last }
 {
     if last {
         return None;

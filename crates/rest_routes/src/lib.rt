@@ -28,15 +28,9 @@ pub mod from_http_heads {
 /// Of `records`, for the crates above.
 pub mod from_records {
     pub use rest_bodies::from_records::{
-        Body, Command, Driver, Instance, Kept, Life, LimitKeyName, Network, Notice, OpFault,
-        OpView, Origin, Pool, Profile, Project, Refusal, Reply, Rule, Snapshot, Status, Target,
-        Told, UsageLine, View, Volume, What,
+        Command, Kept, Life, Notice, OpFault, OpView, Refusal, Reply, Rule, Snapshot, Status,
+        Target, Told, View, What,
     };
-}
-
-/// Of `rest_bodies`, for the crates above.
-pub mod from_rest_bodies {
-    pub use rest_bodies::{object_in, volume_origin};
 }
 
 /// Of `rest_replies`, for the crates above.
@@ -51,9 +45,7 @@ pub mod from_row_machine {
 
 /// Of `size_values`, for the crates above.
 pub mod from_size_values {
-    pub use rest_bodies::from_size_values::{
-        Action, Kind, NoMemory, ObjectKind, Or, Power, Seq, Text,
-    };
+    pub use rest_bodies::from_size_values::{NoMemory, ObjectKind, Or, Seq, Text};
 }
 
 mod commands;

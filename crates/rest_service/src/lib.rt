@@ -14,20 +14,20 @@ pub mod from_core_turns {
 
 /// Of `host_model`, for the crates above.
 pub mod from_host_model {
-    pub use rest_routes::from_host_model::{Host, ModelHost};
+    pub use rest_routes::from_host_model::Host;
 }
 
 /// Of `http_front`, for the crates above.
 pub mod from_http_front {
     pub use serial_steps::from_http_front::{
-        Buffer, ByteSink, ByteSource, Clock, Got, HeadFault, Request, Sink, SinkFailed, Source,
-        StillClock, no_memory_reply, read_request,
+        Buffer, ByteSink, ByteSource, Clock, Got, HeadFault, Sink, SinkFailed, Source, StillClock,
+        no_memory_reply, read_request,
     };
 }
 
 /// Of `record_keeper`, for the crates above.
 pub mod from_record_keeper {
-    pub use serial_steps::from_record_keeper::{Keeper, MapKeeper};
+    pub use serial_steps::from_record_keeper::Keeper;
 }
 
 /// Of `rest_answers`, for the crates above.
@@ -42,7 +42,7 @@ pub mod from_run_words {
 
 /// Of `size_values`, for the crates above.
 pub mod from_size_values {
-    pub use run_words::from_size_values::{NoMemory, Seq, Text};
+    pub use run_words::from_size_values::NoMemory;
 }
 
 mod asking;

@@ -3,14 +3,14 @@
 //! uses is told by the server each time.
 ghost use Rattle.std.specs.Prelude.{None};
 
+use crate::server::request_of;
 use gates::from_core_turns::Daemon;
 use plain_sums::from_host_model::Report;
 use plain_sums::from_operations::Status;
 use plain_sums::from_records::{LimitKeyName, Reply, UsageLine, View};
 use plain_sums::from_row_machine::Answer;
-use record_keeper::from_size_values::{Entry, EntryChange, NoMemory, Or, Seq, Text};
+use record_keeper::from_size_values::{Entry, EntryChange, NoMemory, Or, Seq};
 use record_keeper::{Keeper, KeeperFailed};
-use serve_loop::from_http_heads::Request;
 use serve_loop::from_rest_routes::Router;
 use std::alloc::Global;
 
@@ -119,22 +119,6 @@ fn said_by(answer: Answer) -> Said {
     };
     drop(answer);
     said
-}
-
-/// The request of a line: the method, the target and the body, with a space between them.
-fn request_of(alloc: Global, line: &str) -> Result<Request, NoMemory> {
-    let (method, rest) = line.split_once(' ').unwrap_or((line, ""));
-    let (target, body) = rest.split_once(' ').unwrap_or((rest, ""));
-    let method = Text::from_text(alloc, method)?;
-    let target = Text::from_text(alloc, target)?;
-    let body = Seq::of_bytes(alloc, body.as_bytes())?;
-    Ok(Request {
-        method,
-        target,
-        body,
-        last: false,
-        upgrade: None,
-    })
 }
 
 /// A server, and the reader of its requests.

@@ -22,7 +22,7 @@ pub(crate) struct Server {
 }
 
 /// The request of a line: the method, the target and the body, with a space between them.
-fn request_of(alloc: Global, line: &str) -> Result<Request, NoMemory> {
+pub(crate) fn request_of(alloc: Global, line: &str) -> Result<Request, NoMemory> {
     let (method, rest) = line.split_once(' ').unwrap_or((line, ""));
     let (target, body) = rest.split_once(' ').unwrap_or((rest, ""));
     let method = Text::from_text(alloc, method)?;

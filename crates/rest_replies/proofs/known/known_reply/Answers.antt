@@ -1,15 +1,28 @@
-use Rattle.std.proofs.Common.{refl}
+use Rattle.std.proofs.Common.{◌≡◌, true, refl, sym, ◌∙◌}
 use Rattle.std.specs.Fmt.{digits}
 use Rattle.json.specs.Print.{escape_byte}
 use Rattle.http_front.specs.Replies.{reply_text}
 use Rattle.reply_views.specs.Views.{server_data}
-use Rattle.rest_replies.specs.Replies.{printed_of, success_data}
+use Rattle.reply_views.specs.records.specs.declared.replies.View.{View}
+use Rattle.reply_views.specs.records.specs.declared.replies.View.TheVariants as view
+use Rattle.rest_replies.specs.Replies.{printed_of, success_data, is_server}
 use Rattle.rest_replies.proofs.known.known_reply.Goals as goal
+
+-- it is the server
+shown-server : (shown : View) → is_server shown ≡ true → shown ≡ view.Server
+shown-server view.Server e = refl
+shown-server other e = cc
 
 pub returns-in-Empty : goal.returns-in-Empty
 unfolding printed_of reply_text success_data digits escape_byte
-returns-in-Empty c = λ boot. rw (c.in-Empty.is, c.if-last.false) refl
+returns-in-Empty c = record {
+  text = λ boot. rw (c.in-Empty.is, c.if-last.false) refl;
+  when = rw (c.in-Empty.is, c.if-last.false) refl;
+}
 
 pub returns-then-is_server : goal.returns-then-is_server
 unfolding printed_of reply_text success_data server_data digits escape_byte
-returns-then-is_server c = λ boot. rw (c.in-One.is, c.is_server.ensures c.if-is_server.true, c.if-last.false) refl
+returns-then-is_server c = record {
+  text = λ boot. rw (c.in-One.is, shown-server c.shown.now (sym c.is_server.ensures ∙ c.if-is_server.true), c.if-last.false) refl;
+  when = rw (c.in-One.is, c.if-last.false) (sym c.is_server.ensures ∙ c.if-is_server.true);
+}

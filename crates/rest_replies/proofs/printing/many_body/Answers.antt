@@ -1,4 +1,4 @@
-use Rattle.std.proofs.Common.{◌≡◌, ℕ, List, [], ◌∷◌, ◌++◌, map, codes, ap, ◌∙◌}
+use Rattle.std.proofs.Common.{[], ◌∷◌, map, codes, ◌∙◌}
 use Rattle.std.specs.Fmt.{digits}
 use Rattle.json.specs.Print.{escape_byte}
 use Rattle.serde_json.specs.Written.{compact_text}
