@@ -22,7 +22,9 @@ returns-in-Empty c = record {
 
 pub returns-then-is_server : goal.returns-then-is_server
 unfolding printed_of reply_text success_data server_data digits escape_byte
-returns-then-is_server c = record {
-  text = λ boot. rw (c.in-One.is, shown-server c.shown.now (sym c.is_server.ensures ∙ c.if-is_server.true), c.if-last.false) refl;
-  when = rw (c.in-One.is, c.if-last.false) (sym c.is_server.ensures ∙ c.if-is_server.true);
-}
+returns-then-is_server c =
+    let server = shown-server _ (sym c.is_server.ensures ∙ c.if-is_server.true) in
+    record {
+      text = λ boot. rw (c.in-One.is, server, c.if-last.false) refl;
+      when = rw (c.in-One.is, server, c.if-last.false) refl;
+    }
