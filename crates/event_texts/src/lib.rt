@@ -9,7 +9,7 @@ pub mod from_http_heads {
 
 /// Of `records`, for the crates above.
 pub mod from_records {
-    pub use rest_paths::from_records::{Filter, Notice, Refusal, Rule};
+    pub use rest_paths::from_records::{Filter, Notice, Refusal, Reply, Rule};
 }
 
 /// Of `size_values`, for the crates above.

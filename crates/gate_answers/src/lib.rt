@@ -13,7 +13,7 @@ pub mod from_gate_trails {
 
 /// Of `host_model`, for the crates above.
 pub mod from_host_model {
-    pub use gate_trails::from_host_model::{Host, HostCall, perform};
+    pub use gate_trails::from_host_model::{Host, HostCall, Report, perform};
 }
 
 /// Of `http_front`, for the crates above.
