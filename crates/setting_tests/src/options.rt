@@ -1,11 +1,76 @@
-use made_settings::from_config_lists::Config;
-use made_settings::from_size_values::{NoMemory, ValueFault};
-use made_settings::{Settings, config_of};
+//! Which key takes which value, of instances and of objects, and the first fault of settings.
+use crate::given::{Settings, config_of};
+use option_tables::from_size_values::read_memory;
 use option_tables::{
     Scope, SettingFault, check_instance, check_network, check_pool, check_project, check_volume,
     takes_key,
 };
 use std::alloc::Global;
+
+/// Whose settings are checked.
+#[derive(Clone, Copy)]
+enum Of {
+    Instance(Scope),
+    Project,
+    Network,
+    Pool,
+    Volume,
+}
+
+/// What is answered to settings.
+fn answer_to(alloc: Global, of: Of, settings: &[(&str, &str)]) -> Result<(), SettingFault> {
+    let config = config_of(alloc, settings);
+    let answer = match of {
+        Of::Instance(scope) => check_instance(&config, scope),
+        Of::Project => check_project(&config),
+        Of::Network => check_network(&config),
+        Of::Pool => check_pool(&config),
+        Of::Volume => check_volume(&config),
+    };
+    drop(config);
+    answer
+}
+
+/// Whether a setting is taken, or else its key is unknown.
+fn is_known(alloc: Global, of: Of, key: &str, value: &str, is_taken: bool) -> bool {
+    match answer_to(alloc, of, &[(key, value)]) {
+        Ok(()) => is_taken,
+        Err(SettingFault::Unknown(0)) => !is_taken,
+        Err(_) => false,
+    }
+}
+
+/// Whether a key takes the first value and not the second, where there is one.
+fn is_option(alloc: Global, of: Of, key: &str, good: &str, bad: &str) -> bool {
+    let is_refused = bad.is_empty()
+        || matches!(
+            answer_to(alloc, of, &[(key, bad)]),
+            Err(SettingFault::Bad(0, _))
+        );
+    is_refused && is_known(alloc, of, key, good, true)
+}
+
+/// Whether that holds for instances of this kind, and no other kind has the key.
+fn is_option_of(alloc: Global, key: &str, good: &str, bad: &str, kinds: Scope) -> bool {
+    let of_container = !matches!(kinds, Scope::Machine);
+    let of_machine = !matches!(kinds, Scope::Container);
+    is_option(alloc, Of::Instance(Scope::Any), key, good, bad)
+        && is_known(
+            alloc,
+            Of::Instance(Scope::Container),
+            key,
+            good,
+            of_container,
+        )
+        && is_known(alloc, Of::Instance(Scope::Machine), key, good, of_machine)
+}
+
+// A key of 255 bytes, the longest that there may be.
+const LONGEST: &str =
+    "user.xxxxxxxxxxxxxxxxxxxxxxxxxxxxxxxxxxxxxxxxxxxxxxxxxxxxxxxxxxxxxxxxxxxxxxxxxxxxxxxxxxxxxxxxxxxxxxxxxxxxxxxxxxxxxxxxxxxxxxxxxxxxxxxxxxxxxxxxxxxxxxxxxxxxxxxxxxxxxxxxxxxxxxxxxxxxxxxxxxxxxxxxxxxxxxxxxxxxxxxxxxxxxxxxxxxxxxxxxxxxxxxxxxxxxxxxxxxxxxxxxxxxxxxxxx";
+
+const TOO_LONG: &str =
+    "user.xxxxxxxxxxxxxxxxxxxxxxxxxxxxxxxxxxxxxxxxxxxxxxxxxxxxxxxxxxxxxxxxxxxxxxxxxxxxxxxxxxxxxxxxxxxxxxxxxxxxxxxxxxxxxxxxxxxxxxxxxxxxxxxxxxxxxxxxxxxxxxxxxxxxxxxxxxxxxxxxxxxxxxxxxxxxxxxxxxxxxxxxxxxxxxxxxxxxxxxxxxxxxxxxxxxxxxxxxxxxxxxxxxxxxxxxxxxxxxxxxxxxxxxxxxx";
 
 // Each option with a good and a bad value, or no bad one where any text is good, and the instances that it is for.
 const INSTANCE_CASES: &[(&str, &str, &str, Scope)] = &[
@@ -65,25 +130,22 @@ const INSTANCE_CASES: &[(&str, &str, &str, Scope)] = &[
     ("snapshots.pattern", "a-%d.b", "%d%d", Scope::Any),
     ("snapshots.schedule", "@daily", "", Scope::Any),
     ("snapshots.schedule.stopped", "false", "f", Scope::Any),
+    // Patterns for the names of snapshots: five good ones, and seven bad ones.
+    ("snapshots.pattern", "%dx", "%d", Scope::Any),
+    ("snapshots.pattern", "snap%d", "-a%d", Scope::Any),
+    ("snapshots.pattern", "a%d-", "snap", Scope::Any),
+    (
+        "snapshots.pattern",
+        "0123456789012345678901234567890123456789012345%d.b",
+        "0123456789012345678901234567890123456789012345%d.bc",
+        Scope::Any,
+    ),
+    ("snapshots.pattern", "snap%d", "%d%d", Scope::Any),
+    ("snapshots.pattern", "snap%d", "a%", Scope::Any),
+    ("snapshots.pattern", "snap%d", "a%x", Scope::Any),
+    ("snapshots.pattern", "snap%d", "a b%d", Scope::Any),
+    (LONGEST, "x", "", Scope::Any),
 ];
-
-/// Whose settings are checked.
-#[derive(Clone, Copy)]
-enum Of {
-    Project,
-    Network,
-    Pool,
-    Volume,
-}
-
-fn check(of: Of, config: &Config) -> Result<(), SettingFault> {
-    match of {
-        Of::Project => check_project(config),
-        Of::Network => check_network(config),
-        Of::Pool => check_pool(config),
-        Of::Volume => check_volume(config),
-    }
-}
 
 const OBJECT_CASES: &[(Of, &str, &str, &str)] = &[
     (Of::Project, "features.images", "true", "x"),
@@ -163,81 +225,41 @@ const OBJECT_CASES: &[(Of, &str, &str, &str)] = &[
     (Of::Pool, "user.a", "x", ""),
     (Of::Volume, "size", "1GiB", "1 GiB"),
     (Of::Volume, "user.a", "x", ""),
+    // Lists of networks: four good ones, and seven bad ones.
+    (Of::Project, "restricted.networks.access", "br0", "b"),
+    (Of::Project, "restricted.networks.access", "br0,br1", "br0,"),
+    (
+        Of::Project,
+        "restricted.networks.access",
+        "0123456789abcde",
+        "0123456789abcdef",
+    ),
+    (Of::Project, "restricted.networks.access", "b-_.", "br 0"),
+    (Of::Project, "restricted.networks.access", "br0", ",br0"),
+    (Of::Project, "restricted.networks.access", "br0", "br0,,br1"),
+    (Of::Project, "restricted.networks.access", "br0", "-br"),
+    (Of::Volume, LONGEST, "x", ""),
 ];
-
-fn is_known(checked: Result<(), SettingFault>, is_taken: bool) -> bool {
-    match checked {
-        Ok(()) => is_taken,
-        Err(SettingFault::Unknown(0)) => !is_taken,
-        Err(_) => false,
-    }
-}
-
-fn is_bad(checked: Result<(), SettingFault>) -> bool {
-    matches!(checked, Err(SettingFault::Bad(0, _)))
-}
-
-/// Whether a value is taken for instances of this kind and for none of the other.
-fn is_taken_for(alloc: Global, key: &str, value: &str, kinds: Scope) -> Result<bool, NoMemory> {
-    let config = config_of(alloc, &[(key, value)])?;
-    let any = is_known(check_instance(&config, Scope::Any), true);
-    let container = is_known(
-        check_instance(&config, Scope::Container),
-        !matches!(kinds, Scope::Machine),
-    );
-    let machine = is_known(
-        check_instance(&config, Scope::Machine),
-        !matches!(kinds, Scope::Container),
-    );
-    Ok(any && container && machine)
-}
-
-/// Whether a value is bad, where there is one.
-fn is_bad_for_instances(alloc: Global, key: &str, value: &str) -> Result<bool, NoMemory> {
-    let config = config_of(alloc, &[(key, value)])?;
-    Ok(value.is_empty() || is_bad(check_instance(&config, Scope::Any)))
-}
 
 #[test]
 fn each_option_of_instances(rt: HostRuntime) {
-    let alloc = rt.alloc();
     for (key, good, bad, kinds) in INSTANCE_CASES {
         assert!(rt;
-            matches!(is_taken_for(alloc, key, good, *kinds), Ok(true))
-                && matches!(is_bad_for_instances(alloc, key, bad), Ok(true)),
-            "{key}"
+            is_option_of(rt.alloc(), key, good, bad, *kinds),
+            "{key}: {good}, {bad}"
         );
     }
-}
-
-fn is_taken_by(alloc: Global, of: Of, key: &str, value: &str) -> Result<bool, NoMemory> {
-    let config = config_of(alloc, &[(key, value)])?;
-    Ok(check(of, &config) == Ok(()))
-}
-
-fn is_bad_for(alloc: Global, of: Of, key: &str, value: &str) -> Result<bool, NoMemory> {
-    let config = config_of(alloc, &[(key, value)])?;
-    Ok(value.is_empty() || is_bad(check(of, &config)))
 }
 
 #[test]
 fn each_option_of_objects(rt: HostRuntime) {
-    let alloc = rt.alloc();
     for (of, key, good, bad) in OBJECT_CASES {
         assert!(rt;
-            matches!(is_taken_by(alloc, *of, key, good), Ok(true))
-                && matches!(is_bad_for(alloc, *of, key, bad), Ok(true)),
-            "{key} = {good}"
+            is_option(rt.alloc(), *of, key, good, bad),
+            "{key}: {good}, {bad}"
         );
     }
 }
-
-// A key of 255 bytes, the longest that there may be, and one that is longer.
-const LONGEST: &str =
-    "user.xxxxxxxxxxxxxxxxxxxxxxxxxxxxxxxxxxxxxxxxxxxxxxxxxxxxxxxxxxxxxxxxxxxxxxxxxxxxxxxxxxxxxxxxxxxxxxxxxxxxxxxxxxxxxxxxxxxxxxxxxxxxxxxxxxxxxxxxxxxxxxxxxxxxxxxxxxxxxxxxxxxxxxxxxxxxxxxxxxxxxxxxxxxxxxxxxxxxxxxxxxxxxxxxxxxxxxxxxxxxxxxxxxxxxxxxxxxxxxxxxxxxxxxxxx";
-
-const TOO_LONG: &str =
-    "user.xxxxxxxxxxxxxxxxxxxxxxxxxxxxxxxxxxxxxxxxxxxxxxxxxxxxxxxxxxxxxxxxxxxxxxxxxxxxxxxxxxxxxxxxxxxxxxxxxxxxxxxxxxxxxxxxxxxxxxxxxxxxxxxxxxxxxxxxxxxxxxxxxxxxxxxxxxxxxxxxxxxxxxxxxxxxxxxxxxxxxxxxxxxxxxxxxxxxxxxxxxxxxxxxxxxxxxxxxxxxxxxxxxxxxxxxxxxxxxxxxxxxxxxxxxx";
 
 const UNKNOWN: &[&str] = &[
     TOO_LONG,
@@ -251,44 +273,33 @@ const UNKNOWN: &[&str] = &[
     "type",
 ];
 
-/// Whether instances, projects, networks, pools and volumes have no such key.
-fn is_unknown_to_all(alloc: Global, key: &str) -> Result<bool, NoMemory> {
-    let config = config_of(alloc, &[(key, "x")])?;
-    let instance = is_known(check_instance(&config, Scope::Any), false);
-    let project = is_known(check_project(&config), false);
-    let network = is_known(check_network(&config), false);
-    let pool = is_known(check_pool(&config), false);
-    let volume = is_known(check_volume(&config), false);
-    Ok(instance && project && network && pool && volume)
-}
+const ALL: &[Of] = &[
+    Of::Instance(Scope::Any),
+    Of::Project,
+    Of::Network,
+    Of::Pool,
+    Of::Volume,
+];
 
 #[test]
 fn keys_that_no_line_takes(rt: HostRuntime) {
-    let alloc = rt.alloc();
     for key in UNKNOWN {
-        assert!(rt; matches!(is_unknown_to_all(alloc, key), Ok(true)), "{key}");
+        for of in ALL {
+            assert!(rt; is_known(rt.alloc(), *of, key, "x", false), "{key}");
+        }
     }
 }
 
-#[test]
-fn the_longest_key_is_taken(rt: HostRuntime) {
-    let alloc = rt.alloc();
-    assert!(rt;
-        matches!(is_taken_for(alloc, LONGEST, "x", Scope::Any), Ok(true))
-            && matches!(is_taken_by(alloc, Of::Volume, LONGEST, "x"), Ok(true))
-    );
-}
-
-// Settings of a container, and the first fault, if there is one.
-const FIRST_FAULTS: &[(Settings, Result<(), SettingFault>)] = &[
-    (&[], Ok(())),
+// Settings of a container, and the first fault.
+const FIRST_FAULTS: &[(Settings, First)] = &[
+    (&[], First::None),
     (
         &[
             ("boot.autostart", "true"),
             ("zzz", "x"),
             ("limits.memory", "x"),
         ],
-        Err(SettingFault::Bad(1, ValueFault::BadByte(0))),
+        First::Bad(1, "%5"),
     ),
     (
         &[
@@ -296,88 +307,43 @@ const FIRST_FAULTS: &[(Settings, Result<(), SettingFault>)] = &[
             ("limits.zzz", "x"),
             ("security.nesting", "x"),
         ],
-        Err(SettingFault::Unknown(1)),
+        First::Unknown(1),
     ),
     (
         &[("limits.memory.enforce", "weak"), ("security.nesting", "x")],
-        Err(SettingFault::Bad(0, ValueFault::OutOfRange)),
+        First::Bad(0, "0%"),
     ),
     (
         &[("limits.cpu.priority", "99999999999999999999"), ("a", "x")],
-        Err(SettingFault::Unknown(0)),
+        First::Unknown(0),
     ),
 ];
 
-fn is_first_fault(
-    alloc: Global,
-    settings: Settings,
-    answer: Result<(), SettingFault>,
-) -> Result<bool, NoMemory> {
-    let config = config_of(alloc, settings)?;
-    Ok(check_instance(&config, Scope::Container) == answer)
+/// The first fault of settings by its place, if there is one. That of a value is the one for which `read_memory`
+/// refuses this text, as the table of the readers lists it.
+#[derive(Clone, Copy)]
+enum First {
+    None,
+    Unknown(usize),
+    Bad(usize, &'static str),
+}
+
+fn is_first(alloc: Global, settings: Settings, first: First) -> bool {
+    let answer = answer_to(alloc, Of::Instance(Scope::Container), settings);
+    match first {
+        First::None => answer == Ok(()),
+        First::Unknown(place) => answer == Err(SettingFault::Unknown(place)),
+        First::Bad(place, text) => match read_memory(text) {
+            Ok(_) => false,
+            Err(fault) => answer == Err(SettingFault::Bad(place, fault)),
+        },
+    }
 }
 
 #[test]
 fn the_first_fault_is_answered(rt: HostRuntime) {
-    let alloc = rt.alloc();
-    for (settings, answer) in FIRST_FAULTS {
-        assert!(rt; matches!(is_first_fault(alloc, settings, *answer), Ok(true)));
-    }
-}
-
-// A pattern for the names of snapshots, and whether it is taken.
-const PATTERNS: &[(&str, bool)] = &[
-    ("%d", false),
-    ("%dx", true),
-    ("snap%d", true),
-    ("-a%d", false),
-    ("a%d-", true),
-    ("snap", false),
-    ("%d%d", false),
-    ("a%", false),
-    ("a%x", false),
-    ("a b%d", false),
-    ("0123456789012345678901234567890123456789012345%d.b", true),
-    ("0123456789012345678901234567890123456789012345%d.bc", false),
-];
-
-// A list of networks, and whether it is taken.
-const NETWORKS: &[(&str, bool)] = &[
-    ("br0", true),
-    ("b", false),
-    ("br0,br1", true),
-    ("br0,", false),
-    (",br0", false),
-    ("br0,,br1", false),
-    ("-br", false),
-    ("0123456789abcde", true),
-    ("0123456789abcdef", false),
-    ("br 0", false),
-    ("b-_.", true),
-];
-
-fn is_pattern(alloc: Global, pattern: &str) -> Result<bool, NoMemory> {
-    let config = config_of(alloc, &[("snapshots.pattern", pattern)])?;
-    Ok(check_instance(&config, Scope::Any) == Ok(()))
-}
-
-#[test]
-fn patterns_of_names(rt: HostRuntime) {
-    let alloc = rt.alloc();
-    for (pattern, is_taken) in PATTERNS {
-        assert!(rt; is_pattern(alloc, pattern) == Ok(*is_taken), "{pattern}");
-    }
-}
-
-fn are_networks(alloc: Global, list: &str) -> Result<bool, NoMemory> {
-    is_taken_by(alloc, Of::Project, "restricted.networks.access", list)
-}
-
-#[test]
-fn lists_of_networks(rt: HostRuntime) {
-    let alloc = rt.alloc();
-    for (list, is_taken) in NETWORKS {
-        assert!(rt; are_networks(alloc, list) == Ok(*is_taken), "{list}");
+    for (place, (settings, first)) in FIRST_FAULTS.iter().enumerate() {
+        assert!(rt; is_first(rt.alloc(), settings, *first), "line {place}");
     }
 }
 

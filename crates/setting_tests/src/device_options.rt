@@ -1,18 +1,18 @@
-use made_settings::from_config_lists::Devices;
-use made_settings::from_size_values::{NoMemory, ValueFault};
-use made_settings::{Settings, config_of, devices_of, set};
+//! Which key takes which value, of devices of each type, and the faults of devices.
+use crate::given::{NamedDevices, Settings, config_of, devices_of, set};
+use expansion::from_config_lists::Devices;
+use option_tables::from_size_values::read_memory;
 use option_tables::{DeviceFault, SettingFault, check_devices};
 use std::alloc::Global;
 
 /// Keys, each with a good value and a bad one or none.
 type Options = &'static [(&'static str, &'static str, &'static str)];
 
-// Each device type with its keys, the other settings that its shape needs, a good value and a bad one or none.
-const DEVICE_CASES: &[(&str, Settings, Options)] = &[
-    ("none", &[], &[]),
+// Each device type by the settings that its shape needs, and its keys with a good value and a bad one or none.
+const DEVICE_CASES: &[(Settings, Options)] = &[
+    (&[("type", "none")], &[]),
     (
-        "disk",
-        &[("source", "v"), ("path", "/srv")],
+        &[("type", "disk"), ("source", "v"), ("path", "/srv")],
         &[
             ("boot.priority", "1", "x"),
             ("limits.max", "x", ""),
@@ -27,8 +27,7 @@ const DEVICE_CASES: &[(&str, Settings, Options)] = &[
         ],
     ),
     (
-        "nic",
-        &[("network", "br0")],
+        &[("type", "nic"), ("network", "br0")],
         &[
             ("boot.priority", "1", "x"),
             ("host_name", "x", ""),
@@ -46,8 +45,7 @@ const DEVICE_CASES: &[(&str, Settings, Options)] = &[
         ],
     ),
     (
-        "nic",
-        &[],
+        &[("type", "nic")],
         &[
             ("nictype", "bridged", "bond"),
             ("nictype", "sriov", "x"),
@@ -55,8 +53,7 @@ const DEVICE_CASES: &[(&str, Settings, Options)] = &[
         ],
     ),
     (
-        "gpu",
-        &[],
+        &[("type", "gpu")],
         &[
             ("gid", "x", ""),
             ("gputype", "x", ""),
@@ -69,8 +66,7 @@ const DEVICE_CASES: &[(&str, Settings, Options)] = &[
         ],
     ),
     (
-        "proxy",
-        &[],
+        &[("type", "proxy")],
         &[
             ("bind", "host", "hosts"),
             ("connect", "x", ""),
@@ -81,11 +77,10 @@ const DEVICE_CASES: &[(&str, Settings, Options)] = &[
             ("uid", "x", ""),
         ],
     ),
-    ("unix-block", &[], UNIX_CASES),
-    ("unix-char", &[], UNIX_CASES),
+    (&[("type", "unix-block")], UNIX_CASES),
+    (&[("type", "unix-char")], UNIX_CASES),
     (
-        "usb",
-        &[],
+        &[("type", "usb")],
         &[
             ("gid", "x", ""),
             ("mode", "x", ""),
@@ -109,67 +104,44 @@ const UNIX_CASES: Options = &[
     ("uid", "x", ""),
 ];
 
-fn device_of(
-    alloc: Global,
-    kind: &str,
-    shape: Settings,
-    key: &str,
-    value: &str,
-) -> Result<Devices, NoMemory> {
-    let mut device = config_of(alloc, shape)?;
-    set(&mut device, "type", kind)?;
-    set(&mut device, key, value)?;
+/// What is answered to a device with these settings and one more.
+fn answer_with(alloc: Global, shape: Settings, key: &str, value: &str) -> Result<(), SettingFault> {
+    let mut device = config_of(alloc, shape);
+    set(&mut device, key, value);
     let mut devices = Devices::new(alloc);
-    devices.put("d", device)?;
-    Ok(devices)
+    let _ = devices.put("d", device);
+    let answer = check_devices(&devices);
+    drop(devices);
+    answer
 }
 
-/// What is answered to a device of this type, with the settings of its shape and one more.
-fn answer_to(
-    alloc: Global,
-    kind: &str,
-    shape: Settings,
-    key: &str,
-    value: &str,
-) -> Result<Result<(), SettingFault>, NoMemory> {
-    let devices = device_of(alloc, kind, shape, key, value)?;
-    Ok(check_devices(&devices))
-}
-
-fn is_taken(alloc: Global, kind: &str, shape: Settings, key: &str, value: &str) -> bool {
-    matches!(answer_to(alloc, kind, shape, key, value), Ok(Ok(())))
-}
-
-fn is_bad(alloc: Global, kind: &str, shape: Settings, key: &str, value: &str) -> bool {
-    value.is_empty()
+/// Whether the key takes the first value and not the second, where there is one.
+fn is_option(alloc: Global, shape: Settings, key: &str, good: &str, bad: &str) -> bool {
+    let is_refused = bad.is_empty()
         || matches!(
-            answer_to(alloc, kind, shape, key, value),
-            Ok(Err(SettingFault::Device(0, DeviceFault::BadValue(_, _))))
-        )
+            answer_with(alloc, shape, key, bad),
+            Err(SettingFault::Device(0, DeviceFault::BadValue(_, _)))
+        );
+    is_refused && answer_with(alloc, shape, key, good) == Ok(())
 }
 
-fn is_unknown(alloc: Global, kind: &str, shape: Settings, key: &str) -> bool {
-    matches!(
-        answer_to(alloc, kind, shape, key, "x"),
-        Ok(Err(SettingFault::Device(0, DeviceFault::UnknownKey(_))))
-    )
-}
-
-/// Whether each good value is taken and each bad one is not, and a foreign key is unknown.
-fn are_options(alloc: Global, kind: &str, shape: Settings, options: Options) -> bool {
+/// Whether each key takes its values, and a foreign one is unknown.
+fn are_options(alloc: Global, shape: Settings, options: Options) -> bool {
     for (key, good, bad) in options {
-        if !is_taken(alloc, kind, shape, key, good) || !is_bad(alloc, kind, shape, key, bad) {
+        if !is_option(alloc, shape, key, good, bad) {
             return false;
         }
     }
-    is_unknown(alloc, kind, shape, "zzz")
+    matches!(
+        answer_with(alloc, shape, "zzz", "x"),
+        Err(SettingFault::Device(0, DeviceFault::UnknownKey(_)))
+    )
 }
 
 #[test]
 fn each_option_of_devices(rt: HostRuntime) {
-    let alloc = rt.alloc();
-    for (kind, shape, options) in DEVICE_CASES {
-        assert!(rt; are_options(alloc, kind, shape, options), "{kind}");
+    for (place, (shape, options)) in DEVICE_CASES.iter().enumerate() {
+        assert!(rt; are_options(rt.alloc(), shape, options), "line {place}");
     }
 }
 
@@ -234,11 +206,6 @@ const FAULTS: &[(&str, Settings, Option<DeviceFault>)] = &[
     ("eth0", &[("type", "tpm")], Some(DeviceFault::UnknownType)),
     (
         "eth0",
-        &[("type", "nic"), ("mtu", "0"), ("zzz", "x")],
-        Some(DeviceFault::BadValue(0, ValueFault::OutOfRange)),
-    ),
-    (
-        "eth0",
         &[("type", "nic"), ("mtu", "0"), ("a", "x")],
         Some(DeviceFault::UnknownKey(0)),
     ),
@@ -253,48 +220,52 @@ const FAULTS: &[(&str, Settings, Option<DeviceFault>)] = &[
     ("a-B_9.:/", &[("type", "gpu")], None),
 ];
 
-fn has_fault(
+/// Whether the device at this place is the first with a fault, and has this one, or no device has a fault.
+fn have_fault(
     alloc: Global,
-    name: &str,
-    settings: Settings,
+    rows: &[(&str, &[(&str, &str)])],
+    place: usize,
     fault: Option<DeviceFault>,
-) -> Result<bool, NoMemory> {
-    let devices = devices_of(alloc, &[(name, settings)])?;
-    Ok(match fault {
-        None => check_devices(&devices) == Ok(()),
-        Some(fault) => check_devices(&devices) == Err(SettingFault::Device(0, fault)),
-    })
+) -> bool {
+    let devices = devices_of(alloc, rows);
+    let answer = check_devices(&devices);
+    drop(devices);
+    match fault {
+        None => answer == Ok(()),
+        Some(fault) => answer == Err(SettingFault::Device(place, fault)),
+    }
 }
 
 #[test]
 fn each_fault_of_devices(rt: HostRuntime) {
-    let alloc = rt.alloc();
     for (name, settings, fault) in FAULTS {
         assert!(rt;
-            matches!(has_fault(alloc, name, settings, *fault), Ok(true)),
+            have_fault(rt.alloc(), &[(name, settings)], 0, *fault),
             "device {name}"
         );
     }
 }
 
 // A good device, a faulty one, and another faulty one.
-const THREE: &[(&str, Settings)] = &[
+const THREE: NamedDevices = &[
     ("a", &[("type", "gpu")]),
     ("b", &[("type", "nic")]),
     ("c", &[]),
 ];
 
-fn answer_to_three(alloc: Global) -> Result<Result<(), SettingFault>, NoMemory> {
-    let devices = devices_of(alloc, THREE)?;
-    Ok(check_devices(&devices))
+// A device whose first faulty key has a bad value.
+const BAD_MTU: NamedDevices = &[("eth0", &[("type", "nic"), ("mtu", "0"), ("zzz", "x")])];
+
+/// Whether that is told as a value out of its range, as a memory of no percents is.
+fn is_mtu_told(alloc: Global) -> bool {
+    match read_memory("0%") {
+        Ok(_) => false,
+        Err(fault) => have_fault(alloc, BAD_MTU, 0, Some(DeviceFault::BadValue(0, fault))),
+    }
 }
 
 #[test]
-fn the_first_faulty_device_is_answered(rt: HostRuntime) {
-    assert!(rt;
-        matches!(
-            answer_to_three(rt.alloc()),
-            Ok(Err(SettingFault::Device(1, DeviceFault::NicSource)))
-        )
-    );
+fn the_first_fault_is_answered(rt: HostRuntime) {
+    assert!(rt; have_fault(rt.alloc(), THREE, 1, Some(DeviceFault::NicSource)));
+    assert!(rt; is_mtu_told(rt.alloc()));
 }

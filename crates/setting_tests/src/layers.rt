@@ -31,7 +31,7 @@ struct Expansion {
     extra: Option<Settings>,
 }
 
-const EXPANSIONS: [Expansion; 3] = [
+const EXPANSIONS: &[Expansion] = &[
     Expansion {
         layers: &[],
         settings: &[],
@@ -90,7 +90,7 @@ fn is_laid(alloc: Global, want: &Expansion) -> bool {
 
 #[test]
 fn the_last_layer_decides(rt: HostRuntime) {
-    for expansion in &EXPANSIONS {
+    for expansion in EXPANSIONS {
         assert!(rt; is_laid(rt.alloc(), expansion));
     }
 }

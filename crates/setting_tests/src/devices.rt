@@ -21,25 +21,21 @@ const REPLACED: NamedDevices = &[
     ("root", &[("pool", "p0"), ("type", "disk")]),
 ];
 
-/// Whether the device `gpu` is there until it is removed, and `root` is there after that.
-fn is_removed(devices: &mut Devices) -> bool {
-    devices.remove("gpu")
-        && !devices.remove("gpu")
-        && devices.get("gpu").is_none()
-        && devices.get("root").is_some()
-}
-
-/// Whether the answer is `REPLACED`, from which `gpu` can be removed.
+/// Whether the answer is `REPLACED`, and the device `gpu` is there until it is removed, and `root` is there after that.
 fn is_replaced(made: Result<Devices, NoMemory>) -> bool {
     let Ok(mut devices) = made else {
         return false;
     };
-    let is = are_devices(&devices, REPLACED) && is_removed(&mut devices);
+    let is = are_devices(&devices, REPLACED)
+        && devices.remove("gpu")
+        && !devices.remove("gpu")
+        && devices.get("gpu").is_none()
+        && devices.get("root").is_some();
     drop(devices);
     is
 }
 
-/// Whether a copy of the answer is `REPLACED`.
+/// Whether a copy of the answer is so.
 fn is_copied(made: Result<Devices, NoMemory>) -> bool {
     let Ok(devices) = made else {
         return false;
@@ -49,17 +45,12 @@ fn is_copied(made: Result<Devices, NoMemory>) -> bool {
     is
 }
 
-fn is_replaced_by_others(alloc: Global, devices: &Devices) -> bool {
-    let others = devices_of(alloc, OTHERS);
-    let is = is_copied(devices.replaced(&others));
-    drop(others);
-    is
-}
-
 /// Whether `OTHERS` make `REPLACED` of `DEVICES`, which stay as they are.
 fn are_replaced(alloc: Global) -> bool {
     let devices = devices_of(alloc, DEVICES);
-    let are = is_replaced_by_others(alloc, &devices) && are_devices(&devices, DEVICES);
+    let others = devices_of(alloc, OTHERS);
+    let are = is_copied(devices.replaced(&others)) && are_devices(&devices, DEVICES);
+    drop(others);
     drop(devices);
     are
 }
@@ -73,7 +64,7 @@ fn devices_are_replaced_whole(rt: HostRuntime) {
 const ROOT: Settings = &[("type", "disk"), ("path", "/"), ("pool", "p0")];
 
 /// Devices that are no root disks.
-const NO_ROOTS: [Settings; 5] = [
+const NO_ROOTS: &[Settings] = &[
     &[("type", "nic"), ("path", "/"), ("pool", "p0")],
     &[("type", "disk"), ("path", "/srv"), ("pool", "p0")],
     &[("type", "disk"), ("path", "/")],
@@ -108,13 +99,12 @@ fn is_no_root(alloc: Global, other: Settings) -> bool {
         && root_after(alloc, &mut devices, "b", ROOT) == Root::One(1)
         && root_after(alloc, &mut devices, "c", ROOT) == Root::Several;
     drop(devices);
-    is && !is_root(alloc, other)
+    is && !is_root(alloc, other) && is_root(alloc, ROOT)
 }
 
 #[test]
 fn one_disk_is_the_root(rt: HostRuntime) {
-    assert!(rt; is_root(rt.alloc(), ROOT));
-    for other in &NO_ROOTS {
+    for other in NO_ROOTS {
         assert!(rt; is_no_root(rt.alloc(), other));
     }
 }
