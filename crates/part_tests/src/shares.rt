@@ -1,10 +1,12 @@
+//! Shares that are held, and the books.
 ghost use Rattle.std.specs.Prelude.{◌<◌, ◌^◌};
 ghost use Rattle.workload.specs.size_values.specs.Amounts.{part};
 ghost use Rattle.workload.specs.size_values.specs.declared.amounts.Part.{Part};
 
+use crate::given::text_of;
 use reservations::Ledger;
 use std::alloc::Global;
-use workload::from_size_values::{Amounts, NoMemory, Text};
+use workload::from_size_values::{Amounts, NoMemory};
 
 fn share(cpu: u32, disk: u64) -> Amounts
     ensures { (k : Part) → part k result < 2 ^ 80 }
@@ -34,16 +36,15 @@ fn give_back(ledger: &mut Ledger, op: u64) {
     }
 }
 
-/// Two shares of one project, and one of another.
-fn three_shares(alloc: Global) -> Result<Ledger, NoMemory> {
-    let mut ledger = Ledger::new(alloc);
+/// Holds two shares of one project, and one of another.
+fn hold_three(alloc: Global, ledger: &mut Ledger) -> Result<(), NoMemory> {
     ledger.reserve_one()?;
-    ledger.hold(3, Text::from_text(alloc, "lab")?, share(2, 10));
+    ledger.hold(3, text_of(alloc, "lab"), share(2, 10));
     ledger.reserve_one()?;
-    ledger.hold(5, Text::from_text(alloc, "web")?, share(4, 20));
+    ledger.hold(5, text_of(alloc, "web"), share(4, 20));
     ledger.reserve_one()?;
-    ledger.hold(9, Text::from_text(alloc, "lab")?, share(4, 20));
-    Ok(ledger)
+    ledger.hold(9, text_of(alloc, "lab"), share(4, 20));
+    Ok(())
 }
 
 fn holds(ledger: &Ledger, project: &str, cpu: u128, disk: u128) -> bool {
@@ -70,16 +71,18 @@ fn are_booked(ledger: &Ledger) -> bool {
         && books.returned == share(2, 10)
 }
 
-/// Whether three shares are held, and whether the books are right once one was converted and one returned.
-fn books_of_three(alloc: Global) -> Result<(bool, bool), NoMemory> {
-    let mut ledger = three_shares(alloc)?;
-    let held = are_held(&ledger);
+/// Whether three shares are held, and the books are right once one was converted and one returned.
+fn are_three_booked(alloc: Global) -> bool {
+    let mut ledger = Ledger::new(alloc);
+    let mut are = hold_three(alloc, &mut ledger).is_ok() && are_held(&ledger);
     convert(&mut ledger, 9);
     give_back(&mut ledger, 3);
-    Ok((held, are_booked(&ledger)))
+    are = are_booked(&ledger) && are;
+    drop(ledger);
+    are
 }
 
 #[test]
 fn books_every_share(rt: HostRuntime) {
-    assert!(rt; matches!(books_of_three(rt.alloc()), Ok((true, true))));
+    assert!(rt; are_three_booked(rt.alloc()));
 }

@@ -1,3 +1,4 @@
+//! Operations that are entered, begun, cancelled and ended, step by step.
 ghost use Rattle.std.specs.Prelude.{◌≡◌, true, IfSome};
 ghost use Rattle.operations.specs.Statuses.{is_live};
 ghost use Rattle.operations.specs.Kept.{live_status};
@@ -83,18 +84,14 @@ fn begin(slots: &mut Slots<u64>, number: u64) -> bool {
     }
 }
 
-fn finish_one(slots: &mut Slots<u64>, number: u64) {
-    let Some(status) = status_of(slots, number) else {
-        return;
-    };
-    if status.is_live() {
-        slots.end(number, Status::Success, OpFault::None, 3_000);
-    }
-}
-
 fn finish(slots: &mut Slots<u64>, first: u64, last: u64) -> bool {
     for number in first..=last {
-        finish_one(slots, number);
+        match status_of(slots, number) {
+            Some(status) if status.is_live() => {
+                slots.end(number, Status::Success, OpFault::None, 3_000);
+            }
+            _ => {}
+        }
     }
     true
 }

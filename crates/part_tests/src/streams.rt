@@ -1,5 +1,6 @@
+//! The stream of requests of the workload, and what is told of its replies.
 use std::alloc::Global;
-use workload::from_size_values::{NoMemory, Seq};
+use workload::from_size_values::Seq;
 use workload::{make_stream, summary_of};
 
 // The stream of seed 7 and three creations, as `bench/stream.py instances 3 7` writes it.
@@ -12,26 +13,24 @@ const SEVEN: &[&str] = &[
     "POST /1.0/instances?project=lab HTTP/1.1\r\nHost: localhost\r\nContent-Length: 116\r\n\r\n{\"config\":{\"limits.cpu\":\"4\",\"limits.memory\":\"704MiB\",\"limits.processes\":\"900\"},\"name\":\"i3\",\"source\":{\"type\":\"none\"}}",
 ];
 
-/// Whether these pieces make up the bytes.
-fn is_joined(bytes: &[u8], pieces: &[&str]) -> bool {
-    let mut rest = bytes;
+/// The bytes of these pieces, one after the other.
+fn joined(alloc: Global, pieces: &[&str]) -> Seq<u8> {
+    let mut bytes = Vec::new(alloc);
     for piece in pieces {
-        match rest.strip_prefix(piece.as_bytes()) {
-            Some(after) => rest = after,
-            None => return false,
-        }
+        let _ = bytes.extend_from_slice(piece.as_bytes());
     }
-    rest.is_empty()
+    Seq::from_vec(bytes)
 }
 
-fn is_seven(alloc: Global) -> Result<bool, NoMemory> {
-    let made = make_stream(alloc, 7, 3)?;
-    Ok(is_joined(made.view(), SEVEN))
-}
-
-#[test]
-fn writes_the_bytes_of_another_program(rt: HostRuntime) {
-    assert!(rt; matches!(is_seven(rt.alloc()), Ok(true)));
+fn is_seven(alloc: Global) -> bool {
+    let Ok(made) = make_stream(alloc, 7, 3) else {
+        return false;
+    };
+    let wanted = joined(alloc, SEVEN);
+    let is = made.view() == wanted.view();
+    drop(wanted);
+    drop(made);
+    is
 }
 
 /// A checksum of bytes.
@@ -51,17 +50,21 @@ const SUMS: &[(u64, u32, usize, u32)] = &[
     (u64::MAX, 10000, 2010306, 4072344597),
 ];
 
-fn has_sum(alloc: Global, seed: u64, count: u32, len: usize, sum: u32) -> Result<bool, NoMemory> {
-    let made = make_stream(alloc, seed, count.min(10_000))?;
-    Ok(made.len() == len && checksum(made.view()) == sum)
+fn has_sum(alloc: Global, seed: u64, count: u32, len: usize, sum: u32) -> bool {
+    let Ok(made) = make_stream(alloc, seed, count.min(10_000)) else {
+        return false;
+    };
+    let has = made.len() == len && checksum(made.view()) == sum;
+    drop(made);
+    has
 }
 
 #[test]
-fn has_the_checksums_of_another_program(rt: HostRuntime) {
-    let alloc = rt.alloc();
+fn writes_the_bytes_of_another_program(rt: HostRuntime) {
+    assert!(rt; is_seven(rt.alloc()));
     for (seed, count, len, sum) in SUMS {
         assert!(rt;
-            matches!(has_sum(alloc, *seed, *count, *len, *sum), Ok(true)),
+            has_sum(rt.alloc(), *seed, *count, *len, *sum),
             "of {seed} and {count}"
         );
     }
@@ -117,27 +120,21 @@ const SUMMARIES: &[(&[&str], &str)] = &[
     ),
 ];
 
-fn replies_of(alloc: Global, pieces: &[&str]) -> Result<Seq<u8>, NoMemory> {
-    let mut replies = Vec::new(alloc);
-    for piece in pieces {
-        replies.extend_from_slice(piece.as_bytes())?;
-    }
-    Ok(Seq::from_vec(replies))
-}
-
-fn has_summary(alloc: Global, pieces: &[&str], expected: &str) -> Result<bool, NoMemory> {
-    let replies = replies_of(alloc, pieces)?;
-    let summary = summary_of(alloc, &replies)?;
-    Ok(summary.view() == expected)
+fn has_summary(alloc: Global, pieces: &[&str], expected: &str) -> bool {
+    let replies = joined(alloc, pieces);
+    let made = summary_of(alloc, &replies);
+    drop(replies);
+    let Ok(summary) = made else {
+        return false;
+    };
+    let has = summary.view() == expected;
+    drop(summary);
+    has
 }
 
 #[test]
 fn counts_whole_replies_up_to_other_bytes(rt: HostRuntime) {
-    let alloc = rt.alloc();
-    for (pieces, expected) in SUMMARIES {
-        assert!(rt;
-            matches!(has_summary(alloc, pieces, expected), Ok(true)),
-            "{expected}"
-        );
+    for (place, (pieces, expected)) in SUMMARIES.iter().enumerate() {
+        assert!(rt; has_summary(rt.alloc(), pieces, expected), "line {place}");
     }
 }

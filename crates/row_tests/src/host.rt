@@ -1,7 +1,9 @@
+//! What the calls of the modelled host do, and which of them fail.
+use crate::given::text_of;
 use instance_states::from_host_model::{
     Host, HostCall, HostFailed, HostRoot, ModelHost, Place, Report, Spec, perform,
 };
-use instance_states::from_size_values::{NoMemory, Or, Power, Seq, Text};
+use instance_states::from_size_values::{Or, Power, Seq, Text};
 use std::alloc::Global;
 
 /// A host that does not tell its roots and always fails, with a count of faults at its last value.
@@ -41,23 +43,21 @@ enum Step {
     Restore,
 }
 
-fn place(alloc: Global, name: &str) -> Result<Place, NoMemory> {
-    let project = Text::from_text(alloc, "default")?;
-    let name = Text::from_text(alloc, name)?;
-    Ok(Place {
+fn place(alloc: Global, name: &str) -> Place {
+    Place {
         volume: false,
-        project,
+        project: text_of(alloc, "default"),
         pool: Text::new(alloc),
-        name,
-    })
+        name: text_of(alloc, name),
+    }
 }
 
-fn spec(alloc: Global, cpu: &str) -> Result<Spec, NoMemory> {
+fn spec(alloc: Global, cpu: &str) -> Spec {
     let mut spec = Spec::new(alloc);
     if !cpu.is_empty() {
-        spec.config.set("limits.cpu", cpu)?;
+        let _ = spec.config.set("limits.cpu", cpu);
     }
-    Ok(spec)
+    spec
 }
 
 /// A call that needs the place alone.
@@ -80,68 +80,40 @@ fn named_call(step: Step, at: Place, name: Text) -> HostCall {
     }
 }
 
-fn place_call(alloc: Global, step: Step, name: &str) -> Result<HostCall, NoMemory> {
-    Ok(plain_call(step, place(alloc, name)?))
-}
-
-fn text_call(alloc: Global, step: Step, name: &str, text: &str) -> Result<HostCall, NoMemory> {
-    let text = Text::from_text(alloc, text)?;
-    Ok(named_call(step, place(alloc, name)?, text))
-}
-
-fn start_call(alloc: Global, name: &str, cpu: &str) -> Result<HostCall, NoMemory> {
-    let spec = spec(alloc, cpu)?;
-    let at = place(alloc, name)?;
-    Ok(HostCall::Start { at, spec })
-}
-
-fn apply_call(alloc: Global, name: &str, cpu: &str) -> Result<HostCall, NoMemory> {
-    let spec = spec(alloc, cpu)?;
-    let at = place(alloc, name)?;
-    Ok(HostCall::Apply { at, spec })
-}
-
-fn rename_call(alloc: Global, name: &str, to: &str) -> Result<HostCall, NoMemory> {
-    let to = place(alloc, to)?;
-    let from = place(alloc, name)?;
-    Ok(HostCall::Rename { from, to })
-}
-
-/// A copy into the instance `b`, of a snapshot or of the root.
-fn copy_call(alloc: Global, name: &str, snapshot: &str) -> Result<HostCall, NoMemory> {
-    let snapshot = Text::from_text(alloc, snapshot)?;
-    let to = place(alloc, "b")?;
-    let from = place(alloc, name)?;
-    Ok(HostCall::CopyRoot { from, snapshot, to })
-}
-
-fn call_of(alloc: Global, step: Step, name: &str, text: &str) -> Result<HostCall, NoMemory> {
+/// A call of an instance, with a text. A copy goes into the instance `b`, and is of a snapshot or of the root.
+fn call_of(alloc: Global, step: Step, name: &str, text: &str) -> HostCall {
+    let at = place(alloc, name);
     match step {
-        Step::Clear | Step::Freeze | Step::Stop | Step::Thaw => place_call(alloc, step, name),
-        Step::Start => start_call(alloc, name, text),
-        Step::Apply => apply_call(alloc, name, text),
-        Step::Rename => rename_call(alloc, name, text),
-        Step::CopyTo => copy_call(alloc, name, text),
-        Step::Make | Step::Snap | Step::Unsnap | Step::Restore => text_call(
-            alloc, step, name, text,
-        ),
+        Step::Clear | Step::Freeze | Step::Stop | Step::Thaw => plain_call(step, at),
+        Step::Start => HostCall::Start {
+            at,
+            spec: spec(alloc, text),
+        },
+        Step::Apply => HostCall::Apply {
+            at,
+            spec: spec(alloc, text),
+        },
+        Step::Rename => HostCall::Rename {
+            from: at,
+            to: place(alloc, text),
+        },
+        Step::CopyTo => HostCall::CopyRoot {
+            from: at,
+            snapshot: text_of(alloc, text),
+            to: place(alloc, "b"),
+        },
+        Step::Make | Step::Snap | Step::Unsnap | Step::Restore => {
+            named_call(step, at, text_of(alloc, text))
+        }
     }
 }
 
-/// What became of a step, or none where it could not be made.
-fn report_of(
-    alloc: Global,
-    host: &mut ModelHost,
-    step: Step,
-    name: &str,
-    text: &str,
-) -> Option<Report> {
-    let Ok(call) = call_of(alloc, step, name, text) else {
-        return None;
-    };
+/// What became of a step.
+fn report_of<H: Host>(alloc: Global, host: &mut H, step: Step, name: &str, text: &str) -> Report {
+    let call = call_of(alloc, step, name, text);
     let report = perform(host, &call);
     drop(call);
-    Some(report)
+    report
 }
 
 /// A root as a test expects it: its name, state, content, processors and number of snapshots.
@@ -198,7 +170,7 @@ fn steps_done(alloc: Global, host: &mut ModelHost) -> usize {
     let mut done = 0;
     for (step, name, text, want) in STEPS {
         let report = report_of(alloc, host, *step, name, text);
-        if report != Some(Report::Done) || !is_as(host, *want) {
+        if report != Report::Done || !is_as(host, *want) {
             return done;
         }
         done = done.saturating_add(1);
@@ -226,69 +198,65 @@ fn each_call_has_its_effect(rt: HostRuntime) {
 }
 
 /// The two counts of a failed report.
-fn counts_of(report: Option<Report>) -> Option<(u64, u64)> {
+fn counts_of(report: Report) -> Option<(u64, u64)> {
     match report {
-        Some(Report::Failed(rise)) => Some((rise.before, rise.after)),
+        Report::Failed(rise) => Some((rise.before, rise.after)),
         _ => None,
     }
-}
-
-fn second_fails(alloc: Global) -> Result<ModelHost, NoMemory> {
-    let mut fails = Seq::new(alloc);
-    fails.push(2u64)?;
-    Ok(ModelHost::new(alloc, fails))
 }
 
 // The counts of the first three calls.
 const COUNTS: &[Option<(u64, u64)>] = &[None, Some((0, 1)), None];
 
-fn are_counted(alloc: Global, host: &mut ModelHost) -> bool {
+/// Whether the second of three calls fails and changes nothing.
+fn is_second_told(alloc: Global) -> bool {
+    let mut fails = Seq::new(alloc);
+    let _ = fails.push(2u64);
+    let mut host = ModelHost::new(alloc, fails);
+    let mut is = true;
     for want in COUNTS {
-        let report = report_of(alloc, host, Step::Make, "a", "img");
-        if counts_of(report) != *want || host.roots().len() > 1 {
-            return false;
-        }
+        let report = report_of(alloc, &mut host, Step::Make, "a", "img");
+        is = counts_of(report) == *want && host.roots().len() <= 1 && is;
     }
-    host.faults() == 1
-}
-
-fn is_second_told(alloc: Global) -> Result<bool, NoMemory> {
-    let mut host = second_fails(alloc)?;
-    let answer = are_counted(alloc, &mut host);
+    is = host.faults() == 1 && is;
     drop(host);
-    Ok(answer)
+    is
 }
 
-fn worn_counts(alloc: Global) -> Result<Option<(u64, u64)>, NoMemory> {
-    let stop = place_call(alloc, Step::Stop, "a")?;
-    let report = perform(&mut Worn, &stop);
-    drop(stop);
-    Ok(counts_of(Some(report)))
+fn are_worn_counts_told(alloc: Global) -> bool {
+    let report = report_of(alloc, &mut Worn, Step::Stop, "a", "");
+    counts_of(report) == Some((u64::MAX, u64::MAX))
+}
+
+fn is_place_copied(alloc: Global) -> bool {
+    let a = place(alloc, "a");
+    let b = place(alloc, "b");
+    let copy = a.copy(alloc);
+    let is = match &copy {
+        Ok(copy) => copy.is(&a) && !copy.is(&b),
+        Err(_) => false,
+    };
+    drop(copy);
+    drop(b);
+    drop(a);
+    is
+}
+
+fn is_spec_copied(alloc: Global) -> bool {
+    let two = spec(alloc, "2");
+    let copy = two.copy();
+    drop(two);
+    let is = match &copy {
+        Ok(copy) => copy.config.has("limits.cpu", "2") && copy.devices.len() == 0,
+        Err(_) => false,
+    };
+    drop(copy);
+    is
 }
 
 #[test]
-fn a_failing_call_changes_nothing(rt: HostRuntime) {
+fn failing_calls_change_nothing_and_copies_have_the_same_parts(rt: HostRuntime) {
     let alloc = rt.alloc();
-    assert!(rt; matches!(is_second_told(alloc), Ok(true)));
-    assert!(rt; matches!(worn_counts(alloc), Ok(Some((u64::MAX, u64::MAX)))));
-}
-
-fn are_places_copied(alloc: Global) -> Result<bool, NoMemory> {
-    let a = place(alloc, "a")?;
-    let b = place(alloc, "b")?;
-    let copy = a.copy(alloc)?;
-    Ok(copy.is(&a) && !copy.is(&b))
-}
-
-fn are_specs_copied(alloc: Global) -> Result<bool, NoMemory> {
-    let two = spec(alloc, "2")?;
-    let copy = two.copy()?;
-    Ok(copy.config.has("limits.cpu", "2") && copy.devices.len() == 0)
-}
-
-#[test]
-fn copies_have_the_same_parts(rt: HostRuntime) {
-    let alloc = rt.alloc();
-    assert!(rt; matches!(are_places_copied(alloc), Ok(true)));
-    assert!(rt; matches!(are_specs_copied(alloc), Ok(true)));
+    assert!(rt; is_second_told(alloc) && are_worn_counts_told(alloc));
+    assert!(rt; is_place_copied(alloc) && is_spec_copied(alloc));
 }

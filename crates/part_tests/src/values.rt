@@ -1,5 +1,6 @@
 //! Amounts, counts of failures, and the answers of calls that take memory.
-use size_values::{Amounts, FailingCalls, MOMENT_LIMIT, NoMemory, Or, Rise, Seq};
+use crate::given::numbers_of;
+use config_lists::from_size_values::{Amounts, FailingCalls, MOMENT_LIMIT, NoMemory, Or, Rise};
 use std::alloc::{AllocError, AllocFailed, Global};
 
 fn amounts(parts: [u128; 7]) -> Amounts {
@@ -50,7 +51,7 @@ fn are_computed_by_parts() -> bool {
 }
 
 /// Amounts of 2 each but for one part, and by how much they are above 2 each.
-const ALONE: [([u128; 7], [u128; 7]); 8] = [
+const ALONE: &[([u128; 7], [u128; 7])] = &[
     ([2, 2, 2, 2, 2, 2, 2], [0, 0, 0, 0, 0, 0, 0]),
     ([5, 2, 2, 2, 2, 2, 2], [3, 0, 0, 0, 0, 0, 0]),
     ([2, 5, 2, 2, 2, 2, 2], [0, 3, 0, 0, 0, 0, 0]),
@@ -75,29 +76,17 @@ fn is_compared(parts: [u128; 7], above: [u128; 7]) -> bool {
 #[test]
 fn amounts_are_taken_part_by_part(rt: HostRuntime) {
     assert!(rt; are_computed_by_parts());
-    for (parts, above) in &ALONE {
+    for (parts, above) in ALONE {
         assert!(rt; is_compared(*parts, *above));
     }
 }
 
 /// Whether the second of three calls fails, where it is the one that is to fail.
-fn is_second_failing(calls: &mut FailingCalls) -> bool {
-    !calls.next() && calls.next() && !calls.next() && calls.failed() == 1
-}
-
-fn is_listed_failing(alloc: Global) -> bool {
-    let Ok(numbers) = [2_u64].to_vec(alloc) else {
-        return false;
-    };
-    let mut calls = FailingCalls::new(Seq::from_vec(numbers));
-    let is = is_second_failing(&mut calls);
+fn is_second_failing(alloc: Global) -> bool {
+    let mut calls = FailingCalls::new(numbers_of(alloc, &[2]));
+    let is = !calls.next() && calls.next() && !calls.next() && calls.failed() == 1;
     drop(calls);
     is
-}
-
-/// A count of faults rose exactly if the second reading is above the first, or both are at the last number.
-fn are_rises_told() -> bool {
-    Rise::of(3, 3).is_none() && Rise::of(u64::MAX, u64::MAX).is_some()
 }
 
 fn is_no_memory(answer: Or<u8>) -> bool {
@@ -116,14 +105,14 @@ fn is_refused_memory_told() -> bool {
         && is_no_memory(Or::from(AllocFailed { value: 7_u8 }))
 }
 
-#[test]
-fn failures_and_rises_are_counted(rt: HostRuntime) {
-    assert!(rt; is_listed_failing(rt.alloc()));
-    assert!(rt; are_rises_told() && is_refused_memory_told());
+/// A count of faults rose exactly if the second reading is above the first, or both are at the last number.
+fn are_rises_told() -> bool {
+    Rise::of(3, 3).is_none() && Rise::of(u64::MAX, u64::MAX).is_some()
 }
 
 #[test]
-fn moments_end_with_their_last_year(rt: HostRuntime) {
+fn failures_rises_and_moments_are_counted(rt: HostRuntime) {
+    assert!(rt; is_second_failing(rt.alloc()) && is_refused_memory_told() && are_rises_told());
     // `date -u -d 9999-12-31T23:59:59Z +%s` prints the second before.
     assert!(rt; MOMENT_LIMIT == 253_402_300_800);
 }

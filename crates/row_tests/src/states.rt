@@ -1,5 +1,7 @@
+//! The plans of deeds, what actions lead to from each status, and the names of snapshots.
 use instance_states::from_size_values::{Action, Deed, Power};
-use instance_states::{CallName, Plan, after, is_allowed, plan_of};
+use instance_states::{CallName, Plan, SnapshotNumbers, after, is_allowed, plan_of};
+use std::alloc::Global;
 
 /// A deed, its calls, and the call that takes them back.
 type Case = (Deed, CallName, Option<CallName>, Option<CallName>);
@@ -29,15 +31,60 @@ const PLANS: &[Case] = &[
         Some(CallName::CopyRoot),
         Some(CallName::Clear),
     ),
-];
-
-const ACTS: &[(Action, bool, CallName, Option<CallName>)] = &[
-    (Action::Start, false, CallName::Start, None),
-    (Action::Stop, false, CallName::Stop, None),
-    (Action::Stop, true, CallName::Stop, Some(CallName::Clear)),
-    (Action::Restart, true, CallName::Stop, Some(CallName::Start)),
-    (Action::Freeze, true, CallName::Freeze, None),
-    (Action::Unfreeze, false, CallName::Thaw, None),
+    (
+        Deed::Act {
+            action: Action::Start,
+            ephemeral: false,
+        },
+        CallName::Start,
+        None,
+        None,
+    ),
+    (
+        Deed::Act {
+            action: Action::Stop,
+            ephemeral: false,
+        },
+        CallName::Stop,
+        None,
+        None,
+    ),
+    (
+        Deed::Act {
+            action: Action::Stop,
+            ephemeral: true,
+        },
+        CallName::Stop,
+        Some(CallName::Clear),
+        None,
+    ),
+    (
+        Deed::Act {
+            action: Action::Restart,
+            ephemeral: true,
+        },
+        CallName::Stop,
+        Some(CallName::Start),
+        None,
+    ),
+    (
+        Deed::Act {
+            action: Action::Freeze,
+            ephemeral: true,
+        },
+        CallName::Freeze,
+        None,
+        None,
+    ),
+    (
+        Deed::Act {
+            action: Action::Unfreeze,
+            ephemeral: false,
+        },
+        CallName::Thaw,
+        None,
+        None,
+    ),
 ];
 
 #[test]
@@ -49,18 +96,6 @@ fn plans_follow_the_table(rt: HostRuntime) {
             undo: *undo,
         };
         assert!(rt; plan_of(*deed) == want, "line {place}");
-    }
-    for (place, (action, ephemeral, first, second)) in ACTS.iter().enumerate() {
-        let want = Plan {
-            first: *first,
-            second: *second,
-            undo: None,
-        };
-        let deed = Deed::Act {
-            action: *action,
-            ephemeral: *ephemeral,
-        };
-        assert!(rt; plan_of(deed) == want, "line {place}");
     }
 }
 
@@ -110,5 +145,46 @@ fn states_follow_the_table(rt: HostRuntime) {
     }
     for (place, (power, deed, want)) in DEEDS.iter().enumerate() {
         assert!(rt; is_allowed(*deed, *power) == *want, "line {place}");
+    }
+}
+
+// A pattern, the names of snapshots, of the pattern or others, and the name that follows.
+const NAMES: &[(&str, &[&str], &str)] = &[
+    ("snap%d", &[], "snap0"),
+    ("snap%d", &["snap0"], "snap1"),
+    ("snap%d", &["snap0", "snap1"], "snap2"),
+    ("snap%d", &["snap1"], "snap2"),
+    ("snap%d", &["snap7", "snap3"], "snap8"),
+    (
+        "snap%d",
+        &[
+            "snap01", "snap", "snap-1", "snap1x", "xsnap1", "nap1", "snap1 ",
+        ],
+        "snap0",
+    ),
+    ("snap%d", &["snap00"], "snap0"),
+    ("snap%d", &["snap999999999"], "snap1000000000"),
+    ("snap%d", &["snap1000000000"], "snap0"),
+    ("snap%d", &["snap0123456789", "snap41"], "snap42"),
+    ("a%d.b", &["a4.b", "a.b", "a5b", "a12.b", "a3.b.b"], "a13.b"),
+];
+
+fn follows(alloc: Global, pattern: &str, names: &[&str], want: &str) -> bool {
+    let mut numbers = SnapshotNumbers::new(pattern);
+    for name in names {
+        numbers.see(name);
+    }
+    let Ok(next) = numbers.next(alloc) else {
+        return false;
+    };
+    let is = next.view() == want;
+    drop(next);
+    is
+}
+
+#[test]
+fn numbers_follow_the_greatest(rt: HostRuntime) {
+    for (pattern, names, want) in NAMES {
+        assert!(rt; follows(rt.alloc(), pattern, names, want), "{want}");
     }
 }

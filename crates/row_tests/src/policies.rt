@@ -1,41 +1,35 @@
-use estate_rules::from_config_lists::{Config, Devices};
-use estate_rules::from_size_values::NoMemory;
-use made_settings::{Settings, config_of, devices_of, put_device, set};
+//! What restricted projects forbid.
+use crate::given::{Settings, config_of, devices_of, set};
 use restrictions::{
     Forbidden, Policy, Subject, Word, first_forbidden, policy_of, snapshots_forbidden,
 };
+use row_sizes::from_config_lists::{Config, Devices};
 use std::alloc::Global;
 
-const KEYS: &[&str] = &[
-    "restricted.containers.nesting",
-    "restricted.containers.privilege",
-    "restricted.containers.lowlevel",
-    "restricted.virtual-machines.lowlevel",
-    "restricted.devices.disk",
-    "restricted.devices.nic",
-    "restricted.devices.gpu",
-    "restricted.devices.proxy",
-    "restricted.devices.unix-block",
-    "restricted.devices.unix-char",
-    "restricted.devices.usb",
-    "restricted.snapshots",
+// A restricted project that allows all.
+const ALLOWING: Settings = &[
+    ("restricted", "true"),
+    ("restricted.containers.interception", "full"),
+    ("restricted.containers.nesting", "allow"),
+    ("restricted.containers.privilege", "allow"),
+    ("restricted.containers.lowlevel", "allow"),
+    ("restricted.virtual-machines.lowlevel", "allow"),
+    ("restricted.devices.disk", "allow"),
+    ("restricted.devices.nic", "allow"),
+    ("restricted.devices.gpu", "allow"),
+    ("restricted.devices.proxy", "allow"),
+    ("restricted.devices.unix-block", "allow"),
+    ("restricted.devices.unix-char", "allow"),
+    ("restricted.devices.usb", "allow"),
+    ("restricted.snapshots", "allow"),
 ];
 
-// A restricted project that allows all, but for this key: it has this word, or is not set where that is empty.
-fn project_of(alloc: Global, key: &str, word: &str) -> Result<Config, NoMemory> {
-    let mut project = config_of(
-        alloc,
-        &[
-            ("restricted", "true"),
-            ("restricted.containers.interception", "full"),
-        ],
-    )?;
-    for other in KEYS {
-        set(&mut project, other, "allow")?;
-    }
+// Such a project, but for this key: it has this word, or is not set where that is empty.
+fn project_of(alloc: Global, key: &str, word: &str) -> Config {
+    let mut project = config_of(alloc, ALLOWING);
     project.unset(key);
-    set(&mut project, key, word)?;
-    Ok(project)
+    set(&mut project, key, word);
+    project
 }
 
 /// Whether this rule is the first that is broken, at this place; none is where it is 0.
@@ -51,6 +45,35 @@ fn breaks(
         None => rule == 0,
         Some(found) => found == Forbidden { rule, place },
     }
+}
+
+/// Whether these rules are the first that are broken, by a profile, a container and a machine.
+fn break_first(
+    project: &Config,
+    config: &Config,
+    devices: &Devices,
+    rules: (u8, u8, u8),
+    place: usize,
+) -> bool {
+    let policy = policy_of(project);
+    breaks(&policy, Subject::Profile, config, devices, rules.0, place)
+        && breaks(&policy, Subject::Container, config, devices, rules.1, place)
+        && breaks(&policy, Subject::Machine, config, devices, rules.2, place)
+}
+
+/// The same of owned ones, which are let go.
+fn break_owned(
+    project: Config,
+    config: Config,
+    devices: Devices,
+    rules: (u8, u8, u8),
+    place: usize,
+) -> bool {
+    let breaks = break_first(&project, &config, &devices, rules, place);
+    drop(project);
+    drop(devices);
+    drop(config);
+    breaks
 }
 
 // A restriction and a setting, and for each word the rule that a profile, a container and a machine break, or 0.
@@ -185,63 +208,30 @@ const SETTING_CASES: &[(&str, &str, &str, &[(&str, u8, u8, u8)])] = &[
     ),
 ];
 
-/// Whether a setting breaks these rules, as one of a profile, a container and a machine.
+/// Whether a setting breaks these rules where a restriction has this word.
 fn setting_breaks(
-    alloc: Global,
-    project: &Config,
-    key: &str,
-    value: &str,
-    rules: [u8; 3],
-) -> Result<bool, NoMemory> {
-    let config = config_of(alloc, &[(key, value)])?;
-    let devices = Devices::new(alloc);
-    let policy = policy_of(project);
-    let profile = breaks(&policy, Subject::Profile, &config, &devices, rules[0], 0);
-    let container = breaks(&policy, Subject::Container, &config, &devices, rules[1], 0);
-    let machine = breaks(&policy, Subject::Machine, &config, &devices, rules[2], 0);
-    Ok(profile && container && machine)
-}
-
-fn setting_breaks_under(
     alloc: Global,
     restriction: &str,
     word: &str,
     key: &str,
     value: &str,
-    rules: [u8; 3],
-) -> Result<bool, NoMemory> {
-    let project = project_of(alloc, restriction, word)?;
-    let answer = setting_breaks(alloc, &project, key, value, rules);
-    drop(project);
-    answer
-}
-
-/// Whether a setting breaks under each word what is listed beside the word.
-fn is_line(
-    alloc: Global,
-    restriction: &str,
-    key: &str,
-    value: &str,
-    words: &[(&str, u8, u8, u8)],
+    rules: (u8, u8, u8),
 ) -> bool {
-    for (word, profile, container, machine) in words {
-        let rules = [*profile, *container, *machine];
-        let answer = setting_breaks_under(alloc, restriction, word, key, value, rules);
-        if !matches!(answer, Ok(true)) {
-            return false;
-        }
-    }
-    true
+    let project = project_of(alloc, restriction, word);
+    let config = config_of(alloc, &[(key, value)]);
+    break_owned(project, config, Devices::new(alloc), rules, 0)
 }
 
 #[test]
 fn each_line_on_settings(rt: HostRuntime) {
-    let alloc = rt.alloc();
     for (restriction, key, value, words) in SETTING_CASES {
-        assert!(rt;
-            is_line(alloc, restriction, key, value, words),
-            "{key} = {value}"
-        );
+        for (word, profile, container, machine) in *words {
+            let rules = (*profile, *container, *machine);
+            assert!(rt;
+                setting_breaks(rt.alloc(), restriction, word, key, value, rules),
+                "{key} = {value} under {word}"
+            );
+        }
     }
 }
 
@@ -328,78 +318,34 @@ const DEVICE_CASES: &[(&str, Settings, &[(&str, u8)])] = &[
     ),
 ];
 
-/// A device that no rule is against, and this one after it.
-fn two_devices(alloc: Global, device: Settings) -> Result<Devices, NoMemory> {
-    let mut devices = Devices::new(alloc);
-    put_device(alloc, &mut devices, "a", &[("type", "none")])?;
-    put_device(alloc, &mut devices, "b", device)?;
-    Ok(devices)
-}
+// What the device has beside it: a setting and a device that no rule is against.
+const FREE: Settings = &[("security.idmap.isolated", "true")];
 
-/// Whether a device breaks this rule, as one of a profile, a container and a machine.
+const NONE: Settings = &[("type", "none")];
+
+/// Whether a device breaks this rule where a restriction has this word.
 fn device_breaks(
-    alloc: Global,
-    project: &Config,
-    device: Settings,
-    rule: u8,
-) -> Result<bool, NoMemory> {
-    let devices = two_devices(alloc, device)?;
-    let answer = devices_break(alloc, project, &devices, rule);
-    drop(devices);
-    answer
-}
-
-fn devices_break(
-    alloc: Global,
-    project: &Config,
-    devices: &Devices,
-    rule: u8,
-) -> Result<bool, NoMemory> {
-    let config = config_of(alloc, &[("security.idmap.isolated", "true")])?;
-    let policy = policy_of(project);
-    let profile = breaks(&policy, Subject::Profile, &config, devices, rule, 1);
-    let container = breaks(&policy, Subject::Container, &config, devices, rule, 1);
-    let machine = breaks(&policy, Subject::Machine, &config, devices, rule, 1);
-    Ok(profile && container && machine)
-}
-
-fn device_breaks_under(
     alloc: Global,
     restriction: &str,
     word: &str,
     device: Settings,
     rule: u8,
-) -> Result<bool, NoMemory> {
-    let project = project_of(alloc, restriction, word)?;
-    let answer = device_breaks(alloc, &project, device, rule);
-    drop(project);
-    answer
-}
-
-/// Whether a device breaks under each word what is listed beside the word.
-fn is_device_line(
-    alloc: Global,
-    restriction: &str,
-    device: Settings,
-    words: &[(&str, u8)],
 ) -> bool {
-    for (word, rule) in words {
-        let answer = device_breaks_under(alloc, restriction, word, device, *rule);
-        if !matches!(answer, Ok(true)) {
-            return false;
-        }
-    }
-    true
+    let project = project_of(alloc, restriction, word);
+    let config = config_of(alloc, FREE);
+    let devices = devices_of(alloc, &[("a", NONE), ("b", device)]);
+    break_owned(project, config, devices, (rule, rule, rule), 1)
 }
 
 #[test]
 fn each_line_on_devices(rt: HostRuntime) {
-    let alloc = rt.alloc();
     for (place, (restriction, device, words)) in DEVICE_CASES.iter().enumerate() {
-        assert!(rt;
-            is_device_line(alloc, restriction, device, words),
-            "line {place}"
-        );
+        for (word, rule) in *words {
+            assert!(rt;
+                device_breaks(rt.alloc(), restriction, word, device, *rule),
+                "line {place} under {word}"
+            );
+        }
     }
 }
 
@@ -412,8 +358,8 @@ const ACCESS: Settings = &[("restricted", "1"), ("restricted.networks.access", "
 
 const OPEN: Settings = &[("restricted", "0"), ("restricted.networks.access", "br0")];
 
-// A project and the settings of a container, and the rule that is broken first with its place, if one is.
-const LOWEST: &[(Settings, Settings, Option<(u8, usize)>)] = &[
+// A project and the settings of a container, and the rule that is broken first with its place, or 0.
+const LOWEST: &[(Settings, Settings, u8, usize)] = &[
     (
         &[("restricted", "1")],
         &[
@@ -421,18 +367,21 @@ const LOWEST: &[(Settings, Settings, Option<(u8, usize)>)] = &[
             ("security.nesting", "1"),
             ("security.privileged", "1"),
         ],
-        Some((1, 1)),
+        1,
+        1,
     ),
     (
         &[("restricted", "1")],
         &[("raw.lxc", "x"), ("raw.seccomp", "x")],
-        Some((3, 0)),
+        3,
+        0,
     ),
-    (ISOLATED, &[("raw.lxc", "x"), ("user.a", "x")], Some((2, 2))),
+    (ISOLATED, &[("raw.lxc", "x"), ("user.a", "x")], 2, 2),
     (
         ISOLATED,
         &[("raw.lxc", "x"), ("security.privileged", "1")],
-        Some((2, 1)),
+        2,
+        1,
     ),
     (
         ISOLATED,
@@ -440,11 +389,12 @@ const LOWEST: &[(Settings, Settings, Option<(u8, usize)>)] = &[
             ("security.idmap.isolated", "0"),
             ("security.privileged", "1"),
         ],
-        Some((2, 0)),
+        2,
+        0,
     ),
-    (ACCESS, &[("security.privileged", "0")], Some((6, 1))),
-    (ACCESS, &[], Some((6, 1))),
-    (OPEN, &[("security.privileged", "1")], None),
+    (ACCESS, &[("security.privileged", "0")], 6, 1),
+    (ACCESS, &[], 6, 1),
+    (OPEN, &[("security.privileged", "1")], 0, 0),
 ];
 
 // What the container has beside its settings.
@@ -453,36 +403,32 @@ const NIC_AND_GPU: &[(&str, Settings)] = &[
     ("gpu", &[("type", "gpu")]),
 ];
 
-fn is_lowest_of(
-    alloc: Global,
-    project: &Config,
-    config: &Config,
-    wanted: Option<(u8, usize)>,
-) -> Result<bool, NoMemory> {
-    let devices = devices_of(alloc, NIC_AND_GPU)?;
-    let policy = policy_of(project);
-    Ok(match wanted {
-        None => breaks(&policy, Subject::Container, config, &devices, 0, 0),
-        Some((rule, place)) => breaks(&policy, Subject::Container, config, &devices, rule, place),
-    })
-}
-
-fn is_lowest(
-    alloc: Global,
-    project: Settings,
-    settings: Settings,
-    wanted: Option<(u8, usize)>,
-) -> Result<bool, NoMemory> {
-    let project = config_of(alloc, project)?;
-    let config = config_of(alloc, settings)?;
-    is_lowest_of(alloc, &project, &config, wanted)
+fn is_lowest(alloc: Global, project: Settings, settings: Settings, rule: u8, place: usize) -> bool {
+    let project = config_of(alloc, project);
+    let config = config_of(alloc, settings);
+    let devices = devices_of(alloc, NIC_AND_GPU);
+    let subject = Subject::Container;
+    let is = breaks(
+        &policy_of(&project),
+        subject,
+        &config,
+        &devices,
+        rule,
+        place,
+    );
+    drop(devices);
+    drop(config);
+    drop(project);
+    is
 }
 
 #[test]
 fn the_lowest_rule_and_its_first_place(rt: HostRuntime) {
-    let alloc = rt.alloc();
-    for (project, settings, wanted) in LOWEST {
-        assert!(rt; matches!(is_lowest(alloc, project, settings, *wanted), Ok(true)));
+    for (line, (project, settings, rule, place)) in LOWEST.iter().enumerate() {
+        assert!(rt;
+            is_lowest(rt.alloc(), project, settings, *rule, *place),
+            "line {line}"
+        );
     }
 }
 
@@ -501,17 +447,11 @@ const SNAPSHOTS: &[(Settings, bool)] = &[
     (&[("restricted.snapshots", "block")], false),
 ];
 
-fn forbids_snapshots(alloc: Global, project: Settings) -> Result<bool, NoMemory> {
-    let project = config_of(alloc, project)?;
-    Ok(snapshots_forbidden(&policy_of(&project)))
-}
-
-#[test]
-fn snapshots(rt: HostRuntime) {
-    let alloc = rt.alloc();
-    for (project, is_forbidden) in SNAPSHOTS {
-        assert!(rt; forbids_snapshots(alloc, project) == Ok(*is_forbidden));
-    }
+fn forbids_snapshots(alloc: Global, project: Settings) -> bool {
+    let project = config_of(alloc, project);
+    let forbids = snapshots_forbidden(&policy_of(&project));
+    drop(project);
+    forbids
 }
 
 // Each word by its text, and texts that are no words.
@@ -535,7 +475,10 @@ fn is_named(text: &str, wanted: Option<Word>) -> bool {
 }
 
 #[test]
-fn words_by_their_texts(rt: HostRuntime) {
+fn snapshots_and_words(rt: HostRuntime) {
+    for (project, is_forbidden) in SNAPSHOTS {
+        assert!(rt; forbids_snapshots(rt.alloc(), project) == *is_forbidden);
+    }
     for (text, word) in WORDS {
         assert!(rt; is_named(text, *word), "{text}");
     }

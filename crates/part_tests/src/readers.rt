@@ -1,6 +1,8 @@
 //! The readers of option values, each over texts with the answers that they must give.
-use size_values::ValueFault::{self, BadByte, Empty, OutOfRange, TooLarge, UnknownSuffix};
-use size_values::{
+use config_lists::from_size_values::ValueFault::{
+    self, BadByte, Empty, OutOfRange, TooLarge, UnknownSuffix,
+};
+use config_lists::from_size_values::{
     Cpu, Memory, read_address, read_boolean, read_cidr, read_count, read_cpu, read_expiry,
     read_memory, read_size,
 };
@@ -50,7 +52,7 @@ fn units_of(text: &str) -> Result<[u32; 6], ValueFault> {
 }
 
 /// Texts, and what a reader must give for each.
-const READINGS: [(&str, Answer); 201] = [
+const READINGS: &[(&str, Answer)] = &[
     ("true", Answer::Boolean(Ok(true))),
     ("1", Answer::Boolean(Ok(true))),
     ("yes", Answer::Boolean(Ok(true))),
@@ -284,14 +286,7 @@ const READINGS: [(&str, Answer); 201] = [
     ("4w 0d", Answer::Expiry(Err(OutOfRange))),
 ];
 
-#[test]
-fn readers_answer_as_listed(rt: HostRuntime) {
-    for (text, answer) in &READINGS {
-        assert!(rt; is_read(text, answer), "for {text}");
-    }
-}
-
-const FAULTS: [(ValueFault, u64); 5] = [
+const FAULTS: &[(ValueFault, u64)] = &[
     (Empty, 1),
     (BadByte(7), 2),
     (UnknownSuffix(7), 3),
@@ -300,8 +295,11 @@ const FAULTS: [(ValueFault, u64); 5] = [
 ];
 
 #[test]
-fn faults_have_their_numbers(rt: HostRuntime) {
-    for (fault, number) in &FAULTS {
+fn readers_answer_as_listed_and_faults_have_their_numbers(rt: HostRuntime) {
+    for (text, answer) in READINGS {
+        assert!(rt; is_read(text, answer), "for {text}");
+    }
+    for (fault, number) in FAULTS {
         assert!(rt; fault.number() == *number);
     }
 }

@@ -1,5 +1,0 @@
-//! Tests of the keeper in memory. They call public functions alone.
-#![tactic(auto)]
-
-#[cfg(test)]
-mod keepers;
