@@ -324,13 +324,7 @@ const FREE: Settings = &[("security.idmap.isolated", "true")];
 const NONE: Settings = &[("type", "none")];
 
 /// Whether a device breaks this rule where a restriction has this word.
-fn device_breaks(
-    alloc: Global,
-    restriction: &str,
-    word: &str,
-    device: Settings,
-    rule: u8,
-) -> bool {
+fn device_breaks(alloc: Global, restriction: &str, word: &str, device: Settings, rule: u8) -> bool {
     let project = project_of(alloc, restriction, word);
     let config = config_of(alloc, FREE);
     let devices = devices_of(alloc, &[("a", NONE), ("b", device)]);
