@@ -36,8 +36,10 @@ fn give_back(ledger: &mut Ledger, op: u64) {
     }
 }
 
-/// Holds two shares of one project, and one of another.
-fn hold_three(alloc: Global, ledger: &mut Ledger) -> Result<(), NoMemory> {
+/// Holds two shares of one project, and one of another, by three operations of which none held one before.
+fn hold_three(alloc: Global, ledger: &mut Ledger) -> Result<(), NoMemory>
+    requires { ledger.old.greatest < 3 }
+{
     ledger.reserve_one()?;
     ledger.hold(3, text_of(alloc, "lab"), share(2, 10));
     ledger.reserve_one()?;

@@ -130,7 +130,7 @@ const INSTANCE_CASES: &[(&str, &str, &str, Scope)] = &[
     ("snapshots.pattern", "a-%d.b", "%d%d", Scope::Any),
     ("snapshots.schedule", "@daily", "", Scope::Any),
     ("snapshots.schedule.stopped", "false", "f", Scope::Any),
-    // Patterns for the names of snapshots: five good ones, and seven bad ones.
+    // Patterns for the names of snapshots: four good ones, and eight bad ones.
     ("snapshots.pattern", "%dx", "%d", Scope::Any),
     ("snapshots.pattern", "snap%d", "-a%d", Scope::Any),
     ("snapshots.pattern", "a%d-", "snap", Scope::Any),
