@@ -1,13 +1,12 @@
 #!/usr/bin/env bash
 # Creates instances through `incus_run run`, in a project without limits and in a restricted one with five, up to 1,000: at 10,
-# 100, 250 and 1,000 instances, and at 10,000 where MOST says so, the acceptance of a creation, its wait, lists, the usage of the project, and a change of the
-# profile that all use: requests a second and memory held, a line for each. The worker makes no step but while a request waits
-# (`--steps 0`), so an acceptance and the work after it are told apart.
+# 100, 250 and 1,000 instances, and at 10,000 and 60,000 where MOST says so, the acceptance of a creation, its wait, lists, the
+# usage of the project, and a change of the profile that all use: requests a second and memory held, a line for each. The worker
+# makes no step but while a request waits (`--steps 0`), so an acceptance and the work after it are told apart.
 #
 #   PROGRAM   the program, ../bin/incus_run without it
 #   RUNS      how many times each stream is run, as far as there is time, 3 without it
-#   MOST      how many instances there are at the end, 1000 without it; 10000 take some three minutes each. Above 1,000 the limits
-#             are taken away while the instances are made, and set again before anything is measured
+#   MOST      how many instances there are at the end, 1000 without it, and 60000 at most
 #   LIMIT     after how many seconds it ends with an error, 175 without it
 set -eu
 . "$(dirname "$0")/sections.sh"
@@ -17,13 +16,10 @@ options="--steps 0 --now 0 --boot 0"
 rows() { # WHAT: how a section is shown, with the number of instances after it
     printf '%-40s %6d instances' "$1" "$count"
 }
-grow() { # LAST: instances up to this number are made, each waited for; many of them while the project has no limits
+grow() { # LAST: instances up to this number are made, each waited for
     local first=$((count + 1)) last=$1
     [ "$last" -ge "$first" ] || return 0
-    local lifted=$([ -n "$limits" ] && [ "$last" -gt 1000 ] && echo yes)
-    [ -z "$lifted" ] || add 1 "" limits "$project" off
     add $((2 * (last - first + 1))) "" made "$project" "$first" "$last" "$first"
-    [ -z "$lifted" ] || add 1 "" limits "$project" on
     count=$last
 }
 try_at() { # ROWS: what is measured at this number of instances
@@ -44,7 +40,7 @@ for limits in "" limits; do
     project=lab${limits:+-limited} count=0
     begin_stream "instances${limits:+-$limits}"
     add 3 "" tenant "$project" $limits
-    for at in 10 100 250 1000 10000; do
+    for at in 10 100 250 1000 10000 60000; do
         try_at "$at"
     done
     measure

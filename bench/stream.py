@@ -20,7 +20,6 @@ Usage: stream.py projects COUNT          creations of the projects p1 to pCOUNT
        stream.py move-rows LIST LETTER FIRST LAST    renames of the rows of these numbers, and back again
        stream.py delete-rows LIST LETTER FIRST LAST  deletions of the rows of these numbers
        stream.py tenant PROJECT [limits]             a project with a pool and a root disk in its profile `default`, and with limits
-       stream.py limits PROJECT on|off               the limits of a project set, or taken away
                                                      on all that instances have, where the word `limits` stands
        stream.py creations PROJECT FIRST LAST        creations of the instances of these numbers in PROJECT, each with settings
        stream.py waits FIRST LAST                    waits for the operations of these numbers, of the boot word 0
@@ -183,11 +182,6 @@ def tenant(project, *limits):
     yield from put_profile(project, 1)
 
 
-def limits(project, are):
-    config = {key: value if are == "on" else "" for key, value in {"restricted": "true", **LIMITS}.items()}
-    yield request("PATCH", f"/1.0/projects/{project}", compact({"config": config}))
-
-
 def put_profile(project, count):
     root = {"path": "/", "pool": f"pool-{project}", "size": "10GiB", "type": "disk"}
     for number in range(count):
@@ -270,7 +264,6 @@ KINDS = {
     "move-rows": (move_rows, (str, str, int, int)),
     "delete-rows": (delete_rows, (str, str, int, int)),
     "tenant": (tenant, (str, str)),
-    "limits": (limits, (str, str)),
     "creations": (creations, (str, int, int)),
     "waits": (waits, (int, int)),
     "made": (made, (str, int, int, int)),
