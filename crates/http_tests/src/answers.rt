@@ -1,6 +1,6 @@
-//! What calls of `read_request` are to answer.
+//! What calls of `read_request` are to answer, and whether they do.
 
-use http_front::from_size_values::Seq;
+use http_front::from_size_values::{NoMemory, Seq, Text};
 use http_front::{Buffer, ByteSource, Got, HeadFault, Request, Source, read_request};
 use std::alloc::Global;
 
@@ -11,17 +11,30 @@ pub(crate) enum Want {
     Next(&'static str, &'static str, usize),
     /// The same, and the last on its connection.
     Last(&'static str, &'static str, usize),
+    /// A request with this key of a WebSocket handshake.
+    Key(Option<&'static str>),
     End,
     Cut(u64),
     Malformed(HeadFault),
     ReadFault,
 }
 
+/// Bytes, and how often they come.
+pub(crate) type Part = (&'static [u8], usize);
+
+pub(crate) fn is_text(text: &Option<Text>, wanted: Option<&str>) -> bool {
+    match (text, wanted) {
+        (Some(text), Some(wanted)) => text.view() == wanted,
+        (None, None) => true,
+        _ => false,
+    }
+}
+
 fn is_request(request: &Request, method: &str, target: &str, body: usize, last: bool) -> bool {
-    request.method.view() == method
-        && request.target.view() == target
-        && request.body.len() == body
-        && request.last == last
+    (request.method.view() == method)
+        & (request.target.view() == target)
+        & (request.body.len() == body)
+        & (request.last == last)
 }
 
 fn is_wanted(got: &Got, want: Want) -> bool {
@@ -32,20 +45,13 @@ fn is_wanted(got: &Got, want: Want) -> bool {
         (Got::Request(request), Want::Last(method, target, body)) => {
             is_request(request, method, target, body, true)
         }
+        (Got::Request(request), Want::Key(key)) => is_text(&request.upgrade, key),
         (Got::End, Want::End) => true,
         (Got::Cut(held), Want::Cut(wanted)) => *held == wanted,
         (Got::Malformed(fault), Want::Malformed(wanted)) => *fault == wanted,
         (Got::ReadFault, Want::ReadFault) => true,
         _ => false,
     }
-}
-
-/// Whether the next call answers what is wanted.
-fn answers<S: Source>(alloc: Global, buffer: &mut Buffer, source: &mut S, want: Want) -> bool {
-    let got = read_request(alloc, buffer, source);
-    let is = is_wanted(&got, want);
-    drop(got);
-    is
 }
 
 /// Whether the calls over this source answer what is wanted, one after the other.
@@ -55,7 +61,9 @@ pub(crate) fn answers_all<S: Source>(alloc: Global, source: &mut S, wants: &[Wan
     };
     let mut all = true;
     for want in wants {
-        all = answers(alloc, &mut buffer, source, *want) && all;
+        let got = read_request(alloc, &mut buffer, source);
+        all &= is_wanted(&got, *want);
+        drop(got);
     }
     drop(buffer);
     all
@@ -80,19 +88,30 @@ pub(crate) fn reads_as(
         return false;
     };
     let mut source = ByteSource::new(bytes, piece.max(1), fails);
-    let is = answers_all(alloc, &mut source, wants) && source.faults() == faults;
+    let is = answers_all(alloc, &mut source, wants) & (source.faults() == faults);
     drop(source);
     is
 }
 
 /// The sizes of pieces in which texts come.
-pub(crate) const PIECES: [usize; 4] = [1, 2, 7, 65_536];
+const PIECES: &[usize] = &[1, 2, 7, 65_536];
 
 /// Whether they do in pieces of every size.
 pub(crate) fn reads_in_any_pieces(alloc: Global, text: &[u8], wants: &[Want]) -> bool {
     let mut all = true;
     for piece in PIECES {
-        all = reads_as(alloc, text, piece, &[], wants, 0) && all;
+        all &= reads_as(alloc, text, *piece, &[], wants, 0);
     }
     all
+}
+
+/// The parts as one text.
+pub(crate) fn text_of(alloc: Global, parts: &[Part]) -> Result<Seq<u8>, NoMemory> {
+    let mut text = Vec::new(alloc);
+    for (bytes, times) in parts {
+        for _ in 0..*times {
+            text.extend_from_slice(bytes)?;
+        }
+    }
+    Ok(Seq::from_vec(text))
 }

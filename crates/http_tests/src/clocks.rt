@@ -27,18 +27,14 @@ impl time::Clock for System {
 /// Whether a clock gives this moment twice, and its twin too.
 fn gives<C: Clock + Drop>(mut clock: C, moment: u64) -> bool {
     let mut twin = clock.twin();
-    clock.now() == moment && clock.now() == moment && twin.now() == moment
+    (clock.now() == moment) & (clock.now() == moment) & (twin.now() == moment)
 }
 
 /// Moments, the last one before the year 10000.
 const MOMENTS: &[u64] = &[0, 1, 1_700_000_000, 253_402_300_799];
 
-#[test]
-fn a_still_clock_gives_its_moment(rt: HostRuntime) {
-    for moment in MOMENTS {
-        let clock = StillClock::new((*moment).min(MOMENT_LIMIT - 1));
-        assert!(rt; gives(clock, *moment), "{moment}");
-    }
+fn still_clock_gives(moment: u64) -> bool {
+    gives(StillClock::new(moment.min(MOMENT_LIMIT - 1)), moment)
 }
 
 /// The seconds that a system gives, and the moment that its clock gives.
@@ -51,13 +47,18 @@ const SYSTEMS: &[(Option<u64>, u64)] = &[
     (None, 0),
 ];
 
+fn clock_of_system_gives(seconds: Option<u64>, moment: u64) -> bool {
+    let since_1970 = seconds.map(Duration::from_secs);
+    gives(SystemClock::new(System { since_1970 }), moment)
+}
+
 #[test]
-fn a_clock_of_a_system_gives_what_it_gives(rt: HostRuntime) {
+fn clocks_give_their_moments(rt: HostRuntime) {
+    for moment in MOMENTS {
+        assert!(rt; still_clock_gives(*moment), "{moment}");
+    }
     for (seconds, moment) in SYSTEMS {
-        let system = System {
-            since_1970: seconds.map(Duration::from_secs),
-        };
-        assert!(rt; gives(SystemClock::new(system), *moment), "{moment}");
+        assert!(rt; clock_of_system_gives(*seconds, *moment), "{moment}");
     }
 }
 

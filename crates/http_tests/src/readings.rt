@@ -1,13 +1,13 @@
 //! Texts, and what is read of them.
 
 use crate::answers::Want::{Cut, End, Last, Malformed, Next, ReadFault};
-use crate::answers::{Want, reads_as, reads_in_any_pieces};
-use http_front::from_size_values::{NoMemory, Seq};
+use crate::answers::{Part, Want, reads_as, reads_in_any_pieces, text_of};
+use http_front::from_size_values::Seq;
 use http_front::{Buffer, ByteSource, Got, HeadFault, Request, read_request};
 use std::alloc::Global;
 
 /// Texts, and what is read of them in any pieces.
-static TEXTS: [(&[u8], &[Want]); 41] = [
+const TEXTS: &[(&[u8], &[Want])] = &[
     (b"", &[End]),
     (b"\r\n\n\r", &[End]),
     (b"GET / HTTP/1.1\r\n\r\n", &[Next("GET", "/", 0), End]),
@@ -139,136 +139,137 @@ static TEXTS: [(&[u8], &[Want]); 41] = [
     ),
 ];
 
-#[test]
-fn reads_texts_in_any_pieces(rt: HostRuntime) {
-    for (text, wants) in &TEXTS {
-        assert!(rt; reads_in_any_pieces(rt.alloc(), text, wants), "of {text:?}");
-    }
-}
-
 const ROOT: &[Want] = &[Next("GET", "/", 0), End];
 
 const TOO_LONG: &[Want] = &[Malformed(HeadFault::H2)];
 
-/// The line bytes before a head, its headers, the bytes of both together, and what is read of them.
-const HEADS: [(usize, usize, usize, &[Want]); 7] = [
-    (0, 1, 16_384, ROOT),
-    (0, 1, 16_385, TOO_LONG),
-    (5_000, 1, 16_384, ROOT),
-    (5_000, 1, 16_385, TOO_LONG),
-    (16_383, 1, 20_000, TOO_LONG),
-    (0, 64, 2_000, ROOT),
-    (0, 65, 2_000, &[Malformed(HeadFault::H1)]),
+const LINE: &[u8] = b"GET / HTTP/1.1\r\n";
+
+/// Long texts by their parts, and what is read of them in any pieces. A head is at most 16,384 bytes long with the line
+/// bytes before it, and has at most 64 headers. A body is at most 1,048,576 bytes long.
+const LONG_TEXTS: &[(&[Part], &[Want])] = &[
+    (
+        &[(LINE, 1), (b"B:", 1), (b"b", 16_362), (b"\r\n\r\n", 1)],
+        ROOT,
+    ),
+    (
+        &[(LINE, 1), (b"B:", 1), (b"b", 16_363), (b"\r\n\r\n", 1)],
+        TOO_LONG,
+    ),
+    (
+        &[
+            (b"\n", 5_000),
+            (LINE, 1),
+            (b"B:", 1),
+            (b"b", 11_362),
+            (b"\r\n\r\n", 1),
+        ],
+        ROOT,
+    ),
+    (
+        &[
+            (b"\n", 5_000),
+            (LINE, 1),
+            (b"B:", 1),
+            (b"b", 11_363),
+            (b"\r\n\r\n", 1),
+        ],
+        TOO_LONG,
+    ),
+    (
+        &[
+            (b"\n", 16_383),
+            (LINE, 1),
+            (b"B:", 1),
+            (b"b", 3_595),
+            (b"\r\n\r\n", 1),
+        ],
+        TOO_LONG,
+    ),
+    (
+        &[
+            (LINE, 1),
+            (b"A:\r\n", 63),
+            (b"B:", 1),
+            (b"b", 1_726),
+            (b"\r\n\r\n", 1),
+        ],
+        ROOT,
+    ),
+    (
+        &[
+            (LINE, 1),
+            (b"A:\r\n", 64),
+            (b"B:", 1),
+            (b"b", 1_722),
+            (b"\r\n\r\n", 1),
+        ],
+        &[Malformed(HeadFault::H1)],
+    ),
+    // Bytes without an empty line.
+    (&[(b"\r", 16_383)], &[End]),
+    (&[(b"\r", 16_384)], TOO_LONG),
+    (&[(b"\r", 16_385)], TOO_LONG),
+    (&[(b"x", 16_383)], &[Cut(16_383)]),
+    (&[(b"x", 16_384)], TOO_LONG),
+    (&[(b"x", 16_385)], TOO_LONG),
+    // The longest body, and one more request.
+    (
+        &[
+            (b"PUT / HTTP/1.1\r\nContent-Length: 1048576\r\n\r\n", 1),
+            (b"z", 1_048_576),
+            (b"GET / HTTP/1.1\r\n\r\n", 1),
+        ],
+        &[Next("PUT", "/", 1_048_576), Next("GET", "/", 0), End],
+    ),
 ];
 
-/// A head of `len` bytes with `blank` line bytes before it, and with `fields` headers of which the last is long.
-fn long_head(alloc: Global, blank: usize, fields: usize, len: usize) -> Result<Vec<u8>, NoMemory> {
-    let mut text = vec![in alloc; b'\n'; blank]?;
-    text.extend_from_slice(b"GET / HTTP/1.1\r\n")?;
-    for _ in 1..fields {
-        text.extend_from_slice(b"A:\r\n")?;
-    }
-    text.extend_from_slice(b"B:")?;
-    let rest = len.saturating_sub(text.len().saturating_add(4));
-    for _ in 0..rest {
-        text.push(b'b')?;
-    }
-    text.extend_from_slice(b"\r\n\r\n")?;
-    Ok(text)
-}
-
-fn reads_head_as(alloc: Global, blank: usize, fields: usize, len: usize, wants: &[Want]) -> bool {
-    let Ok(text) = long_head(alloc, blank, fields, len) else {
+fn reads_parts_as(alloc: Global, parts: &[Part], wants: &[Want]) -> bool {
+    let Ok(text) = text_of(alloc, parts) else {
         return false;
     };
-    let is = text.len() == len && reads_in_any_pieces(alloc, &text, wants);
+    let is = reads_in_any_pieces(alloc, text.view(), wants);
     drop(text);
     is
 }
 
 #[test]
-fn heads_keep_the_limits(rt: HostRuntime) {
-    for (blank, fields, len, wants) in HEADS {
+fn reads_texts_in_any_pieces(rt: HostRuntime) {
+    for (number, (text, wants)) in TEXTS.iter().enumerate() {
         assert!(rt;
-            reads_head_as(rt.alloc(), blank, fields, len, wants),
-            "of {len} bytes with {blank} before them and {fields} headers"
+            reads_in_any_pieces(rt.alloc(), text, wants),
+            "text {number}"
         );
     }
 }
 
-/// One byte, how often it comes, and what is read of it.
-const REPEATED: [(u8, usize, &[Want]); 6] = [
-    (b'\r', 16_383, &[End]),
-    (b'\r', 16_384, TOO_LONG),
-    (b'\r', 16_385, TOO_LONG),
-    (b'x', 16_383, &[Cut(16_383)]),
-    (b'x', 16_384, TOO_LONG),
-    (b'x', 16_385, TOO_LONG),
-];
-
-fn reads_repeated_as(alloc: Global, byte: u8, count: usize, wants: &[Want]) -> bool {
-    let Ok(text) = vec![in alloc; byte; count] else {
-        return false;
-    };
-    let is = reads_as(alloc, &text, 7, &[], wants, 0);
-    drop(text);
-    is
-}
-
 #[test]
-fn bytes_without_an_empty_line_keep_the_limits(rt: HostRuntime) {
-    for (byte, count, wants) in REPEATED {
-        assert!(rt;
-            reads_repeated_as(rt.alloc(), byte, count, wants),
-            "of {count} times {byte}"
-        );
+fn reads_long_texts_in_any_pieces(rt: HostRuntime) {
+    for (number, (parts, wants)) in LONG_TEXTS.iter().enumerate() {
+        assert!(rt; reads_parts_as(rt.alloc(), parts, wants), "text {number}");
     }
-}
-
-/// A request with the longest body, and one more.
-fn longest_body(alloc: Global) -> Result<Vec<u8>, NoMemory> {
-    let mut text = Vec::from_slice(alloc, b"PUT / HTTP/1.1\r\nContent-Length: 1048576\r\n\r\n")?;
-    text.extend_from_slice(vec![in alloc; b'z'; 1_048_576]?.as_slice())?;
-    text.extend_from_slice(b"GET / HTTP/1.1\r\n\r\n")?;
-    Ok(text)
-}
-
-fn reads_longest_body(alloc: Global) -> bool {
-    let Ok(text) = longest_body(alloc) else {
-        return false;
-    };
-    let wants = [Next("PUT", "/", 1_048_576), Next("GET", "/", 0), End];
-    let is = reads_in_any_pieces(alloc, &text, &wants);
-    drop(text);
-    is
-}
-
-#[test]
-fn reads_the_longest_body(rt: HostRuntime) {
-    assert!(rt; reads_longest_body(rt.alloc()));
 }
 
 const HELLO: &[u8] = b"\nPOST /a HTTP/1.1\r\nContent-Length: 5\r\n\r\nhello";
 
-#[test]
-fn cuts_a_body_at_every_byte(rt: HostRuntime) {
+/// Whether a body that is cut is told as cut, at every byte of its request.
+fn is_cut_at_every_byte(alloc: Global) -> bool {
+    let mut all = true;
     for end in 0..HELLO.len() {
         let want = if end < 2 { End } else { Cut(end as u64) };
-        assert!(rt;
-            reads_in_any_pieces(rt.alloc(), &HELLO[..end], &[want]),
-            "at {end}"
-        );
+        all &= reads_in_any_pieces(alloc, &HELLO[..end], &[want]);
     }
+    all
 }
 
 const TWO: &[u8] =
     b"\r\nPOST /p?q=%20 HTTP/1.1\r\nContent-Length: 4\r\n\r\na\x00\xffbGET / HTTP/1.1\r\n\r\n";
 
 fn is_first_of_two(request: &Request) -> bool {
-    request.method.view() == "POST"
-        && request.target.view() == "/p?q=%20"
-        && request.body.view() == b"a\x00\xffb".as_slice()
-        && !request.last
+    (request.method.view() == "POST")
+        & (request.target.view() == "/p?q=%20")
+        & (request.body.view() == b"a\x00\xffb".as_slice())
+        & !request.last
 }
 
 /// Whether the first request is taken whole, and only bytes of the second one are held then.
@@ -284,7 +285,7 @@ fn takes_first_of_two(alloc: Global, source: &mut ByteSource) -> bool {
     drop(got);
     let holds = b"GET / HTTP/1.1\r\n\r\n".starts_with(buffer.view());
     drop(buffer);
-    is && holds
+    is & holds
 }
 
 fn takes_first_in_threes(alloc: Global) -> bool {
@@ -297,11 +298,6 @@ fn takes_first_in_threes(alloc: Global) -> bool {
     takes
 }
 
-#[test]
-fn takes_what_stands_there(rt: HostRuntime) {
-    assert!(rt; takes_first_in_threes(rt.alloc()));
-}
-
 const PAIR: &[u8] = b"GET /a HTTP/1.1\r\n\r\nGET /b HTTP/1.1\r\n\r\n";
 
 const A: Want = Next("GET", "/a", 0);
@@ -309,7 +305,7 @@ const A: Want = Next("GET", "/a", 0);
 const B: Want = Next("GET", "/b", 0);
 
 /// The read that fails, where the text comes in pieces of ten bytes, what is read, and how many reads fail.
-const FAILING: [(u64, &[Want], u64); 6] = [
+const FAILING: &[(u64, &[Want], u64)] = &[
     (1, &[ReadFault], 1),
     (2, &[ReadFault], 1),
     (3, &[A, ReadFault], 1),
@@ -318,12 +314,18 @@ const FAILING: [(u64, &[Want], u64); 6] = [
     (6, &[A, B, End], 0),
 ];
 
-#[test]
-fn reads_fail_at_the_listed_calls(rt: HostRuntime) {
+/// Whether reads fail at the listed calls.
+fn fails_as_listed(alloc: Global) -> bool {
+    let mut all = true;
     for (number, wants, faults) in FAILING {
-        assert!(rt;
-            reads_as(rt.alloc(), PAIR, 10, &[number], wants, faults),
-            "where read {number} fails"
-        );
+        all &= reads_as(alloc, PAIR, 10, &[*number], wants, *faults);
     }
+    all
+}
+
+#[test]
+fn takes_what_stands_there(rt: HostRuntime) {
+    assert!(rt; takes_first_in_threes(rt.alloc()));
+    assert!(rt; is_cut_at_every_byte(rt.alloc()));
+    assert!(rt; fails_as_listed(rt.alloc()));
 }

@@ -6,7 +6,7 @@ use http_front::from_size_values::Seq;
 use http_front::{ByteSink, ReaderSource, Sink, Source, WriterSink};
 use std::alloc::Global;
 use std::io;
-use std::io::{ErrorKind, Read, Write};
+use std::io::{ErrorKind, Read};
 
 /// Gives one byte at a time, each after an interrupt, and fails at the end.
 #[derive(Drop)]
@@ -32,31 +32,25 @@ impl Read for Hiccups<'_> {
 
 const TEXT: &[u8] = b"GET / HTTP/1.1\r\n\r\nGET";
 
-fn answers_over<R: Read>(
-    alloc: Global,
-    source: &mut ReaderSource<R>,
-    wants: &[Want],
-    faults: u64,
-) -> bool {
-    answers_all(alloc, source, wants) && source.faults() == faults
+/// Whether the calls over this reader answer what is wanted, and so many reads have failed then.
+fn answers_over<R: Read + Drop>(alloc: Global, reader: R, wants: &[Want], faults: u64) -> bool {
+    let mut source = ReaderSource::new(reader);
+    let are = answers_all(alloc, &mut source, wants) & (source.faults() == faults);
+    drop(source);
+    are
 }
+
+const SLOW: Hiccups<'static> = Hiccups {
+    bytes: TEXT,
+    interrupted: false,
+};
 
 #[test]
 fn reads_over_a_reader(rt: HostRuntime) {
     let root = Next("GET", "/", 0);
-    let mut whole = ReaderSource::new(TEXT);
-    assert!(rt;
-        answers_over(rt.alloc(), &mut whole, &[root, Cut(3)], 0),
-        "of bytes"
-    );
-    let mut slow = ReaderSource::new(Hiccups {
-        bytes: TEXT,
-        interrupted: false,
-    });
-    assert!(rt;
-        answers_over(rt.alloc(), &mut slow, &[root, ReadFault], 1),
-        "of a failing reader"
-    );
+    let whole = answers_over(rt.alloc(), TEXT, &[root, Cut(3)], 0);
+    let slow = answers_over(rt.alloc(), SLOW, &[root, ReadFault], 1);
+    assert!(rt; whole & slow, "of bytes, and of a failing reader");
 }
 
 /// Takes two bytes at a time, each time after an interrupt, and has room for five.
@@ -66,7 +60,7 @@ struct Small<'a> {
     interrupted: bool,
 }
 
-impl Write for Small<'_> {
+impl io::Write for Small<'_> {
     fn write(&mut self, bytes: &[u8]) -> io::Result<usize> {
         self.interrupted = !self.interrupted;
         if self.interrupted {
@@ -85,45 +79,47 @@ impl Write for Small<'_> {
     }
 }
 
-/// Whether a write of these bytes succeeds, and so many writes have failed then.
-fn writes<K: Sink>(sink: &mut K, bytes: &[u8], succeeds: bool, faults: u64) -> bool {
-    sink.write(bytes).is_ok() == succeeds && sink.faults() == faults
+/// Bytes that are written, whether that succeeds, and how many writes have failed then.
+type Write = (&'static [u8], bool, u64);
+
+/// Whether the writes end as they are to, one after the other.
+fn writes<K: Sink>(sink: &mut K, all: &[Write]) -> bool {
+    let mut are = true;
+    for (bytes, succeeds, faults) in all {
+        are &= (sink.write(bytes).is_ok() == *succeeds) & (sink.faults() == *faults);
+    }
+    are
 }
 
-/// Whether a writer with room for five bytes has the first five of two texts, of which the second does not fit.
+/// Two texts, of which the second does not fit into five bytes.
+const TOO_MANY: &[Write] = &[(b"abc", true, 0), (b"def", false, 1)];
+
+/// Whether a writer with room for five bytes has the first five of the two texts.
 fn fills_small_writer(alloc: Global) -> bool {
     let mut bytes = Vec::new(alloc);
-    let written = {
-        let mut sink = WriterSink::new(Small {
-            bytes: &mut bytes,
-            interrupted: false,
-        });
-        writes(&mut sink, b"abc", true, 0) && writes(&mut sink, b"def", false, 1)
+    let small = Small {
+        bytes: &mut bytes,
+        interrupted: false,
     };
-    let is = written && bytes.as_slice() == b"abcde".as_slice();
+    let written = writes(&mut WriterSink::new(small), TOO_MANY);
+    let is = written & (bytes.as_slice() == b"abcde".as_slice());
     drop(bytes);
     is
 }
+
+const FITTING: &[Write] = &[(b"abc", true, 0), (b"", true, 0), (b"def", true, 0)];
 
 /// Whether a vector has all bytes that are written to it through a sink.
 fn fills_vector(alloc: Global) -> bool {
     let mut bytes: Vec<u8> = Vec::new(alloc);
-    let written = {
-        let mut sink = WriterSink::new(&mut bytes);
-        writes(&mut sink, b"abc", true, 0)
-            && writes(&mut sink, b"", true, 0)
-            && writes(&mut sink, b"def", true, 0)
-    };
-    let is = written && bytes.as_slice() == b"abcdef".as_slice();
+    let written = writes(&mut WriterSink::new(&mut bytes), FITTING);
+    let is = written & (bytes.as_slice() == b"abcdef".as_slice());
     drop(bytes);
     is
 }
 
-#[test]
-fn writes_over_a_writer(rt: HostRuntime) {
-    assert!(rt; fills_small_writer(rt.alloc()), "with little room");
-    assert!(rt; fills_vector(rt.alloc()), "with room");
-}
+/// Three texts, of which the second write fails.
+const SECOND_FAILS: &[Write] = &[(b"ab", true, 0), (b"cd", false, 1), (b"ef", true, 1)];
 
 /// Whether the write of the listed number fails and takes nothing, and the others take their bytes.
 fn fails_at_second_write(alloc: Global) -> bool {
@@ -131,15 +127,16 @@ fn fails_at_second_write(alloc: Global) -> bool {
         return false;
     };
     let mut sink = ByteSink::new(alloc, Seq::from_vec(fails));
-    let writes = writes(&mut sink, b"ab", true, 0)
-        && writes(&mut sink, b"cd", false, 1)
-        && writes(&mut sink, b"ef", true, 1);
-    let is = writes && sink.bytes() == b"abef".as_slice() && sink.refused() == 0;
+    let is = writes(&mut sink, SECOND_FAILS)
+        & (sink.bytes() == b"abef".as_slice())
+        & (sink.refused() == 0);
     drop(sink);
     is
 }
 
 #[test]
-fn writes_fail_at_the_listed_calls(rt: HostRuntime) {
+fn writes_over_sinks(rt: HostRuntime) {
+    assert!(rt; fills_small_writer(rt.alloc()));
+    assert!(rt; fills_vector(rt.alloc()));
     assert!(rt; fails_at_second_write(rt.alloc()));
 }

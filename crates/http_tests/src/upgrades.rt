@@ -1,337 +1,238 @@
 //! Heads, and the key of the WebSocket handshake that each of them asks for.
 
+use crate::answers::{Want, is_text, reads_as};
 use http_front::from_http_heads::read_head;
-use http_front::from_size_values::{NoMemory, Seq};
-use http_front::{Buffer, ByteSource, Got, read_request};
 use std::alloc::Global;
-
-const GET: &str = "GET /1.0/events HTTP/1.1\n";
-
-const UPGRADE: &str = "Upgrade: websocket\n";
-
-const CONNECTION: &str = "Connection: Upgrade\n";
-
-const VERSION: &str = "Sec-WebSocket-Version: 13\n";
-
-const KEY: &str = "Sec-WebSocket-Key: dGhlIHNhbXBsZSBub25jZQ==\n";
 
 /// The key in the example of RFC 6455, section 1.3.
 const NONCE: Option<&str> = Some("dGhlIHNhbXBsZSBub25jZQ==");
 
-/// The lines of a head, and the key that it asks by.
-static HEADS: [([&str; 5], Option<&str>); 39] = [
-    ([GET, UPGRADE, CONNECTION, VERSION, KEY], NONCE),
-    // The order of the headers counts for nothing, nor do others.
-    ([GET, KEY, VERSION, CONNECTION, UPGRADE], NONCE),
+/// Heads, and the keys that they ask by.
+const HEADS: &[(&[u8], Option<&str>)] = &[
     (
-        [
-            "GET / HTTP/1.1\nHost: x\n",
-            UPGRADE,
-            CONNECTION,
-            VERSION,
-            KEY,
-        ],
+        b"GET /1.0/events HTTP/1.1\nUpgrade: websocket\nConnection: Upgrade\n\
+        Sec-WebSocket-Version: 13\nSec-WebSocket-Key: dGhlIHNhbXBsZSBub25jZQ==\n\n",
+        NONCE,
+    ),
+    // The order of the headers counts for nothing, nor do others.
+    (
+        b"GET /1.0/events HTTP/1.1\nSec-WebSocket-Key: dGhlIHNhbXBsZSBub25jZQ==\n\
+        Sec-WebSocket-Version: 13\nConnection: Upgrade\nUpgrade: websocket\n\n",
+        NONCE,
+    ),
+    (
+        b"GET / HTTP/1.1\nHost: x\nUpgrade: websocket\nConnection: Upgrade\n\
+        Sec-WebSocket-Version: 13\nSec-WebSocket-Key: dGhlIHNhbXBsZSBub25jZQ==\n\n",
         NONCE,
     ),
     // Each part missing once.
-    ([GET, "", CONNECTION, VERSION, KEY], None),
-    ([GET, UPGRADE, "", VERSION, KEY], None),
-    ([GET, UPGRADE, CONNECTION, "", KEY], None),
-    ([GET, UPGRADE, CONNECTION, VERSION, ""], None),
+    (
+        b"GET /1.0/events HTTP/1.1\nConnection: Upgrade\nSec-WebSocket-Version: 13\n\
+        Sec-WebSocket-Key: dGhlIHNhbXBsZSBub25jZQ==\n\n",
+        None,
+    ),
+    (
+        b"GET /1.0/events HTTP/1.1\nUpgrade: websocket\nSec-WebSocket-Version: 13\n\
+        Sec-WebSocket-Key: dGhlIHNhbXBsZSBub25jZQ==\n\n",
+        None,
+    ),
+    (
+        b"GET /1.0/events HTTP/1.1\nUpgrade: websocket\nConnection: Upgrade\n\
+        Sec-WebSocket-Key: dGhlIHNhbXBsZSBub25jZQ==\n\n",
+        None,
+    ),
+    (
+        b"GET /1.0/events HTTP/1.1\nUpgrade: websocket\nConnection: Upgrade\n\
+        Sec-WebSocket-Version: 13\n\n",
+        None,
+    ),
     // Another method, and HTTP/1.0.
     (
-        ["POST / HTTP/1.1\n", UPGRADE, CONNECTION, VERSION, KEY],
+        b"POST / HTTP/1.1\nUpgrade: websocket\nConnection: Upgrade\n\
+        Sec-WebSocket-Version: 13\nSec-WebSocket-Key: dGhlIHNhbXBsZSBub25jZQ==\n\n",
         None,
     ),
     (
-        ["get / HTTP/1.1\n", UPGRADE, CONNECTION, VERSION, KEY],
+        b"get / HTTP/1.1\nUpgrade: websocket\nConnection: Upgrade\nSec-WebSocket-Version: 13\n\
+        Sec-WebSocket-Key: dGhlIHNhbXBsZSBub25jZQ==\n\n",
         None,
     ),
     (
-        ["GETS / HTTP/1.1\n", UPGRADE, CONNECTION, VERSION, KEY],
+        b"GETS / HTTP/1.1\nUpgrade: websocket\nConnection: Upgrade\n\
+        Sec-WebSocket-Version: 13\nSec-WebSocket-Key: dGhlIHNhbXBsZSBub25jZQ==\n\n",
         None,
     ),
     (
-        ["GET / HTTP/1.0\n", UPGRADE, CONNECTION, VERSION, KEY],
+        b"GET / HTTP/1.0\nUpgrade: websocket\nConnection: Upgrade\nSec-WebSocket-Version: 13\n\
+        Sec-WebSocket-Key: dGhlIHNhbXBsZSBub25jZQ==\n\n",
         None,
     ),
     // Words in any case, and in lists.
     (
-        [
-            GET,
-            "UPGRADE:WebSocket\n",
-            "connection: UPGRADE\n",
-            VERSION,
-            KEY,
-        ],
+        b"GET /1.0/events HTTP/1.1\nUPGRADE:WebSocket\nconnection: UPGRADE\n\
+        Sec-WebSocket-Version: 13\nSec-WebSocket-Key: dGhlIHNhbXBsZSBub25jZQ==\n\n",
         NONCE,
     ),
     (
-        [
-            GET,
-            "Upgrade: h2c,\t websocket \n",
-            CONNECTION,
-            VERSION,
-            KEY,
-        ],
+        b"GET /1.0/events HTTP/1.1\nUpgrade: h2c,\t websocket \nConnection: Upgrade\n\
+        Sec-WebSocket-Version: 13\nSec-WebSocket-Key: dGhlIHNhbXBsZSBub25jZQ==\n\n",
         NONCE,
     ),
     (
-        [
-            GET,
-            "Upgrade: h2c\nUpgrade: websocket\n",
-            CONNECTION,
-            VERSION,
-            KEY,
-        ],
+        b"GET /1.0/events HTTP/1.1\nUpgrade: h2c\nUpgrade: websocket\nConnection: Upgrade\n\
+        Sec-WebSocket-Version: 13\nSec-WebSocket-Key: dGhlIHNhbXBsZSBub25jZQ==\n\n",
         NONCE,
     ),
     (
-        [
-            GET,
-            UPGRADE,
-            "Connection: keep-alive, Upgrade\n",
-            VERSION,
-            KEY,
-        ],
+        b"GET /1.0/events HTTP/1.1\nUpgrade: websocket\nConnection: keep-alive, Upgrade\n\
+        Sec-WebSocket-Version: 13\nSec-WebSocket-Key: dGhlIHNhbXBsZSBub25jZQ==\n\n",
         NONCE,
     ),
     (
-        [
-            GET,
-            UPGRADE,
-            "Connection: a\nConnection: upgrade,b\n",
-            VERSION,
-            KEY,
-        ],
+        b"GET /1.0/events HTTP/1.1\nUpgrade: websocket\nConnection: a\nConnection: upgrade,b\n\
+        Sec-WebSocket-Version: 13\nSec-WebSocket-Key: dGhlIHNhbXBsZSBub25jZQ==\n\n",
         NONCE,
     ),
     (
-        [GET, "Upgrade: websockets\n", CONNECTION, VERSION, KEY],
+        b"GET /1.0/events HTTP/1.1\nUpgrade: websockets\nConnection: Upgrade\n\
+        Sec-WebSocket-Version: 13\nSec-WebSocket-Key: dGhlIHNhbXBsZSBub25jZQ==\n\n",
         None,
     ),
     (
-        [GET, "Upgrade: websocket/13\n", CONNECTION, VERSION, KEY],
+        b"GET /1.0/events HTTP/1.1\nUpgrade: websocket/13\nConnection: Upgrade\n\
+        Sec-WebSocket-Version: 13\nSec-WebSocket-Key: dGhlIHNhbXBsZSBub25jZQ==\n\n",
         None,
     ),
     (
-        [GET, "Upgrade: \"websocket\"\n", CONNECTION, VERSION, KEY],
+        b"GET /1.0/events HTTP/1.1\nUpgrade: \"websocket\"\nConnection: Upgrade\n\
+        Sec-WebSocket-Version: 13\nSec-WebSocket-Key: dGhlIHNhbXBsZSBub25jZQ==\n\n",
         None,
     ),
     (
-        [GET, "Upgrade: web socket\n", CONNECTION, VERSION, KEY],
-        None,
-    ),
-    ([GET, UPGRADE, "Connection: upgrades\n", VERSION, KEY], None),
-    (
-        [GET, UPGRADE, "Connection: websocket\n", VERSION, KEY],
+        b"GET /1.0/events HTTP/1.1\nUpgrade: web socket\nConnection: Upgrade\n\
+        Sec-WebSocket-Version: 13\nSec-WebSocket-Key: dGhlIHNhbXBsZSBub25jZQ==\n\n",
         None,
     ),
     (
-        [
-            GET,
-            "Connection: websocket\n",
-            "Upgrade: upgrade\n",
-            VERSION,
-            KEY,
-        ],
+        b"GET /1.0/events HTTP/1.1\nUpgrade: websocket\nConnection: upgrades\n\
+        Sec-WebSocket-Version: 13\nSec-WebSocket-Key: dGhlIHNhbXBsZSBub25jZQ==\n\n",
+        None,
+    ),
+    (
+        b"GET /1.0/events HTTP/1.1\nUpgrade: websocket\nConnection: websocket\n\
+        Sec-WebSocket-Version: 13\nSec-WebSocket-Key: dGhlIHNhbXBsZSBub25jZQ==\n\n",
+        None,
+    ),
+    (
+        b"GET /1.0/events HTTP/1.1\nConnection: websocket\nUpgrade: upgrade\n\
+        Sec-WebSocket-Version: 13\nSec-WebSocket-Key: dGhlIHNhbXBsZSBub25jZQ==\n\n",
         None,
     ),
     // One version, and it is 13.
     (
-        [
-            GET,
-            UPGRADE,
-            CONNECTION,
-            "sec-websocket-VERSION:\t13 \n",
-            KEY,
-        ],
+        b"GET /1.0/events HTTP/1.1\nUpgrade: websocket\nConnection: Upgrade\n\
+        sec-websocket-VERSION:\t13 \nSec-WebSocket-Key: dGhlIHNhbXBsZSBub25jZQ==\n\n",
         NONCE,
     ),
     (
-        [GET, UPGRADE, CONNECTION, "Sec-WebSocket-Version: 8\n", KEY],
+        b"GET /1.0/events HTTP/1.1\nUpgrade: websocket\nConnection: Upgrade\n\
+        Sec-WebSocket-Version: 8\nSec-WebSocket-Key: dGhlIHNhbXBsZSBub25jZQ==\n\n",
         None,
     ),
     (
-        [
-            GET,
-            UPGRADE,
-            CONNECTION,
-            "Sec-WebSocket-Version: 013\n",
-            KEY,
-        ],
+        b"GET /1.0/events HTTP/1.1\nUpgrade: websocket\nConnection: Upgrade\n\
+        Sec-WebSocket-Version: 013\nSec-WebSocket-Key: dGhlIHNhbXBsZSBub25jZQ==\n\n",
         None,
     ),
     (
-        [
-            GET,
-            UPGRADE,
-            CONNECTION,
-            "Sec-WebSocket-Version: 13, 8\n",
-            KEY,
-        ],
+        b"GET /1.0/events HTTP/1.1\nUpgrade: websocket\nConnection: Upgrade\n\
+        Sec-WebSocket-Version: 13, 8\nSec-WebSocket-Key: dGhlIHNhbXBsZSBub25jZQ==\n\n",
         None,
     ),
     (
-        [
-            GET,
-            VERSION,
-            UPGRADE,
-            "Connection: Upgrade\nSec-WebSocket-Version: 13\n",
-            KEY,
-        ],
+        b"GET /1.0/events HTTP/1.1\nSec-WebSocket-Version: 13\nUpgrade: websocket\n\
+        Connection: Upgrade\nSec-WebSocket-Version: 13\n\
+        Sec-WebSocket-Key: dGhlIHNhbXBsZSBub25jZQ==\n\n",
         None,
     ),
     // One key, and it spells 16 bytes.
     (
-        [
-            GET,
-            UPGRADE,
-            CONNECTION,
-            VERSION,
-            "SEC-WEBSOCKET-KEY: AB+/xyz0189AAAAAAAAAAA==\n",
-        ],
+        b"GET /1.0/events HTTP/1.1\nUpgrade: websocket\nConnection: Upgrade\n\
+        Sec-WebSocket-Version: 13\nSEC-WEBSOCKET-KEY: AB+/xyz0189AAAAAAAAAAA==\n\n",
         Some("AB+/xyz0189AAAAAAAAAAA=="),
     ),
     (
-        [
-            GET,
-            KEY,
-            UPGRADE,
-            "Connection: Upgrade\nSec-WebSocket-Version: 13\n",
-            KEY,
-        ],
+        b"GET /1.0/events HTTP/1.1\nSec-WebSocket-Key: dGhlIHNhbXBsZSBub25jZQ==\n\
+        Upgrade: websocket\nConnection: Upgrade\nSec-WebSocket-Version: 13\n\
+        Sec-WebSocket-Key: dGhlIHNhbXBsZSBub25jZQ==\n\n",
         None,
     ),
     (
-        [
-            GET,
-            UPGRADE,
-            CONNECTION,
-            VERSION,
-            "Sec-WebSocket-Key: dGhlIHNhbXBsZSBub25jZ==\n",
-        ],
+        b"GET /1.0/events HTTP/1.1\nUpgrade: websocket\nConnection: Upgrade\n\
+        Sec-WebSocket-Version: 13\nSec-WebSocket-Key: dGhlIHNhbXBsZSBub25jZ==\n\n",
         None,
     ),
     (
-        [
-            GET,
-            UPGRADE,
-            CONNECTION,
-            VERSION,
-            "Sec-WebSocket-Key: dGhlIHNhbXBsZSBub25jZQAA==\n",
-        ],
+        b"GET /1.0/events HTTP/1.1\nUpgrade: websocket\nConnection: Upgrade\n\
+        Sec-WebSocket-Version: 13\nSec-WebSocket-Key: dGhlIHNhbXBsZSBub25jZQAA==\n\n",
         None,
     ),
     (
-        [
-            GET,
-            UPGRADE,
-            CONNECTION,
-            VERSION,
-            "Sec-WebSocket-Key: dGhlIHNhbXBsZSBub25jZQ\n",
-        ],
+        b"GET /1.0/events HTTP/1.1\nUpgrade: websocket\nConnection: Upgrade\n\
+        Sec-WebSocket-Version: 13\nSec-WebSocket-Key: dGhlIHNhbXBsZSBub25jZQ\n\n",
         None,
     ),
     (
-        [
-            GET,
-            UPGRADE,
-            CONNECTION,
-            VERSION,
-            "Sec-WebSocket-Key: dGhlIHNhbXBsZSBub25jZQ=A\n",
-        ],
+        b"GET /1.0/events HTTP/1.1\nUpgrade: websocket\nConnection: Upgrade\n\
+        Sec-WebSocket-Version: 13\nSec-WebSocket-Key: dGhlIHNhbXBsZSBub25jZQ=A\n\n",
         None,
     ),
     (
-        [
-            GET,
-            UPGRADE,
-            CONNECTION,
-            VERSION,
-            "Sec-WebSocket-Key: dGhlIHNhbXBsZSBub25jZQA=\n",
-        ],
+        b"GET /1.0/events HTTP/1.1\nUpgrade: websocket\nConnection: Upgrade\n\
+        Sec-WebSocket-Version: 13\nSec-WebSocket-Key: dGhlIHNhbXBsZSBub25jZQA=\n\n",
         None,
     ),
     (
-        [
-            GET,
-            UPGRADE,
-            CONNECTION,
-            VERSION,
-            "Sec-WebSocket-Key: dGhlIHNhbXBs-SBub25jZQ==\n",
-        ],
+        b"GET /1.0/events HTTP/1.1\nUpgrade: websocket\nConnection: Upgrade\n\
+        Sec-WebSocket-Version: 13\nSec-WebSocket-Key: dGhlIHNhbXBs-SBub25jZQ==\n\n",
         None,
     ),
     (
-        [
-            GET,
-            UPGRADE,
-            CONNECTION,
-            VERSION,
-            "Sec-WebSocket-Key: dGhlIHNhbXBs SBub25jZQ==\n",
-        ],
+        b"GET /1.0/events HTTP/1.1\nUpgrade: websocket\nConnection: Upgrade\n\
+        Sec-WebSocket-Version: 13\nSec-WebSocket-Key: dGhlIHNhbXBs SBub25jZQ==\n\n",
         None,
     ),
     (
-        [GET, UPGRADE, CONNECTION, VERSION, "Sec-WebSocket-Key:\n"],
+        b"GET /1.0/events HTTP/1.1\nUpgrade: websocket\nConnection: Upgrade\n\
+        Sec-WebSocket-Version: 13\nSec-WebSocket-Key:\n\n",
         None,
     ),
     (
-        [
-            GET,
-            UPGRADE,
-            CONNECTION,
-            VERSION,
-            "Sec-WebSocket-Key: dGhlIHNhbXBsZSBub25jZ\u{e9}==\n",
-        ],
+        b"GET /1.0/events HTTP/1.1\nUpgrade: websocket\nConnection: Upgrade\n\
+        Sec-WebSocket-Version: 13\nSec-WebSocket-Key: dGhlIHNhbXBsZSBub25jZ\xc3\xa9==\n\n",
         None,
     ),
 ];
 
-/// The bytes of a head.
-fn head(alloc: Global, lines: &[&str]) -> Result<Seq<u8>, NoMemory> {
-    let mut text = Vec::new(alloc);
-    for line in lines {
-        text.extend_from_slice(line.as_bytes())?;
-    }
-    text.push(b'\n')?;
-    Ok(Seq::from_vec(text))
-}
-
 /// Whether what is read of the head tells this key.
 fn head_tells(alloc: Global, text: &[u8], wanted: Option<&str>) -> bool {
-    match read_head(alloc, text) {
-        Ok(head) => head.upgrade.as_ref().map(|key| key.view()) == wanted,
+    let head = read_head(alloc, text);
+    let tells = match &head {
+        Ok(head) => is_text(&head.upgrade, wanted),
         Err(_) => false,
-    }
+    };
+    drop(head);
+    tells
 }
 
-/// Whether the request with the head has this key.
-fn request_has(alloc: Global, text: Seq<u8>, wanted: Option<&str>) -> bool {
-    let mut source = ByteSource::new(text, 7, Seq::new(alloc));
-    let Ok(mut buffer) = Buffer::new(alloc) else {
-        return false;
-    };
-    let has = match read_request(alloc, &mut buffer, &mut source) {
-        Got::Request(request) => request.upgrade.as_ref().map(|key| key.view()) == wanted,
-        _ => false,
-    };
-    drop(buffer);
-    drop(source);
-    has
-}
-
-fn asks_by(alloc: Global, lines: &[&str], wanted: Option<&str>) -> bool {
-    let Ok(text) = head(alloc, lines) else {
-        return false;
-    };
-    head_tells(alloc, text.view(), wanted) && request_has(alloc, text, wanted)
+/// Whether what is read of the head tells this key, and the request with the head has it.
+fn asks_by(alloc: Global, text: &[u8], wanted: Option<&'static str>) -> bool {
+    head_tells(alloc, text, wanted) & reads_as(alloc, text, 7, &[], &[Want::Key(wanted)], 0)
 }
 
 #[test]
 fn heads_ask_for_the_websocket_protocol(rt: HostRuntime) {
-    for (lines, wanted) in &HEADS {
-        assert!(rt; asks_by(rt.alloc(), lines, *wanted), "of {lines:?}");
+    for (number, (text, wanted)) in HEADS.iter().enumerate() {
+        assert!(rt; asks_by(rt.alloc(), text, *wanted), "head {number}");
     }
 }

@@ -20,15 +20,17 @@ enum Push {
 type Ask = (u64, bool, bool, &'static str);
 
 /// What it gets: the notices of these numbers and the next number, or all of the numbers from the first
-/// to the next one; or that it has lagged, with the number that it asked for and the oldest one.
+/// to the next one; or that it has lagged, with the number that it asked for and the oldest one; or first the notice of
+/// the running operation on `c1` in this project.
 #[derive(Clone, Copy)]
 enum Got {
     Numbers(&'static [u64], u64),
     All(u64, u64),
     Lagged(u64, u64),
+    Running(&'static str),
 }
 
-const PUSHES: [Push; 5] = [
+const PUSHES: &[Push] = &[
     Push::Life("lab"),
     Push::Operation("lab"),
     Push::Life("default"),
@@ -37,7 +39,7 @@ const PUSHES: [Push; 5] = [
 ];
 
 /// Over these notices, numbered from 1.
-const ASKS: [(Ask, Got); 11] = [
+const ASKS: &[(Ask, Got)] = &[
     ((0, true, true, "lab"), Got::Numbers(&[], 6)),
     ((1, true, true, "lab"), Got::Numbers(&[1, 2, 5], 6)),
     ((2, true, true, "lab"), Got::Numbers(&[2, 5], 6)),
@@ -52,18 +54,29 @@ const ASKS: [(Ask, Got); 11] = [
 ];
 
 /// Before anything is pushed.
-const FIRST_ASKS: [(Ask, Got); 2] = [
+const FIRST_ASKS: &[(Ask, Got)] = &[
     ((0, true, true, "lab"), Got::Numbers(&[], 1)),
     ((1, true, true, "lab"), Got::Numbers(&[], 1)),
 ];
 
 /// After 1,025 notices, of which the first is gone.
-const LAST_ASKS: [(Ask, Got); 5] = [
+const LAST_ASKS: &[(Ask, Got)] = &[
     ((0, true, true, "lab"), Got::Numbers(&[], 1026)),
     ((1, true, true, "lab"), Got::Lagged(1, 2)),
     ((2, true, true, "lab"), Got::All(2, 1026)),
     ((1024, true, true, "lab"), Got::Numbers(&[1024, 1025], 1026)),
     ((2, false, true, "lab"), Got::Numbers(&[], 1026)),
+];
+
+/// An operation is told with its texts.
+const RUNNING_ASKS: &[(Ask, Got)] = &[((1, false, true, "lab"), Got::Running("lab"))];
+
+/// Notices, how often all of them are pushed to a new hub, and what listeners get then.
+const RUNS: &[(&[Push], usize, &[(Ask, Got)])] = &[
+    (&[], 1, FIRST_ASKS),
+    (PUSHES, 1, ASKS),
+    (&[Push::Life("lab")], 1025, LAST_ASKS),
+    (&[Push::Operation("lab")], 1, RUNNING_ASKS),
 ];
 
 const RUNNING: Progress = Progress {
@@ -143,16 +156,33 @@ fn have_all(notices: &[Notice], first: u64, next: u64) -> bool {
     notices.iter().map(|notice| notice.number).eq(first..next)
 }
 
+/// Whether it is the notice of the running operation on `c1` in the project.
+fn is_running(notice: &Notice, project: &str) -> bool {
+    match &notice.told {
+        Told::Op(view) => {
+            (view.number == 7)
+                & (view.status == Status::Running)
+                & (view.project.view() == project)
+                & (view.target.name.view() == "c1")
+                & (notice.project.view() == project)
+        }
+        Told::Life { .. } => false,
+    }
+}
+
 fn is_got(fetched: &Fetched, got: Got) -> bool {
     match (fetched, got) {
         (Fetched::Notices(notices, next), Got::Numbers(numbers, wanted)) => {
-            *next == wanted && have_numbers(notices.view(), numbers)
+            (*next == wanted) & have_numbers(notices.view(), numbers)
         }
         (Fetched::Notices(notices, next), Got::All(first, wanted)) => {
-            *next == wanted && have_all(notices.view(), first, wanted)
+            (*next == wanted) & have_all(notices.view(), first, wanted)
+        }
+        (Fetched::Notices(notices, _), Got::Running(project)) => {
+            !notices.is_empty() && is_running(notices.at(0), project)
         }
         (Fetched::Lagged { cursor, oldest }, Got::Lagged(asked, wanted)) => {
-            *cursor == asked && *oldest == wanted
+            (*cursor == asked) & (*oldest == wanted)
         }
         _ => false,
     }
@@ -165,117 +195,47 @@ fn gets(alloc: Global, hub: &Hub, ask: Ask, got: Got) -> bool {
     };
     let fetched = hub.since(alloc, ask.0, &filter);
     drop(filter);
-    match fetched {
-        Ok(fetched) => {
-            let is = is_got(&fetched, got);
-            drop(fetched);
-            is
-        }
+    let is = match &fetched {
+        Ok(fetched) => is_got(fetched, got),
         Err(_) => false,
-    }
+    };
+    drop(fetched);
+    is
 }
 
-/// Whether each ask gets what stands beside it.
-fn all_get(alloc: Global, hub: &Hub, asks: &[(Ask, Got)]) -> bool {
+/// Whether all of the notices were made, and each ask gets then what stands beside it.
+fn all_get(
+    alloc: Global,
+    hub: &mut Hub,
+    pushes: &[Push],
+    times: usize,
+    asks: &[(Ask, Got)],
+) -> bool {
+    let mut all = true;
+    for _ in 0..times {
+        for push in pushes {
+            all &= is_pushed(alloc, hub, *push);
+        }
+    }
     for (ask, got) in asks {
-        if !gets(alloc, hub, *ask, *got) {
-            return false;
-        }
+        all &= gets(alloc, hub, *ask, *got);
     }
-    true
+    all
 }
 
-fn are_pushed(alloc: Global, hub: &mut Hub, pushes: &[Push]) -> bool {
-    for push in pushes {
-        if !is_pushed(alloc, hub, *push) {
-            return false;
-        }
-    }
-    true
-}
-
-/// Whether a hub to which nothing was pushed, and then these notices, gives each ask what stands
-/// beside it.
-fn listens(alloc: Global) -> bool {
+/// Whether a new hub to which these notices were pushed gives each ask what stands beside it.
+fn hears(alloc: Global, pushes: &[Push], times: usize, asks: &[(Ask, Got)]) -> bool {
     let Ok(mut hub) = Hub::new(alloc) else {
         return false;
     };
-    let first = all_get(alloc, &hub, &FIRST_ASKS);
-    let pushed = are_pushed(alloc, &mut hub, &PUSHES);
-    let then = all_get(alloc, &hub, &ASKS);
+    let hears = all_get(alloc, &mut hub, pushes, times, asks);
     drop(hub);
-    first && pushed && then
-}
-
-/// Whether a hub to which 1,025 notices were pushed has lost the first.
-fn loses_the_first(alloc: Global) -> bool {
-    let Ok(mut hub) = Hub::new(alloc) else {
-        return false;
-    };
-    let mut pushed = true;
-    for _ in 0..1025 {
-        pushed = is_pushed(alloc, &mut hub, Push::Life("lab")) && pushed;
-    }
-    let then = all_get(alloc, &hub, &LAST_ASKS);
-    drop(hub);
-    pushed && then
-}
-
-/// Whether it is the notice of the running operation on `c1` in the project.
-fn is_running(notice: &Notice, project: &str) -> bool {
-    match &notice.told {
-        Told::Op(view) => {
-            view.number == 7
-                && view.status == Status::Running
-                && view.project.view() == project
-                && view.target.name.view() == "c1"
-                && notice.project.view() == project
-        }
-        Told::Life { .. } => false,
-    }
-}
-
-fn first_is_running(fetched: &Fetched) -> bool {
-    match fetched {
-        Fetched::Notices(notices, _) => { !notices.is_empty() && is_running(notices.at(0), "lab") }
-        Fetched::Lagged { .. } => false,
-    }
-}
-
-/// Whether the notice of an operation has its texts.
-fn operation_is_told(alloc: Global) -> bool {
-    let Ok(mut hub) = Hub::new(alloc) else {
-        return false;
-    };
-    hub.push_operation(RUNNING, instance_in("lab"));
-    let Ok(filter) = filter_of(alloc, (1, false, true, "lab")) else {
-        drop(hub);
-        return false;
-    };
-    let fetched = hub.since(alloc, 1, &filter);
-    drop(filter);
-    drop(hub);
-    match fetched {
-        Ok(fetched) => {
-            let told = first_is_running(&fetched);
-            drop(fetched);
-            told
-        }
-        Err(_) => false,
-    }
+    hears
 }
 
 #[test]
 fn listeners_get_what_they_ask_for(rt: HostRuntime) {
-    assert!(rt; listens(rt.alloc()));
-}
-
-#[test]
-fn the_oldest_notice_goes(rt: HostRuntime) {
-    assert!(rt; loses_the_first(rt.alloc()));
-}
-
-#[test]
-fn an_operation_is_told_with_its_texts(rt: HostRuntime) {
-    assert!(rt; operation_is_told(rt.alloc()));
+    for (number, (pushes, times, asks)) in RUNS.iter().enumerate() {
+        assert!(rt; hears(rt.alloc(), pushes, *times, asks), "run {number}");
+    }
 }

@@ -5,3 +5,5 @@
 mod serving;
 #[cfg(test)]
 mod tables;
+#[cfg(test)]
+mod words;

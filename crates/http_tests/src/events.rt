@@ -1,17 +1,19 @@
-//! Requests, and the events that they ask for.
+//! Requests, and the events that they ask for; and keys of WebSocket handshakes, with the texts that accept them.
 
-use crate::filters::Want::{Events, NoEvents, Refused};
-use event_texts::event_filter;
+use crate::events::Want::{Events, Keyless, NoEvents, Refused};
 use event_texts::from_http_heads::Request;
 use event_texts::from_records::{Filter, Refusal, Rule};
 use event_texts::from_size_values::{NoMemory, Or, Seq, Text};
+use event_texts::{accept_text, event_filter};
 use std::alloc::Global;
 
-/// What is to be answered.
+/// What is to be answered to a request with a key.
 #[derive(Clone, Copy)]
 enum Want {
     /// The request asks for no events.
     NoEvents,
+    /// The request has no key, and asks for no events.
+    Keyless,
     /// A bad query, by its key.
     Refused(&'static str),
     /// Lifecycle events or not, operation events or not, and of which project.
@@ -20,8 +22,8 @@ enum Want {
 
 const KEY: &str = "dGhlIHNhbXBsZSBub25jZQ==";
 
-/// Requests with a key.
-static ASKING: [(&str, &str, Want); 30] = [
+/// Requests, and the events that they ask for.
+const ASKING: &[(&str, &str, Want)] = &[
     ("GET", "/1.0/events", Events(true, true, "default")),
     ("GET", "/1.0/events?", Events(true, true, "default")),
     (
@@ -103,97 +105,87 @@ static ASKING: [(&str, &str, Want); 30] = [
     ("GET", "/1.0", NoEvents),
     ("GET", "/1.0/operations?type=x", NoEvents),
     ("GET", "/1.0/Events?type=x", NoEvents),
+    // Requests without a key.
+    ("GET", "/1.0/events", Keyless),
+    ("GET", "/1.0/events?type=operation", Keyless),
+    ("GET", "/1.0/events?type=x", Keyless),
 ];
 
-/// Requests without a key, which ask for no events.
-const KEYLESS: [(&str, &str); 3] = [
-    ("GET", "/1.0/events"),
-    ("GET", "/1.0/events?type=operation"),
-    ("GET", "/1.0/events?type=x"),
-];
+fn key_for(alloc: Global, want: Want) -> Result<Option<Text>, NoMemory> {
+    match want {
+        Keyless => Ok(None),
+        _ => Text::from_text(alloc, KEY).map(Some),
+    }
+}
 
-fn request(
-    alloc: Global,
-    method: &str,
-    target: &str,
-    upgrade: Option<Text>,
-) -> Result<Request, NoMemory> {
+fn request(alloc: Global, method: &str, target: &str, want: Want) -> Result<Request, NoMemory> {
     Ok(Request {
         method: Text::from_text(alloc, method)?,
         target: Text::from_text(alloc, target)?,
         body: Seq::new(alloc),
         last: false,
-        upgrade,
+        upgrade: key_for(alloc, want)?,
     })
 }
 
 fn is_filter(filter: &Filter, life: bool, op: bool, project: &str) -> bool {
-    filter.life == life && filter.op == op && filter.project.view() == project
+    (filter.life == life) & (filter.op == op) & (filter.project.view() == project)
 }
 
 /// Whether this is the refusal of a query that tells the key and nothing else.
 fn is_refused(refusal: &Refusal, key: &str) -> bool {
     let kept = &refusal.kept;
-    refusal.rule == Rule::A3
-        && kept.key.view() == key
-        && kept.kind.is_empty()
-        && kept.name.is_empty()
-        && kept.project.is_empty()
+    (refusal.rule == Rule::A3)
+        & (kept.key.view() == key)
+        & kept.kind.is_empty()
+        & kept.name.is_empty()
+        & kept.project.is_empty()
 }
 
 fn is_wanted(answer: &Result<Option<Filter>, Or<Refusal>>, want: Want) -> bool {
     match (answer, want) {
-        (Ok(None), NoEvents) => true,
+        (Ok(None), NoEvents | Keyless) => true,
         (Ok(Some(filter)), Events(life, op, project)) => is_filter(filter, life, op, project),
         (Err(Or::Why(refusal)), Refused(key)) => is_refused(refusal, key),
         _ => false,
     }
 }
 
-fn answers(alloc: Global, request: &Request, want: Want) -> bool {
-    let answer = event_filter(alloc, request);
+fn asks(alloc: Global, method: &str, target: &str, want: Want) -> bool {
+    let Ok(request) = request(alloc, method, target, want) else {
+        return false;
+    };
+    let answer = event_filter(alloc, &request);
+    drop(request);
     let is = is_wanted(&answer, want);
     drop(answer);
     is
 }
 
-fn asks(alloc: Global, method: &str, target: &str, want: Want) -> bool {
-    let Ok(key) = Text::from_text(alloc, KEY) else {
-        return false;
-    };
-    let Ok(request) = request(alloc, method, target, Some(key)) else {
-        return false;
-    };
-    let is = answers(alloc, &request, want);
-    drop(request);
-    is
-}
+/// The example of RFC 6455, section 1.3, a key that a browser sent, and texts that are no keys.
+const ACCEPTED: &[(&str, &str)] = &[
+    (KEY, "s3pPLMBiTxaQ9kYGzzhZRbK+xOo="),
+    ("x3JJHMbDL1EzLkh9GBhXDw==", "HSmrc0sMlYUkAGmm5OPpG2HaGWk="),
+    ("", "Kfh9QIsMVZcl6xEPYxPHzW8SZ8w="),
+    ("\u{e9}", "Q3nA4bowCsT/eKmBZYzoeYI576k="),
+];
 
-fn asks_for_none(alloc: Global, method: &str, target: &str) -> bool {
-    let Ok(request) = request(alloc, method, target, None) else {
+fn accepts(alloc: Global, key: &str, wanted: &str) -> bool {
+    let Ok(text) = accept_text(alloc, key) else {
         return false;
     };
-    let is = answers(alloc, &request, NoEvents);
-    drop(request);
-    is
+    text.view() == wanted
 }
 
 #[test]
 fn requests_ask_for_the_events_of_a_project(rt: HostRuntime) {
-    for (method, target, want) in &ASKING {
+    for (method, target, want) in ASKING {
         assert!(rt;
             asks(rt.alloc(), method, target, *want),
             "of {method} {target}"
         );
     }
-}
-
-#[test]
-fn requests_without_a_key_ask_for_no_events(rt: HostRuntime) {
-    for (method, target) in KEYLESS {
-        assert!(rt;
-            asks_for_none(rt.alloc(), method, target),
-            "of {method} {target}"
-        );
+    for (key, wanted) in ACCEPTED {
+        assert!(rt; accepts(rt.alloc(), key, wanted), "of {key}");
     }
 }
