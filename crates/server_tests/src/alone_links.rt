@@ -1,21 +1,16 @@
 //! Links and a worker over a gate of one's own.
 ghost use Rattle.std.specs.Prelude.{◌≤◌};
 
-use crate::links::{OwnGate, is_answered, is_served, new_gate};
+use crate::links::{OwnGate, TWICE, TWICE_REPLIES, is_served, new_gate};
+use crate::server::{CLOSED, said_by};
 use gates::from_gate_trails::Gate;
 use gates::from_http_front::StillClock;
-use gates::from_row_machine::{Answer, Event};
+use gates::from_row_machine::Event;
 use host_lock::from_host_model::ModelHost;
 use host_lock::from_size_values::Seq;
 use std::alloc::Global;
 use std::sync::Wait;
 use workers::work;
-
-const TWICE: &str =
-    "POST /1.0/projects HTTP/1.1\r\nHost: localhost\r\nContent-Length: 14\r\n\r\n{\"name\":\"lab\"}POST /1.0/projects HTTP/1.1\r\nHost: localhost\r\nContent-Length: 14\r\n\r\n{\"name\":\"lab\"}";
-
-const TWICE_REPLIES: &str =
-    "HTTP/1.1 200 OK\r\nContent-Type: application/json\r\nContent-Length: 66\r\n\r\n{\"metadata\":{},\"status\":\"Success\",\"status_code\":200,\"type\":\"sync\"}HTTP/1.1 409 Conflict\r\nContent-Type: application/json\r\nContent-Length: 112\r\n\r\n{\"error\":\"name is taken\",\"error_code\":409,\"metadata\":{\"kind\":\"project\",\"name\":\"lab\",\"rule\":\"N4\"},\"type\":\"error\"}";
 
 const WAITED: &str =
     "POST /1.0/storage-pools HTTP/1.1\r\nHost: localhost\r\nContent-Length: 28\r\n\r\n{\"driver\":\"dir\",\"name\":\"p0\"}PUT /1.0/profiles/default HTTP/1.1\r\nHost: localhost\r\nContent-Length: 73\r\n\r\n{\"devices\":{\"root\":{\"path\":\"/\",\"pool\":\"p0\",\"size\":\"1GiB\",\"type\":\"disk\"}}}POST /1.0/instances HTTP/1.1\r\nHost: localhost\r\nContent-Length: 37\r\n\r\n{\"name\":\"a\",\"source\":{\"type\":\"none\"}}GET /1.0/operations/00000000-0001-8000-8000-000000000001/wait HTTP/1.1\r\nHost: localhost\r\n\r\n";
@@ -94,8 +89,8 @@ const LINKS: &[(&str, &str, &str)] = &[
 fn is_served_anew<T: Wait>(
     rt: &T,
     alloc: Global,
-    text: &str,
     piece: usize,
+    text: &str,
     ends: &str,
     replies: &str,
 ) -> bool
@@ -109,42 +104,14 @@ fn is_served_anew<T: Wait>(
     is_so
 }
 
-/// The same in small pieces and in large ones.
-fn is_served_in_pieces<T: Wait>(
-    rt: &T,
-    alloc: Global,
-    text: &str,
-    ends: &str,
-    replies: &str,
-) -> bool {
-    is_served_anew(rt, alloc, text, 7, ends, replies)
-        && is_served_anew(rt, alloc, text, 4096, ends, replies)
-}
-
+/// In small pieces and in large ones.
 #[test]
 fn links_are_served(rt: HostRuntime) {
     for (text, ends, replies) in LINKS {
-        assert!(rt;
-            is_served_in_pieces(&rt, rt.alloc(), text, ends, replies),
-            "{text}"
-        );
+        let is_so = is_served_anew(&rt, rt.alloc(), 7, text, ends, replies)
+            && is_served_anew(&rt, rt.alloc(), 4096, text, ends, replies);
+        assert!(rt; is_so, "{text}");
     }
-}
-
-/// Whether an answer tells that the server was closed.
-fn is_closed(answer: &Answer) -> bool {
-    match answer {
-        Answer::Closed => true,
-        _ => false,
-    }
-}
-
-/// Closes the server of a gate.
-fn close(gate: &mut OwnGate) -> bool {
-    let answer = gate.turn(Event::Close);
-    let closed = is_closed(&answer);
-    drop(answer);
-    closed
 }
 
 /// Whether a worker makes one instance on a host of its own before it returns.
@@ -161,10 +128,10 @@ fn is_worked<T: Wait>(rt: &T, alloc: Global) -> bool {
     let Some(mut gate) = new_gate(alloc) else {
         return false;
     };
-    let begun = is_answered(rt, alloc, &mut gate, BEGUN, BEGUN_REPLIES);
-    let closed = close(&mut gate);
+    let begun = is_served(rt, alloc, &mut gate, BEGUN, 100, "ended", BEGUN_REPLIES);
+    let closed = said_by(gate.turn(Event::Close)) == CLOSED;
     let made = is_made(rt, alloc, &mut gate);
-    let shown = is_answered(rt, alloc, &mut gate, SHOWN, SHOWN_REPLIES);
+    let shown = is_served(rt, alloc, &mut gate, SHOWN, 100, "ended", SHOWN_REPLIES);
     drop(gate);
     begun && closed && made && shown
 }

@@ -2,11 +2,10 @@
 //! them.
 
 use crate::chance::Chance;
-use crate::judging::{PROJECTS, changes_nothing, mark_of};
+use crate::judging::{PROJECTS, mark_of, may_change};
 use crate::server::Server;
 use plain_sums::from_host_model::Report;
 use plain_sums::from_size_values::{NoMemory, Rise};
-use serve_loop::from_rest_routes::Router;
 use std::alloc::Global;
 
 /// What is there before the first event.
@@ -161,33 +160,28 @@ fn write_request(line: &mut String, chance: &mut Chance) -> Result<(), NoMemory>
 }
 
 /// A request of some kind.
-fn request(alloc: Global, chance: &mut Chance) -> Result<String, NoMemory> {
+fn request(alloc: Global, chance: &mut Chance) -> String {
     let mut line = String::new(alloc);
-    match write_request(&mut line, chance) {
-        Ok(()) => Ok(line),
-        Err(why) => {
-            drop(line);
-            Err(why)
-        }
+    if write_request(&mut line, chance).is_err() {
+        line.clear();
     }
+    line
 }
 
-/// Asks for something, and says whether nothing changed where it was refused.
-fn asks(alloc: Global, router: &Router, server: &mut Server, line: &str) -> Result<bool, NoMemory> {
+/// Asks for something of some kind, and says whether nothing changed where it was refused.
+fn asks(server: &mut Server, chance: &mut Chance) -> bool {
     let before = mark_of(&server.view());
-    let answer = server.ask(alloc, router, line)?;
-    let is_idle = changes_nothing(&answer);
-    drop(answer);
-    Ok(!is_idle || mark_of(&server.view()) == before)
+    let line = request(server.alloc, chance);
+    let said = server.ask(line.as_str());
+    drop(line);
+    may_change(said) || mark_of(&server.view()) == before
 }
 
 /// Cancels an operation, and says whether nothing changed where that was refused.
-fn cancels(alloc: Global, server: &mut Server, number: u64) -> bool {
+fn cancels(server: &mut Server, number: u64) -> bool {
     let before = mark_of(&server.view());
-    let answer = server.cancel(alloc, number);
-    let is_idle = changes_nothing(&answer);
-    drop(answer);
-    !is_idle || mark_of(&server.view()) == before
+    let said = server.cancel(number);
+    may_change(said) || mark_of(&server.view()) == before
 }
 
 /// The number of an operation, mostly of a live one.
@@ -211,31 +205,21 @@ fn report(chance: &mut Chance) -> Report {
 }
 
 /// One event, and whether nothing changed where nothing should have.
-pub(crate) fn happens(
-    alloc: Global,
-    router: &Router,
-    server: &mut Server,
-    chance: &mut Chance,
-) -> Result<bool, NoMemory> {
+pub(crate) fn happens(server: &mut Server, chance: &mut Chance) -> bool {
     match chance.below(12) {
         0 | 1 | 2 => {
             server.take();
-            Ok(true)
+            true
         }
         3 | 4 | 5 | 6 => {
             let number = number(server, chance);
-            server.report(alloc, number, report(chance));
-            Ok(true)
+            server.report(number, report(chance));
+            true
         }
         7 => {
             let number = number(server, chance);
-            Ok(cancels(alloc, server, number))
+            cancels(server, number)
         }
-        _ => {
-            let line = request(alloc, chance)?;
-            let is = asks(alloc, router, server, line.as_str());
-            drop(line);
-            is
-        }
+        _ => asks(server, chance),
     }
 }

@@ -1,70 +1,55 @@
 //! What has to stand after each turn.
 
-use crate::server::Server;
+use crate::server::{BEGUN, DONE, LIMITS, Said, Server, Usage};
 use plain_sums::from_operations::Operation;
-use plain_sums::from_records::{LimitKeyName, Project, Reply, UsageLine};
+use plain_sums::from_records::{LimitKeyName, Project};
 use plain_sums::from_reservations::Hold;
-use plain_sums::from_row_machine::{Answer, Work};
+use plain_sums::from_row_machine::Work;
 use plain_sums::from_row_readings::View;
-use plain_sums::from_size_values::{Amounts, NoMemory, read_count, read_size};
+use plain_sums::from_size_values::{Amounts, read_count, read_size};
 use plain_sums::{Sums, claim_sums, project_named, sums_of};
-use serve_loop::from_rest_routes::Router;
-use std::alloc::Global;
 
 /// The projects of a random run.
 pub(crate) const PROJECTS: [&str; 4] = ["default", "lab", "off", "shop"];
 
 /// How many rows of each kind there are, how many operations are live and ended, the next number,
 /// and what each project uses.
-#[derive(Clone, Copy, PartialEq, Eq)]
-pub(crate) struct Mark {
-    rows: [usize; 7],
-    live: usize,
-    ended: usize,
-    next: u64,
-    sums: [Sums; 4],
-}
+pub(crate) type Mark = ([usize; 9], u64, [Sums; 4]);
 
 /// A mark of what the server shows.
 pub(crate) fn mark_of(view: &View<'_>) -> Mark {
-    Mark {
-        rows: [
-            view.projects.len(),
-            view.profiles.len(),
-            view.networks.len(),
-            view.pools.len(),
-            view.volumes.len(),
-            view.instances.len(),
-            view.snapshots.len(),
-        ],
-        live: view.live.len(),
-        ended: view.ended.len(),
-        next: view.next,
-        sums: PROJECTS.map(|project| sums_of(view, project)),
-    }
+    let counts = [
+        view.projects.len(),
+        view.profiles.len(),
+        view.networks.len(),
+        view.pools.len(),
+        view.volumes.len(),
+        view.instances.len(),
+        view.snapshots.len(),
+        view.live.len(),
+        view.ended.len(),
+    ];
+    let sums = PROJECTS.map(|project| sums_of(view, project));
+    (counts, view.next, sums)
 }
 
-/// Whether an answer is to a request that changes nothing: it was refused, by its form too, or
-/// memory was.
-pub(crate) fn changes_nothing(answer: &Option<Answer>) -> bool {
-    match answer {
-        Some(Answer::Reply(Reply::Empty)) | Some(Answer::Reply(Reply::Started(_))) => false,
-        _ => true,
-    }
+/// Whether an answer is to a request that may change something: it was carried out at once, or began in the
+/// background. It was not refused, by its form either, nor was memory.
+pub(crate) fn may_change(said: Said) -> bool {
+    said == DONE || said.0 == BEGUN
 }
 
-/// What a project uses of a limit.
-fn used_of(sums: Sums, key: LimitKeyName) -> u128 {
-    match key {
-        LimitKeyName::Instances => sums.instances,
-        LimitKeyName::Containers => sums.containers,
-        LimitKeyName::Machines => sums.machines,
-        LimitKeyName::Cpu => sums.cpu,
-        LimitKeyName::Memory => sums.memory,
-        LimitKeyName::Processes => sums.processes,
-        LimitKeyName::Disk => sums.disk,
-        LimitKeyName::Networks => sums.networks,
-    }
+/// What is used, as a share counts it.
+fn share_of(sums: Sums) -> [u128; 7] {
+    [
+        sums.instances,
+        sums.containers,
+        sums.machines,
+        sums.cpu,
+        sums.memory,
+        sums.processes,
+        sums.disk,
+    ]
 }
 
 /// The key of a limit among the settings of a project.
@@ -90,47 +75,37 @@ fn limit_of(project: &Project, key: LimitKeyName) -> Option<u64> {
     }
 }
 
-/// Whether a line tells what is used and the limit, and the use is within it.
-fn is_right(line: &UsageLine, sums: Sums, project: &Project) -> bool {
-    let limit = limit_of(project, line.key);
-    line.used == used_of(sums, line.key)
-        && line.limit == limit
-        && limit.is_none_or(|limit| line.used <= u128::from(limit))
-}
-
-/// Whether the state of a project that was told is that of its rows and operations, within its
-/// limits.
-fn is_told(view: &View<'_>, name: &str, answer: &Option<Answer>) -> bool {
-    let sums = sums_of(view, name);
-    match (project_named(view, name), answer) {
-        (
-            Some(project),
-            Some(Answer::Reply(Reply::One(plain_sums::from_records::View::Usage(lines)))),
-        ) => {
-            lines.len() == 8
-                && lines
-                    .view()
-                    .iter()
-                    .all(|line| is_right(line, sums, project))
-        }
-        _ => false,
+/// Whether this is what the rows and operations of a project use, and its limits, and it is within them. The last
+/// limit, that of networks, is in no share.
+fn is_right(project: &Project, sums: Sums, usage: Usage) -> bool {
+    let share = share_of(sums);
+    let mut is_so = true;
+    for place in 0..8 {
+        let (used, limit) = usage[place];
+        let most = match limit {
+            Some(limit) => u128::from(limit),
+            None => u128::MAX,
+        };
+        is_so = is_so
+            && used == share.get(place).copied().unwrap_or(sums.networks)
+            && limit == limit_of(project, LIMITS[place])
+            && used <= most;
     }
+    is_so
 }
 
 /// Whether the server tells what a project uses, within its limits.
-fn stands(
-    alloc: Global,
-    router: &Router,
-    server: &mut Server,
-    name: &str,
-) -> Result<bool, NoMemory> {
-    let line = format!(in alloc; "GET /1.0/projects/{name}/state")?;
-    let answer = server.ask(alloc, router, line.as_str());
+fn stands(server: &mut Server, name: &str) -> bool {
+    let Ok(line) = format!(in server.alloc; "GET /1.0/projects/{name}/state") else {
+        return false;
+    };
+    let usage = server.usage(line.as_str());
     drop(line);
-    let answer = answer?;
-    let is = is_told(&server.view(), name, &answer);
-    drop(answer);
-    Ok(is)
+    let view = server.view();
+    match (project_named(&view, name), usage) {
+        (Some(project), Some(usage)) => is_right(project, sums_of(&view, name), usage),
+        _ => false,
+    }
 }
 
 /// The parts of an amount.
@@ -170,19 +145,6 @@ fn books_balance(view: &View<'_>) -> bool {
     balance
 }
 
-/// What a row uses, as a share counts it.
-fn share_of(sums: Sums) -> [u128; 7] {
-    [
-        sums.instances,
-        sums.containers,
-        sums.machines,
-        sums.cpu,
-        sums.memory,
-        sums.processes,
-        sums.disk,
-    ]
-}
-
 /// Whether an operation holds what the row needs that it would put, above what that row replaces,
 /// by the profiles as they are now. Where it would put none, it holds nothing.
 fn holds_its_share(view: &View<'_>, operation: &Operation<Work>) -> bool {
@@ -207,15 +169,10 @@ fn shares_stand(view: &View<'_>) -> bool {
 
 /// Whether all stands as it should: what the server tells of each project, and what its operations
 /// hold.
-pub(crate) fn all_stands(
-    alloc: Global,
-    router: &Router,
-    server: &mut Server,
-) -> Result<bool, NoMemory> {
+pub(crate) fn all_stands(server: &mut Server) -> bool {
+    let mut is_so = true;
     for project in PROJECTS {
-        if !stands(alloc, router, server, project)? {
-            return Ok(false);
-        }
+        is_so = is_so && stands(server, project);
     }
-    Ok(shares_stand(&server.view()))
+    is_so && shares_stand(&server.view())
 }

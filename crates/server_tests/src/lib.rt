@@ -1,7 +1,8 @@
 //! Tests of a server in memory. Links and workers over gates: over a gate of their own, and on threads over gates to
-//! one server under a lock. Event sessions, in whose rests the server goes on. And random runs, turn by turn, over
+//! one server under a lock. Event sessions, in whose rests the server goes on. Random runs, turn by turn, over
 //! the public calls of `core_turns`: after each turn the usage of every project is summed anew from what the server
-//! shows. And sixty thousand instances on one server. There is nothing else here.
+//! shows. Sixty thousand instances on one server. And the texts of replies and of events that no whole run of the
+//! program shows. There is nothing else here.
 #![tactic(auto)]
 
 #[cfg(test)]
@@ -13,22 +14,20 @@ mod chance;
 #[cfg(test)]
 mod events;
 #[cfg(test)]
-mod held_links;
-#[cfg(test)]
-mod holding_gates;
+mod held;
 #[cfg(test)]
 mod judging;
 #[cfg(test)]
 mod links;
 #[cfg(test)]
-mod locked_links;
-#[cfg(test)]
 mod many_instances;
 #[cfg(test)]
-mod many_links;
+mod meeting;
 #[cfg(test)]
 mod random_runs;
 #[cfg(test)]
 mod server;
 #[cfg(test)]
 mod sessions;
+#[cfg(test)]
+mod words;

@@ -1,19 +1,16 @@
 //! Links in memory over gates.
 ghost use Rattle.std.specs.Prelude.{◌≤◌};
 
-use gates::from_core_turns::Daemon;
+use crate::server::opened;
 use gates::from_gate_trails::Gate;
 use gates::from_http_front::{ByteSink, ByteSource, StillClock};
 use gates::from_record_keeper::MapKeeper;
-use gates::from_turnstile::{Pass, Turnstile};
-use gates::{AloneGate, DaemonMachine, LockedGate};
+use gates::{AloneGate, DaemonMachine};
 use host_lock::from_host_model::ModelHost;
 use host_lock::from_size_values::Seq;
 use serve_loop::{LinkEnd, serve_link};
 use std::alloc::Global;
-use std::sync::ledger::Ledger;
-use std::sync::{Arc, Wait};
-use std::time::Clock;
+use std::sync::Wait;
 
 /// A pool, and the root disk of all instances in it.
 pub(crate) const POOL: &str =
@@ -22,6 +19,13 @@ pub(crate) const POOL: &str =
 /// Which instances there are.
 pub(crate) const INSTANCES: &str = "GET /1.0/instances HTTP/1.1\r\nHost: localhost\r\n\r\n";
 
+/// A project that is made twice.
+pub(crate) const TWICE: &str =
+    "POST /1.0/projects HTTP/1.1\r\nHost: localhost\r\nContent-Length: 14\r\n\r\n{\"name\":\"lab\"}POST /1.0/projects HTTP/1.1\r\nHost: localhost\r\nContent-Length: 14\r\n\r\n{\"name\":\"lab\"}";
+
+pub(crate) const TWICE_REPLIES: &str =
+    "HTTP/1.1 200 OK\r\nContent-Type: application/json\r\nContent-Length: 66\r\n\r\n{\"metadata\":{},\"status\":\"Success\",\"status_code\":200,\"type\":\"sync\"}HTTP/1.1 409 Conflict\r\nContent-Type: application/json\r\nContent-Length: 112\r\n\r\n{\"error\":\"name is taken\",\"error_code\":409,\"metadata\":{\"kind\":\"project\",\"name\":\"lab\",\"rule\":\"N4\"},\"type\":\"error\"}";
+
 /// How many bytes a link gives at each read, at the most.
 const PIECE: usize = 100;
 
@@ -29,44 +33,15 @@ pub(crate) type OwnGate = AloneGate<MapKeeper, ModelHost, StillClock>;
 
 /// A gate over a new server of its own, whose clock stands still.
 pub(crate) fn new_gate(alloc: Global) -> Option<OwnGate> {
-    let mut keeper = MapKeeper::new(alloc, Seq::new(alloc));
-    match Daemon::begin(alloc, &mut keeper) {
-        Ok(daemon) => {
-            let host = ModelHost::new(alloc, Seq::new(alloc));
-            Some(AloneGate::new(alloc, daemon, keeper, host, StillClock::new(0)))
-        }
-        Err(fault) => {
-            drop(fault);
-            drop(keeper);
-            None
-        }
-    }
+    let (daemon, keeper) = opened(alloc, &[])?;
+    let host = ModelHost::new(alloc, Seq::new(alloc));
+    Some(AloneGate::new(alloc, daemon, keeper, host, StillClock::new(0)))
 }
 
 /// The server over a new keeper, as the machine under the lock.
 pub(crate) fn new_machine(alloc: Global) -> Option<DaemonMachine<MapKeeper>> {
-    let mut keeper = MapKeeper::new(alloc, Seq::new(alloc));
-    match Daemon::begin(alloc, &mut keeper) {
-        Ok(daemon) => Some(DaemonMachine::new(alloc, daemon, keeper)),
-        Err(fault) => {
-            drop(fault);
-            drop(keeper);
-            None
-        }
-    }
-}
-
-/// A gate at a server by one of its passes.
-pub(crate) fn gate_at<L: Ledger, T: Wait + Clock + Copy>(
-    rt: T,
-    turnstile: &Arc<Turnstile<DaemonMachine<MapKeeper>, L>, Global>,
-    pass: Option<Pass<L>>,
-) -> Option<LockedGate<MapKeeper, L, T>> {
-    let turnstile = Arc::try_clone(turnstile).ok();
-    match turnstile.zip(pass) {
-        Some((turnstile, pass)) => Some(LockedGate::new(rt, turnstile, pass)),
-        None => None,
-    }
+    let (daemon, keeper) = opened(alloc, &[])?;
+    Some(DaemonMachine::new(alloc, daemon, keeper))
 }
 
 /// How a link ended, in words.
@@ -82,18 +57,17 @@ fn name_of(ends: &LinkEnd) -> &'static str {
     }
 }
 
-/// How a link of this text ends, of which at most `piece` bytes come at each read, and what it gets written; none where
-/// there was no memory.
-pub(crate) fn served<T: Wait, G: Gate>(
+/// How a link of this text ends, of which at most `piece` bytes come at each read, and what it gets written.
+fn served<T: Wait, G: Gate>(
     rt: &T,
     alloc: Global,
     gate: &mut G,
     text: &str,
     piece: usize,
-) -> Option<(&'static str, ByteSink)>
+) -> (&'static str, ByteSink)
     requires { 1 ≤ piece }
 {
-    let bytes = Seq::of_bytes(alloc, text.as_bytes()).ok()?;
+    let bytes = Seq::of_bytes(alloc, text.as_bytes()).unwrap_or(Seq::new(alloc));
     let mut source = ByteSource::new(bytes, piece, Seq::new(alloc));
     let mut sink = ByteSink::new(alloc, Seq::new(alloc));
     let mut clock = StillClock::new(0);
@@ -101,7 +75,7 @@ pub(crate) fn served<T: Wait, G: Gate>(
     drop(source);
     let ends = name_of(&ended);
     drop(ended);
-    Some((ends, sink))
+    (ends, sink)
 }
 
 /// Whether a link of this text ends so and gets these replies.
@@ -116,36 +90,10 @@ pub(crate) fn is_served<T: Wait, G: Gate>(
 ) -> bool
     requires { 1 ≤ piece }
 {
-    match served(rt, alloc, gate, text, piece) {
-        Some((ended, sink)) => {
-            let is_so = ended == ends && sink.bytes() == replies.as_bytes();
-            drop(sink);
-            is_so
-        }
-        None => false,
-    }
-}
-
-/// Whether a link of this text ends with it and gets these replies.
-pub(crate) fn is_answered<T: Wait, G: Gate>(
-    rt: &T,
-    alloc: Global,
-    gate: &mut G,
-    text: &str,
-    replies: &str,
-) -> bool {
-    is_served(rt, alloc, gate, text, PIECE, "ended", replies)
-}
-
-/// Makes the requests of a text by a link. Whether that ended with its text.
-pub(crate) fn requests<T: Wait, G: Gate>(rt: &T, alloc: Global, gate: &mut G, text: &str) -> bool {
-    match served(rt, alloc, gate, text, PIECE) {
-        Some((ended, sink)) => {
-            drop(sink);
-            ended == "ended"
-        }
-        None => false,
-    }
+    let (ended, sink) = served(rt, alloc, gate, text, piece);
+    let is_so = ended == ends && sink.bytes() == replies.as_bytes();
+    drop(sink);
+    is_so
 }
 
 /// How often a text stands in what a link of another text gets written, where that ends with its text.
@@ -155,15 +103,18 @@ pub(crate) fn count_in_replies<T: Wait, G: Gate>(
     gate: &mut G,
     text: &str,
     part: &str,
-) -> usize {
-    match served(rt, alloc, gate, text, PIECE) {
-        Some((ended, sink)) => {
-            let count = count_of(sink.bytes(), part.as_bytes());
-            drop(sink);
-            if ended == "ended" { count } else { 0 }
-        }
-        None => 0,
-    }
+) -> Option<usize> {
+    let (ended, sink) = served(rt, alloc, gate, text, PIECE);
+    let count = count_of(sink.bytes(), part.as_bytes());
+    drop(sink);
+    if ended == "ended" { Some(count) } else { None }
+}
+
+/// Makes the requests of a text by a link. Whether that ended with its text.
+pub(crate) fn requests<T: Wait, G: Gate>(rt: &T, alloc: Global, gate: &mut G, text: &str) -> bool {
+    let (ended, sink) = served(rt, alloc, gate, text, PIECE);
+    drop(sink);
+    ended == "ended"
 }
 
 /// How often a text that is not empty stands in another one.

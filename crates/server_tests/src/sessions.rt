@@ -1,16 +1,20 @@
 //! What a session of events sends.
 use crate::busy_gate::BusyGate;
 use crate::links::{OwnGate, POOL, new_gate, requests};
+use crate::server::text;
 use event_sessions::{SessionEnd, event_session};
 use gates::from_http_front::ByteSink;
 use gates::from_records::Filter;
-use gates::from_size_values::{NoMemory, Seq, Text};
+use gates::from_size_values::Seq;
 use std::alloc::Global;
 use std::sync::Wait;
 
 /// The head that accepts the key of RFC 6455, section 1.3.
 const HEAD: &str =
     "HTTP/1.1 101 Switching Protocols\r\nUpgrade: websocket\r\nConnection: Upgrade\r\nSec-WebSocket-Accept: s3pPLMBiTxaQ9kYGzzhZRbK+xOo=\r\n\r\n";
+
+/// A close frame.
+const CLOSE: &[u8] = &[0x88, 0];
 
 const KEY: &str = "dGhlIHNhbXBsZSBub25jZQ==";
 
@@ -73,38 +77,27 @@ const SESSIONS: &[Session] = &[
     ),
 ];
 
-/// A text message of 126 to 65,535 bytes as a frame, by hand (RFC 6455, section 5.2).
-fn push_frame(bytes: &mut Vec<u8>, text: &str) -> Result<(), NoMemory> {
-    let length = text.len();
-    bytes.push(0x81)?;
-    bytes.push(126)?;
-    bytes.push((length / 256 % 256) as u8)?;
-    bytes.push((length % 256) as u8)?;
-    bytes.extend_from_slice(text.as_bytes())?;
-    Ok(())
+/// What stands after this part at the beginning of bytes; none where they do not begin so.
+fn after<'x>(bytes: Option<&'x [u8]>, part: &[u8]) -> Option<&'x [u8]> {
+    match bytes {
+        Some(bytes) => bytes.strip_prefix(part),
+        None => None,
+    }
 }
 
-/// The head, these messages, and a close frame.
-fn message_bytes(alloc: Global, texts: &[&str]) -> Result<Vec<u8>, NoMemory> {
-    let mut bytes = Vec::new(alloc);
-    bytes.extend_from_slice(HEAD.as_bytes())?;
-    for text in texts {
-        push_frame(&mut bytes, text)?;
-    }
-    bytes.extend_from_slice(&[0x88, 0])?;
-    Ok(bytes)
+/// The head of the frame of a text message of 126 to 65,535 bytes, by hand (RFC 6455, section 5.2).
+fn frame_head(length: usize) -> [u8; 4] {
+    [0x81, 126, (length / 256 % 256) as u8, (length % 256) as u8]
 }
 
 /// Whether bytes are the head, these messages, and a close frame.
-fn are_sent(alloc: Global, bytes: &[u8], texts: &[&str]) -> bool {
-    match message_bytes(alloc, texts) {
-        Ok(due) => {
-            let same = bytes == due.as_slice();
-            drop(due);
-            same
-        }
-        Err(_) => false,
+fn are_sent(bytes: &[u8], texts: &[&str]) -> bool {
+    let mut rest = after(Some(bytes), HEAD.as_bytes());
+    for text in texts {
+        rest = after(rest, &frame_head(text.len()));
+        rest = after(rest, text.as_bytes());
     }
+    rest == Some(CLOSE)
 }
 
 /// A gate to a server of which this was requested before.
@@ -141,43 +134,18 @@ fn listened<T: Wait + Copy>(
     (ends, sink)
 }
 
-/// The events of the project `default`: those of lifecycles, and those of operations.
-fn filter_of(alloc: Global, life: bool, op: bool) -> Option<Filter> {
-    match Text::from_text(alloc, "default") {
-        Ok(project) => Some(Filter { life, op, project }),
-        Err(_) => None,
-    }
-}
-
-/// Whether a session sends these messages and then lags so.
-fn sends<T: Wait + Copy>(
-    rt: T,
-    alloc: Global,
-    before: &str,
-    requests: &'static str,
-    filter: Filter,
-    texts: &[&str],
-    cursor: u64,
-) -> bool {
-    let Some(inner) = gate_after(&rt, alloc, before) else {
-        drop(filter);
-        return false;
-    };
-    let (ends, sink) = listened(rt, alloc, inner, requests, filter);
-    let oldest = cursor.wrapping_add(1);
-    let is_so = ends == SessionEnd::Lagged { cursor, oldest }
-        && are_sent(alloc, sink.bytes(), texts);
-    drop(sink);
-    is_so
-}
-
 /// Whether a session that takes these events sends these messages and then lags so.
 fn is_told<T: Wait + Copy>(rt: T, alloc: Global, session: &Session) -> bool {
     let (before, requests, life, op, texts, cursor) = *session;
-    match filter_of(alloc, life, op) {
-        Some(filter) => sends(rt, alloc, before, requests, filter, texts, cursor),
-        None => false,
-    }
+    let Some(inner) = gate_after(&rt, alloc, before) else {
+        return false;
+    };
+    let project = text(alloc, "default");
+    let (ends, sink) = listened(rt, alloc, inner, requests, Filter { life, op, project });
+    let oldest = cursor.wrapping_add(1);
+    let is_so = ends == SessionEnd::Lagged { cursor, oldest } && are_sent(sink.bytes(), texts);
+    drop(sink);
+    is_so
 }
 
 #[test]

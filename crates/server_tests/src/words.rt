@@ -2,14 +2,13 @@
 //! memory is refused, of a snapshot that expires, and of each action. All else that replies tell,
 //! and what requests ask for, is told by the runs of `session_runs`.
 
+use crate::server::{Server, text};
 use rest_routes::from_config_lists::{Config, Devices};
-use rest_routes::from_http_heads::Request;
 use rest_routes::from_records::{
-    Command, Kept, Life, Notice, OpFault, OpView, Refusal, Reply, Rule, Snapshot, Status, Target,
-    Told, View,
+    Kept, Life, Notice, OpFault, OpView, Refusal, Reply, Rule, Snapshot, Status, Target, Told, View,
 };
 use rest_routes::from_size_values::{ObjectKind, Or, Seq, Text};
-use rest_routes::{Router, print, print_notice};
+use rest_routes::{print, print_notice};
 use std::alloc::Global;
 
 /// Rules that no run can break, with everything at hand that a rule may tell: their codes and
@@ -41,189 +40,52 @@ const EXPIRING: &str =
      \"expires_at\":\"1970-01-01T00:01:00Z\",\"name\":\"n\",\"profiles\":[],\
      \"stateful\":false},\"status\":\"Success\",\"status_code\":200,\"type\":\"sync\"}";
 
+/// The moment 0.
+const START: &str = "1970-01-01T00:00:00Z";
+
 /// Each action of a lifecycle event as it is written, a moment, and its date. The last second that
 /// has a date stands for all after it.
 const NOTICES: &[(Life, &str, u64, &str)] = &[
-    (
-        Life::ProjectCreated,
-        "project-created",
-        0,
-        "1970-01-01T00:00:00Z",
-    ),
-    (
-        Life::ProjectUpdated,
-        "project-updated",
-        0,
-        "1970-01-01T00:00:00Z",
-    ),
-    (
-        Life::ProjectRenamed,
-        "project-renamed",
-        0,
-        "1970-01-01T00:00:00Z",
-    ),
+    (Life::ProjectCreated, "project-created", 0, START),
+    (Life::ProjectUpdated, "project-updated", 0, START),
+    (Life::ProjectRenamed, "project-renamed", 0, START),
     (
         Life::ProjectDeleted,
         "project-deleted",
         4_102_444_800,
         "2100-01-01T00:00:00Z",
     ),
-    (
-        Life::ProfileCreated,
-        "profile-created",
-        0,
-        "1970-01-01T00:00:00Z",
-    ),
-    (
-        Life::ProfileUpdated,
-        "profile-updated",
-        0,
-        "1970-01-01T00:00:00Z",
-    ),
-    (
-        Life::ProfileRenamed,
-        "profile-renamed",
-        0,
-        "1970-01-01T00:00:00Z",
-    ),
-    (
-        Life::ProfileDeleted,
-        "profile-deleted",
-        0,
-        "1970-01-01T00:00:00Z",
-    ),
-    (
-        Life::NetworkCreated,
-        "network-created",
-        0,
-        "1970-01-01T00:00:00Z",
-    ),
-    (
-        Life::NetworkUpdated,
-        "network-updated",
-        0,
-        "1970-01-01T00:00:00Z",
-    ),
-    (
-        Life::NetworkRenamed,
-        "network-renamed",
-        0,
-        "1970-01-01T00:00:00Z",
-    ),
-    (
-        Life::NetworkDeleted,
-        "network-deleted",
-        0,
-        "1970-01-01T00:00:00Z",
-    ),
-    (
-        Life::PoolCreated,
-        "storage-pool-created",
-        0,
-        "1970-01-01T00:00:00Z",
-    ),
-    (
-        Life::PoolUpdated,
-        "storage-pool-updated",
-        0,
-        "1970-01-01T00:00:00Z",
-    ),
-    (
-        Life::PoolDeleted,
-        "storage-pool-deleted",
-        0,
-        "1970-01-01T00:00:00Z",
-    ),
-    (
-        Life::VolumeCreated,
-        "storage-volume-created",
-        0,
-        "1970-01-01T00:00:00Z",
-    ),
-    (
-        Life::VolumeUpdated,
-        "storage-volume-updated",
-        0,
-        "1970-01-01T00:00:00Z",
-    ),
-    (
-        Life::VolumeRenamed,
-        "storage-volume-renamed",
-        0,
-        "1970-01-01T00:00:00Z",
-    ),
-    (
-        Life::VolumeDeleted,
-        "storage-volume-deleted",
-        0,
-        "1970-01-01T00:00:00Z",
-    ),
-    (
-        Life::InstanceCreated,
-        "instance-created",
-        0,
-        "1970-01-01T00:00:00Z",
-    ),
-    (
-        Life::InstanceUpdated,
-        "instance-updated",
-        0,
-        "1970-01-01T00:00:00Z",
-    ),
-    (
-        Life::InstanceDeleted,
-        "instance-deleted",
-        0,
-        "1970-01-01T00:00:00Z",
-    ),
-    (
-        Life::InstanceRenamed,
-        "instance-renamed",
-        0,
-        "1970-01-01T00:00:00Z",
-    ),
+    (Life::ProfileCreated, "profile-created", 0, START),
+    (Life::ProfileUpdated, "profile-updated", 0, START),
+    (Life::ProfileRenamed, "profile-renamed", 0, START),
+    (Life::ProfileDeleted, "profile-deleted", 0, START),
+    (Life::NetworkCreated, "network-created", 0, START),
+    (Life::NetworkUpdated, "network-updated", 0, START),
+    (Life::NetworkRenamed, "network-renamed", 0, START),
+    (Life::NetworkDeleted, "network-deleted", 0, START),
+    (Life::PoolCreated, "storage-pool-created", 0, START),
+    (Life::PoolUpdated, "storage-pool-updated", 0, START),
+    (Life::PoolDeleted, "storage-pool-deleted", 0, START),
+    (Life::VolumeCreated, "storage-volume-created", 0, START),
+    (Life::VolumeUpdated, "storage-volume-updated", 0, START),
+    (Life::VolumeRenamed, "storage-volume-renamed", 0, START),
+    (Life::VolumeDeleted, "storage-volume-deleted", 0, START),
+    (Life::InstanceCreated, "instance-created", 0, START),
+    (Life::InstanceUpdated, "instance-updated", 0, START),
+    (Life::InstanceDeleted, "instance-deleted", 0, START),
+    (Life::InstanceRenamed, "instance-renamed", 0, START),
     (
         Life::InstanceStarted,
         "instance-started",
         951_782_400,
         "2000-02-29T00:00:00Z",
     ),
-    (
-        Life::InstanceStopped,
-        "instance-stopped",
-        0,
-        "1970-01-01T00:00:00Z",
-    ),
-    (
-        Life::InstanceRestarted,
-        "instance-restarted",
-        0,
-        "1970-01-01T00:00:00Z",
-    ),
-    (
-        Life::InstancePaused,
-        "instance-paused",
-        0,
-        "1970-01-01T00:00:00Z",
-    ),
-    (
-        Life::InstanceResumed,
-        "instance-resumed",
-        0,
-        "1970-01-01T00:00:00Z",
-    ),
-    (
-        Life::InstanceRestored,
-        "instance-restored",
-        0,
-        "1970-01-01T00:00:00Z",
-    ),
-    (
-        Life::SnapshotCreated,
-        "instance-snapshot-created",
-        0,
-        "1970-01-01T00:00:00Z",
-    ),
+    (Life::InstanceStopped, "instance-stopped", 0, START),
+    (Life::InstanceRestarted, "instance-restarted", 0, START),
+    (Life::InstancePaused, "instance-paused", 0, START),
+    (Life::InstanceResumed, "instance-resumed", 0, START),
+    (Life::InstanceRestored, "instance-restored", 0, START),
+    (Life::SnapshotCreated, "instance-snapshot-created", 0, START),
     (
         Life::SnapshotDeleted,
         "instance-snapshot-deleted",
@@ -231,14 +93,6 @@ const NOTICES: &[(Life, &str, u64, &str)] = &[
         "9999-12-31T23:59:59Z",
     ),
 ];
-
-/// A text, or none where memory is refused: then nothing is printed as it is expected.
-fn text(alloc: Global, of: &str) -> Text {
-    match Text::from_text(alloc, of) {
-        Ok(text) => text,
-        Err(_) => Text::new(alloc),
-    }
-}
 
 fn refusal(alloc: Global, rule: Rule) -> Reply {
     Reply::Refused(Refusal {
@@ -336,15 +190,19 @@ fn prints_event(alloc: Global, life: Life, action: &str, moment: u64, date: &str
     let printed = print_notice(alloc, &notice, 1);
     drop(notice);
     match printed {
-        Ok(text) => is_event(text.view(), action, date),
+        Ok(text) => {
+            let is_so = is_event(text.view(), action, date);
+            drop(text);
+            is_so
+        }
         Err(_) => false,
     }
 }
 
 /// Whether this is the refusal of an unknown path, which tells nothing more.
-fn is_unknown(answer: &Result<Command, Or<Refusal>>) -> bool {
-    match answer {
-        Err(Or::Why(refusal)) => {
+fn is_unknown(why: &Or<Refusal>) -> bool {
+    match why {
+        Or::Why(refusal) => {
             let kept = &refusal.kept;
             refusal.rule == Rule::A1
                 && kept.kind.is_empty()
@@ -353,33 +211,33 @@ fn is_unknown(answer: &Result<Command, Or<Refusal>>) -> bool {
                 && kept.key.is_empty()
                 && kept.number == 0
         }
-        _ => false,
+        Or::NoMemory => false,
     }
 }
 
 /// Whether a request without a target, which is no request that a client can send, is refused as
 /// one of an unknown path.
-fn refuses_no_target(alloc: Global) -> bool {
-    let request = Request {
-        method: text(alloc, "GET"),
-        target: Text::new(alloc),
-        body: Seq::new(alloc),
-        last: false,
-        upgrade: None,
-    };
-    let is_so = routes_to_none(alloc, &request);
-    drop(request);
-    is_so
+fn is_refused(server: &mut Server) -> bool {
+    match server.answer("GET") {
+        Ok(answer) => {
+            drop(answer);
+            false
+        }
+        Err(why) => {
+            let is_so = is_unknown(&why);
+            drop(why);
+            is_so
+        }
+    }
 }
 
-fn routes_to_none(alloc: Global, request: &Request) -> bool {
-    let Ok(router) = Router::new(alloc) else {
+/// The same at a new server.
+fn refuses_no_target(alloc: Global) -> bool {
+    let Some(mut server) = Server::new(alloc, &[]) else {
         return false;
     };
-    let answer = router.route(alloc, request, 0);
-    drop(router);
-    let is_so = is_unknown(&answer);
-    drop(answer);
+    let is_so = is_refused(&mut server);
+    drop(server);
     is_so
 }
 
