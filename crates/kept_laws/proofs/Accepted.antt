@@ -1,10 +1,8 @@
 -- The rows of a state in which all facts hold meet each rule of opening.
 use Rattle.std.proofs.Common.{◌≡◌, ℕ, ◌≤◌, ◌+◌, Bool, true, false, not, ◌&&◌, ◌||◌, Option, Some, None, List, [], ◌∷◌, ◌++◌, map, codes, refl, sym, ap, ◌∙◌, inl, inr, arith}
-use Rattle.std.specs.Prelude.{IfSome, nat_lt}
 use Rattle.std.specs.List.{sum_by}
 use Rattle.std.specs.Str.{bytes_eq}
 use Rattle.std.specs.Option.{option_map, option_and_then, is_some, is_none}
-use Rattle.std.proofs.lemmas.Bool.Decides.{nat_tests}
 use Rattle.std.proofs.lemmas.List.Sums.{sum_by-append}
 use Rattle.row_sizes.specs.plain_lists.specs.Firsts.{first_of}
 use Rattle.row_sizes.specs.plain_lists.specs.Members.{Mem, Each}
@@ -12,12 +10,7 @@ use Rattle.row_sizes.specs.plain_lists.proofs.Elements.{Mem-left, Mem-append, Ea
 use Rattle.row_sizes.specs.plain_lists.proofs.FirstLemmas.{none-first_of}
 use Rattle.row_sizes.specs.plain_lists.proofs.Searches.{find-some, find-mem}
 use Rattle.row_sizes.specs.config_lists.proofs.Keys.{same}
-use Rattle.row_sizes.specs.size_values.specs.Amounts.{amount_above}
 use Rattle.row_sizes.specs.size_values.specs.declared.amounts.Part.{Part}
-use Rattle.machine_laws.specs.project_limits.specs.Admission.{limit_on, key_of, parts}
-use Rattle.machine_laws.specs.project_limits.specs.declared.admission.LimitKey.{LimitKey}
-use Rattle.machine_laws.specs.project_limits.specs.declared.admission.LimitKey.TheVariants as limit_key
-use Rattle.machine_laws.specs.project_limits.specs.Limits.{limits_of}
 use Rattle.row_sizes.specs.records.specs.declared.refusals.Rule.{Rule}
 use Rattle.row_sizes.specs.records.specs.declared.refusals.Rule.TheVariants as rule
 use Rattle.row_sizes.specs.records.specs.declared.refusals.Refusal.{Refusal}
@@ -30,15 +23,16 @@ use Rattle.machine_laws.specs.row_machine.specs.machine.Rows.{default_name, proj
 use Rattle.machine_laws.specs.row_machine.specs.machine.Homes.{is_on}
 use Rattle.machine_laws.specs.row_machine.specs.machine.Expansions.{expanded_of}
 use Rattle.machine_laws.specs.row_machine.specs.machine.Claims.{judged_instances, judged_volumes, amounts_of_instance, of_live, claimed_instance, claimed_volume, claimed_snapshot}
-use Rattle.machine_laws.specs.row_machine.specs.machine.Usage.{used, networks_of, loads, amount_for, instance_load, volume_load, claim_load}
+use Rattle.machine_laws.specs.row_machine.specs.machine.Usage.{used, loads, amount_for, instance_load, volume_load, claim_load}
 use Rattle.machine_laws.specs.row_machine.specs.machine.SettingRules.{root_missing, profile_missing, devices_miss}
 use Rattle.machine_laws.specs.row_machine.specs.machine.PolicyRules.{forbids_profile, forbids_instance}
-use Rattle.machine_laws.specs.row_machine.specs.machine.LimitRules.{limit_exceeded, part_exceeds, networks_exceed, limits_broken, instance_uncounted, volume_uncounts}
+use Rattle.machine_laws.specs.row_machine.specs.machine.LimitRules.{instance_uncounted, volume_uncounts}
 use Rattle.machine_laws.specs.row_machine.specs.opening.Opening.{if_so, rule_of, home_missing, parent_row_missing, profiles_malformed, defaults_missing, settings_invalid, devices_invalid, root_disk_missing, named_row_missing, has_all_features, forbidden, uncountable}
-use Rattle.machine_laws.specs.row_machine.specs.facts.Whole.{IsWhole, IsLinked, IsWithin, AreWithin, claims_of}
+use Rattle.machine_laws.specs.row_machine.specs.facts.Whole.{IsWhole, IsLinked, AreWithin, claims_of}
 use Rattle.machine_laws.proofs.NamesRise.{Rise-Distinct}
 use Rattle.machine_laws.proofs.NamesRows.{EachRow, rows-each, each-row}
 use Rattle.machine_laws.proofs.LimitsLess.{IsLess, within-less}
+use Rattle.machine_laws.proofs.LimitsWithin.{within-limits}
 use Rattle.machine_laws.proofs.OpeningRules.{AreAccepted}
 use Rattle.kept_laws.specs.Reopening.{reopened}
 use Rattle.kept_laws.proofs.Sections.{sorted_rows, from-rows, few-rows}
@@ -56,30 +50,6 @@ unless b why h = ap (λ t. if_so t why) h
 -- what is not refused breaks no rule
 untold : {o : Option Refusal} → o ≡ None → rule_of o ≡ None
 untold h = ap rule_of h
-
--- ---- limits
-
--- of one number: what is used is within the limit
-not_over : (p : Project) (key : LimitKey) (limit : Option ℕ) (n : ℕ) → IfSome limit (λ l. n ≤ l) → limit_exceeded p key limit n n ≡ None
-not_over p key None n h = refl
-not_over p key (Some l) n h =
-    let within : nat_lt l (n + amount_above n n) ≡ false = grind (arith, nat_tests, h) in
-    rw within refl
-
-within-limits : (s : State) → AreWithin s → limits_broken s s ≡ None
-unfolding limits_broken part_exceeds networks_exceed
-within-limits s h =
-    none-first_of (λ (o : Option Refusal). o) _ (Each-cons _ of_parts (Each-cons _ of_networks Each-none))
-  where
-    of_parts : first_of (λ k. first_of (part_exceeds s s k) s.projects) parts ≡ None
-    of_parts = none-first_of (λ k. first_of (part_exceeds s s k) s.projects) parts (record {
-      at = λ k m. none-first_of (part_exceeds s s k) s.projects
-          (Each-map (λ p (w : IsWithin s p). not_over p (key_of k) (limit_on k (limits_of p.config)) (used s p.name k) (w.parts k)) h.limits);
-    })
-
-    of_networks : first_of (networks_exceed s s) s.projects ≡ None
-    of_networks = none-first_of (networks_exceed s s) s.projects
-        (Each-map (λ p (w : IsWithin s p). not_over p limit_key.Networks (limits_of p.config).networks (networks_of s p.name) w.networks) h.limits)
 
 -- ---- the reopened state
 

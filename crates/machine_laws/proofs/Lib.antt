@@ -38,6 +38,7 @@ pub mod LimitsRows
 pub mod LimitsSteps
 pub mod LimitsSuccess
 pub mod LimitsSums
+pub mod LimitsWithin
 pub mod LinksClaims
 pub mod LinksCore
 pub mod LinksDevices

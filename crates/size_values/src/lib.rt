@@ -6,6 +6,7 @@
 mod address;
 mod amounts;
 mod boolean;
+mod boxed;
 mod calls;
 mod count;
 mod cpu;
@@ -25,6 +26,7 @@ mod text;
 pub use address::{read_address, read_cidr};
 pub use amounts::{Amounts, Part};
 pub use boolean::read_boolean;
+pub use boxed::Boxed;
 pub use calls::FailingCalls;
 pub use count::read_count;
 pub use cpu::{Cpu, read_cpu};
