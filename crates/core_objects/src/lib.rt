@@ -39,7 +39,9 @@ pub mod from_rule_refusals {
 
 /// Of `size_values`, for the crates above.
 pub mod from_size_values {
-    pub use name_rules::from_size_values::{Entry, EntryChange, NoMemory, ObjectKind, Seq, Text};
+    pub use name_rules::from_size_values::{
+        Boxed, Entry, EntryChange, NoMemory, ObjectKind, Seq, Text,
+    };
 }
 
 /// Of `work_reports`, for the crates above.

@@ -19,7 +19,7 @@ pub mod from_row_drafts {
 
 /// Of `size_values`, for the crates above.
 pub mod from_size_values {
-    pub use config_lists::from_size_values::{Entry, EntryChange, NoMemory, Or, Seq};
+    pub use config_lists::from_size_values::{Boxed, Entry, EntryChange, NoMemory, Or, Seq};
 }
 
 /// Of `work_reports`, for the crates above.

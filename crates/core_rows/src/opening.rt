@@ -9,7 +9,7 @@ ghost use Rattle.core_rows.specs.Opening.{Opens, Begins, Commits, GoesOn, Loads,
 use crate::estate::Estate;
 use crate::kept_rows::{have_bytes, open_entries};
 use config_lists::Config;
-use config_lists::from_size_values::{Entry, EntryChange, NoMemory, Or, Seq, Text};
+use config_lists::from_size_values::{Boxed, Entry, EntryChange, NoMemory, Or, Seq, Text};
 use judged_changes::from_record_keeper::Keeper;
 use judged_changes::from_row_drafts::Draft;
 use judged_changes::from_work_reports::{default_profile, entry_changes};
@@ -64,7 +64,7 @@ fn first_changes(alloc: Global) -> Result<Seq<RowChange>, NoMemory>
     let profile = default_profile(alloc, &project.name)?;
     let mut changes = Seq::new(alloc);
     changes.push(RowChange::Put(Row::Project(project)))?;
-    changes.push(RowChange::Put(Row::Profile(profile)))?;
+    changes.push(RowChange::Put(Row::Profile(Boxed::new(alloc, profile)?)))?;
     Ok(changes)
 }
 

@@ -18,6 +18,7 @@ use notice_laws::from_config_lists::{Config, Devices};
 use notice_laws::from_operations::Operation;
 use notice_laws::from_records::{Instance, Profile, Row, Snapshot};
 use notice_laws::from_row_machine::Work;
+use notice_laws::from_size_values::Boxed;
 
 /// Settings and devices stand in the order of their keys.
 fn layer_is_ordered(config: &Config, devices: &Devices)
@@ -39,7 +40,7 @@ fn row_is_ordered(row: &Row)
     }
 }
 
-fn profiles_are_ordered(profiles: &[Profile])
+fn profiles_are_ordered(profiles: &[Boxed<Profile>])
     ensures { Each (λ (r : ProfileValue). IsSortedRow (row_of.Profile r)) profiles.now }
 {
     for profile in profiles {
@@ -47,7 +48,7 @@ fn profiles_are_ordered(profiles: &[Profile])
     }
 }
 
-fn instances_are_ordered(instances: &[Instance])
+fn instances_are_ordered(instances: &[Boxed<Instance>])
     ensures { Each (λ (r : InstanceValue). IsSortedRow (row_of.Instance r)) instances.now }
 {
     for instance in instances {
@@ -55,7 +56,7 @@ fn instances_are_ordered(instances: &[Instance])
     }
 }
 
-fn snapshots_are_ordered(snapshots: &[Snapshot])
+fn snapshots_are_ordered(snapshots: &[Boxed<Snapshot>])
     ensures { Each (λ (r : SnapshotValue). IsSortedRow (row_of.Snapshot r)) snapshots.now }
 {
     for snapshot in snapshots {

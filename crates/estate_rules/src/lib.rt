@@ -10,7 +10,8 @@ pub mod from_config_lists {
 /// Of `size_values`, for the crates above.
 pub mod from_size_values {
     pub use config_lists::from_size_values::{
-        Action, Amounts, Deed, Entry, EntryChange, Kind, NoMemory, ObjectKind, Or, Power, Seq, Text,
+        Action, Amounts, Boxed, Deed, Entry, EntryChange, Kind, NoMemory, ObjectKind, Or, Power,
+        Seq, Text,
     };
 }
 

@@ -33,7 +33,7 @@ pub mod from_row_machine {
 
 /// Of `size_values`, for the crates above.
 pub mod from_size_values {
-    pub use row_machine::from_size_values::{NoMemory, ObjectKind, Text};
+    pub use row_machine::from_size_values::{Boxed, NoMemory, ObjectKind, Text};
 }
 
 mod hub;

@@ -17,7 +17,7 @@ use crate::pairs::zip_or_drop;
 use new_rows::from_host_model::{HostCall, Place};
 use new_rows::from_records::{Body, Instance, Origin, Row, Snapshot, Target};
 use new_rows::from_row_machine::Work;
-use new_rows::from_size_values::{Deed, NoMemory, ObjectKind, Seq, Text};
+use new_rows::from_size_values::{Boxed, Deed, NoMemory, ObjectKind, Seq, Text};
 use row_readings::View;
 use std::alloc::Global;
 
@@ -101,7 +101,7 @@ fn begin_from_root(
 }
 
 /// The task of a creation or of a copy, which claims this row.
-fn claiming_task(deed: Deed, begun: Begun, row: Instance, source: Option<Target>) -> Work
+fn claiming_task(deed: Deed, begun: Begun, row: Boxed<Instance>, source: Option<Target>) -> Work
     ensures { result
         ≡ record (plain_task deed begun.project begun.target begun.calls) {
           claim = Some (row_of.Instance row);
@@ -133,7 +133,7 @@ fn creation_task(
     ensures { IfOk result (λ w. w ≡ creation_task project.now of.now body.now moment) }
 {
     let begun = begin_from_image(alloc, project, of, image_of(&body.origin));
-    let row = made_instance(alloc, project, &of.name, body, moment);
+    let row = Boxed::of(alloc, made_instance(alloc, project, &of.name, body, moment));
     let (begun, row) = zip_or_drop(begun, row)?;
     Ok(claiming_task(Deed::Create, begun, row, None))
 }
@@ -183,6 +183,7 @@ fn instance_copy(
     };
     let begun = begin_from_root(alloc, project, of, from, "");
     let row = copied_instance(alloc, project, &of.name, body, moment, &source);
+    let row = Boxed::of(alloc, row);
     let (made, target) = zip_or_drop(zip_or_drop(begun, row), instance_target(alloc, from))?;
     Ok(claiming_task(Deed::Copy, made.0, made.1, Some(target)))
 }
@@ -211,6 +212,7 @@ fn snapshot_copy(
     };
     let begun = begin_from_root(alloc, project, of, from, name.view());
     let row = copied_instance(alloc, project, &of.name, body, moment, &source);
+    let row = Boxed::of(alloc, row);
     let (made, target) = zip_or_drop(zip_or_drop(begun, row), snapshot_target(alloc, from, name))?;
     Ok(claiming_task(Deed::Copy, made.0, made.1, Some(target)))
 }

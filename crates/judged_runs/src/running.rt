@@ -6,7 +6,7 @@ use serial_run::from_host_model::ModelHost;
 use serial_run::from_http_front::{ByteSink, ByteSource, StillClock};
 use serial_run::from_record_keeper::{Keeper, MapKeeper};
 use serial_run::from_run_words::setup_of;
-use serial_run::from_size_values::{Entry, EntryChange, NoMemory, Or, Seq};
+use serial_run::from_size_values::{Boxed, Entry, EntryChange, NoMemory, Or, Seq};
 use serial_run::run_main;
 use std::alloc::Global;
 
@@ -54,11 +54,12 @@ fn edited(alloc: Global, body: &[u8], edit: &str) -> Result<Seq<u8>, NoMemory> {
 fn change_of(alloc: Global, entry: &Entry, edit: &str) -> Result<EntryChange, NoMemory> {
     let key = entry.key.copy(alloc)?;
     let body = edited(alloc, entry.body.view(), edit)?;
-    Ok(EntryChange::Put(Entry {
+    let edited = Entry {
         kind: entry.kind,
         key,
         body,
-    }))
+    };
+    Ok(EntryChange::Put(Boxed::new(alloc, edited)?))
 }
 /// The changes that edit the entries of this kind and key.
 fn edits_of(

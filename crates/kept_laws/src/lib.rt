@@ -15,7 +15,7 @@ pub mod from_records {
 
 /// Of `size_values`, for the crates above.
 pub mod from_size_values {
-    pub use row_sizes::from_size_values::{Seq, Text};
+    pub use row_sizes::from_size_values::{Boxed, Seq, Text};
 }
 
 mod laws;

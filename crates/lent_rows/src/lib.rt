@@ -36,7 +36,7 @@ pub mod from_row_readings {
 /// Of `size_values`, for the crates above.
 pub mod from_size_values {
     pub use row_readings::from_size_values::{
-        Action, Amounts, Deed, Kind, NoMemory, ObjectKind, Seq, Text,
+        Action, Amounts, Boxed, Deed, Kind, NoMemory, ObjectKind, Seq, Text,
     };
 }
 

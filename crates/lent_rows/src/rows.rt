@@ -7,7 +7,7 @@ use row_readings::from_operations::Operation;
 use row_readings::from_records::{Instance, Network, Pool, Profile, Project, Snapshot, Volume};
 use row_readings::from_reservations::{Books, Hold};
 use row_readings::from_row_machine::Work;
-use row_readings::from_size_values::{Amounts, NoMemory, Text};
+use row_readings::from_size_values::{Amounts, Boxed, NoMemory, Text};
 use row_readings::{InstancePower, Named, View, rises};
 use std::alloc::Global;
 
@@ -42,12 +42,12 @@ fn no_books() -> Books {
 #[derive(Drop)]
 pub struct Rows {
     pub projects: Vec<Project>,
-    pub profiles: Vec<Profile>,
+    pub profiles: Vec<Boxed<Profile>>,
     pub networks: Vec<Network>,
     pub pools: Vec<Pool>,
-    pub volumes: Vec<Volume>,
-    pub instances: Vec<Instance>,
-    pub snapshots: Vec<Snapshot>,
+    pub volumes: Vec<Boxed<Volume>>,
+    pub instances: Vec<Boxed<Instance>>,
+    pub snapshots: Vec<Boxed<Snapshot>>,
     pub powers: Vec<InstancePower>,
     pub live: Vec<Operation<Work>>,
     pub ended: Vec<Operation<Work>>,

@@ -12,7 +12,7 @@ use row_machine::Work;
 use row_machine::from_operations::Operation;
 use row_machine::from_project_limits::{SumKey, countable, limits_of, volume_countable};
 use row_machine::from_records::{Instance, Project, Refusal, Rule, Volume};
-use row_machine::from_size_values::{Or, Text};
+use row_machine::from_size_values::{Boxed, Or, Text};
 use row_readings::{View, claimed_instance, claimed_volume};
 use rule_refusals::on_key_of;
 use std::alloc::Global;
@@ -68,7 +68,7 @@ fn instances_uncounted(
     alloc: Global,
     view: &View<'_>,
     project: &Project,
-    rows: &[Instance],
+    rows: &[Boxed<Instance>],
 ) -> Result<(), Or<Refusal>>
     ensures { Says result (first_of (own_instance view.now project.now) rows.now) }
 {
@@ -92,7 +92,11 @@ fn volume_uncounted(alloc: Global, project: &Project, row: &Volume) -> Result<()
     object_uncounted(alloc, project, &row.name, key)
 }
 
-fn volumes_uncounted(alloc: Global, project: &Project, rows: &[Volume]) -> Result<(), Or<Refusal>>
+fn volumes_uncounted(
+    alloc: Global,
+    project: &Project,
+    rows: &[Boxed<Volume>],
+) -> Result<(), Or<Refusal>>
     ensures { Says result (first_of (own_volume project.now) rows.now) }
 {
     for row in rows {

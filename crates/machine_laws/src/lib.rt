@@ -54,7 +54,7 @@ pub mod from_row_machine {
 /// Of `size_values`, for the crates above.
 pub mod from_size_values {
     pub use record_keeper::from_size_values::{
-        Amounts, Kind, NoMemory, ObjectKind, Power, Seq, Text,
+        Amounts, Boxed, Kind, NoMemory, ObjectKind, Power, Seq, Text,
     };
 }
 

@@ -26,7 +26,7 @@ pub mod from_rule_refusals {
 /// Of `size_values`, for the crates above.
 pub mod from_size_values {
     pub use row_machine::from_size_values::{
-        Entry, EntryChange, MOMENT_LIMIT, NoMemory, ObjectKind, Or, Seq, Text,
+        Boxed, Entry, EntryChange, MOMENT_LIMIT, NoMemory, ObjectKind, Or, Seq, Text,
     };
 }
 

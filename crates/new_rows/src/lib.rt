@@ -27,7 +27,7 @@ pub mod from_row_machine {
 
 /// Of `size_values`, for the crates above.
 pub mod from_size_values {
-    pub use row_machine::from_size_values::{Deed, Kind, NoMemory, ObjectKind, Seq, Text};
+    pub use row_machine::from_size_values::{Boxed, Deed, Kind, NoMemory, ObjectKind, Seq, Text};
 }
 
 mod caps;

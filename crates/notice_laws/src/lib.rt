@@ -42,7 +42,7 @@ pub mod from_row_machine {
 
 /// Of `size_values`, for the crates above.
 pub mod from_size_values {
-    pub use event_hub::from_size_values::ObjectKind;
+    pub use event_hub::from_size_values::{Boxed, ObjectKind};
 }
 
 mod laws;

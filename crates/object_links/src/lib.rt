@@ -32,7 +32,9 @@ pub mod from_row_machine {
 
 /// Of `size_values`, for the crates above.
 pub mod from_size_values {
-    pub use row_machine::from_size_values::{Action, Deed, NoMemory, ObjectKind, Power, Seq, Text};
+    pub use row_machine::from_size_values::{
+        Action, Boxed, Deed, NoMemory, ObjectKind, Power, Seq, Text,
+    };
 }
 
 mod keys;

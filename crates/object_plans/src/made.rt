@@ -21,7 +21,7 @@ use changed_rows::{
 };
 use object_links::from_records::{Body, Origin, Row, Target};
 use object_links::from_row_machine::RowChange;
-use object_links::from_size_values::{NoMemory, ObjectKind, Seq, Text};
+use object_links::from_size_values::{Boxed, NoMemory, ObjectKind, Seq, Text};
 use row_readings::{View, home_of};
 use std::alloc::Global;
 
@@ -47,11 +47,11 @@ fn volume_made(
     match &body.origin {
         Origin::None => {
             let row = made_volume(alloc, home, of, body, moment)?;
-            row_alone(alloc, Row::Volume(row))
+            row_alone(alloc, Row::Volume(Boxed::new(alloc, row)?))
         }
         Origin::Image(_) => {
             let row = made_volume(alloc, home, of, body, moment)?;
-            row_alone(alloc, Row::Volume(row))
+            row_alone(alloc, Row::Volume(Boxed::new(alloc, row)?))
         }
         Origin::Copy { .. } => Ok(None),
     }
@@ -76,7 +76,7 @@ pub(crate) fn creation_changes(
         }
         ObjectKind::Profile => {
             let row = made_profile(alloc, home, &of.name, body)?;
-            row_alone(alloc, Row::Profile(row))
+            row_alone(alloc, Row::Profile(Boxed::new(alloc, row)?))
         }
         ObjectKind::Network => {
             let row = made_network(alloc, home, &of.name, body)?;
@@ -109,7 +109,7 @@ pub(crate) fn put_changes(
         }
         Found::Profile(old) => {
             let row = put_profile(alloc, old, body)?;
-            row_alone(alloc, Row::Profile(row))
+            row_alone(alloc, Row::Profile(Boxed::new(alloc, row)?))
         }
         Found::Network(old) => {
             let row = put_network(alloc, old, body)?;
@@ -121,7 +121,7 @@ pub(crate) fn put_changes(
         }
         Found::Volume(old) => {
             let row = put_volume(alloc, old, body)?;
-            row_alone(alloc, Row::Volume(row))
+            row_alone(alloc, Row::Volume(Boxed::new(alloc, row)?))
         }
         Found::Instance(_) => Ok(None),
         Found::Snapshot(_) => Ok(None),
@@ -143,7 +143,7 @@ pub(crate) fn patch_changes(
         }
         Found::Profile(old) => {
             let row = patched_profile(alloc, old, body)?;
-            row_alone(alloc, Row::Profile(row))
+            row_alone(alloc, Row::Profile(Boxed::new(alloc, row)?))
         }
         Found::Network(old) => {
             let row = patched_network(alloc, old, body)?;
@@ -155,11 +155,11 @@ pub(crate) fn patch_changes(
         }
         Found::Volume(old) => {
             let row = patched_volume(alloc, old, body)?;
-            row_alone(alloc, Row::Volume(row))
+            row_alone(alloc, Row::Volume(Boxed::new(alloc, row)?))
         }
         Found::Instance(old) => {
             let row = patched_instance(alloc, old, body)?;
-            row_alone(alloc, Row::Instance(row))
+            row_alone(alloc, Row::Instance(Boxed::new(alloc, row)?))
         }
         Found::Snapshot(_) => Ok(None),
     }
@@ -191,7 +191,7 @@ pub(crate) fn move_changes(
         Found::Profile(old) => {
             let removed = one_removal(alloc, Found::Profile(old))?;
             let row = renamed_profile(alloc, old, to)?;
-            with_row_last(removed, Row::Profile(row))
+            with_row_last(removed, Row::Profile(Boxed::new(alloc, row)?))
         }
         Found::Network(old) => {
             let removed = one_removal(alloc, Found::Network(old))?;
@@ -201,7 +201,7 @@ pub(crate) fn move_changes(
         Found::Volume(old) => {
             let removed = one_removal(alloc, Found::Volume(old))?;
             let row = renamed_volume(alloc, old, to)?;
-            with_row_last(removed, Row::Volume(row))
+            with_row_last(removed, Row::Volume(Boxed::new(alloc, row)?))
         }
         Found::Pool(_) => Ok(None),
         Found::Instance(_) => Ok(None),

@@ -16,7 +16,7 @@ use changed_rows::{
 };
 use object_links::from_records::{Body, Profile, Project, Row};
 use object_links::from_row_machine::RowChange;
-use object_links::from_size_values::{NoMemory, Seq, Text};
+use object_links::from_size_values::{Boxed, NoMemory, Seq, Text};
 use row_readings::{View, is_on};
 use std::alloc::Global;
 
@@ -29,7 +29,7 @@ fn and_default_put(
     ensures { IfOk result (λ cs. cs ≡ changes ++ change.Put (row_of.Profile (default_profile project.now)) ∷ []) }
 {
     let profile = default_profile(alloc, project)?;
-    and_put(changes, Row::Profile(profile))
+    and_put(changes, Row::Profile(Boxed::new(alloc, profile)?))
 }
 
 /// A new project is put, and its profile `default` where it has profiles of its own.
@@ -103,7 +103,7 @@ fn and_rehomed(
 {
     let changes = and_removal(alloc, changes, Found::Profile(old))?;
     let profile = rehomed_profile(alloc, old, project)?;
-    and_put(changes, Row::Profile(profile))
+    and_put(changes, Row::Profile(Boxed::new(alloc, profile)?))
 }
 
 /// A project gets another name, and its profile `default` with it.

@@ -5,7 +5,7 @@ ghost use Rattle.row_machine.specs.records.specs.declared.rows.Row.TheVariants a
 
 use crate::row_ref::{AnyRow, RowRef};
 use row_machine::from_records::{Instance, Network, Pool, Profile, Project, Snapshot, Volume};
-use row_machine::from_size_values::NoMemory;
+use row_machine::from_size_values::{Boxed, NoMemory};
 
 /// Adds all projects.
 pub fn add_projects<'x>(rows: &'x [Project], all: &mut Vec<RowRef<'x>>) -> Result<(), NoMemory>
@@ -33,7 +33,7 @@ pub fn add_pools<'x>(rows: &'x [Pool], all: &mut Vec<RowRef<'x>>) -> Result<(), 
 
 /// Adds the profiles of a project.
 pub fn add_profiles<'x>(
-    rows: &'x [Profile],
+    rows: &'x [Boxed<Profile>],
     project: &str,
     all: &mut Vec<RowRef<'x>>,
 ) -> Result<(), NoMemory>
@@ -71,7 +71,7 @@ pub fn add_networks<'x>(
 
 /// Adds the volumes of a project.
 pub fn add_volumes<'x>(
-    rows: &'x [Volume],
+    rows: &'x [Boxed<Volume>],
     project: &str,
     all: &mut Vec<RowRef<'x>>,
 ) -> Result<(), NoMemory>
@@ -90,7 +90,7 @@ pub fn add_volumes<'x>(
 
 /// Adds the instances of a project.
 pub fn add_instances<'x>(
-    rows: &'x [Instance],
+    rows: &'x [Boxed<Instance>],
     project: &str,
     all: &mut Vec<RowRef<'x>>,
 ) -> Result<(), NoMemory>
@@ -109,7 +109,7 @@ pub fn add_instances<'x>(
 
 /// Adds the volumes of a project and a storage pool.
 pub fn add_volumes_in<'x>(
-    rows: &'x [Volume],
+    rows: &'x [Boxed<Volume>],
     project: &str,
     pool: &str,
     all: &mut Vec<RowRef<'x>>,
@@ -129,7 +129,7 @@ pub fn add_volumes_in<'x>(
 
 /// Adds the snapshots of an instance.
 pub fn add_snapshots<'x>(
-    rows: &'x [Snapshot],
+    rows: &'x [Boxed<Snapshot>],
     project: &str,
     instance: &str,
     all: &mut Vec<RowRef<'x>>,

@@ -11,8 +11,8 @@ pub mod from_config_lists {
 /// Of `size_values`, for the crates above.
 pub mod from_size_values {
     pub use config_lists::from_size_values::{
-        Action, Amounts, Cpu, Deed, Kind, Memory, NoMemory, ObjectKind, Or, Power, Rise, Seq, Text,
-        read_boolean, read_count, read_cpu, read_memory, read_size,
+        Action, Amounts, Boxed, Cpu, Deed, Kind, Memory, NoMemory, ObjectKind, Or, Power, Rise,
+        Seq, Text, read_boolean, read_count, read_cpu, read_memory, read_size,
     };
 }
 

@@ -1,6 +1,6 @@
 //! What a keeper in memory keeps, and which of its calls fail.
 use crate::given::{bytes_of, numbers_of, text_of};
-use record_keeper::from_size_values::{Entry, EntryChange, NoMemory, Or, Seq};
+use record_keeper::from_size_values::{Boxed, Entry, EntryChange, NoMemory, Or, Seq};
 use record_keeper::{Keeper, KeeperFailed, MapKeeper};
 use std::alloc::Global;
 
@@ -69,22 +69,23 @@ fn entry(alloc: Global, row: Row) -> Entry {
     }
 }
 
-fn change(alloc: Global, row: Row) -> EntryChange {
+fn change(alloc: Global, row: Row) -> Result<EntryChange, NoMemory> {
     let (kind, key, byte) = row;
     if byte > 0 {
-        EntryChange::Put(entry(alloc, row))
-    } else {
-        EntryChange::Remove {
-            kind,
-            key: text_of(alloc, key),
-        }
+        return Ok(EntryChange::Put(Boxed::new(alloc, entry(alloc, row))?));
     }
+    Ok(EntryChange::Remove {
+        kind,
+        key: text_of(alloc, key),
+    })
 }
 
 fn changes_of(alloc: Global, rows: &[Row]) -> Seq<EntryChange> {
     let mut all = Seq::new(alloc);
     for row in rows {
-        let _ = all.push(change(alloc, *row));
+        if let Ok(change) = change(alloc, *row) {
+            let _ = all.push(change);
+        }
     }
     all
 }

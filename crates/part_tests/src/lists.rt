@@ -1,6 +1,6 @@
 //! Lists and texts that own what they hold.
 use crate::given::{bytes_of, text_of};
-use config_lists::from_size_values::{Entry, EntryChange, NoMemory, Seq, Text};
+use config_lists::from_size_values::{Boxed, Entry, EntryChange, NoMemory, Seq, Text};
 use operations::from_plain_lists::push_reserved;
 use std::alloc::Global;
 use std::cmp::Ordering;
@@ -93,8 +93,11 @@ fn is_lab(entry: &Entry) -> bool {
 }
 
 /// Whether the copy of an entry of kind 1, with the key `lab` and the body `{}`, has these parts.
-fn is_lab_copied(copy: Result<Entry, NoMemory>) -> bool {
+fn is_lab_copied(alloc: Global, copy: Result<Entry, NoMemory>) -> bool {
     let Ok(copy) = copy else {
+        return false;
+    };
+    let Ok(copy) = Boxed::new(alloc, copy) else {
         return false;
     };
     let change = EntryChange::Put(copy);
@@ -112,7 +115,7 @@ fn is_entry_copied(alloc: Global) -> bool {
         key: text_of(alloc, "lab"),
         body: bytes_of(alloc, b"{}"),
     };
-    let is = is_lab(&entry) && is_lab_copied(entry.copy(alloc));
+    let is = is_lab(&entry) && is_lab_copied(alloc, entry.copy(alloc));
     drop(entry);
     is
 }

@@ -6,7 +6,7 @@ ghost use Rattle.policy_rules.specs.Lowest.{HoldBelow};
 ghost use Rattle.policy_rules.specs.Within.{own_profile, own_instance, own_claim};
 
 use crate::restricted::{Restricted, subject_of};
-use restrictions::from_size_values::NoMemory;
+use restrictions::from_size_values::{Boxed, NoMemory};
 use restrictions::{Subject, is_restricted};
 use row_machine::Work;
 use row_machine::from_operations::Operation;
@@ -24,7 +24,7 @@ fn lowest_of_profile(project: &Restricted<'_>, profile: &Profile) -> u8
     project.lowest_rule(Subject::Profile, &profile.config, &profile.devices)
 }
 
-fn lowest_of_profiles(project: &Restricted<'_>, profiles: &[Profile]) -> u8
+fn lowest_of_profiles(project: &Restricted<'_>, profiles: &[Boxed<Profile>]) -> u8
     ensures { HoldBelow result (λ n. first_of (own_profile project.now n) profiles.now) }
 {
     let mut lowest = u8::MAX;
@@ -56,7 +56,7 @@ fn lowest_of_instances(
     alloc: Global,
     view: &View<'_>,
     project: &Restricted<'_>,
-    rows: &[Instance],
+    rows: &[Boxed<Instance>],
 ) -> Result<u8, NoMemory>
     ensures { IfOk result (λ lowest. HoldBelow lowest (λ n. first_of (own_instance view.now project.now n) rows.now)) }
 {

@@ -7,7 +7,7 @@ ghost use Rattle.policy_rules.specs.Within.{own_profile, own_instance, own_claim
 
 use crate::lowest::lowest_broken;
 use crate::restricted::{Restricted, subject_of};
-use restrictions::from_size_values::Or;
+use restrictions::from_size_values::{Boxed, Or};
 use restrictions::{Subject, is_restricted};
 use row_machine::Work;
 use row_machine::from_operations::Operation;
@@ -45,7 +45,7 @@ fn profiles_forbid(
     alloc: Global,
     project: &Restricted<'_>,
     number: u8,
-    profiles: &[Profile],
+    profiles: &[Boxed<Profile>],
 ) -> Result<(), Or<Refusal>>
     ensures { Says result (first_of (own_profile project.now number) profiles.now) }
 {
@@ -90,7 +90,7 @@ fn instances_forbid(
     view: &View<'_>,
     project: &Restricted<'_>,
     number: u8,
-    rows: &[Instance],
+    rows: &[Boxed<Instance>],
 ) -> Result<(), Or<Refusal>>
     ensures { Says result (first_of (own_instance view.now project.now number) rows.now) }
 {

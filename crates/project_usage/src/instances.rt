@@ -15,7 +15,7 @@ use crate::layers::lay_again;
 use row_readings::from_config_lists::{Config, Devices};
 use row_readings::from_expansion::Expanded;
 use row_readings::from_records::Instance;
-use row_readings::from_size_values::{Amounts, NoMemory, Text};
+use row_readings::from_size_values::{Amounts, Boxed, NoMemory, Text};
 use row_readings::{View, profile_home};
 use std::alloc::Global;
 
@@ -23,7 +23,7 @@ use std::alloc::Global;
 pub(crate) fn add_instances(
     alloc: Global,
     view: &View<'_>,
-    rows: &[Instance],
+    rows: &[Boxed<Instance>],
     project: &str,
     used: Amounts,
 ) -> Result<Amounts, NoMemory>
@@ -42,7 +42,7 @@ pub(crate) fn add_instances(
 fn add_expanded(
     alloc: Global,
     view: &View<'_>,
-    rows: &[Instance],
+    rows: &[Boxed<Instance>],
     project: &str,
     used: Amounts,
     expanded: &mut Expanded,

@@ -41,7 +41,7 @@ pub mod from_row_readings {
 /// Of `size_values`, for the crates above.
 pub mod from_size_values {
     pub use row_readings::from_size_values::{
-        Amounts, Deed, Kind, NoMemory, ObjectKind, Or, Seq, Text,
+        Amounts, Boxed, Deed, Kind, NoMemory, ObjectKind, Or, Seq, Text,
     };
 }
 

@@ -9,7 +9,7 @@ use crate::instances::add_instances;
 use row_readings::from_operations::Operation;
 use row_readings::from_records::Volume;
 use row_readings::from_row_machine::Work;
-use row_readings::from_size_values::{Amounts, NoMemory};
+use row_readings::from_size_values::{Amounts, Boxed, NoMemory};
 use row_readings::{View, project_of_row, share_of};
 use std::alloc::Global;
 
@@ -25,7 +25,7 @@ pub fn usage_of(alloc: Global, view: &View<'_>, project: &str) -> Result<Amounts
 }
 
 /// The amounts with those of the volumes of the project.
-fn add_volumes(rows: &[Volume], project: &str, used: Amounts) -> Amounts
+fn add_volumes(rows: &[Boxed<Volume>], project: &str, used: Amounts) -> Amounts
     requires { (k : Part) → part k used ≤ 2 ^ 127 }
     ensures sums { (k : Part) → part k result ≡ part k used + sum_by (volume_part project.now k) rows.now }
     ensures few { (k : Part) → part k result ≤ part k used + 2 ^ 126 }

@@ -4,7 +4,7 @@ use row_drafts::from_config_lists::{Config, Devices};
 use row_drafts::from_records::{Instance, Network, Row};
 use row_drafts::from_row_machine::RowChange;
 use row_drafts::from_row_readings::View;
-use row_drafts::from_size_values::{Kind, NoMemory, Power, Seq, Text};
+use row_drafts::from_size_values::{Boxed, Kind, NoMemory, Power, Seq, Text};
 use std::alloc::Global;
 
 /// The project, name and description of a network and of an instance.
@@ -67,7 +67,7 @@ fn instance(alloc: Global, given: Given) -> Result<Row, NoMemory> {
     let project = Text::from_text(alloc, given.0)?;
     let name = Text::from_text(alloc, given.1)?;
     let description = Text::from_text(alloc, given.2)?;
-    Ok(Row::Instance(Instance {
+    let row = Instance {
         project,
         name,
         kind: Kind::Container,
@@ -78,7 +78,8 @@ fn instance(alloc: Global, given: Given) -> Result<Row, NoMemory> {
         profiles: Seq::new(alloc),
         config: Config::new(alloc),
         devices: Devices::new(alloc),
-    }))
+    };
+    Ok(Row::Instance(Boxed::new(alloc, row)?))
 }
 
 /// A network and an instance of each name.

@@ -8,7 +8,9 @@ use project_usage::from_row_readings::{
     View, claimed_instance, claimed_snapshot, claimed_volume, network_home, network_named,
     pool_named, profile_home, project_named, project_of_row, volume_home,
 };
-use project_usage::from_size_values::{Amounts, Deed, Kind, NoMemory, ObjectKind, Seq, Text};
+use project_usage::from_size_values::{
+    Amounts, Boxed, Deed, Kind, NoMemory, ObjectKind, Seq, Text,
+};
 use project_usage::usage_of;
 use std::alloc::Global;
 
@@ -41,7 +43,7 @@ const TWO_USED: &[(&str, u128, u128, u128, u128)] = &[
 /// Adds a profile of the project `default` with one device.
 fn add_profile(
     alloc: Global,
-    profiles: &mut Vec<Profile>,
+    profiles: &mut Vec<Boxed<Profile>>,
     name: &str,
     settings: &[(&str, &str)],
     device_name: &str,
@@ -52,19 +54,20 @@ fn add_profile(
         device(alloc, device_name, device_settings),
     );
     let ((project, name), (config, devices)) = both(texts(alloc, "default", name), parts)?;
-    profiles.push(Profile {
+    let profile = Profile {
         project,
         name,
         description: Text::new(alloc),
         config,
         devices,
-    })?;
+    };
+    profiles.push(Boxed::new(alloc, profile)?)?;
     Ok(())
 }
 
 /// Adds profiles of the project `default`: one with a root disk of 1 GiB, one with a root disk without size, and one
 /// with a network device.
-fn add_profiles(alloc: Global, profiles: &mut Vec<Profile>) -> Result<(), NoMemory> {
+fn add_profiles(alloc: Global, profiles: &mut Vec<Boxed<Profile>>) -> Result<(), NoMemory> {
     let sized = [
         ("type", "disk"),
         ("path", "/"),
@@ -134,8 +137,9 @@ fn instance(alloc: Global, settings: &[(&str, &str)]) -> Result<Instance, NoMemo
 }
 
 /// Adds an instance of 2 processors and 2 GiB of memory.
-fn add_instance(alloc: Global, instances: &mut Vec<Instance>) -> Result<(), NoMemory> {
-    instances.push(instance(alloc, &[("limits.memory", "2GiB")])?)?;
+fn add_instance(alloc: Global, instances: &mut Vec<Boxed<Instance>>) -> Result<(), NoMemory> {
+    let row = instance(alloc, &[("limits.memory", "2GiB")])?;
+    instances.push(Boxed::new(alloc, row)?)?;
     Ok(())
 }
 
@@ -157,8 +161,9 @@ fn volume(alloc: Global, project: &str, size: &str) -> Result<Volume, NoMemory> 
 }
 
 /// Adds a volume of 3 GiB.
-fn add_volume(alloc: Global, volumes: &mut Vec<Volume>) -> Result<(), NoMemory> {
-    volumes.push(volume(alloc, "lab", "3GiB")?)?;
+fn add_volume(alloc: Global, volumes: &mut Vec<Boxed<Volume>>) -> Result<(), NoMemory> {
+    let row = volume(alloc, "lab", "3GiB")?;
+    volumes.push(Boxed::new(alloc, row)?)?;
     Ok(())
 }
 
@@ -178,7 +183,7 @@ fn update(alloc: Global) -> Result<Work, NoMemory> {
     let about = both(Text::from_text(alloc, "lab"), target(alloc));
     let about = both(about, texts(alloc, "lab", "a"));
     let row = instance(alloc, &[("limits.cpu", "4"), ("limits.memory", "1GiB")]);
-    let (((project, target), replaces), row) = both(about, row)?;
+    let (((project, target), replaces), row) = both(about, Boxed::of(alloc, row))?;
     Ok(Work {
         deed: Deed::Update,
         project,
@@ -311,13 +316,15 @@ fn an_update_holds_what_it_adds(rt: HostRuntime) {
 }
 
 /// Adds the instances of the project `shop`, which name different profiles.
-fn add_shop_instances(alloc: Global, instances: &mut Vec<Instance>) -> Result<(), NoMemory> {
+fn add_shop_instances(alloc: Global, instances: &mut Vec<Boxed<Instance>>) -> Result<(), NoMemory> {
     let settings = [("limits.cpu", "7")];
     let devices = without_network(alloc);
-    instances.push(instance_of(alloc, ("shop", "a"), &PROFILES, &settings, devices)?)?;
+    let row = instance_of(alloc, ("shop", "a"), &PROFILES, &settings, devices)?;
+    instances.push(Boxed::new(alloc, row)?)?;
     for name in ["b", "c"] {
         let devices = Ok(Devices::new(alloc));
-        instances.push(instance_of(alloc, ("shop", name), &["base"], &[], devices)?)?;
+        let row = instance_of(alloc, ("shop", name), &["base"], &[], devices)?;
+        instances.push(Boxed::new(alloc, row)?)?;
     }
     Ok(())
 }
@@ -326,7 +333,7 @@ fn add_shop_instances(alloc: Global, instances: &mut Vec<Instance>) -> Result<()
 fn creation(alloc: Global) -> Result<Work, NoMemory> {
     let about = both(Text::from_text(alloc, "lab"), target(alloc));
     let row = volume(alloc, "shop", "4GiB");
-    let ((project, target), row) = both(about, row)?;
+    let ((project, target), row) = both(about, Boxed::of(alloc, row))?;
     Ok(Work {
         deed: Deed::CopyVolume,
         project,
@@ -348,7 +355,8 @@ fn add_creation(alloc: Global, live: &mut Vec<Operation<Work>>) -> Result<(), No
 /// Adds what there is in the project `shop`.
 fn fill_shop(alloc: Global, rows: &mut Rows) -> Result<(), NoMemory> {
     add_shop_instances(alloc, &mut rows.instances)?;
-    rows.volumes.push(volume(alloc, "shop", "5GiB")?)?;
+    let row = volume(alloc, "shop", "5GiB")?;
+    rows.volumes.push(Boxed::new(alloc, row)?)?;
     add_creation(alloc, &mut rows.live)
 }
 

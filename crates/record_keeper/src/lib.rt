@@ -5,7 +5,7 @@
 /// Of `size_values`, for the crates above.
 pub mod from_size_values {
     pub use size_values::{
-        Amounts, Entry, EntryChange, Kind, NoMemory, ObjectKind, Or, Power, Seq, Text,
+        Amounts, Boxed, Entry, EntryChange, Kind, NoMemory, ObjectKind, Or, Power, Seq, Text,
     };
 }
 

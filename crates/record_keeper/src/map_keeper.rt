@@ -6,7 +6,7 @@ ghost use Rattle.record_keeper.specs.Entries.{IsOrderedEntries, after_changes, e
 
 use crate::keeper::{Keeper, KeeperFailed};
 use crate::places;
-use size_values::{Entry, EntryChange, FailingCalls, NoMemory, Or, Seq, Text};
+use size_values::{Boxed, Entry, EntryChange, FailingCalls, NoMemory, Or, Seq, Text};
 use std::alloc::Global;
 use std::marker::Model;
 
@@ -15,7 +15,7 @@ use std::marker::Model;
 #[derive(Drop)]
 pub struct MapKeeper {
     alloc: Global,
-    entries: Vec<Entry>,
+    entries: Vec<Boxed<Entry>>,
     calls: FailingCalls,
 }
 
@@ -103,7 +103,7 @@ impl Keeper for MapKeeper {
 }
 
 /// Entries of their own with the same parts.
-fn copy_entries(alloc: Global, entries: &[Entry]) -> Result<Vec<Entry>, NoMemory>
+fn copy_entries(alloc: Global, entries: &[Boxed<Entry>]) -> Result<Vec<Entry>, NoMemory>
     ensures { IfOk result (λ v. v.items ≡ entries.now) }
 {
     let mut copies = Vec::with_capacity(alloc, entries.len())?;
@@ -128,7 +128,7 @@ fn copy_change(alloc: Global, change: &EntryChange) -> Result<EntryChange, NoMem
     ensures { IfOk result (λ c. c ≡ change.now) }
 {
     match change {
-        EntryChange::Put(entry) => Ok(EntryChange::Put(entry.copy(alloc)?)),
+        EntryChange::Put(entry) => Ok(EntryChange::Put(Boxed::new(alloc, entry.copy(alloc)?)?)),
         EntryChange::Remove { kind, key } => Ok(EntryChange::Remove {
             kind: *kind,
             key: key.copy(alloc)?,
@@ -137,7 +137,7 @@ fn copy_change(alloc: Global, change: &EntryChange) -> Result<EntryChange, NoMem
 }
 
 /// Makes the changes one after the other, in room that is there.
-fn change_all(entries: &mut Vec<Entry>, changes: Vec<EntryChange>)
+fn change_all(entries: &mut Vec<Boxed<Entry>>, changes: Vec<EntryChange>)
     requires order { IsOrderedEntries entries.old.items }
     requires room { vec_len entries.old + vec_len changes ≤ vec_capacity entries.old }
     ensures items { entries.new.items ≡ after_changes changes.items entries.old.items }
@@ -149,14 +149,14 @@ fn change_all(entries: &mut Vec<Entry>, changes: Vec<EntryChange>)
 }
 
 /// The entries put one after the other into an empty list.
-fn put_all(alloc: Global, entries: &[Entry]) -> Result<Vec<Entry>, NoMemory>
+fn put_all(alloc: Global, entries: &[Entry]) -> Result<Vec<Boxed<Entry>>, NoMemory>
     ensures items { IfOk result (λ v. v.items ≡ entries_put entries.now []) }
     ensures order { IfOk result (λ v. IsOrderedEntries v.items) }
 {
     let mut kept = Vec::new(alloc);
     for entry in entries {
         kept.reserve(1)?;
-        places::put(&mut kept, entry.copy(alloc)?);
+        places::put(&mut kept, Boxed::new(alloc, entry.copy(alloc)?)?);
     }
     Ok(kept)
 }

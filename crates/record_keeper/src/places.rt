@@ -2,7 +2,7 @@ ghost use Rattle.std.specs.Prelude.{◌≡◌, ◌+◌, ◌≤◌, vec_len, vec_
 ghost use Rattle.record_keeper.specs.Entries.{seen_from, put_entry, remove_entry, after_change, IsOrderedEntries};
 ghost use Rattle.record_keeper.specs.Places.{Finds};
 
-use size_values::{Entry, EntryChange, Text};
+use size_values::{Boxed, Entry, EntryChange, Text};
 use std::cmp::Ordering;
 
 /// Where an entry stands as seen from the place of a kind and key.
@@ -13,7 +13,7 @@ fn seen_from(entry: &Entry, kind: u8, key: &Text) -> Ordering
 }
 
 /// The index of the entry of a kind and key, or the one at which it would stand.
-fn entry_index(entries: &[Entry], kind: u8, key: &Text) -> Result<usize, usize>
+fn entry_index(entries: &[Boxed<Entry>], kind: u8, key: &Text) -> Result<usize, usize>
     requires { IsOrderedEntries entries.now }
     ensures { Finds kind key.now entries.now result }
 {
@@ -21,7 +21,7 @@ fn entry_index(entries: &[Entry], kind: u8, key: &Text) -> Result<usize, usize>
 }
 
 /// Puts the entry at its place, in room that is there.
-pub fn put(entries: &mut Vec<Entry>, entry: Entry)
+pub fn put(entries: &mut Vec<Boxed<Entry>>, entry: Boxed<Entry>)
     requires order { IsOrderedEntries entries.old.items }
     requires room { vec_len entries.old + 1 ≤ vec_capacity entries.old }
     ensures items { entries.new.items ≡ put_entry entry entries.old.items }
@@ -40,7 +40,7 @@ pub fn put(entries: &mut Vec<Entry>, entry: Entry)
 }
 
 /// Takes the entry of a kind and key out, if there is one.
-pub fn remove(entries: &mut Vec<Entry>, kind: u8, key: &Text)
+pub fn remove(entries: &mut Vec<Boxed<Entry>>, kind: u8, key: &Text)
     requires { IsOrderedEntries entries.old.items }
     ensures items { entries.new.items ≡ remove_entry kind key.now entries.old.items }
     ensures order { IsOrderedEntries entries.new.items }
@@ -56,7 +56,7 @@ pub fn remove(entries: &mut Vec<Entry>, kind: u8, key: &Text)
 }
 
 /// Makes one change, in room that is there.
-pub fn apply_change(entries: &mut Vec<Entry>, change: EntryChange)
+pub fn apply_change(entries: &mut Vec<Boxed<Entry>>, change: EntryChange)
     requires order { IsOrderedEntries entries.old.items }
     requires room { vec_len entries.old + 1 ≤ vec_capacity entries.old }
     ensures items { entries.new.items ≡ after_change change entries.old.items }

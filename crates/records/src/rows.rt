@@ -1,7 +1,7 @@
 ghost use Rattle.std.specs.Prelude.{◌≡◌, IfOk};
 
 use crate::texts::copy_texts;
-use config_lists::from_size_values::{Kind, NoMemory, Seq, Text};
+use config_lists::from_size_values::{Boxed, Kind, NoMemory, Seq, Text};
 use config_lists::{Config, Devices};
 use std::alloc::Global;
 
@@ -93,16 +93,16 @@ pub struct Snapshot {
     pub devices: Devices,
 }
 
-/// One kept object of any kind.
+/// One kept object of any kind. Of some kinds there may be many: each of their rows stands in memory of its own.
 #[derive(Drop)]
 pub enum Row {
     Project(Project),
-    Profile(Profile),
+    Profile(Boxed<Profile>),
     Network(Network),
     Pool(Pool),
-    Volume(Volume),
-    Instance(Instance),
-    Snapshot(Snapshot),
+    Volume(Boxed<Volume>),
+    Instance(Boxed<Instance>),
+    Snapshot(Boxed<Snapshot>),
 }
 
 impl Project {
@@ -222,12 +222,12 @@ impl Row {
     {
         match self {
             Row::Project(row) => Ok(Row::Project(row.copy(alloc)?)),
-            Row::Profile(row) => Ok(Row::Profile(row.copy(alloc)?)),
+            Row::Profile(row) => Ok(Row::Profile(Boxed::new(alloc, row.copy(alloc)?)?)),
             Row::Network(row) => Ok(Row::Network(row.copy(alloc)?)),
             Row::Pool(row) => Ok(Row::Pool(row.copy(alloc)?)),
-            Row::Volume(row) => Ok(Row::Volume(row.copy(alloc)?)),
-            Row::Instance(row) => Ok(Row::Instance(row.copy(alloc)?)),
-            Row::Snapshot(row) => Ok(Row::Snapshot(row.copy(alloc)?)),
+            Row::Volume(row) => Ok(Row::Volume(Boxed::new(alloc, row.copy(alloc)?)?)),
+            Row::Instance(row) => Ok(Row::Instance(Boxed::new(alloc, row.copy(alloc)?)?)),
+            Row::Snapshot(row) => Ok(Row::Snapshot(Boxed::new(alloc, row.copy(alloc)?)?)),
         }
     }
 }

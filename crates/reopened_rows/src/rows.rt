@@ -12,6 +12,7 @@ ghost use Rattle.kept_laws.specs.row_codec.specs.Rows.{HasTypedParts};
 
 use crate::parts::{devices_are_typed, settings_are_typed, text_is_utf8, texts_are_utf8};
 use kept_laws::from_records::{Instance, Network, Pool, Profile, Project, Snapshot, Volume};
+use kept_laws::from_size_values::Boxed;
 
 fn project_is_typed(project: &Project)
     ensures { HasTypedParts (row_of.Project project.now) }
@@ -75,7 +76,7 @@ pub(crate) fn projects_are_typed(projects: &[Project])
     }
 }
 
-pub(crate) fn profiles_are_typed(profiles: &[Profile])
+pub(crate) fn profiles_are_typed(profiles: &[Boxed<Profile>])
     ensures { Each (λ (r : ProfileValue). HasTypedParts (row_of.Profile r)) profiles.now }
 {
     for profile in profiles {
@@ -99,7 +100,7 @@ pub(crate) fn pools_are_typed(pools: &[Pool])
     }
 }
 
-pub(crate) fn volumes_are_typed(volumes: &[Volume])
+pub(crate) fn volumes_are_typed(volumes: &[Boxed<Volume>])
     ensures { Each (λ (r : VolumeValue). HasTypedParts (row_of.Volume r)) volumes.now }
 {
     for volume in volumes {
@@ -107,7 +108,7 @@ pub(crate) fn volumes_are_typed(volumes: &[Volume])
     }
 }
 
-pub(crate) fn instances_are_typed(instances: &[Instance])
+pub(crate) fn instances_are_typed(instances: &[Boxed<Instance>])
     ensures { Each (λ (r : InstanceValue). HasTypedParts (row_of.Instance r)) instances.now }
 {
     for instance in instances {
@@ -115,7 +116,7 @@ pub(crate) fn instances_are_typed(instances: &[Instance])
     }
 }
 
-pub(crate) fn snapshots_are_typed(snapshots: &[Snapshot])
+pub(crate) fn snapshots_are_typed(snapshots: &[Boxed<Snapshot>])
     ensures { Each (λ (r : SnapshotValue). HasTypedParts (row_of.Snapshot r)) snapshots.now }
 {
     for snapshot in snapshots {

@@ -10,8 +10,8 @@ pub mod from_plain_lists {
 /// Of `size_values`, for the crates above.
 pub mod from_size_values {
     pub use size_values::{
-        Action, Amounts, Deed, Entry, EntryChange, Kind, MOMENT_LIMIT, NoMemory, ObjectKind, Or,
-        Part, Power, Seq, Text, read_boolean,
+        Action, Amounts, Boxed, Deed, Entry, EntryChange, Kind, MOMENT_LIMIT, NoMemory, ObjectKind,
+        Or, Part, Power, Seq, Text, read_boolean,
     };
 }
 

@@ -37,7 +37,8 @@ pub mod from_records {
 /// Of `size_values`, for the crates above.
 pub mod from_size_values {
     pub use estate_rules::from_size_values::{
-        Action, Amounts, Deed, Entry, EntryChange, Kind, NoMemory, ObjectKind, Or, Power, Seq, Text,
+        Action, Amounts, Boxed, Deed, Entry, EntryChange, Kind, NoMemory, ObjectKind, Or, Power,
+        Seq, Text,
     };
 }
 

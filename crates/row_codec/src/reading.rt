@@ -11,7 +11,7 @@ use crate::body_rows::{
 };
 use crate::damage::Damaged;
 use crate::keys::{three_names_in, two_names_in};
-use estate_rules::from_size_values::{Entry, ObjectKind, Or};
+use estate_rules::from_size_values::{Boxed, Entry, ObjectKind, Or};
 use estate_rules::good_name;
 use row_parts::Unreadable;
 use row_parts::from_records::{Instance, Network, Pool, Profile, Project, Row, Snapshot, Volume};
@@ -116,12 +116,12 @@ fn row_at(alloc: Global, kind: u8, key: &str, body: &[u8]) -> Result<Row, Or<Dam
 {
     match kind {
         1 => Ok(Row::Project(read_project(alloc, key, body)?)),
-        2 => Ok(Row::Profile(read_profile(alloc, key, body)?)),
+        2 => Ok(Row::Profile(Boxed::new(alloc, read_profile(alloc, key, body)?)?)),
         3 => Ok(Row::Network(read_network(alloc, key, body)?)),
         4 => Ok(Row::Pool(read_pool(alloc, key, body)?)),
-        5 => Ok(Row::Volume(read_volume(alloc, key, body)?)),
-        6 => Ok(Row::Instance(read_instance(alloc, key, body)?)),
-        7 => Ok(Row::Snapshot(read_snapshot(alloc, key, body)?)),
+        5 => Ok(Row::Volume(Boxed::new(alloc, read_volume(alloc, key, body)?)?)),
+        6 => Ok(Row::Instance(Boxed::new(alloc, read_instance(alloc, key, body)?)?)),
+        7 => Ok(Row::Snapshot(Boxed::new(alloc, read_snapshot(alloc, key, body)?)?)),
         _ => Err(Or::Why(Damaged::Kind)),
     }
 }

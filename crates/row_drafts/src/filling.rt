@@ -12,7 +12,7 @@ use crate::edits::{put, put_new};
 use crate::lists::Lists;
 use crate::placed::Placed;
 use machine_laws::from_records::{Instance, Row};
-use machine_laws::from_size_values::NoMemory;
+use machine_laws::from_size_values::{Boxed, NoMemory};
 use row_readings::InstancePower;
 use std::alloc::Global;
 
@@ -46,7 +46,7 @@ fn fill_power(
 // ---- all lists
 
 impl Lists {
-    fn fill_instance(&mut self, alloc: Global, row: Instance) -> Result<(), NoMemory>
+    fn fill_instance(&mut self, alloc: Global, row: Boxed<Instance>) -> Result<(), NoMemory>
         requires rises { AreRising self.old.state }
         ensures state { OnOk result (self.new.state ≡ with_row (row_of.Instance row) self.old.state) }
         ensures backing { self.new.backing ≡ self.old.backing }

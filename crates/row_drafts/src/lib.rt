@@ -29,7 +29,7 @@ pub mod from_row_readings {
 
 /// Of `size_values`, for the crates above.
 pub mod from_size_values {
-    pub use machine_laws::from_size_values::{Kind, NoMemory, Power, Seq, Text};
+    pub use machine_laws::from_size_values::{Boxed, Kind, NoMemory, Power, Seq, Text};
 }
 
 mod background;

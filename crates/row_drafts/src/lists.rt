@@ -32,7 +32,7 @@ use machine_laws::from_records::{
     Instance, Network, Pool, Profile, Project, Row, Snapshot, Volume,
 };
 use machine_laws::from_row_machine::{RowChange, Work};
-use machine_laws::from_size_values::{Amounts, NoMemory, ObjectKind, Power, Text};
+use machine_laws::from_size_values::{Amounts, Boxed, NoMemory, ObjectKind, Power, Text};
 use row_readings::{InstancePower, Names, View, place_named};
 use std::alloc::Global;
 use std::marker::Model;
@@ -42,12 +42,12 @@ use std::marker::Model;
 #[derive(Drop)]
 pub(crate) enum Undone {
     Project(Step<Project>),
-    Profile(Step<Profile>),
+    Profile(Step<Boxed<Profile>>),
     Network(Step<Network>),
     Pool(Step<Pool>),
-    Volume(Step<Volume>),
-    Instance(Step<Instance>, Step<InstancePower>),
-    Snapshot(Step<Snapshot>),
+    Volume(Step<Boxed<Volume>>),
+    Instance(Step<Boxed<Instance>>, Step<InstancePower>),
+    Snapshot(Step<Boxed<Snapshot>>),
     Claimed,
     Nothing,
 }
@@ -58,12 +58,12 @@ pub(crate) enum Undone {
 #[derive(Drop)]
 pub(crate) struct Lists {
     pub(crate) projects: Vec<Project>,
-    pub(crate) profiles: Vec<Profile>,
+    pub(crate) profiles: Vec<Boxed<Profile>>,
     pub(crate) networks: Vec<Network>,
     pub(crate) pools: Vec<Pool>,
-    pub(crate) volumes: Vec<Volume>,
-    pub(crate) instances: Vec<Instance>,
-    pub(crate) snapshots: Vec<Snapshot>,
+    pub(crate) volumes: Vec<Boxed<Volume>>,
+    pub(crate) instances: Vec<Boxed<Instance>>,
+    pub(crate) snapshots: Vec<Boxed<Snapshot>>,
     pub(crate) powers: Vec<InstancePower>,
     background: Background,
     closed: bool,
@@ -148,7 +148,7 @@ impl Lists {
         Ok(())
     }
 
-    fn put_instance(&mut self, row: Instance, power: InstancePower) -> Undone
+    fn put_instance(&mut self, row: Boxed<Instance>, power: InstancePower) -> Undone
         requires rises { AreRising self.old.state }
         requires power { power ≡ stopped row }
         requires room { 1 ≤ self.old.room }

@@ -7,6 +7,7 @@ ghost use Rattle.machine_laws.specs.row_machine.specs.machine.Changes.{has_key};
 
 use crate::keys::{is_three_names, is_two_names};
 use machine_laws::from_records::{Instance, Network, Pool, Profile, Project, Snapshot, Volume};
+use machine_laws::from_size_values::Boxed;
 use row_readings::{InstancePower, Named};
 
 /// A row that stands in the order of its names, and has a key.
@@ -16,6 +17,14 @@ pub(crate) trait Placed: Named {
 
     fn has_key(&self, key: &str) -> bool
         ensures { result ≡ keyed key.now self.now };
+}
+
+impl<T: Placed> Placed for Boxed<T> {
+    ghost keyed = { T.keyed };
+
+    fn has_key(&self, key: &str) -> bool {
+        T::has_key(self, key)
+    }
 }
 
 impl Placed for Project {

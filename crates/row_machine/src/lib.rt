@@ -86,8 +86,8 @@ pub mod from_row_codec {
 /// Of `size_values`, for the crates above.
 pub mod from_size_values {
     pub use reservations::from_size_values::{
-        Action, Amounts, Deed, Entry, EntryChange, Kind, MOMENT_LIMIT, NoMemory, ObjectKind, Or,
-        Part, Power, Seq, Text, read_boolean,
+        Action, Amounts, Boxed, Deed, Entry, EntryChange, Kind, MOMENT_LIMIT, NoMemory, ObjectKind,
+        Or, Part, Power, Seq, Text, read_boolean,
     };
 }
 

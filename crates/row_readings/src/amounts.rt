@@ -11,7 +11,7 @@ ghost use Rattle.row_readings.specs.Loads.{AreSmall};
 
 use crate::claims::replaced_instance;
 use crate::view::View;
-use restrictions::from_size_values::{Amounts, NoMemory, Text};
+use restrictions::from_size_values::{Amounts, Boxed, NoMemory, Text};
 use row_machine::Work;
 use row_machine::from_operations::Operation;
 use row_machine::from_records::{Instance, Row, Volume};
@@ -139,7 +139,7 @@ pub fn loads(alloc: Global, view: &View<'_>) -> Result<Vec<Load>, NoMemory>
 fn add_instances(
     alloc: Global,
     view: &View<'_>,
-    rows: &[Instance],
+    rows: &[Boxed<Instance>],
     all: &mut Vec<Load>,
 ) -> Result<(), NoMemory>
     ensures { OnOk result (all.new.items ≡ all.old.items ++ map (instance_load view.now) rows.now) }
@@ -153,7 +153,7 @@ fn add_instances(
     Ok(())
 }
 
-fn add_volumes(alloc: Global, rows: &[Volume], all: &mut Vec<Load>) -> Result<(), NoMemory>
+fn add_volumes(alloc: Global, rows: &[Boxed<Volume>], all: &mut Vec<Load>) -> Result<(), NoMemory>
     ensures { OnOk result (all.new.items ≡ all.old.items ++ map volume_load rows.now) }
 {
     for row in rows {

@@ -53,7 +53,7 @@ pub mod from_row_machine {
 /// Of `size_values`, for the crates above.
 pub mod from_size_values {
     pub use restrictions::from_size_values::{
-        Action, Amounts, Cpu, Deed, Kind, Memory, NoMemory, ObjectKind, Or, Rise, Seq, Text,
+        Action, Amounts, Boxed, Cpu, Deed, Kind, Memory, NoMemory, ObjectKind, Or, Rise, Seq, Text,
         read_boolean, read_count, read_cpu, read_memory, read_size,
     };
 }

@@ -8,7 +8,7 @@ ghost use Rattle.row_machine.specs.machine.Rows.{instance_named, snapshot_named}
 ghost use Rattle.row_machine.specs.machine.StandingRules.{power_of};
 
 use crate::named::Names;
-use crate::places::row_named;
+use crate::places::{boxed_row_named, row_named};
 use crate::view::View;
 use restrictions::from_size_values::Power;
 use row_machine::Work;
@@ -42,28 +42,28 @@ impl<'x> View<'x> {
     pub fn profile_named(&self, project: &str, name: &str) -> Option<&'x Profile>
         ensures { option_copied result ≡ profile_named self.now.profiles project.now name.now }
     {
-        row_named(self.profiles, Names::Two(project, name))
+        boxed_row_named(self.profiles, Names::Two(project, name))
     }
 
     /// The volume of a name in a project and a storage pool.
     pub fn volume_named(&self, project: &str, pool: &str, name: &str) -> Option<&'x Volume>
         ensures { option_copied result ≡ volume_named self.now.volumes project.now pool.now name.now }
     {
-        row_named(self.volumes, Names::Three(project, pool, name))
+        boxed_row_named(self.volumes, Names::Three(project, pool, name))
     }
 
     /// The instance of a name in a project.
     pub fn instance_named(&self, project: &str, name: &str) -> Option<&'x Instance>
         ensures { option_copied result ≡ instance_named self.now.instances project.now name.now }
     {
-        row_named(self.instances, Names::Two(project, name))
+        boxed_row_named(self.instances, Names::Two(project, name))
     }
 
     /// The snapshot of a name of an instance in a project.
     pub fn snapshot_named(&self, project: &str, instance: &str, name: &str) -> Option<&'x Snapshot>
         ensures { option_copied result ≡ snapshot_named self.now.snapshots project.now instance.now name.now }
     {
-        row_named(self.snapshots, Names::Three(project, instance, name))
+        boxed_row_named(self.snapshots, Names::Three(project, instance, name))
     }
 }
 

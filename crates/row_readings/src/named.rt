@@ -7,6 +7,7 @@ ghost use Rattle.row_machine.specs.machine.Rows.{instance_names, snapshot_names,
 ghost use Rattle.row_readings.specs.Rising.{names_in};
 
 use crate::view::InstancePower;
+use restrictions::from_size_values::Boxed;
 use row_machine::from_records::{Instance, Network, Pool, Profile, Project, Snapshot, Volume};
 use std::cmp::Ordering;
 
@@ -51,6 +52,14 @@ pub trait Named {
     /// The names, lent.
     fn lent_names(&self) -> Names<'_>
         ensures { names_in result ≡ names self.now };
+}
+
+impl<T: Named> Named for Boxed<T> {
+    ghost names = { T.names };
+
+    fn lent_names(&self) -> Names<'_> {
+        T::lent_names(self)
+    }
 }
 
 impl Named for Project {

@@ -8,6 +8,7 @@ ghost use Rattle.row_machine.specs.machine.Rows.{same_names};
 ghost use Rattle.row_readings.specs.Rising.{names_in, FindsPlace};
 
 use crate::named::{Named, Names};
+use restrictions::from_size_values::Boxed;
 
 /// Whether rows rise by their names.
 pub fn rises<T: Named>(rows: &[T]) -> bool
@@ -23,6 +24,17 @@ pub fn place_named<T: Named>(rows: &[T], names: Names<'_>) -> Result<usize, usiz
     ensures place { FindsPlace T.names (names_in names.entry) rows.now result }
 {
     rows.binary_search_by(|row| row.lent_names().compare(names))
+}
+
+/// The row of these names, among rows that stand each in memory of its own.
+pub(crate) fn boxed_row_named<'x, T: Named>(rows: &'x [Boxed<T>], names: Names<'_>) -> Option<&'x T>
+    requires { Rise T.names rows.now }
+    ensures { option_copied result ≡ find (λ row. same_names (T.names row) (names_in names.entry)) rows.now }
+{
+    match row_named(rows, names) {
+        Some(row) => Some(row),
+        None => None,
+    }
 }
 
 /// The row of these names.

@@ -7,7 +7,7 @@ ghost use Rattle.row_machine.specs.machine.Asked.{next_snapshot};
 
 use crate::view::View;
 use restrictions::from_config_lists::Config;
-use restrictions::from_size_values::{NoMemory, Text};
+use restrictions::from_size_values::{Boxed, NoMemory, Text};
 use row_machine::from_instance_states::SnapshotNumbers;
 use row_machine::from_records::{Instance, Snapshot};
 use std::alloc::Global;
@@ -33,7 +33,7 @@ fn is_of(snapshot: &Snapshot, row: &Instance) -> bool
 /// The next name of a pattern after those of the instance's snapshots.
 fn next_of(
     alloc: Global,
-    snapshots: &[Snapshot],
+    snapshots: &[Boxed<Snapshot>],
     row: &Instance,
     pattern: &str,
 ) -> Result<Text, NoMemory>

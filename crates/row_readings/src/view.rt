@@ -1,4 +1,4 @@
-use restrictions::from_size_values::{Power, Text};
+use restrictions::from_size_values::{Boxed, Power, Text};
 use row_machine::Work;
 use row_machine::from_operations::Operation;
 use row_machine::from_records::{Instance, Network, Pool, Profile, Project, Snapshot, Volume};
@@ -29,12 +29,12 @@ impl Model for InstancePower {
 #[derive(Drop)]
 pub struct View<'a> {
     pub projects: &'a [Project],
-    pub profiles: &'a [Profile],
+    pub profiles: &'a [Boxed<Profile>],
     pub networks: &'a [Network],
     pub pools: &'a [Pool],
-    pub volumes: &'a [Volume],
-    pub instances: &'a [Instance],
-    pub snapshots: &'a [Snapshot],
+    pub volumes: &'a [Boxed<Volume>],
+    pub instances: &'a [Boxed<Instance>],
+    pub snapshots: &'a [Boxed<Snapshot>],
     pub powers: &'a [InstancePower],
     pub live: &'a [Operation<Work>],
     pub ended: &'a [Operation<Work>],

@@ -34,7 +34,8 @@ pub mod from_row_codec {
 /// Of `size_values`, for the crates above.
 pub mod from_size_values {
     pub use row_codec::from_size_values::{
-        Action, Amounts, Deed, Entry, EntryChange, Kind, NoMemory, ObjectKind, Or, Power, Seq, Text,
+        Action, Amounts, Boxed, Deed, Entry, EntryChange, Kind, NoMemory, ObjectKind, Or, Power,
+        Seq, Text,
     };
 }
 

@@ -6,7 +6,7 @@ use project_usage::from_records::{
     Instance, Kept, Profile, Refusal, Row, Rule, Snapshot, Target, Volume,
 };
 use project_usage::from_row_readings::View;
-use project_usage::from_size_values::{Deed, Kind, NoMemory, ObjectKind, Or, Seq, Text};
+use project_usage::from_size_values::{Boxed, Deed, Kind, NoMemory, ObjectKind, Or, Seq, Text};
 use std::alloc::Global;
 use table_rules::{claim_tables_broken, tables_broken};
 
@@ -93,28 +93,36 @@ fn snapshot(alloc: Global, name: Text) -> Snapshot {
 fn add_row(alloc: Global, rows: &mut Rows, kind: ObjectKind, number: u32) -> Result<(), NoMemory> {
     let name = Text::from_string(format!(in alloc; "{number:08}")?);
     match kind {
-        ObjectKind::Profile => rows.profiles.push(profile(alloc, name))?,
-        ObjectKind::Volume => rows.volumes.push(volume(alloc, name))?,
-        ObjectKind::Instance => rows.instances.push(instance(alloc, name))?,
-        ObjectKind::Snapshot => rows.snapshots.push(snapshot(alloc, name))?,
+        ObjectKind::Profile => rows
+            .profiles
+            .push(Boxed::new(alloc, profile(alloc, name))?)?,
+        ObjectKind::Volume => rows.volumes.push(Boxed::new(alloc, volume(alloc, name))?)?,
+        ObjectKind::Instance => rows
+            .instances
+            .push(Boxed::new(alloc, instance(alloc, name))?)?,
+        ObjectKind::Snapshot => rows
+            .snapshots
+            .push(Boxed::new(alloc, snapshot(alloc, name))?)?,
         _ => drop(name),
     }
     Ok(())
 }
 
 /// The row of a kind that an operation claims.
-fn claim(alloc: Global, kind: ObjectKind) -> Option<Row> {
-    match kind {
-        ObjectKind::Volume => Some(Row::Volume(volume(alloc, Text::new(alloc)))),
-        ObjectKind::Instance => Some(Row::Instance(instance(alloc, Text::new(alloc)))),
-        ObjectKind::Snapshot => Some(Row::Snapshot(snapshot(alloc, Text::new(alloc)))),
+fn claim(alloc: Global, kind: ObjectKind) -> Result<Option<Row>, NoMemory> {
+    let name = Text::new(alloc);
+    Ok(match kind {
+        ObjectKind::Volume => Some(Row::Volume(Boxed::new(alloc, volume(alloc, name))?)),
+        ObjectKind::Instance => Some(Row::Instance(Boxed::new(alloc, instance(alloc, name))?)),
+        ObjectKind::Snapshot => Some(Row::Snapshot(Boxed::new(alloc, snapshot(alloc, name))?)),
         _ => None,
-    }
+    })
 }
 
 /// A creation that claims a row of a kind.
-fn work(alloc: Global, kind: ObjectKind) -> Work {
-    Work {
+fn work(alloc: Global, kind: ObjectKind) -> Result<Work, NoMemory> {
+    let claim = claim(alloc, kind)?;
+    Ok(Work {
         deed: Deed::Create,
         project: Text::new(alloc),
         target: Target {
@@ -123,16 +131,17 @@ fn work(alloc: Global, kind: ObjectKind) -> Work {
             instance: Text::new(alloc),
             name: Text::new(alloc),
         },
-        claim: claim(alloc, kind),
+        claim,
         replaces: None,
         source: None,
         calls: Seq::new(alloc),
         undo: None,
         done: 0,
-    }
+    })
 }
 
 fn add_claim(alloc: Global, rows: &mut Rows, kind: ObjectKind) -> Result<(), NoMemory> {
+    let work = work(alloc, kind)?;
     rows.live.push(Operation {
         number: 1,
         created: 0,
@@ -140,7 +149,7 @@ fn add_claim(alloc: Global, rows: &mut Rows, kind: ObjectKind) -> Result<(), NoM
         status: Status::Running,
         may_cancel: false,
         fault: OpFault::None,
-        work: work(alloc, kind),
+        work,
     })?;
     Ok(())
 }

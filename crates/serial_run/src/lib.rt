@@ -23,7 +23,7 @@ pub mod from_run_words {
 
 /// Of `size_values`, for the crates above.
 pub mod from_size_values {
-    pub use start_faults::from_size_values::{Entry, EntryChange, NoMemory, Or, Seq};
+    pub use start_faults::from_size_values::{Boxed, Entry, EntryChange, NoMemory, Or, Seq};
 }
 
 /// Of `start_faults`, for the crates above.

@@ -19,7 +19,7 @@ use row_machine::from_config_lists::{Devices, Root};
 use row_machine::from_operations::Operation;
 use row_machine::from_option_tables::{Scope, check_instance};
 use row_machine::from_records::{Instance, Profile, Refusal, Rule};
-use row_machine::from_size_values::{Kind, ObjectKind, Or, Text};
+use row_machine::from_size_values::{Boxed, Kind, ObjectKind, Or, Text};
 use row_readings::{View, claimed_instance, profile_home};
 use rule_refusals::{on_name, on_object};
 use std::alloc::Global;
@@ -139,7 +139,7 @@ fn instances_break(
     alloc: Global,
     view: &View<'_>,
     profile: &Profile,
-    rows: &[Instance],
+    rows: &[Boxed<Instance>],
 ) -> Result<(), Or<Refusal>>
     ensures { Says result (first_of (where_named view.now profile.now) rows.now) }
 {

@@ -1,4 +1,4 @@
-ghost use Rattle.std.specs.Prelude.{◌≡◌, IfOk};
+ghost use Rattle.std.specs.Prelude.{◌≡◌, IfOk, Ok};
 
 use crate::memory::NoMemory;
 use std::alloc::Global;
@@ -26,6 +26,13 @@ impl<T: Drop> Boxed<T> {
             Ok(inner) => Ok(Boxed { inner }),
             Err(_) => Err(NoMemory),
         }
+    }
+
+    /// What was made, in memory of its own.
+    pub fn of(alloc: Global, made: Result<T, NoMemory>) -> Result<Boxed<T>, NoMemory>
+        ensures { IfOk result (λ b. made ≡ Ok b) }
+    {
+        Boxed::new(alloc, made?)
     }
 }
 

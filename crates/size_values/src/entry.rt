@@ -1,5 +1,6 @@
 ghost use Rattle.std.specs.Prelude.{◌≡◌, IfOk};
 
+use crate::boxed::Boxed;
 use crate::memory::NoMemory;
 use crate::seq::Seq;
 use crate::text::Text;
@@ -16,7 +17,7 @@ pub struct Entry {
 /// One change of the kept entries. A `Put` replaces the entry of its kind and key, if there is one.
 #[derive(Drop)]
 pub enum EntryChange {
-    Put(Entry),
+    Put(Boxed<Entry>),
     Remove { kind: u8, key: Text },
 }
 

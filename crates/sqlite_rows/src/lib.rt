@@ -9,7 +9,7 @@ pub mod from_record_keeper {
 
 /// Of `size_values`, for the crates above.
 pub mod from_size_values {
-    pub use record_keeper::from_size_values::{Entry, EntryChange, NoMemory, Or, Seq, Text};
+    pub use record_keeper::from_size_values::{Boxed, Entry, EntryChange, NoMemory, Or, Seq, Text};
 }
 
 /// Of `sqlite_tables`, for the crates above.

@@ -1,6 +1,6 @@
 //! Rows of a file as constants, and what is asked of a keeper over them.
 use sqlite_keeper::from_record_keeper::{Keeper, KeeperFailed};
-use sqlite_keeper::from_size_values::{Entry, EntryChange, NoMemory, Or, Seq, Text};
+use sqlite_keeper::from_size_values::{Boxed, Entry, EntryChange, NoMemory, Or, Seq, Text};
 use sqlite_keeper::{SqliteKeeper, Trouble};
 use std::alloc::Global;
 use std::fs;
@@ -30,11 +30,15 @@ pub fn renew(rt: &HostRuntime, folder: &str) -> bool {
 fn change(alloc: Global, row: Row) -> Result<EntryChange, NoMemory> {
     let key = Text::from_text(alloc, row.1)?;
     match row.2 {
-        Some(body) => Ok(EntryChange::Put(Entry {
-            kind: row.0,
-            key,
-            body: Seq::of_bytes(alloc, body)?,
-        })),
+        Some(body) => {
+            let body = Seq::of_bytes(alloc, body)?;
+            let entry = Entry {
+                kind: row.0,
+                key,
+                body,
+            };
+            Ok(EntryChange::Put(Boxed::new(alloc, entry)?))
+        }
         None => Ok(EntryChange::Remove { kind: row.0, key }),
     }
 }

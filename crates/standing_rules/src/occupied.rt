@@ -14,11 +14,11 @@ use row_machine::from_operations::Operation;
 use row_machine::from_records::{
     Command, Instance, Network, Profile, Refusal, Rule, Target, Volume, What,
 };
-use row_machine::from_size_values::{NoMemory, ObjectKind, Or};
+use row_machine::from_size_values::{Boxed, NoMemory, ObjectKind, Or};
 use rule_refusals::on_name;
 use std::alloc::Global;
 
-fn has_instance(rows: &[Instance], project: &str) -> bool
+fn has_instance(rows: &[Boxed<Instance>], project: &str) -> bool
     ensures { result ≡ list_any (λ r. bytes_eq r.project project.now) rows.now }
 {
     rows.iter().any(|r| r.project.view() == project)
@@ -30,14 +30,14 @@ fn has_network(rows: &[Network], project: &str) -> bool
     rows.iter().any(|r| r.project.view() == project)
 }
 
-fn has_volume(rows: &[Volume], project: &str) -> bool
+fn has_volume(rows: &[Boxed<Volume>], project: &str) -> bool
     ensures { result ≡ list_any (λ r. bytes_eq r.project project.now) rows.now }
 {
     rows.iter().any(|r| r.project.view() == project)
 }
 
 /// Whether a project has a profile other than `default`.
-fn has_own_profile(rows: &[Profile], project: &str) -> bool
+fn has_own_profile(rows: &[Boxed<Profile>], project: &str) -> bool
     ensures { result ≡ list_any (λ r. bytes_eq r.project project.now && not (bytes_eq r.name default_name)) rows.now }
 {
     rows.iter().any(|r| r.project.view() == project && r.name.view() != "default")

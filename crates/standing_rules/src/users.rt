@@ -18,7 +18,7 @@ use object_users::{instance_uses, names_profile, profile_uses, volume_uses};
 use row_machine::Work;
 use row_machine::from_operations::Operation;
 use row_machine::from_records::{Instance, Profile, Project, Target, Volume};
-use row_machine::from_size_values::{NoMemory, ObjectKind, Or, Text};
+use row_machine::from_size_values::{Boxed, NoMemory, ObjectKind, Or, Text};
 use std::alloc::Global;
 
 /// The link of a row, by its kind and names.
@@ -97,7 +97,7 @@ fn unused_by_profiles(
     home: &str,
     of: &Target,
     project: &str,
-    rows: &[Profile],
+    rows: &[Boxed<Profile>],
 ) -> Result<(), Or<Text>>
     ensures { Says result (first_profile_link view.now home.now of.now project.now rows.now) }
 {
@@ -141,7 +141,7 @@ fn unused_by_instances(
     home: &str,
     of: &Target,
     project: &str,
-    rows: &[Instance],
+    rows: &[Boxed<Instance>],
 ) -> Result<(), Or<Text>>
     ensures { Says result (first_instance_link view.now home.now of.now project.now rows.now) }
 {
@@ -176,7 +176,7 @@ fn unused_by_volumes(
     alloc: Global,
     of: &Target,
     project: &str,
-    rows: &[Volume],
+    rows: &[Boxed<Volume>],
 ) -> Result<(), Or<Text>>
     ensures { Says result (first_volume_link of.now project.now rows.now) }
 {
@@ -296,7 +296,7 @@ fn unnamed_by_all(
     view: &View<'_>,
     home: &str,
     profile: &str,
-    rows: &[Instance],
+    rows: &[Boxed<Instance>],
 ) -> Result<(), Or<Text>>
     ensures { Says result (first_of (naming_link view.now home.now profile.now) rows.now) }
 {

@@ -14,7 +14,7 @@ pub mod from_record_keeper {
 
 /// Of `size_values`, for the crates above.
 pub mod from_size_values {
-    pub use core_rows::from_size_values::{Entry, EntryChange, NoMemory, Or, Seq};
+    pub use core_rows::from_size_values::{Boxed, Entry, EntryChange, NoMemory, Or, Seq};
 }
 
 mod fault;

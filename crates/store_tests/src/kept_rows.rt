@@ -2,7 +2,7 @@
 use core_objects::from_core_rows::{OpenFault, load_rows};
 use core_objects::from_record_keeper::{Keeper, MapKeeper};
 use core_objects::from_records::Rule;
-use core_objects::from_size_values::{Entry, EntryChange, NoMemory, Seq, Text};
+use core_objects::from_size_values::{Boxed, Entry, EntryChange, NoMemory, Seq, Text};
 use std::alloc::Global;
 
 /// An entry by its kind, its key and its body.
@@ -123,7 +123,7 @@ fn push_put(alloc: Global, changes: &mut Seq<EntryChange>, kept: &Kept) -> Resul
     let (kind, key, body) = *kept;
     let key = Text::from_text(alloc, key)?;
     let body = Seq::of_bytes(alloc, body)?;
-    changes.push(EntryChange::Put(Entry { kind, key, body }))
+    changes.push(EntryChange::Put(Boxed::new(alloc, Entry { kind, key, body })?))
 }
 
 fn puts_of(alloc: Global, entries: &[Kept]) -> Result<Seq<EntryChange>, NoMemory> {

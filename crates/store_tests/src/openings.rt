@@ -10,7 +10,7 @@ use core_objects::from_records::{Body, Command, Origin, Reply, Row, Target, What
 use core_objects::from_row_drafts::Draft;
 use core_objects::from_row_machine::RowChange;
 use core_objects::from_row_readings::{profile_home, project_named};
-use core_objects::from_size_values::{NoMemory, ObjectKind, Seq, Text};
+use core_objects::from_size_values::{Boxed, NoMemory, ObjectKind, Seq, Text};
 use core_objects::from_work_reports::{default_profile, entry_changes};
 use std::alloc::Global;
 
@@ -149,7 +149,7 @@ fn one_put(alloc: Global) -> Result<Seq<RowChange>, NoMemory> {
     let project = Text::from_text(alloc, "lab")?;
     let profile = default_profile(alloc, &project)?;
     let mut changes = Seq::new(alloc);
-    changes.push(RowChange::Put(Row::Profile(profile)))?;
+    changes.push(RowChange::Put(Row::Profile(Boxed::new(alloc, profile)?)))?;
     Ok(changes)
 }
 

@@ -9,7 +9,7 @@ ghost use Rattle.object_links.specs.row_machine.specs.machine.Work.{removes_inst
 
 use object_links::from_records::{Instance, Snapshot};
 use object_links::from_row_machine::{RowChange, Work};
-use object_links::from_size_values::{NoMemory, ObjectKind, Seq};
+use object_links::from_size_values::{Boxed, NoMemory, ObjectKind, Seq};
 use object_links::{three_names, two_names};
 use row_readings::View;
 use std::alloc::Global;
@@ -40,7 +40,7 @@ pub(crate) fn is_of(row: &Snapshot, project: &str, instance: &str) -> bool
 
 fn remove_snapshots(
     alloc: Global,
-    snapshots: &[Snapshot],
+    snapshots: &[Boxed<Snapshot>],
     project: &str,
     instance: &str,
     changes: &mut Seq<RowChange>,

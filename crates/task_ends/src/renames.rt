@@ -8,7 +8,7 @@ ghost use Rattle.object_links.specs.row_machine.specs.machine.Work.{renames_inst
 use crate::removals::{is_of, removes_instance};
 use object_links::from_records::{Instance, Row, Snapshot};
 use object_links::from_row_machine::{RowChange, Work};
-use object_links::from_size_values::{NoMemory, Seq, Text};
+use object_links::from_size_values::{Boxed, NoMemory, Seq, Text};
 use row_readings::View;
 use std::alloc::Global;
 
@@ -36,20 +36,23 @@ fn snapshot_moved(alloc: Global, row: &Snapshot, to: &Instance) -> Result<RowCha
     let project = to.project.copy(alloc)?;
     let instance = to.name.copy(alloc)?;
     let copy = row.copy(alloc)?;
-    Ok(RowChange::Put(Row::Snapshot(moved_to_instance(copy, project, instance))))
+    Ok(RowChange::Put(Row::Snapshot(Boxed::new(
+        alloc,
+        moved_to_instance(copy, project, instance),
+    )?)))
 }
 
 fn put_instance(alloc: Global, row: &Instance, changes: &mut Seq<RowChange>) -> Result<(), NoMemory>
     ensures { OnOk result (changes.new ≡ changes.old ++ change.Put (row_of.Instance row.now) ∷ []) }
 {
     let row = row.copy(alloc)?;
-    changes.push(RowChange::Put(Row::Instance(row)))
+    changes.push(RowChange::Put(Row::Instance(Boxed::new(alloc, row)?)))
 }
 
 /// Puts an instance, and the snapshots of the one whose place it takes as its own.
 fn put_moved(
     alloc: Global,
-    snapshots: &[Snapshot],
+    snapshots: &[Boxed<Snapshot>],
     project: &str,
     instance: &str,
     to: &Instance,

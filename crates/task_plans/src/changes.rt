@@ -13,7 +13,7 @@ use instance_tasks::from_row_readings::View;
 use instance_tasks::zip_or_drop;
 use row_machine::Work;
 use row_machine::from_records::{Body, Instance, Snapshot, Target};
-use row_machine::from_size_values::{Deed, NoMemory, Text};
+use row_machine::from_size_values::{Boxed, Deed, NoMemory, Text};
 use std::alloc::Global;
 
 /// The host is told what the changed instance has.
@@ -27,7 +27,7 @@ fn update_task(
 ) -> Result<Work, NoMemory>
     ensures { IfOk result (λ w. w ≡ update_task view.now project.now of.now (put_instance old.now body.now)) }
 {
-    let row = put_instance(alloc, old, body)?;
+    let row = Boxed::new(alloc, put_instance(alloc, old, body)?)?;
     let calls = apply_calls(alloc, view, project, &of.name, &row);
     let made = zip_or_drop(Ok(row), calls);
     let (about, made) = zip_or_drop(target_and_replaced(alloc, project, of), made)?;
@@ -45,7 +45,7 @@ fn rename_task(
     ensures { IfOk result (λ w. w ≡ rename_task project.now of.now to.now old.now) }
 {
     let calls = rename_calls(alloc, project, &of.name, to);
-    let made = zip_or_drop(renamed_instance(alloc, old, to), calls);
+    let made = zip_or_drop(Boxed::of(alloc, renamed_instance(alloc, old, to)), calls);
     let (about, made) = zip_or_drop(target_and_replaced(alloc, project, of), made)?;
     Ok(replacing_task(Deed::Rename, about, made.0, made.1))
 }
@@ -61,7 +61,10 @@ fn restore_task(
     ensures { IfOk result (λ w. w ≡ restore_task project.now of.now old.now snapshot.now) }
 {
     let calls = restore_calls(alloc, project, &of.name, &snapshot.name);
-    let made = zip_or_drop(restored_instance(alloc, old, snapshot), calls);
+    let made = zip_or_drop(
+        Boxed::of(alloc, restored_instance(alloc, old, snapshot)),
+        calls,
+    );
     let (about, made) = zip_or_drop(target_and_replaced(alloc, project, of), made)?;
     Ok(replacing_task(Deed::Restore, about, made.0, made.1))
 }

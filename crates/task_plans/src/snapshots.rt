@@ -19,7 +19,7 @@ use instance_tasks::zip_or_drop;
 use row_machine::Work;
 use row_machine::from_host_model::{HostCall, Place};
 use row_machine::from_records::{Instance, Row, Snapshot, Target};
-use row_machine::from_size_values::{Deed, NoMemory, Seq, Text};
+use row_machine::from_size_values::{Boxed, Deed, NoMemory, Seq, Text};
 use std::alloc::Global;
 
 /// A new snapshot of an instance.
@@ -78,7 +78,7 @@ fn with_name(
 /// The operation that makes a snapshot, which its undoing takes away.
 fn snapshot_task(
     about: (Text, Target),
-    row: Snapshot,
+    row: Boxed<Snapshot>,
     calls: Seq<HostCall>,
     place: (Place, Text),
 ) -> Work
@@ -118,7 +118,7 @@ fn snapshot_creation(
         project_and_target(alloc, project, of),
         snapshot_place(alloc, project, of),
     );
-    let made = made_snapshot(alloc, row, &of.name, moment);
+    let made = Boxed::of(alloc, made_snapshot(alloc, row, &of.name, moment));
     let made = zip_or_drop(made, snap_calls(alloc, project, of));
     let (names, made) = zip_or_drop(names, made)?;
     Ok(snapshot_task(names.0, made.0, made.1, names.1))

@@ -16,7 +16,7 @@ use instance_tasks::{copy_calls, zip_or_drop};
 use row_machine::Work;
 use row_machine::from_host_model::{HostCall, Place};
 use row_machine::from_records::{Body, Origin, Row, Target, Volume};
-use row_machine::from_size_values::{Deed, NoMemory, Seq, Text};
+use row_machine::from_size_values::{Boxed, Deed, NoMemory, Seq, Text};
 use std::alloc::Global;
 
 /// Where the root of a volume stands.
@@ -101,7 +101,7 @@ fn place_and_calls(
 fn copy_task(
     about: (Text, Target),
     source: Target,
-    row: Volume,
+    row: Boxed<Volume>,
     copying: (Place, Seq<HostCall>),
 ) -> Work
     ensures { result
@@ -140,7 +140,10 @@ fn volume_copy(
 {
     let about = zip_or_drop(Text::from_text(alloc, project), of.copy(alloc));
     let about = zip_or_drop(about, volume_source(alloc, of, from, pool));
-    let row = copied_volume(alloc, project, of, body, moment, source);
+    let row = Boxed::of(
+        alloc,
+        copied_volume(alloc, project, of, body, moment, source),
+    );
     let made = zip_or_drop(row, place_and_calls(alloc, project, of, from, pool));
     let (about, made) = zip_or_drop(about, made)?;
     Ok(copy_task(about.0, about.1, made.0, made.1))

@@ -7,7 +7,7 @@ use instance_tasks::zip_or_drop;
 use row_machine::Work;
 use row_machine::from_host_model::HostCall;
 use row_machine::from_records::{Instance, Row, Target};
-use row_machine::from_size_values::{Deed, NoMemory, Seq, Text};
+use row_machine::from_size_values::{Boxed, Deed, NoMemory, Seq, Text};
 use std::alloc::Global;
 
 /// What an operation is about: its project and its object.
@@ -54,7 +54,7 @@ pub(crate) fn target_and_replaced(
 pub(crate) fn replacing_task(
     deed: Deed,
     replaced: ((Text, Target), (Text, Text)),
-    row: Instance,
+    row: Boxed<Instance>,
     calls: Seq<HostCall>,
 ) -> Work
     ensures { result

@@ -3,7 +3,7 @@ use lent_rows::from_config_lists::{Config, Devices};
 use lent_rows::from_records::{Instance, Profile, Project, Snapshot, Volume};
 use lent_rows::from_reservations::Books;
 use lent_rows::from_row_readings::View;
-use lent_rows::from_size_values::{Amounts, Kind, Seq, Text};
+use lent_rows::from_size_values::{Amounts, Boxed, Kind, Seq, Text};
 use lent_rows::in_order;
 use std::alloc::Global;
 
@@ -39,14 +39,20 @@ fn names(alloc: Global, list: &[&str]) -> Seq<Text> {
 #[derive(Drop)]
 pub(crate) struct Rows {
     projects: Vec<Project>,
-    profiles: Vec<Profile>,
-    volumes: Vec<Volume>,
-    instances: Vec<Instance>,
-    snapshots: Vec<Snapshot>,
+    profiles: Vec<Boxed<Profile>>,
+    volumes: Vec<Boxed<Volume>>,
+    instances: Vec<Boxed<Instance>>,
+    snapshots: Vec<Boxed<Snapshot>>,
 }
 
 fn add<T: Drop>(rows: &mut Vec<T>, row: T) {
     let _ = rows.push(row);
+}
+
+fn add_boxed<T: Drop>(alloc: Global, rows: &mut Vec<Boxed<T>>, row: T) {
+    if let Ok(row) = Boxed::new(alloc, row) {
+        add(rows, row);
+    }
 }
 
 fn project(alloc: Global, name: &str, settings: Settings) -> Project {
@@ -132,18 +138,27 @@ impl Rows {
     }
 
     fn add_volumes(&mut self, alloc: Global) {
-        add(
+        add_boxed(
+            alloc,
             &mut self.volumes,
             volume(alloc, "default", &[("size", "1GiB")]),
         );
-        add(&mut self.volumes, volume(alloc, "own", &[("size", "3GiB")]));
+        add_boxed(
+            alloc,
+            &mut self.volumes,
+            volume(alloc, "own", &[("size", "3GiB")]),
+        );
     }
 
     fn add_instances(&mut self, alloc: Global) {
-        add(&mut self.profiles, base_profile(alloc));
-        add(&mut self.instances, instance(alloc, "c1", false, &["base"]));
-        add(&mut self.instances, instance(alloc, "e1", true, &[]));
-        add(&mut self.snapshots, snapshot(alloc));
+        add_boxed(alloc, &mut self.profiles, base_profile(alloc));
+        add_boxed(
+            alloc,
+            &mut self.instances,
+            instance(alloc, "c1", false, &["base"]),
+        );
+        add_boxed(alloc, &mut self.instances, instance(alloc, "e1", true, &[]));
+        add_boxed(alloc, &mut self.snapshots, snapshot(alloc));
     }
 
     pub(crate) fn view(&self) -> View<'_> {

@@ -9,7 +9,7 @@ use row_machine::RowChange;
 use row_sizes::from_config_lists::{Config, Devices};
 use row_sizes::from_records::Profile;
 use row_sizes::from_row_codec::encode;
-use row_sizes::from_size_values::{EntryChange, NoMemory, ObjectKind, Seq, Text};
+use row_sizes::from_size_values::{Boxed, EntryChange, NoMemory, ObjectKind, Seq, Text};
 use std::alloc::Global;
 
 /// The number that entries of a kind have.
@@ -34,7 +34,7 @@ fn entry_change(alloc: Global, change: &RowChange) -> Result<EntryChange, NoMemo
     ensures { IfOk result (λ e. e ≡ entry_change change.now) }
 {
     match change {
-        RowChange::Put(row) => Ok(EntryChange::Put(encode(alloc, row)?)),
+        RowChange::Put(row) => Ok(EntryChange::Put(Boxed::new(alloc, encode(alloc, row)?)?)),
         RowChange::Remove(kind, key) => Ok(EntryChange::Remove {
             kind: number_of(*kind),
             key: key.copy(alloc)?,
