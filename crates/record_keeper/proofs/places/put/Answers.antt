@@ -5,17 +5,17 @@ use Rattle.record_keeper.proofs.Ordered.{put-found, put-new, ordered-put}
 use Rattle.record_keeper.proofs.places.put.Goals as goal
 
 pub returns-in-Ok-clause-items : goal.returns-in-Ok-clause-items
-returns-in-Ok-clause-items c = put-found c.args.entry c.args.entries.now.items c.in-Ok.index (rw c.deref.ensures.value at c.in-Ok.ensures)
+returns-in-Ok-clause-items c = put-found c.args.entry c.args.entries.now.items c.in-Ok.index (rw (c.deref.ensures.value, c.deref-2.ensures, c.deref-3.ensures) at c.in-Ok.ensures)
 
 pub returns-in-Ok-clause-order : goal.returns-in-Ok-clause-order
 returns-in-Ok-clause-order c =
-    subst IsOrderedEntries (sym (put-found c.args.entry c.args.entries.now.items c.in-Ok.index (rw c.deref.ensures.value at c.in-Ok.ensures)))
+    subst IsOrderedEntries (sym (put-found c.args.entry c.args.entries.now.items c.in-Ok.index (rw (c.deref.ensures.value, c.deref-2.ensures, c.deref-3.ensures) at c.in-Ok.ensures)))
     (ordered-put c.args.entry c.args.entries.now.items c.requires.order)
 
 put-is : (c : goal.Else-is_err) → c.insert.new.self.items ≡ put_entry c.args.entry c.args.entries.now.items
 put-is c =
     let placed : insert c.args.entries.now.items c.in-Err.index c.args.entry ≡ put_entry c.args.entry c.args.entries.now.items =
-    put-new c.args.entry c.args.entries.now.items c.in-Err.index (rw c.deref.ensures.value at c.in-Err.ensures) in
+    put-new c.args.entry c.args.entries.now.items c.in-Err.index (rw (c.deref.ensures.value, c.deref-2.ensures, c.deref-3.ensures) at c.in-Err.ensures) in
     let inserted : c.insert.new.self.items ≡ insert c.args.entries.now.items c.in-Err.index c.args.entry =
     simp (c.is_err.ensures.negation, c.if-is_err.false) at c.insert.ensures.items in
     inserted ∙ placed
