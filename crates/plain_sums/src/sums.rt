@@ -7,7 +7,7 @@ use row_readings::from_config_lists::Device;
 use row_readings::from_records::{Instance, Profile, Project, Row, Volume};
 use row_readings::from_row_machine::Work;
 use row_readings::from_size_values::{
-    Cpu, Kind, Memory, read_boolean, read_count, read_cpu, read_memory, read_size,
+    Boxed, Cpu, Kind, Memory, read_boolean, read_count, read_cpu, read_memory, read_size,
 };
 
 /// What a project uses, each part as its limit counts it.
@@ -88,7 +88,7 @@ fn home_of<'a>(view: &View<'_>, project: &'a str) -> &'a str {
 }
 
 /// The profile of a name in a project.
-fn profile_named<'a>(view: &View<'a>, home: &str, name: &str) -> Option<&'a Profile> {
+fn profile_named<'a>(view: &View<'a>, home: &str, name: &str) -> Option<&'a Boxed<Profile>> {
     view.profiles.iter().find(|row| row.project.view() == home && row.name.view() == name)
 }
 
@@ -252,7 +252,7 @@ fn sums_of_instances(view: &View<'_>, project: &str) -> Sums {
 
 /// The instance that an operation would replace, if it is of the same project as the row that the
 /// operation would put.
-fn replaced<'a>(view: &View<'a>, work: &Work, row: &Instance) -> Option<&'a Instance> {
+fn replaced<'a>(view: &View<'a>, work: &Work, row: &Instance) -> Option<&'a Boxed<Instance>> {
     match &work.replaces {
         Some((project, name)) => {
             let project = project.view();

@@ -2,7 +2,7 @@
 ghost use Rattle.std.specs.Prelude.{◌≤◌};
 
 use crate::links::{OwnGate, TWICE, TWICE_REPLIES, is_served, new_gate};
-use crate::server::{CLOSED, said_by};
+use crate::server::{Said, said_by};
 use gates::from_gate_trails::Gate;
 use gates::from_http_front::StillClock;
 use gates::from_row_machine::Event;
@@ -129,7 +129,7 @@ fn is_worked<T: Wait>(rt: &T, alloc: Global) -> bool {
         return false;
     };
     let begun = is_served(rt, alloc, &mut gate, BEGUN, 100, "ended", BEGUN_REPLIES);
-    let closed = said_by(gate.turn(Event::Close)) == CLOSED;
+    let closed = said_by(gate.turn(Event::Close)) == Said::Closed;
     let made = is_made(rt, alloc, &mut gate);
     let shown = is_served(rt, alloc, &mut gate, SHOWN, 100, "ended", SHOWN_REPLIES);
     drop(gate);

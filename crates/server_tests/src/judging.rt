@@ -1,6 +1,6 @@
 //! What has to stand after each turn.
 
-use crate::server::{BEGUN, DONE, LIMITS, Said, Server, Usage};
+use crate::server::{LIMITS, Said, Server, Usage};
 use plain_sums::from_operations::Operation;
 use plain_sums::from_records::{LimitKeyName, Project};
 use plain_sums::from_reservations::Hold;
@@ -36,7 +36,7 @@ pub(crate) fn mark_of(view: &View<'_>) -> Mark {
 /// Whether an answer is to a request that may change something: it was carried out at once, or began in the
 /// background. It was not refused, by its form either, nor was memory.
 pub(crate) fn may_change(said: Said) -> bool {
-    said == DONE || said.0 == BEGUN
+    matches!(said, Said::Done | Said::Begun(_))
 }
 
 /// What is used, as a share counts it.

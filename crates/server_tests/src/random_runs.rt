@@ -3,7 +3,7 @@
 use crate::chance::Chance;
 use crate::events::{SETUP, happens};
 use crate::judging::all_stands;
-use crate::server::Server;
+use crate::server::{Server, new_server};
 use std::alloc::Global;
 
 /// The seed after the last one.
@@ -29,7 +29,7 @@ fn wrong_event(server: &mut Server, seed: u64) -> Option<u64> {
 
 /// The first event of the run of a seed that goes wrong, on a server with three projects more than its own.
 fn wrong_in_run(alloc: Global, seed: u64) -> Option<u64> {
-    let Some(mut server) = Server::new(alloc, &FAILS) else {
+    let Some(mut server) = new_server(alloc, &FAILS) else {
         return Some(0);
     };
     let wrong = if server.does_all(SETUP) {

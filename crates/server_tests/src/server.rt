@@ -1,7 +1,7 @@
 //! A server with its keeper, asked by requests of the REST API.
 
 use gates::from_core_turns::Daemon;
-use gates::from_record_keeper::MapKeeper;
+use gates::from_record_keeper::{Keeper, MapKeeper};
 use gates::from_row_machine::Event;
 use plain_sums::from_host_model::Report;
 use plain_sums::from_records::{Command, LimitKeyName, Reply, UsageLine, View, What};
@@ -17,25 +17,21 @@ use std::alloc::Global;
 /// The moment of every turn.
 const NOW: u64 = 1_700_000_000;
 
-/// What an answer says, and the number of the operation of which it says it.
-pub(crate) type Said = (&'static str, u64);
-
-/// A command was carried out at once.
-pub(crate) const DONE: Said = ("done", 0);
-
-/// An operation of this number began.
-pub(crate) const BEGUN: &str = "begun";
-
-/// A call is to be made for the operation of this number.
-pub(crate) const CALL: &str = "call";
-
-/// The operation of this number has ended.
-pub(crate) const ENDED: &str = "ended";
-
-/// The server was closed.
-pub(crate) const CLOSED: Said = ("closed", 0);
-
-const OTHER: Said = ("other", 0);
+/// What an answer says.
+#[derive(Clone, Copy, PartialEq, Eq)]
+pub(crate) enum Said {
+    /// A command was carried out at once.
+    Done,
+    /// An operation of this number began.
+    Begun(u64),
+    /// A call is to be made for the operation of this number.
+    Call(u64),
+    /// The operation of this number has ended.
+    Ended(u64),
+    /// The server was closed.
+    Closed,
+    Other,
+}
 
 /// The limits of a project.
 pub(crate) const LIMITS: [LimitKeyName; 8] = [
@@ -73,12 +69,12 @@ fn request_of(alloc: Global, line: &str) -> Request {
 /// What an answer says, which is let go.
 pub(crate) fn said_by(answer: Answer) -> Said {
     let said = match &answer {
-        Answer::Reply(Reply::Empty) => DONE,
-        Answer::Reply(Reply::Started(view)) => (BEGUN, view.number),
-        Answer::Job(number, _) => (CALL, *number),
-        Answer::Ended(number) => (ENDED, *number),
-        Answer::Closed => CLOSED,
-        _ => OTHER,
+        Answer::Reply(Reply::Empty) => Said::Done,
+        Answer::Reply(Reply::Started(view)) => Said::Begun(view.number),
+        Answer::Job(number, _) => Said::Call(*number),
+        Answer::Ended(number) => Said::Ended(*number),
+        Answer::Closed => Said::Closed,
+        _ => Said::Other,
     };
     drop(answer);
     said
@@ -111,7 +107,12 @@ fn usage_by(answer: Answer) -> Option<Usage> {
 /// A new server over a keeper of which these calls fail; none where it does not open.
 pub(crate) fn opened(alloc: Global, fails: &[u64]) -> Option<(Daemon, MapKeeper)> {
     let fails = Vec::from_slice(alloc, fails).unwrap_or(Vec::new(alloc));
-    let mut keeper = MapKeeper::new(alloc, Seq::from_vec(fails));
+    opened_over(alloc, MapKeeper::new(alloc, Seq::from_vec(fails)))
+}
+
+/// A server and its keeper; none where it does not open.
+pub(crate) fn opened_over<R: Keeper + Drop>(alloc: Global, keeper: R) -> Option<(Daemon, R)> {
+    let mut keeper = keeper;
     match Daemon::begin(alloc, &mut keeper) {
         Ok(daemon) => Some((daemon, keeper)),
         Err(fault) => {
@@ -124,19 +125,27 @@ pub(crate) fn opened(alloc: Global, fails: &[u64]) -> Option<(Daemon, MapKeeper)
 
 /// A server, the store of its rows, and the reader of its requests.
 #[derive(Drop)]
-pub(crate) struct Server {
+pub(crate) struct ServerOver<R> {
     pub(crate) alloc: Global,
     router: Router,
     daemon: Daemon,
-    keeper: MapKeeper,
+    keeper: R,
 }
 
-impl Server {
-    /// A server over a keeper of which these calls fail; none where it does not open.
-    pub(crate) fn new(alloc: Global, fails: &[u64]) -> Option<Server> {
-        let (daemon, keeper) = opened(alloc, fails)?;
+/// One whose rows are kept in memory.
+pub(crate) type Server = ServerOver<MapKeeper>;
+
+/// A new server over a keeper of which these calls fail; none where it does not open.
+pub(crate) fn new_server(alloc: Global, fails: &[u64]) -> Option<Server> {
+    let (daemon, keeper) = opened(alloc, fails)?;
+    ServerOver::of(alloc, daemon, keeper)
+}
+
+impl<R: Keeper + Drop> ServerOver<R> {
+    /// The server that opened over a keeper.
+    pub(crate) fn of(alloc: Global, daemon: Daemon, keeper: R) -> Option<ServerOver<R>> {
         match Router::new(alloc) {
-            Ok(router) => Some(Server {
+            Ok(router) => Some(ServerOver {
                 alloc,
                 router,
                 daemon,
@@ -175,7 +184,7 @@ impl Server {
             Ok(answer) => said_by(answer),
             Err(why) => {
                 drop(why);
-                OTHER
+                Said::Other
             }
         }
     }
@@ -195,7 +204,7 @@ impl Server {
     pub(crate) fn does_all(&mut self, lines: &[&str]) -> bool {
         let mut is_done = true;
         for line in lines {
-            is_done = is_done && self.ask(line) == DONE;
+            is_done = is_done && self.ask(line) == Said::Done;
         }
         is_done
     }

@@ -2,7 +2,7 @@
 //! memory is refused, of a snapshot that expires, and of each action. All else that replies tell,
 //! and what requests ask for, is told by the runs of `session_runs`.
 
-use crate::server::{Server, text};
+use crate::server::{Server, new_server, text};
 use rest_routes::from_config_lists::{Config, Devices};
 use rest_routes::from_records::{
     Kept, Life, Notice, OpFault, OpView, Refusal, Reply, Rule, Snapshot, Status, Target, Told, View,
@@ -233,7 +233,7 @@ fn is_refused(server: &mut Server) -> bool {
 
 /// The same at a new server.
 fn refuses_no_target(alloc: Global) -> bool {
-    let Some(mut server) = Server::new(alloc, &[]) else {
+    let Some(mut server) = new_server(alloc, &[]) else {
         return false;
     };
     let is_so = is_refused(&mut server);
