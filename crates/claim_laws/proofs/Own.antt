@@ -47,6 +47,14 @@ last-of {R} {a} {b} {c} {d} first second third =
     ∙ or-none c
     ∙ third
 
+-- of three rules only the first may be broken, and decides
+pub first-alone : {R : Type 0} {a b c d : Option R} → a ≡ d → b ≡ None → c ≡ None → option_or a (option_or b (option_or c None)) ≡ d
+first-alone {R} {a} {b} {c} {d} first second third =
+    ap (λ o. option_or a (option_or o (option_or c None))) second
+    ∙ ap (λ o. option_or a (option_or o None)) third
+    ∙ or-none a
+    ∙ first
+
 -- what a live operation claims is among the rows and claims
 pub claimed : {X : Type 0} (read : Task → Option X) (s : State) (rows : List X) (o : Operation Task) (x : X)
     → Mem o s.operations.live → read o.work ≡ Some x → Mem x (rows ++ of_live read s)
