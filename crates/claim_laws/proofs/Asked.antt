@@ -21,8 +21,7 @@ use Rattle.machine_laws.specs.row_machine.specs.machine.Refusals.{on_key_of}
 use Rattle.machine_laws.specs.row_machine.specs.machine.Rows.{is_project, project_named, project_names}
 use Rattle.machine_laws.proofs.LimitsForbidden.{rule_numbers, is_rule, forbids-none, rule-or_not}
 use Rattle.policy_rules.specs.Alone.{first_forbids}
-use Rattle.claim_laws.proofs.Own.{or-none}
-use Rattle.claim_laws.proofs.Limits.{apart}
+use Rattle.claim_laws.proofs.Own.{apart, or-none}
 
 -- ---- of seven numbers
 
@@ -41,6 +40,7 @@ by-number told n m = at m where
   at (inr (inr (inr (inr (inl e))))) = subst Asked (sym e) refl
   at (inr (inr (inr (inr (inr (inl e)))))) = subst Asked (sym e) refl
   at (inr (inr (inr (inr (inr (inr (inl e))))))) = subst Asked (sym e) refl
+  at (inr (inr (inr (inr (inr (inr (inr none))))))) = absurd none
 
 module _ (p : Project) (r : Profile) where
   -- the refusal of a thing that is forbidden, by the rule of a number

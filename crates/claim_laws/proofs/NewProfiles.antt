@@ -45,7 +45,7 @@ use Rattle.limit_rules.specs.Within.{own_instance as own_counted}
 use Rattle.policy_rules.specs.Alone.{first_forbids, profile_forbidden}
 use Rattle.policy_rules.specs.Within.{own_profile, own_instance, own_claim}
 use Rattle.policy_rules.proofs.Judged.{forbids-split}
-use Rattle.claim_laws.specs.NewProfile.{with_new, IsProfileJudgedAlone, NewProfilesAreJudgedAlone}
+use Rattle.claim_laws.specs.NewProfile.{with_new, NewProfilesAreJudgedAlone}
 use Rattle.claim_laws.proofs.Asked.{first-rule, found-alone}
 use Rattle.claim_laws.proofs.Counts.{volumes-free}
 use Rattle.claim_laws.proofs.Own.{own-none, claim-none, listed-none, first-alone, last-of, claimed}
