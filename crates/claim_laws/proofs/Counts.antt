@@ -27,7 +27,7 @@ module _ (s : State) (p : Project) (h : IsWithin s p) where
   instances-free = none-first_of (own_instance s p) s.instances
       (Each-map (own-none (instance_uncounted s p) (λ (i : Instance). i.project) p.name) (Each-left (of_live claimed_instance s) h.instances))
 
-  volumes-free : first_of (own_volume p) s.volumes ≡ None
+  pub volumes-free : first_of (own_volume p) s.volumes ≡ None
   unfolding judged_volumes
   volumes-free = none-first_of (own_volume p) s.volumes
       (Each-map (own-none (volume_uncounts p) (λ (v : Volume). v.project) p.name) (Each-left (of_live claimed_volume s) h.volumes))

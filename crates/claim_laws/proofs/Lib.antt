@@ -1,5 +1,7 @@
-mod Own
+pub mod Own
 mod Counts
 mod Policy
 pub mod Limits
 pub mod Alone
+mod Asked
+pub mod NewProfiles

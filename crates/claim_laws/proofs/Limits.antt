@@ -4,7 +4,6 @@ use Rattle.std.specs.Prelude.{IfSome, map, nat_lt}
 use Rattle.std.specs.List.{sum_by}
 use Rattle.std.specs.Option.{option_map, option_map_or, option_or, option_to_list}
 use Rattle.std.specs.Str.{bytes_eq}
-use Rattle.std.proofs.lemmas.Bool.{false≢true}
 use Rattle.std.proofs.lemmas.Bool.Decides.{nat_tests}
 use Rattle.std.proofs.lemmas.List.Sums.{sum_by-append, sum_by-cons}
 use Rattle.machine_laws.specs.plain_lists.specs.Firsts.{first_of}
@@ -33,7 +32,7 @@ use Rattle.machine_laws.specs.row_machine.specs.facts.Whole.{IsWithin, AreWithin
 use Rattle.machine_laws.proofs.Base.{claiming-reads}
 use Rattle.project_usage.proofs.Parts.{none-of, part-of_usage}
 use Rattle.limit_rules.specs.Alone.{share_over, share_exceeds, share_broken}
-use Rattle.claim_laws.proofs.Own.{or-none}
+use Rattle.claim_laws.proofs.Own.{apart, or-none}
 
 -- ---- parts
 
@@ -93,13 +92,6 @@ unexceeded p key None n h = refl
 unexceeded p key (Some l) n h =
     let within : nat_lt l (n + amount_above n n) ≡ false = grind (arith, nat_tests, h) in
     ap (option_map (over_refusal p)) (ap (λ b. cond {A = Option Over} b (Some (record { key = key; used = n; asked = amount_above n n; limit = l })) None) within)
-
--- two texts that differ do so either way
-apart : (a b : List ℕ) → bytes_eq a b ≡ false → bytes_eq b a ≡ false
-apart a b differ = at (bytes_eq b a) refl where
-  at : (test : Bool) → bytes_eq b a ≡ test → test ≡ false
-  at true is = absurd (false≢true (sym differ ∙ ap (bytes_eq a) (same b a is) ∙ bytes_eq-itself a))
-  at false is = refl
 
 module _ (s : State) (task : Task) (p : Project) (h : IsWithin s p) where
   -- the project that it counts for, and what that uses and its share

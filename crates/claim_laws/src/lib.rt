@@ -1,4 +1,5 @@
-//! A new operation is judged by what it claims alone: a function that does nothing, whose contract is the law.
+//! A new operation is judged by what it claims alone, and a new profile by what it has: functions that do nothing, whose
+//! contracts are the laws.
 #![tactic(auto)]
 
 /// Of `limit_rules`, for the crates above.
@@ -11,7 +12,7 @@ pub mod from_limit_rules {
 
 /// Of `policy_rules`, for the crates above.
 pub mod from_policy_rules {
-    pub use policy_rules::{claim_forbidden, policy_broken, snapshot_blocked};
+    pub use policy_rules::{claim_forbidden, policy_broken, profile_forbidden, snapshot_blocked};
 }
 
 /// Of `project_usage`, for the crates above.
@@ -21,4 +22,4 @@ pub mod from_project_usage {
 
 mod laws;
 
-pub use laws::claims_are_judged_alone;
+pub use laws::{claims_are_judged_alone, new_profiles_are_judged_alone};

@@ -1,5 +1,5 @@
 -- What a change comes to, from what its parts were called with and answered.
-use Rattle.std.proofs.Common.{◌≡◌, ℕ, List, [], None, Err, sym, subst, ◌∙◌}
+use Rattle.std.proofs.Common.{◌≡◌, ℕ, List, [], None, Err, sym, ap, subst, ◌∙◌}
 use Rattle.config_lists.specs.size_values.specs.Causes.{Refuses}
 use Rattle.config_lists.specs.size_values.specs.declared.memory.Or.{Or}
 use Rattle.config_lists.specs.size_values.specs.declared.memory.Or.TheVariants as or
@@ -15,11 +15,20 @@ use Rattle.opening_rules.specs.row_machine.specs.machine.Plans.{changes}
 use Rattle.opening_rules.specs.row_machine.specs.facts.Whole.{IsWhole}
 use Rattle.judged_changes.specs.machine_laws.specs.Entries.{entry_changes}
 use Rattle.judged_changes.specs.machine_laws.proofs.Cases.{IsAccepted}
+use Rattle.judged_changes.specs.declared.changing.Before.{Before}
+use Rattle.judged_changes.specs.Before.{Judges}
 use Rattle.judged_changes.specs.Judged.{changes_judged, reply_for}
 use Rattle.core_rows.specs.Planned.{Follows, IsToDo}
 use Rattle.judged_changes.specs.Commits.{Commits}
 use Rattle.core_rows.proofs.Following.{follows-why, follows-judged, follows-uncommitted}
 use Rattle.core_rows.proofs.Judging.{accepted-so}
+
+-- what is judged of the changes as they were copied is judged of them
+pub judged-by : {X : Type 0} (before : Before) (s later : State) (cs judged : List RowChange)
+    → (IsWhole s → later ≡ applied s judged → Judges before s judged → X)
+    → IsWhole s → later ≡ applied s cs → judged ≡ cs → Judges before s cs → X
+judged-by before s later cs judged says whole made same by =
+    says whole (made ∙ ap (applied s) (sym same)) (subst (Judges before s) (sym same) by)
 
 module _ (s : State) (c : Command) (moment : ℕ) (cs : List RowChange) (n : Untold) where
   -- the changes were judged over the state that was made, and break no rule

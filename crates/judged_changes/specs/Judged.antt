@@ -30,6 +30,10 @@ changes_judged state later rows = first
     ∷ tables_broken later rows
     ∷ [])
 
+-- the first rule on policy and limits that changes break, of all projects, judged over the state after them
+abbrev pub projects_judged : State → State → Option Refusal
+projects_judged state later = first (policy_broken later ∷ counts_broken later ∷ limits_broken state later ∷ [])
+
 -- The first rule that a new operation breaks, judged over the state with it, by what it claims alone: by why it could
 -- not be entered, and by what the project of its share uses beside it.
 unfoldable pub claim_judged : Command → State → Option EnterFault → List ℕ → Amounts → Amounts → Task → Option Refusal

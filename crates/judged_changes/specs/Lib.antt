@@ -6,5 +6,6 @@ pub use Rattle.kept_totals.specs.policy_rules as policy_rules
 pub use Rattle.kept_totals.specs.record_keeper as record_keeper
 pub use Rattle.kept_totals.specs.row_drafts as row_drafts
 pub use Rattle.kept_totals.specs.work_reports as work_reports
+pub mod Before
 pub mod Commits
 pub mod Judged

@@ -1,25 +1,30 @@
 //! The parts of a change: what it needs is made ready, it is judged by the state after it, and it is committed or
 //! given up.
-ghost use Rattle.std.specs.Prelude.{◌≡◌, [], IfOk, OnOk};
+ghost use Rattle.std.specs.Prelude.{◌≡◌, [], IfOk, OnOk, option_and_then};
 ghost use Rattle.std.specs.List.{AllByRecursion};
+ghost use Rattle.std.specs.Option.{option_copied};
 ghost use Rattle.setting_rules.specs.size_values.specs.Causes.{Says};
 ghost use Rattle.setting_rules.specs.records.specs.declared.refusals.Rule.TheVariants as rule_of;
+ghost use Rattle.setting_rules.specs.row_machine.specs.facts.Whole.{IsWhole};
 ghost use Rattle.setting_rules.specs.row_machine.specs.machine.Changes.{applied, rows_put};
 ghost use Rattle.setting_rules.specs.row_machine.specs.machine.Refusals.{plain_refusal};
 ghost use Rattle.setting_rules.specs.row_machine.specs.machine.State.{State};
+ghost use Rattle.kept_totals.specs.claim_laws.specs.NewProfile.{profile_in, profile_put, puts_new_profile};
 ghost use Rattle.kept_totals.specs.limit_rules.specs.Exceeding.{Serves};
+ghost use Rattle.kept_totals.specs.policy_rules.specs.Alone.{profile_forbidden};
 ghost use Rattle.kept_totals.specs.row_drafts.specs.Drafted.{former, IsReady};
 ghost use Rattle.kept_totals.specs.machine_laws.specs.Entries.{entry_changes};
 ghost use Rattle.kept_totals.specs.work_reports.specs.Entries.{HasEntry};
-ghost use Rattle.judged_changes.specs.Judged.{changes_judged, reply_for};
+ghost use Rattle.judged_changes.specs.Before.{Judges};
+ghost use Rattle.judged_changes.specs.Judged.{changes_judged, projects_judged, reply_for};
 ghost use Rattle.judged_changes.specs.Commits.{Commits};
 
 use kept_totals::from_limit_rules::{Usage, counts_broken, limits_broken, usage_before_changes};
-use kept_totals::from_policy_rules::policy_broken;
+use kept_totals::from_policy_rules::{policy_broken, profile_forbidden};
 use kept_totals::from_record_keeper::Keeper;
 use kept_totals::from_row_drafts::Draft;
 use kept_totals::from_work_reports::entry_changes;
-use setting_rules::from_records::{Refusal, Reply, Rule};
+use setting_rules::from_records::{Profile, Refusal, Reply, Row, Rule};
 use setting_rules::from_row_machine::RowChange;
 use setting_rules::from_row_readings::View;
 use setting_rules::from_rule_refusals::nothing_told;
@@ -58,11 +63,83 @@ fn copy_changes(alloc: Global, changes: &Seq<RowChange>) -> Result<Seq<RowChange
     Ok(copies)
 }
 
-/// What a change needs besides the rows: what counts for limits before it, and the changes once more.
+// ---- one new profile
+
+/// The profile that a change puts.
+fn profile_in(change: &RowChange) -> Option<&Profile>
+    ensures { option_copied result ≡ profile_in change.now }
+{
+    match change {
+        RowChange::Put(row) => match row {
+            Row::Profile(profile) => Some(profile),
+            _ => None,
+        },
+        RowChange::Remove(_, _) => None,
+    }
+}
+
+/// The profile that changes put which do nothing else.
+fn profile_put(changes: &[RowChange]) -> Option<&Profile>
+    ensures { option_copied result ≡ profile_put changes.now }
+{
+    match changes {
+        [change] => profile_in(change),
+        _ => None,
+    }
+}
+
+/// Whether changes put one profile, of a project and a name that no profile has, and do nothing else.
+fn puts_new_profile(view: &View<'_>, changes: &[RowChange]) -> bool
+    ensures { result ≡ puts_new_profile view.now changes.now }
+{
+    match profile_put(changes) {
+        Some(profile) => view
+            .profile_named(profile.project.view(), profile.name.view())
+            .is_none(),
+        None => false,
+    }
+}
+
+/// The first rule on policy that the profile breaks in its project which changes put.
+fn profile_put_forbidden(
+    alloc: Global,
+    after: &View<'_>,
+    changes: &[RowChange],
+) -> Result<(), Or<Refusal>>
+    ensures { Says result (option_and_then (profile_forbidden after.now) (profile_put changes.now)) }
+{
+    match profile_put(changes) {
+        Some(profile) => profile_forbidden(alloc, after, profile),
+        None => Ok(()),
+    }
+}
+
+// ---- what is made ready
+
+/// What the rules on policy and limits are judged by, besides the state after changes.
+#[derive(Drop)]
+pub enum Before {
+    /// The changes put one new profile. No instance names it, and so it alone can break a rule, in its project.
+    NewProfile,
+    /// What counted for limits before the changes. They are judged over all projects.
+    Counted(Usage),
+}
+
+/// What a change needs besides the rows: what it is judged by, and the changes once more.
 #[derive(Drop)]
 pub struct Ready {
-    pub before: Usage,
+    pub before: Before,
     pub changes: Seq<RowChange>,
+}
+
+/// What changes are judged by that are to be made. For one new profile nothing is counted.
+fn before_changes(alloc: Global, view: &View<'_>, changes: &[RowChange]) -> Result<Before, NoMemory>
+    ensures { IfOk result (λ b. Judges b view.now changes.now) }
+{
+    if puts_new_profile(view, changes) {
+        return Ok(Before::NewProfile);
+    }
+    Ok(Before::Counted(usage_before_changes(alloc, view, changes)?))
 }
 
 /// Takes all memory that a change needs, but for its entries.
@@ -72,7 +149,7 @@ pub fn make_ready(
     changes: &Seq<RowChange>,
 ) -> Result<Ready, NoMemory>
     requires settled { draft.old.log ≡ [] }
-    ensures before { IfOk result (λ r. Serves r.before draft.old.state (applied draft.old.state changes.now)) }
+    ensures before { IfOk result (λ r. Judges r.before draft.old.state changes.now) }
     ensures changes { IfOk result (λ r. r.changes ≡ changes.now) }
     ensures ready { OnOk result (IsReady draft.new changes.now) }
     ensures state { draft.new.state ≡ draft.old.state }
@@ -80,28 +157,55 @@ pub fn make_ready(
     ensures greatest { draft.new.backing.greatest ≡ draft.old.backing.greatest }
 {
     draft.reserve_for(alloc, changes)?;
-    let before = usage_before_changes(alloc, &draft.view(), changes.view())?;
+    let before = before_changes(alloc, &draft.view(), changes.view())?;
     let changes = copy_changes(alloc, changes)?;
     Ok(Ready { before, changes })
+}
+
+// ---- what is judged
+
+/// The first rule on policy and limits that is broken, of all projects.
+fn projects_broken(alloc: Global, before: &Usage, after: &View<'_>) -> Result<(), Or<Refusal>>
+    ensures { (s : State) → Serves before.now s after.now → Says result (projects_judged s after.now) }
+{
+    policy_broken(alloc, after)?;
+    counts_broken(alloc, after)?;
+    limits_broken(alloc, before, after)
+}
+
+/// The first rule on policy and limits that changes break, judged over the state after them.
+fn judge_projects(
+    alloc: Global,
+    before: &Before,
+    after: &View<'_>,
+    changes: &[RowChange],
+) -> Result<(), Or<Refusal>>
+    ensures { (s : State) → IsWhole s → after.now ≡ applied s changes.now → Judges before.now s changes.now
+        → Says result (projects_judged s after.now) }
+{
+    match before {
+        Before::NewProfile => profile_put_forbidden(alloc, after, changes),
+        Before::Counted(usage) => projects_broken(alloc, usage, after),
+    }
 }
 
 /// The first rule that changes break, judged over the state after them: settings, policy, limits and tables.
 #[tactic(auto, unfolding(crate::specs::Judged::changes_judged))]
 pub fn judge(
     alloc: Global,
-    before: &Usage,
+    before: &Before,
     after: &View<'_>,
     changes: &[RowChange],
 ) -> Result<(), Or<Refusal>>
-    ensures { (s : State) → Serves before.now s after.now
+    ensures { (s : State) → IsWhole s → after.now ≡ applied s changes.now → Judges before.now s changes.now
         → Says result (changes_judged s after.now (rows_put changes.now)) }
 {
     settings_broken(alloc, after, changes)?;
-    policy_broken(alloc, after)?;
-    counts_broken(alloc, after)?;
-    limits_broken(alloc, before, after)?;
+    judge_projects(alloc, before, after, changes)?;
     tables_broken(alloc, after, changes)
 }
+
+// ---- the commit
 
 /// The store failed.
 fn unavailable(alloc: Global) -> Refusal

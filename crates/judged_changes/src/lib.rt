@@ -28,5 +28,5 @@ pub mod from_work_reports {
 mod changing;
 mod starting;
 
-pub use changing::{Ready, commit, give_up, judge, make_ready, refused_reply};
+pub use changing::{Before, Ready, commit, give_up, judge, make_ready, refused_reply};
 pub use starting::{Beginning, judge_claim, make_beginning, settle_beginning};

@@ -11,7 +11,9 @@ pub mod from_limit_rules {
 
 /// Of `policy_rules`, for the crates above.
 pub mod from_policy_rules {
-    pub use claim_laws::from_policy_rules::{claim_forbidden, policy_broken, snapshot_blocked};
+    pub use claim_laws::from_policy_rules::{
+        claim_forbidden, policy_broken, profile_forbidden, snapshot_blocked,
+    };
 }
 
 /// Of `record_keeper`, for the crates above.

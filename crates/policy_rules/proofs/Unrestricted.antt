@@ -21,7 +21,7 @@ use Rattle.rule_refusals.proofs.Saying.{none-or}
 use Rattle.policy_rules.specs.Within.{own_instance, own_claim}
 use Rattle.policy_rules.proofs.Below.{none-if}
 
-nothing-forbidden : (policy : Restrictions) (judged : Subject) (config : Settings) (devices : NamedDevices)
+pub nothing-forbidden : (policy : Restrictions) (judged : Subject) (config : Settings) (devices : NamedDevices)
     → policy.restricted ≡ false → first_forbidden policy judged config devices ≡ None
 unfolding first_forbidden
 nothing-forbidden policy judged config devices e =

@@ -1,9 +1,9 @@
-//! The rules on policy for a new operation, by what it claims alone: where all facts hold before it, nothing else can
-//! break them.
+//! The rules on policy for a new operation, by what it claims alone, and for a new profile, by what it has: where all
+//! facts hold before it, nothing else can break them.
 ghost use Rattle.std.specs.Prelude.{IfOk};
 ghost use Rattle.restrictions.specs.plain_lists.specs.Firsts.{first_of};
 ghost use Rattle.restrictions.specs.size_values.specs.Causes.{Says};
-ghost use Rattle.policy_rules.specs.Alone.{claim_forbidden};
+ghost use Rattle.policy_rules.specs.Alone.{claim_forbidden, first_forbids, profile_forbidden};
 ghost use Rattle.policy_rules.specs.Lowest.{HoldBelow};
 ghost use Rattle.policy_rules.specs.Within.{own_claim};
 
@@ -11,10 +11,10 @@ use crate::lowest::lowest_of_claim;
 use crate::policy::{NUMBERS, claim_forbids};
 use crate::restricted::Restricted;
 use restrictions::from_size_values::{NoMemory, Or};
-use restrictions::is_restricted;
+use restrictions::{Subject, is_restricted};
 use row_machine::Work;
-use row_machine::from_records::{Project, Refusal};
-use row_readings::View;
+use row_machine::from_records::{Profile, Project, Refusal};
+use row_readings::{View, project_named};
 use std::alloc::Global;
 
 /// The number of the first rule that a claim breaks in a project, or one above them all. A project that is not
@@ -108,4 +108,43 @@ pub fn claim_forbidden(alloc: Global, view: &View<'_>, work: &Work) -> Result<()
         }
     }
     Ok(())
+}
+
+/// The rule of the first thing that a project forbids of what a profile has. One that is not restricted forbids nothing.
+#[tactic(auto, unfolding(row_machine::specs::machine::PolicyRules::forbids_profile))]
+fn first_forbids(alloc: Global, project: &Project, profile: &Profile) -> Result<(), Or<Refusal>>
+    ensures { Says result (first_forbids project.now profile.now) }
+{
+    if !is_restricted(&project.config) {
+        return Ok(());
+    }
+    let project = Restricted::new(project);
+    let subject = Subject::Profile;
+    let Some(found) = project.first_forbidden(subject, &profile.config, &profile.devices) else {
+        return Ok(());
+    };
+    project.forbids(
+        alloc,
+        found.rule,
+        subject,
+        profile.name.view(),
+        &profile.config,
+        &profile.devices,
+    )
+}
+
+/// F1 to F7: the first rule on policy that a profile breaks in its project. Nothing else is asked: no other project
+/// judges it.
+#[tactic(auto, unfolding(crate::specs::Alone::profile_forbidden))]
+pub fn profile_forbidden(
+    alloc: Global,
+    view: &View<'_>,
+    profile: &Profile,
+) -> Result<(), Or<Refusal>>
+    ensures { Says result (profile_forbidden view.now profile.now) }
+{
+    match project_named(view.projects, profile.project.view()) {
+        Some(project) => first_forbids(alloc, project, profile),
+        None => Ok(()),
+    }
 }

@@ -8,6 +8,6 @@ mod policy;
 mod restricted;
 mod snapshots;
 
-pub use alone::claim_forbidden;
+pub use alone::{claim_forbidden, profile_forbidden};
 pub use policy::policy_broken;
 pub use snapshots::snapshot_blocked;

@@ -53,7 +53,7 @@ impl<'a> Restricted<'a> {
     }
 
     /// The first thing that the policy forbids of settings and devices.
-    fn first_forbidden(
+    pub(crate) fn first_forbidden(
         &self,
         subject: Subject,
         config: &Config,

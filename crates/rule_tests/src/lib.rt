@@ -8,4 +8,6 @@ mod links;
 #[cfg(test)]
 mod parts;
 #[cfg(test)]
+mod profiles;
+#[cfg(test)]
 mod tables;

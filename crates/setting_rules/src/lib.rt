@@ -18,7 +18,9 @@ pub mod from_plain_lists {
 
 /// Of `records`, for the crates above.
 pub mod from_records {
-    pub use row_machine::from_records::{Command, OpView, Refusal, Reply, Row, Rule, Told, Untold};
+    pub use row_machine::from_records::{
+        Command, OpView, Profile, Refusal, Reply, Row, Rule, Told, Untold,
+    };
 }
 
 /// Of `row_machine`, for the crates above.

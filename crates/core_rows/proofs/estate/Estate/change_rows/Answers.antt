@@ -1,7 +1,6 @@
 use Rattle.std.proofs.Common.{length, ◌∙◌, ap, sym, subst, arith}
 use Rattle.std.specs.List.{AllByRecursion}
 use Rattle.judged_changes.specs.record_keeper.specs.Store.{after_commit}
-use Rattle.opening_rules.specs.limit_rules.specs.Exceeding.{Serves}
 use Rattle.opening_rules.specs.row_machine.specs.machine.Changes.{applied}
 use Rattle.opening_rules.specs.row_machine.specs.facts.Whole.{IsWhole}
 use Rattle.judged_changes.specs.machine_laws.specs.Entries.{entry_changes}
@@ -14,7 +13,7 @@ use Rattle.judged_changes.specs.work_reports.specs.Waiting.{IsSilent}
 use Rattle.core_rows.specs.Kept.{Kept}
 use Rattle.judged_changes.specs.work_reports.proofs.Silent.{applied-silent}
 use Rattle.core_rows.proofs.Silent.{still-quiet, only-one, none-wait}
-use Rattle.core_rows.proofs.Changed.{accepted-from, refused-from, uncommitted-from, unready-from}
+use Rattle.core_rows.proofs.Changed.{accepted-from, judged-by, refused-from, uncommitted-from, unready-from}
 use Rattle.core_rows.proofs.Following.{follows-made}
 use Rattle.core_rows.proofs.Judging.{entries-ready}
 use Rattle.judged_changes.specs.machine_laws.proofs.WholeKept.{whole-changes}
@@ -33,8 +32,9 @@ returns-in-Err g c =
     c.view-2.result.now _ c.in-Err.why c.give_up.result (g.R.Keeper.store c.args.keeper.now)
     (ap (λ (k : Kept). k.state) c.self.view_is) c.requires.planned
     (c.view.ensures ∙ c.apply.ensures.state ∙ ap (λ t. applied t c.args.changes) c.make_ready.ensures.state)
-    (c.view-2.ensures ∙ c.in-Ok.ensures.changes) (c.in-Err.ensures c.self.inside.draft.state
-    (subst (Serves c.in-Ok.ready.before c.self.inside.draft.state) (sym (c.view.ensures ∙ c.apply.ensures.state ∙ ap (λ t. applied t c.args.changes) c.make_ready.ensures.state)) c.in-Ok.ensures.before))
+    (c.view-2.ensures ∙ c.in-Ok.ensures.changes) (judged-by c.in-Ok.ready.before c.self.inside.draft.state c.view.result c.args.changes c.view-2.result.now (c.in-Err.ensures c.self.inside.draft.state)
+    c.self.invariant.whole (c.view.ensures ∙ c.apply.ensures.state ∙ ap (λ t. applied t c.args.changes) c.make_ready.ensures.state)
+    (c.view-2.ensures ∙ c.in-Ok.ensures.changes) c.in-Ok.ensures.before)
     (c.give_up.ensures.state ∙ c.apply.ensures.former ∙ ap (λ us. before_changes us c.make_ready.new.draft.state) c.make_ready.ensures.log ∙ c.make_ready.ensures.state)
     (still-quiet _ _ c.self.inside.untold.items (ap (λ (k : Kept). k.untold) c.self.view_is ∙ c.requires.quiet)) c.give_up.ensures.reply
 
@@ -45,8 +45,9 @@ commit-committed-requires g c = record {
       (accepted-from c.args.self.now.state c.args.command.now c.args.moment c.args.changes c.args.notice c.self.inside.draft.state c.view.result c.view-2.result.now
       c.self.invariant.whole (ap (λ (k : Kept). k.state) c.self.view_is) c.requires.planned
       (c.view.ensures ∙ c.apply.ensures.state ∙ ap (λ t. applied t c.args.changes) c.make_ready.ensures.state)
-      (c.view-2.ensures ∙ c.in-Ok.ensures.changes) (c.in_default-judged.ensures c.self.inside.draft.state
-      (subst (Serves c.in-Ok.ready.before c.self.inside.draft.state) (sym (c.view.ensures ∙ c.apply.ensures.state ∙ ap (λ t. applied t c.args.changes) c.make_ready.ensures.state)) c.in-Ok.ensures.before))));
+      (c.view-2.ensures ∙ c.in-Ok.ensures.changes) (judged-by c.in-Ok.ready.before c.self.inside.draft.state c.view.result c.args.changes c.view-2.result.now (c.in_default-judged.ensures c.self.inside.draft.state)
+      c.self.invariant.whole (c.view.ensures ∙ c.apply.ensures.state ∙ ap (λ t. applied t c.args.changes) c.make_ready.ensures.state)
+      (c.view-2.ensures ∙ c.in-Ok.ensures.changes) c.in-Ok.ensures.before)));
 }
 
 pub returns-in-Err-committed : goal.returns-in-Err-committed
@@ -58,8 +59,9 @@ returns-in-Err-committed g c =
     (accepted-from c.args.self.now.state c.args.command.now c.args.moment c.args.changes c.args.notice c.self.inside.draft.state c.view.result c.view-2.result.now
     c.self.invariant.whole (ap (λ (k : Kept). k.state) c.self.view_is) c.requires.planned
     (c.view.ensures ∙ c.apply.ensures.state ∙ ap (λ t. applied t c.args.changes) c.make_ready.ensures.state)
-    (c.view-2.ensures ∙ c.in-Ok.ensures.changes) (c.in_default-judged.ensures c.self.inside.draft.state
-    (subst (Serves c.in-Ok.ready.before c.self.inside.draft.state) (sym (c.view.ensures ∙ c.apply.ensures.state ∙ ap (λ t. applied t c.args.changes) c.make_ready.ensures.state)) c.in-Ok.ensures.before)))
+    (c.view-2.ensures ∙ c.in-Ok.ensures.changes) (judged-by c.in-Ok.ready.before c.self.inside.draft.state c.view.result c.args.changes c.view-2.result.now (c.in_default-judged.ensures c.self.inside.draft.state)
+    c.self.invariant.whole (c.view.ensures ∙ c.apply.ensures.state ∙ ap (λ t. applied t c.args.changes) c.make_ready.ensures.state)
+    (c.view-2.ensures ∙ c.in-Ok.ensures.changes) c.in-Ok.ensures.before))
     c.in-Ok.ensures.changes c.in-Err-committed.ensures
     (c.give_up-in-Err-committed.ensures.state ∙ c.apply.ensures.former ∙ ap (λ us. before_changes us c.make_ready.new.draft.state) c.make_ready.ensures.log ∙ c.make_ready.ensures.state)
     (still-quiet _ _ c.self.inside.untold.items (ap (λ (k : Kept). k.untold) c.self.view_is ∙ c.requires.quiet)) c.give_up-in-Err-committed.ensures.reply
@@ -75,8 +77,9 @@ invariant_of-self-2 g c = record {
       (accepted-from c.args.self.now.state c.args.command.now c.args.moment c.args.changes c.args.notice c.self.inside.draft.state c.view.result c.view-2.result.now
       c.self.invariant.whole (ap (λ (k : Kept). k.state) c.self.view_is) c.requires.planned
       (c.view.ensures ∙ c.apply.ensures.state ∙ ap (λ t. applied t c.args.changes) c.make_ready.ensures.state)
-      (c.view-2.ensures ∙ c.in-Ok.ensures.changes) (c.in_default-judged.ensures c.self.inside.draft.state
-      (subst (Serves c.in-Ok.ready.before c.self.inside.draft.state) (sym (c.view.ensures ∙ c.apply.ensures.state ∙ ap (λ t. applied t c.args.changes) c.make_ready.ensures.state)) c.in-Ok.ensures.before))));
+      (c.view-2.ensures ∙ c.in-Ok.ensures.changes) (judged-by c.in-Ok.ready.before c.self.inside.draft.state c.view.result c.args.changes c.view-2.result.now (c.in_default-judged.ensures c.self.inside.draft.state)
+      c.self.invariant.whole (c.view.ensures ∙ c.apply.ensures.state ∙ ap (λ t. applied t c.args.changes) c.make_ready.ensures.state)
+      (c.view-2.ensures ∙ c.in-Ok.ensures.changes) c.in-Ok.ensures.before)));
   silent = subst IsSilent (sym (c.settle.ensures.state ∙ c.apply.ensures.state ∙ ap (λ t. applied t c.args.changes) c.make_ready.ensures.state))
       (applied-silent c.args.changes c.self.inside.draft.state c.self.invariant.silent);
   settled = c.settle.ensures.log;
@@ -105,8 +108,9 @@ returns g c =
     (accepted-from c.args.self.now.state c.args.command.now c.args.moment c.args.changes c.args.notice c.self.inside.draft.state c.view.result c.view-2.result.now
     c.self.invariant.whole (ap (λ (k : Kept). k.state) c.self.view_is) c.requires.planned
     (c.view.ensures ∙ c.apply.ensures.state ∙ ap (λ t. applied t c.args.changes) c.make_ready.ensures.state)
-    (c.view-2.ensures ∙ c.in-Ok.ensures.changes) (c.in_default-judged.ensures c.self.inside.draft.state
-    (subst (Serves c.in-Ok.ready.before c.self.inside.draft.state) (sym (c.view.ensures ∙ c.apply.ensures.state ∙ ap (λ t. applied t c.args.changes) c.make_ready.ensures.state)) c.in-Ok.ensures.before)))
+    (c.view-2.ensures ∙ c.in-Ok.ensures.changes) (judged-by c.in-Ok.ready.before c.self.inside.draft.state c.view.result c.args.changes c.view-2.result.now (c.in_default-judged.ensures c.self.inside.draft.state)
+    c.self.invariant.whole (c.view.ensures ∙ c.apply.ensures.state ∙ ap (λ t. applied t c.args.changes) c.make_ready.ensures.state)
+    (c.view-2.ensures ∙ c.in-Ok.ensures.changes) c.in-Ok.ensures.before))
     c.requires.planned.notice
     (c.in_default-committed.ensures ∙ ap (λ cs. after_commit (entry_changes cs) (g.R.Keeper.store c.args.keeper.now)) c.in-Ok.ensures.changes)
     (c.settle.ensures.state
