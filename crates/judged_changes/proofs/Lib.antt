@@ -1,1 +1,1 @@
-mod Judging
+mod NewProfiles

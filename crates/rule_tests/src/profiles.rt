@@ -3,7 +3,7 @@ use lent_rows::{Rows, both, config, device};
 use policy_rules::{policy_broken, profile_forbidden};
 use project_usage::from_records::{Profile, Project, Rule};
 use project_usage::from_row_readings::View;
-use project_usage::from_size_values::{NoMemory, Text};
+use project_usage::from_size_values::{Boxed, NoMemory, Text};
 use std::alloc::Global;
 
 /// A new profile with one setting and one device, in a project of which there may be none, and the rule on policy that
@@ -107,7 +107,8 @@ fn profile(alloc: Global, case: NewProfile) -> Result<Profile, NoMemory> {
 fn fill(alloc: Global, rows: &mut Rows, case: NewProfile) -> Result<(), NoMemory> {
     add_project(alloc, rows, "default", "")?;
     add_project(alloc, rows, "lab", "true")?;
-    rows.profiles.push(profile(alloc, case)?)?;
+    let profile = Boxed::of(alloc, profile(alloc, case))?;
+    rows.profiles.push(profile)?;
     Ok(())
 }
 

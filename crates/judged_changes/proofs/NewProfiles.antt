@@ -1,12 +1,7 @@
--- One new profile is judged alone, which is as good as all projects; and rules within rules.
-use Rattle.std.proofs.Common.{◌≡◌, Bool, true, Option, Some, None, List, [], ◌∷◌, Result, Err, refl, sym, ap, subst, ◌∙◌}
+-- One new profile is judged alone, which says as much as all projects.
+use Rattle.std.proofs.Common.{◌≡◌, true, Option, Some, None, List, [], ◌∷◌, refl, sym, subst}
 use Rattle.std.specs.Prelude.{is_none, option_and_then}
-use Rattle.std.specs.Option.{option_or}
 use Rattle.std.proofs.lemmas.Bool.{false≢true}
-use Rattle.setting_rules.specs.plain_lists.specs.Firsts.{first}
-use Rattle.setting_rules.specs.size_values.specs.Causes.{Says, Refuses}
-use Rattle.setting_rules.specs.size_values.specs.declared.memory.Or.{Or}
-use Rattle.setting_rules.specs.size_values.specs.declared.memory.Or.TheVariants as or
 use Rattle.setting_rules.specs.records.specs.declared.rows.Profile.{Profile}
 use Rattle.setting_rules.specs.records.specs.declared.rows.Row.TheVariants as row
 use Rattle.setting_rules.specs.row_machine.specs.declared.changes.RowChange.{RowChange}
@@ -20,8 +15,6 @@ use Rattle.kept_totals.specs.claim_laws.proofs.NewProfiles.{profiles-alone}
 use Rattle.kept_totals.specs.claim_laws.proofs.Own.{first-alone}
 use Rattle.kept_totals.specs.policy_rules.specs.Alone.{profile_forbidden}
 use Rattle.judged_changes.specs.Judged.{projects_judged}
-
--- ---- one new profile
 
 none-from : {X : Type 0} (o : Option X) → is_none o ≡ true → o ≡ None
 none-from None is = refl
@@ -50,41 +43,3 @@ pub judged-new : (s later : State) (cs : List RowChange) → IsWhole s → later
     → option_and_then (profile_forbidden later) (profile_put cs) ≡ projects_judged s later
 judged-new s later cs whole made new =
     subst (λ t. option_and_then (profile_forbidden t) (profile_put cs) ≡ projects_judged s t) (sym made) (at-once s whole cs new)
-
--- ---- rules within rules
-
-module _ {R : Type 0} (a b c d e : Option R) where
-  -- a list of rules within rules, as one list
-  grouped : first (a ∷ first (b ∷ c ∷ d ∷ []) ∷ e ∷ []) ≡ first (a ∷ b ∷ c ∷ d ∷ e ∷ [])
-  grouped = at a b c d where
-    at : (a b c d : Option R) → first (a ∷ first (b ∷ c ∷ d ∷ []) ∷ e ∷ []) ≡ first (a ∷ b ∷ c ∷ d ∷ e ∷ [])
-    at (Some r) b c d = refl
-    at None (Some r) c d = refl
-    at None None (Some r) d = refl
-    at None None None (Some r) = refl
-    at None None None None = refl
-
-  -- the first one is broken
-  pub refused-first : (why : Or R) → Refuses why a → Refuses why (first (a ∷ b ∷ c ∷ d ∷ e ∷ []))
-  refused-first or.NoMemory h = tt
-  refused-first (or.Why r) h = ap (λ o. option_or o (first (b ∷ c ∷ d ∷ e ∷ []))) h
-
-  -- the first one is not, and one of those within is
-  pub refused-within : (why : Or R) → a ≡ None → Refuses why (first (b ∷ c ∷ d ∷ [])) → Refuses why (first (a ∷ b ∷ c ∷ d ∷ e ∷ []))
-  refused-within or.NoMemory free h = tt
-  refused-within (or.Why r) free h =
-      sym grouped
-      ∙ ap (λ o. option_or o (first (first (b ∷ c ∷ d ∷ []) ∷ e ∷ []))) free
-      ∙ ap (λ o. option_or o (first (e ∷ []))) h
-
-  -- nor one of those, and the last one decides
-  pub says-last : {T : Type 0} (answer : Result T (Or R)) → a ≡ None → first (b ∷ c ∷ d ∷ []) ≡ None → Says answer e
-      → Says answer (first (a ∷ b ∷ c ∷ d ∷ e ∷ []))
-  says-last answer free within h = subst (Says answer) (sym (
-      sym grouped
-      ∙ ap (λ o. option_or o (first (first (b ∷ c ∷ d ∷ []) ∷ e ∷ []))) free
-      ∙ ap (λ o. option_or o (first (e ∷ []))) within
-      ∙ last e)) h where
-        last : (o : Option R) → option_or o None ≡ o
-        last None = refl
-        last (Some r) = refl
