@@ -94,10 +94,7 @@ fn is_lab(entry: &Entry) -> bool {
 
 /// Whether the copy of an entry of kind 1, with the key `lab` and the body `{}`, has these parts.
 fn is_lab_copied(alloc: Global, copy: Result<Entry, NoMemory>) -> bool {
-    let Ok(copy) = copy else {
-        return false;
-    };
-    let Ok(copy) = Boxed::new(alloc, copy) else {
+    let Ok(copy) = Boxed::of(alloc, copy) else {
         return false;
     };
     let change = EntryChange::Put(copy);
@@ -116,6 +113,17 @@ fn is_entry_copied(alloc: Global) -> bool {
         body: bytes_of(alloc, b"{}"),
     };
     let is = is_lab(&entry) && is_lab_copied(alloc, entry.copy(alloc));
+    is && is_taken_out(alloc, entry)
+}
+
+/// Whether an entry in memory of its own is the same, and is taken out whole.
+fn is_taken_out(alloc: Global, entry: Entry) -> bool {
+    let Ok(boxed) = Boxed::new(alloc, entry) else {
+        return false;
+    };
+    let is = is_lab(&boxed);
+    let entry = boxed.into_inner();
+    let is = is && is_lab(&entry);
     drop(entry);
     is
 }

@@ -57,6 +57,7 @@ fn add_expanded(
     let mut last: &[Text] = &[];
     let mut sum = used;
     for row in rows {
+        let row: &Instance = row;
         if !is_of(row, project) {
             continue;
         }

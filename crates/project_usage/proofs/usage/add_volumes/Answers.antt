@@ -15,7 +15,7 @@ plus-sum-requires c = λ k.
     let item = c.row-item.result in
     let most = sum_by_more_le counts rows index item c.loop-row-test.true in
     let few = few-volumes c.args.project.now k rows short in
-    let one = c.volume_counts.ensures k ∙ ap counts c.row-item.is in
+    let one = c.volume_counts.ensures k ∙ ap counts (c.deref.ensures ∙ c.row-item.is) in
     omega (arith, c.loop-row.invariant k, one, most, few, c.requires k)
 
 pub loop-row-preserved : goal.loop-row-preserved
@@ -24,7 +24,7 @@ loop-row-preserved c = λ k.
     let index = c.loop-row.row-index in
     let item = c.row-item.result in
     let more = sum_by_more counts c.args.rows.now index item c.loop-row-test.true in
-    let one = c.volume_counts.ensures k ∙ ap counts c.row-item.is in
+    let one = c.volume_counts.ensures k ∙ ap counts (c.deref.ensures ∙ c.row-item.is) in
     ap (part k) c.plus-sum.ensures ∙ part-plus k c.loop-row.sum c.volume_counts.result ∙ omega (arith, c.loop-row.invariant k, one, more)
 
 pub returns-clause-few : goal.returns-clause-few

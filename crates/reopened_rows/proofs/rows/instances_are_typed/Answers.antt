@@ -7,7 +7,7 @@ use Rattle.reopened_rows.proofs.rows.instances_are_typed.Goals as goal
 pub loop-instance-preserved : goal.loop-instance-preserved
 loop-instance-preserved c =
     each-next (λ (r : Instance). HasTypedParts (row.Instance r)) c.args.instances.now c.loop-instance.instance-index c.instance-item.result c.loop-instance-test.true c.instance-item.is
-    c.instance_is_typed.ensures c.loop-instance.invariant
+    (rw c.deref.ensures at c.instance_is_typed.ensures) c.loop-instance.invariant
 
 pub returns : goal.returns
 returns c =

@@ -7,7 +7,7 @@ use Rattle.reopened_rows.proofs.rows.profiles_are_typed.Goals as goal
 pub loop-profile-preserved : goal.loop-profile-preserved
 loop-profile-preserved c =
     each-next (λ (r : Profile). HasTypedParts (row.Profile r)) c.args.profiles.now c.loop-profile.profile-index c.profile-item.result c.loop-profile-test.true c.profile-item.is
-    c.profile_is_typed.ensures c.loop-profile.invariant
+    (rw c.deref.ensures at c.profile_is_typed.ensures) c.loop-profile.invariant
 
 pub returns : goal.returns
 returns c =

@@ -7,7 +7,7 @@ use Rattle.reopened_rows.proofs.rows.snapshots_are_typed.Goals as goal
 pub loop-snapshot-preserved : goal.loop-snapshot-preserved
 loop-snapshot-preserved c =
     each-next (λ (r : Snapshot). HasTypedParts (row.Snapshot r)) c.args.snapshots.now c.loop-snapshot.snapshot-index c.snapshot-item.result c.loop-snapshot-test.true c.snapshot-item.is
-    c.snapshot_is_typed.ensures c.loop-snapshot.invariant
+    (rw c.deref.ensures at c.snapshot_is_typed.ensures) c.loop-snapshot.invariant
 
 pub returns : goal.returns
 returns c =

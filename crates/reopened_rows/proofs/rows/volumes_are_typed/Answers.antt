@@ -7,7 +7,7 @@ use Rattle.reopened_rows.proofs.rows.volumes_are_typed.Goals as goal
 pub loop-volume-preserved : goal.loop-volume-preserved
 loop-volume-preserved c =
     each-next (λ (r : Volume). HasTypedParts (row.Volume r)) c.args.volumes.now c.loop-volume.volume-index c.volume-item.result c.loop-volume-test.true c.volume-item.is
-    c.volume_is_typed.ensures c.loop-volume.invariant
+    (rw c.deref.ensures at c.volume_is_typed.ensures) c.loop-volume.invariant
 
 pub returns : goal.returns
 returns c =
