@@ -22,10 +22,10 @@ plus-sum-requires c = λ k.
     let item = c.row-item.result in
     let inside = c.view.inside in
     let one =
-    counted-over s project k c.deref.result.now inside.projects.now s.profiles c.profile_home-home.result.now c.view-names.result.now c.lay_again.new.expanded c.in_ok-more.more
+    counted-over s project k c.deref-row.result.now inside.projects.now s.profiles c.profile_home-home.result.now c.view-names.result.now c.lay_again.new.expanded c.in_ok-more.more
     (sym c.if-not-is_of.ensures) (ap (λ (t : State). t.projects) c.view.view_is) refl
     c.profile_home-home.ensures c.view-names.ensures c.in_ok-lay_again.ensures c.in_ok-more.ensures
-    ∙ ap counts (c.deref.ensures ∙ c.row-item.is)
+    ∙ ap counts (c.deref-row.ensures ∙ c.row-item.is)
     in
     let short : length rows < 2 ^ 63 = omega (arith, c.well_formed.1.1.0.1) in
     let most = sum_by_more_le counts rows c.loop-row.row-index item c.loop-row-test.true in
@@ -43,10 +43,10 @@ loop-row-preserved c = (
       let item = c.row-item.result in
       let inside = c.view.inside in
       let one =
-      counted-over s project k c.deref.result.now inside.projects.now s.profiles c.profile_home-home.result.now c.view-names.result.now c.lay_again.new.expanded c.in_ok-more.more
+      counted-over s project k c.deref-row.result.now inside.projects.now s.profiles c.profile_home-home.result.now c.view-names.result.now c.lay_again.new.expanded c.in_ok-more.more
       (sym c.if-not-is_of.ensures) (ap (λ (t : State). t.projects) c.view.view_is) refl
       c.profile_home-home.ensures c.view-names.ensures c.in_ok-lay_again.ensures c.in_ok-more.ensures
-      ∙ ap counts (c.deref.ensures ∙ c.row-item.is)
+      ∙ ap counts (c.deref-row.ensures ∙ c.row-item.is)
       in
       let more = sum_by_more counts rows c.loop-row.row-index item c.loop-row-test.true in
       ap (part k) c.plus-sum.ensures ∙ part-plus k c.loop-row.sum c.in_ok-more.more ∙ omega (arith, c.loop-row.invariant.1 k, one, more),
