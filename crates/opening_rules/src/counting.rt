@@ -1,8 +1,8 @@
 //! Whether a row gives a number for each sum that its project limits.
-ghost use Rattle.std.specs.Prelude.{◌≡◌, IfOk, option_and_then};
+ghost use Rattle.std.specs.Prelude.{◌≡◌, IfOk};
 ghost use Rattle.row_machine.specs.machine.LimitRules.{instance_uncounted, volume_uncounts};
 ghost use Rattle.std.specs.Result.{result_err};
-ghost use Rattle.row_machine.specs.machine.Rows.{project_named};
+ghost use Rattle.row_machine.specs.records.specs.declared.rows.Row.TheVariants as row_of;
 ghost use Rattle.row_machine.specs.opening.Opening.{rule_of, uncountable};
 ghost use Rattle.opening_rules.specs.Rules.{uncounted_by};
 
@@ -48,9 +48,7 @@ fn instance_uncounts(
 }
 
 fn volume_uncounted(view: &View<'_>, row: &Volume) -> Option<Rule>
-    ensures { result
-        ≡ rule_of (option_and_then (λ p. volume_uncounts p row.now)
-        (project_named view.now.projects row.now.project)) }
+    ensures { result ≡ uncountable view.now (row_of.Volume row.now) }
 {
     match project_named(view.projects, row.project.view()) {
         Some(project) => volume_uncounts(project, row),
@@ -63,9 +61,7 @@ fn instance_uncounted(
     view: &View<'_>,
     row: &Instance,
 ) -> Result<Option<Rule>, NoMemory>
-    ensures { IfOk result (λ found. found
-        ≡ rule_of (option_and_then (λ p. instance_uncounted view.now p row.now)
-        (project_named view.now.projects row.now.project))) }
+    ensures { IfOk result (λ found. found ≡ uncountable view.now (row_of.Instance row.now)) }
 {
     match project_named(view.projects, row.project.view()) {
         Some(project) => instance_uncounts(alloc, view, project, row),

@@ -1,7 +1,7 @@
 //! What the policy of a project forbids one of its rows.
-ghost use Rattle.std.specs.Prelude.{◌≡◌, IfOk, option_and_then};
+ghost use Rattle.std.specs.Prelude.{◌≡◌, IfOk};
 ghost use Rattle.row_machine.specs.machine.PolicyRules.{policy_rule, subject_of, forbids_profile, forbids_instance};
-ghost use Rattle.row_machine.specs.machine.Rows.{project_named};
+ghost use Rattle.row_machine.specs.records.specs.declared.rows.Row.TheVariants as row_of;
 ghost use Rattle.row_machine.specs.opening.Opening.{rule_of, forbidden};
 ghost use Rattle.opening_rules.specs.Rules.{forbidden_rule};
 
@@ -92,9 +92,7 @@ fn forbids_instance(
 }
 
 fn profile_forbidden(view: &View<'_>, number: u8, row: &Profile) -> Option<Rule>
-    ensures { result
-        ≡ rule_of (option_and_then (λ p. forbids_profile p number row.now)
-        (project_named view.now.projects row.now.project)) }
+    ensures { result ≡ forbidden number view.now (row_of.Profile row.now) }
 {
     match project_named(view.projects, row.project.view()) {
         Some(project) => forbids_profile(project, number, row),
@@ -108,9 +106,7 @@ fn instance_forbidden(
     number: u8,
     row: &Instance,
 ) -> Result<Option<Rule>, NoMemory>
-    ensures { IfOk result (λ found. found
-        ≡ rule_of (option_and_then (λ p. forbids_instance view.now p number row.now)
-        (project_named view.now.projects row.now.project))) }
+    ensures { IfOk result (λ found. found ≡ forbidden number view.now (row_of.Instance row.now)) }
 {
     match project_named(view.projects, row.project.view()) {
         Some(project) => forbids_instance(alloc, view, project, number, row),

@@ -18,7 +18,7 @@ returns-in-Project c = λ s.
 pub returns-in-Profile : goal.returns-in-Profile
 returns-in-Profile c = λ s.
     c.refused_by-in-Profile.ensures
-    ∙ ap (option_map fault_rule) c.check_instance.ensures
+    ∙ ap (option_map fault_rule) (rw c.deref.ensures at c.check_instance.ensures)
     ∙ settings_told c.in-Profile.row.config (instance_fault c.in-Profile.row.config scope.Any)
     ∙ ap (settings_invalid s) (sym c.in-Profile.is)
 
@@ -39,14 +39,14 @@ returns-in-Pool c = λ s.
 pub returns-in-Volume : goal.returns-in-Volume
 returns-in-Volume c = λ s.
     c.refused_by-in-Volume.ensures
-    ∙ ap (option_map fault_rule) c.check_volume.ensures
+    ∙ ap (option_map fault_rule) (rw c.deref-in-Volume.ensures at c.check_volume.ensures)
     ∙ settings_told c.in-Volume.row.config (volume_fault c.in-Volume.row.config)
     ∙ ap (settings_invalid s) (sym c.in-Volume.is)
 
 pub returns-in-Instance : goal.returns-in-Instance
 returns-in-Instance c = λ s.
     c.refused_by-in-Instance.ensures
-    ∙ ap (option_map fault_rule) c.check_instance-in-Instance.ensures
-    ∙ ap (λ (at : Scope). option_map fault_rule (instance_fault c.in-Instance.row.config at)) c.scope_of.ensures
+    ∙ ap (option_map fault_rule) (rw c.deref-in-Instance.ensures at c.check_instance-in-Instance.ensures)
+    ∙ ap (λ (at : Scope). option_map fault_rule (instance_fault c.in-Instance.row.config at)) (rw c.deref-in-Instance-2.ensures at c.scope_of.ensures)
     ∙ settings_told c.in-Instance.row.config (instance_fault c.in-Instance.row.config (scope_of c.in-Instance.row.kind))
     ∙ ap (settings_invalid s) (sym c.in-Instance.is)
