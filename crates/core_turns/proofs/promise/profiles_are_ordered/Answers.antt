@@ -7,7 +7,7 @@ use Rattle.core_turns.proofs.promise.profiles_are_ordered.Goals as goal
 pub loop-profile-preserved : goal.loop-profile-preserved
 loop-profile-preserved c =
     each-next (λ (r : Profile). IsSortedRow (row.Profile r)) c.args.profiles.now c.loop-profile.profile-index c.profile-item.result c.loop-profile-test.true c.profile-item.is
-    (rw (c.deref.ensures, c.deref-2.ensures) at c.layer_is_ordered.ensures) c.loop-profile.invariant
+    (rw (c.deref.ensures, c.deref-in-loop-profile.ensures) at c.layer_is_ordered.ensures) c.loop-profile.invariant
 
 pub returns : goal.returns
 returns c =

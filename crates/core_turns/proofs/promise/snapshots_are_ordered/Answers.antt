@@ -7,7 +7,7 @@ use Rattle.core_turns.proofs.promise.snapshots_are_ordered.Goals as goal
 pub loop-snapshot-preserved : goal.loop-snapshot-preserved
 loop-snapshot-preserved c =
     each-next (λ (r : Snapshot). IsSortedRow (row.Snapshot r)) c.args.snapshots.now c.loop-snapshot.snapshot-index c.snapshot-item.result c.loop-snapshot-test.true c.snapshot-item.is
-    (rw (c.deref.ensures, c.deref-2.ensures) at c.layer_is_ordered.ensures) c.loop-snapshot.invariant
+    (rw (c.deref.ensures, c.deref-in-loop-snapshot.ensures) at c.layer_is_ordered.ensures) c.loop-snapshot.invariant
 
 pub returns : goal.returns
 returns c =
