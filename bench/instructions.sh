@@ -32,6 +32,11 @@ server_of_agent() {
 profile_of_many() { stream profiles default 1 16000 && stream get-profiles default 16000 "$1"; }
 new_profile_of_few() { stream profiles default 1 100 && stream profiles default 101 $((100 + $1)); }
 new_profile_of_many() { stream profiles default 1 16000 && stream profiles default 16001 $((16000 + $1)); }
+new_profile_of_many_projects() {
+    local home
+    home=$(stream name p 1)
+    stream spread-projects 1 999 && stream profiles "$home" 1 15000 && stream profiles "$home" 15001 $((15000 + $1))
+}
 creation_of_few() { stream tenant lab limits && stream made lab 1 250 1 && stream creations lab 251 $((250 + $1)); }
 creation_of_many() { stream tenant lab limits && stream made lab 1 10000 1 && stream creations lab 10001 $((10000 + $1)); }
 
@@ -40,5 +45,6 @@ count "GET /1.0, with the headers Host and User-Agent" 1000 server_of_agent
 count "GET of a profile, of 16,000" 1000 profile_of_many
 count "POST of a profile, of 100" 50 new_profile_of_few
 count "POST of a profile, of 16,000" 50 new_profile_of_many
+count "the same, in one of 1,000 projects" 50 new_profile_of_many_projects
 count "creation in a project with five limits, of 250 instances, its acceptance" 50 creation_of_few
 count "the same, of 10,000" 50 creation_of_many
