@@ -27,11 +27,6 @@ pub mod from_row_machine {
     pub use name_rules::from_row_machine::RowChange;
 }
 
-/// Of `row_readings`, for the crates above.
-pub mod from_row_readings {
-    pub use name_rules::from_row_readings::{profile_home, project_named};
-}
-
 /// Of `rule_refusals`, for the crates above.
 pub mod from_rule_refusals {
     pub use name_rules::from_rule_refusals::nothing_told;

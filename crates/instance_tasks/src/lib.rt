@@ -12,7 +12,7 @@ pub mod from_new_rows {
 
 /// Of `row_readings`, for the crates above.
 pub mod from_row_readings {
-    pub use row_readings::{View, kept_at, next_snapshot, volume_home};
+    pub use row_readings::{View, kept_at, next_snapshot};
 }
 
 mod calls;

@@ -3,10 +3,7 @@
 
 /// Of `row_readings`, for the crates above.
 pub mod from_row_readings {
-    pub use row_readings::{
-        View, home_of, is_on, network_home, network_named, pool_named, profile_home, project_named,
-        volume_home,
-    };
+    pub use row_readings::{View, is_on};
 }
 
 mod alone;

@@ -13,7 +13,7 @@ use row_machine::from_estate_rules::good_name;
 use row_machine::from_operations::Operation;
 use row_machine::from_records::{Refusal, Row, Rule};
 use row_machine::from_size_values::{ObjectKind, Or};
-use row_readings::{View, home_of, project_of_row};
+use row_readings::{View, project_of_row};
 use rule_refusals::{on_held, on_object};
 use std::alloc::Global;
 
@@ -99,7 +99,7 @@ fn name_held(
 ) -> Result<(), Or<Refusal>>
     ensures { Says result (name_held view.now project.now (target_at of.entry)) }
 {
-    let home = home_of(view.projects, project, of.kind);
+    let home = view.home_of(project, of.kind);
     let Some(operation) = claiming_operation(view.live, home, of) else {
         return Ok(());
     };

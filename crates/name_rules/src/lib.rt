@@ -15,7 +15,7 @@ pub mod from_row_machine {
 
 /// Of `row_readings`, for the crates above.
 pub mod from_row_readings {
-    pub use row_readings::{View, profile_home, project_named};
+    pub use row_readings::View;
 }
 
 /// Of `rule_refusals`, for the crates above.

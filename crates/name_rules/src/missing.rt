@@ -13,7 +13,7 @@ use crate::places::{Place, is_there, place_of};
 use crate::sources::source_missing;
 use row_machine::from_records::{Command, Refusal, Rule, Target, What};
 use row_machine::from_size_values::{ObjectKind, Or};
-use row_readings::{View, kept_at, pool_named, project_named};
+use row_readings::{View, kept_at};
 use rule_refusals::{on_object, on_project};
 use std::alloc::Global;
 
@@ -71,7 +71,7 @@ pub(crate) fn project_missing(
     ensures { Says result (project_missing view.now command.now) }
 {
     let project = command.project.view();
-    if !needs_project(&command.what) || project_named(view.projects, project).is_some() {
+    if !needs_project(&command.what) || view.project_named(project).is_some() {
         return Ok(());
     }
     Err(Or::Why(on_project(alloc, Rule::N1, project)?))
@@ -103,7 +103,7 @@ fn parent_missing(
 {
     match of.kind {
         ObjectKind::Volume => {
-            let there = pool_named(view.pools, of.pool).is_some();
+            let there = view.pool_named(of.pool).is_some();
             missing_unless(alloc, there, ObjectKind::Pool, of.pool)
         }
         ObjectKind::Snapshot => {

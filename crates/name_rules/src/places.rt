@@ -5,7 +5,7 @@ ghost use Rattle.row_machine.specs.machine.NameRules.{is_there};
 
 use row_machine::from_records::Target;
 use row_machine::from_size_values::ObjectKind;
-use row_readings::{View, home_of, network_named, pool_named, project_named};
+use row_readings::View;
 
 /// An object by its kind and names.
 #[derive(Clone, Copy)]
@@ -55,12 +55,12 @@ pub(crate) fn place_in_pool<'x>(of: Place<'x>, pool: &'x str, name: &'x str) -> 
 pub(crate) fn is_there(view: &View<'_>, project: &str, of: Place<'_>) -> bool
     ensures { result ≡ is_there view.now project.now (target_at of.entry) }
 {
-    let home = home_of(view.projects, project, of.kind);
+    let home = view.home_of(project, of.kind);
     match of.kind {
-        ObjectKind::Project => project_named(view.projects, of.name).is_some(),
+        ObjectKind::Project => view.project_named(of.name).is_some(),
         ObjectKind::Profile => view.profile_named(home, of.name).is_some(),
-        ObjectKind::Network => network_named(view.networks, home, of.name).is_some(),
-        ObjectKind::Pool => pool_named(view.pools, of.name).is_some(),
+        ObjectKind::Network => view.network_named(home, of.name).is_some(),
+        ObjectKind::Pool => view.pool_named(of.name).is_some(),
         ObjectKind::Volume => view.volume_named(home, of.pool, of.name).is_some(),
         ObjectKind::Instance => view.instance_named(project, of.name).is_some(),
         ObjectKind::Snapshot => { view.snapshot_named(project, of.instance, of.name).is_some() }

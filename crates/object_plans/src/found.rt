@@ -8,7 +8,7 @@ use object_links::from_records::{
     Instance, Network, Pool, Profile, Project, Snapshot, Target, Volume,
 };
 use object_links::from_size_values::ObjectKind;
-use row_readings::{View, home_of, network_named, pool_named, project_named};
+use row_readings::View;
 
 /// A row of any kind.
 #[derive(Clone, Copy)]
@@ -26,10 +26,10 @@ pub(crate) enum Found<'x> {
 pub(crate) fn row_of<'x>(view: &View<'x>, project: &str, of: &Target) -> Option<Found<'x>>
     ensures { option_map row_at result ≡ row_of view.now project.now of.now }
 {
-    let home = home_of(view.projects, project, of.kind);
+    let home = view.home_of(project, of.kind);
     let name = of.name.view();
     match of.kind {
-        ObjectKind::Project => match project_named(view.projects, name) {
+        ObjectKind::Project => match view.project_named(name) {
             Some(row) => Some(Found::Project(row)),
             None => None,
         },
@@ -37,11 +37,11 @@ pub(crate) fn row_of<'x>(view: &View<'x>, project: &str, of: &Target) -> Option<
             Some(row) => Some(Found::Profile(row)),
             None => None,
         },
-        ObjectKind::Network => match network_named(view.networks, home, name) {
+        ObjectKind::Network => match view.network_named(home, name) {
             Some(row) => Some(Found::Network(row)),
             None => None,
         },
-        ObjectKind::Pool => match pool_named(view.pools, name) {
+        ObjectKind::Pool => match view.pool_named(name) {
             Some(row) => Some(Found::Pool(row)),
             None => None,
         },

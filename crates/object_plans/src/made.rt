@@ -22,7 +22,7 @@ use changed_rows::{
 use object_links::from_records::{Body, Origin, Row, Target};
 use object_links::from_row_machine::RowChange;
 use object_links::from_size_values::{Boxed, NoMemory, ObjectKind, Seq, Text};
-use row_readings::{View, home_of};
+use row_readings::View;
 use std::alloc::Global;
 
 /// A row alone is put.
@@ -68,7 +68,7 @@ pub(crate) fn creation_changes(
 ) -> Result<Option<Seq<RowChange>>, NoMemory>
     ensures { IfOk result (λ cs. cs ≡ changes_in (plan_create view.now project.now of.now body.now moment)) }
 {
-    let home = home_of(view.projects, project, of.kind);
+    let home = view.home_of(project, of.kind);
     match of.kind {
         ObjectKind::Project => {
             let changes = project_creation(alloc, &of.name, body)?;

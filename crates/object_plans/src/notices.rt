@@ -11,7 +11,7 @@ use object_links::from_records::{Life, Target};
 use object_links::from_row_machine::RowChange;
 use object_links::from_size_values::{NoMemory, ObjectKind, Seq};
 use object_links::life_notice;
-use row_readings::{View, home_of};
+use row_readings::View;
 use std::alloc::Global;
 
 /// What a creation at once tells.
@@ -89,7 +89,7 @@ pub(crate) fn with_notice(
     let Some(changes) = changes else {
         return Ok(None);
     };
-    let home = home_of(view.projects, project, of.kind);
+    let home = view.home_of(project, of.kind);
     let notice = life_notice(alloc, moment, home, of, action)?;
     Ok(Some(Planned { changes, notice }))
 }

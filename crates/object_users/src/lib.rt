@@ -9,8 +9,7 @@ pub mod from_object_links {
 /// Of `row_readings`, for the crates above.
 pub mod from_row_readings {
     pub use row_readings::{
-        View, claimed_instance, claimed_volume, home_of, is_on, power_of, profile_home,
-        project_named, project_of_row, replaced_instance,
+        View, claimed_instance, claimed_volume, is_on, power_of, project_of_row, replaced_instance,
     };
 }
 

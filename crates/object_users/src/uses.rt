@@ -9,7 +9,7 @@ use row_machine::from_config_lists::Devices;
 use row_machine::from_estate_rules::{names_network, names_pool, names_volume};
 use row_machine::from_records::{Instance, Profile, Target, Volume};
 use row_machine::from_size_values::{NoMemory, ObjectKind, Text};
-use row_readings::{View, network_home, profile_home, volume_home};
+use row_readings::View;
 use std::alloc::Global;
 
 fn has_name(names: &[Text], profile: &str) -> bool
@@ -22,8 +22,7 @@ fn has_name(names: &[Text], profile: &str) -> bool
 pub fn names_profile(view: &View<'_>, home: &str, profile: &str, row: &Instance) -> bool
     ensures { result ≡ names_profile view.now home.now profile.now row.now }
 {
-    profile_home(view.projects, row.project.view()) == home
-        && has_name(row.profiles.view(), profile)
+    view.profile_home(row.project.view()) == home && has_name(row.profiles.view(), profile)
 }
 
 /// Whether devices in a project name the object: a network or volume of this home, or a pool. The
@@ -33,11 +32,10 @@ fn devices_name(view: &View<'_>, home: &str, of: &Target, project: &str, devices
 {
     let name = of.name.view();
     match of.kind {
-        ObjectKind::Network => names_network(devices, name)
-            && network_home(view.projects, project) == home,
+        ObjectKind::Network => names_network(devices, name) && view.network_home(project) == home,
         ObjectKind::Pool => names_pool(devices, name),
         ObjectKind::Volume => names_volume(devices, of.pool.view(), name)
-            && volume_home(view.projects, project) == home,
+            && view.volume_home(project) == home,
         ObjectKind::Project
         | ObjectKind::Profile
         | ObjectKind::Instance

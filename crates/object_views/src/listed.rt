@@ -8,10 +8,7 @@ use object_users::{
     AnyRow, RowRef, add_instances, add_networks, add_pools, add_profiles, add_projects,
     add_snapshots, add_volumes_in,
 };
-use project_usage::from_row_readings::{
-    View, home_of, network_home, network_named, pool_named, profile_home, project_named,
-    volume_home,
-};
+use project_usage::from_row_readings::View;
 use row_machine::from_records::Target;
 use row_machine::from_size_values::{NoMemory, ObjectKind};
 use std::alloc::Global;
@@ -25,14 +22,13 @@ fn add_listed<'x>(
 ) -> Result<(), NoMemory>
     ensures { OnOk result (all.new.items ≡ all.old.items ++ listed view.now project.now of.now) }
 {
-    let projects = view.projects;
     match of.kind {
-        ObjectKind::Project => add_projects(projects, all),
-        ObjectKind::Profile => add_profiles(view.profiles, profile_home(projects, project), all),
-        ObjectKind::Network => add_networks(view.networks, network_home(projects, project), all),
+        ObjectKind::Project => add_projects(view.projects, all),
+        ObjectKind::Profile => add_profiles(view.profiles, view.profile_home(project), all),
+        ObjectKind::Network => add_networks(view.networks, view.network_home(project), all),
         ObjectKind::Pool => add_pools(view.pools, all),
         ObjectKind::Volume => {
-            let home = volume_home(projects, project);
+            let home = view.volume_home(project);
             add_volumes_in(view.volumes, home, of.pool.view(), all)
         }
         ObjectKind::Instance => add_instances(view.instances, project, all),
@@ -66,10 +62,10 @@ fn lent(row: AnyRow<'_>) -> Option<RowRef<'_>>
 pub(crate) fn row_of<'x>(view: &View<'x>, project: &str, of: &Target) -> Option<RowRef<'x>>
     ensures { result ≡ row_of view.now project.now of.now }
 {
-    let home = home_of(view.projects, project, of.kind);
+    let home = view.home_of(project, of.kind);
     let name = of.name.view();
     match of.kind {
-        ObjectKind::Project => match project_named(view.projects, name) {
+        ObjectKind::Project => match view.project_named(name) {
             Some(row) => lent(AnyRow::Project(row)),
             None => None,
         },
@@ -77,11 +73,11 @@ pub(crate) fn row_of<'x>(view: &View<'x>, project: &str, of: &Target) -> Option<
             Some(row) => lent(AnyRow::Profile(row)),
             None => None,
         },
-        ObjectKind::Network => match network_named(view.networks, home, name) {
+        ObjectKind::Network => match view.network_named(home, name) {
             Some(row) => lent(AnyRow::Network(row)),
             None => None,
         },
-        ObjectKind::Pool => match pool_named(view.pools, name) {
+        ObjectKind::Pool => match view.pool_named(name) {
             Some(row) => lent(AnyRow::Pool(row)),
             None => None,
         },

@@ -6,7 +6,7 @@ ghost use Rattle.row_machine.specs.records.specs.declared.rows.Row.TheVariants a
 ghost use Rattle.row_machine.specs.opening.Opening.{rule_of, uncountable};
 ghost use Rattle.opening_rules.specs.Rules.{uncounted_by};
 
-use limit_rules::from_row_readings::{View, project_named};
+use limit_rules::from_row_readings::View;
 use row_machine::from_project_limits::{SumKey, countable, limits_of, volume_countable};
 use row_machine::from_records::{Instance, Project, Row, Rule, Volume};
 use row_machine::from_size_values::NoMemory;
@@ -50,7 +50,7 @@ fn instance_uncounts(
 fn volume_uncounted(view: &View<'_>, row: &Volume) -> Option<Rule>
     ensures { result ≡ uncountable view.now (row_of.Volume row.now) }
 {
-    match project_named(view.projects, row.project.view()) {
+    match view.project_named(row.project.view()) {
         Some(project) => volume_uncounts(project, row),
         None => None,
     }
@@ -63,7 +63,7 @@ fn instance_uncounted(
 ) -> Result<Option<Rule>, NoMemory>
     ensures { IfOk result (λ found. found ≡ uncountable view.now (row_of.Instance row.now)) }
 {
-    match project_named(view.projects, row.project.view()) {
+    match view.project_named(row.project.view()) {
         Some(project) => instance_uncounts(alloc, view, project, row),
         None => Ok(None),
     }

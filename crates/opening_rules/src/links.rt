@@ -9,9 +9,7 @@ ghost use Rattle.row_machine.specs.opening.Opening.{rule_of, root_disk_missing, 
 ghost use Rattle.row_machine.specs.machine.SettingRules.{root_missing};
 ghost use Rattle.opening_rules.specs.Rules.{without_root, source_missing, names_missing, instance_unlinked};
 
-use limit_rules::from_row_readings::{
-    View, network_home, network_named, pool_named, profile_home, volume_home,
-};
+use limit_rules::from_row_readings::View;
 use row_machine::from_config_lists::{Device, Devices, Root};
 use row_machine::from_records::{Instance, Profile, Row, Rule};
 use row_machine::from_size_values::{NoMemory, Text};
@@ -74,8 +72,8 @@ pub(crate) fn root_disk_missing(
 fn network_missing(view: &View<'_>, project: &str, name: &str) -> Option<Rule>
     ensures { result ≡ rule_of (network_missing view.now project.now name.now) }
 {
-    let home = network_home(view.projects, project);
-    if network_named(view.networks, home, name).is_some() {
+    let home = view.network_home(project);
+    if view.network_named(home, name).is_some() {
         return None;
     }
     Some(Rule::V5)
@@ -84,7 +82,7 @@ fn network_missing(view: &View<'_>, project: &str, name: &str) -> Option<Rule>
 fn pool_missing(view: &View<'_>, name: &str) -> Option<Rule>
     ensures { result ≡ rule_of (pool_missing view.now name.now) }
 {
-    if pool_named(view.pools, name).is_some() {
+    if view.pool_named(name).is_some() {
         return None;
     }
     Some(Rule::V5)
@@ -93,7 +91,7 @@ fn pool_missing(view: &View<'_>, name: &str) -> Option<Rule>
 fn volume_missing(view: &View<'_>, project: &str, pool: &str, name: &str) -> Option<Rule>
     ensures { result ≡ rule_of (volume_missing view.now project.now pool.now name.now) }
 {
-    let home = volume_home(view.projects, project);
+    let home = view.volume_home(project);
     if view.volume_named(home, pool, name).is_some() {
         return None;
     }
@@ -167,7 +165,7 @@ fn missing_name<'x>(view: &View<'_>, home: &str, names: &'x [Text]) -> Option<&'
 fn profile_missing(view: &View<'_>, row: &Instance) -> Option<Rule>
     ensures { result ≡ rule_of (profile_missing view.now row.now) }
 {
-    let home = profile_home(view.projects, row.project.view());
+    let home = view.profile_home(row.project.view());
     match missing_name(view, home, row.profiles.view()) {
         Some(_) => Some(Rule::V5),
         None => None,

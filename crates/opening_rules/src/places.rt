@@ -11,7 +11,7 @@ ghost use Rattle.row_machine.specs.opening.Opening.{defaults_missing};
 ghost use Rattle.row_machine.specs.opening.Opening.{has_all_features};
 ghost use Rattle.opening_rules.specs.Rules.{lacks_defaults};
 
-use limit_rules::from_row_readings::{View, home_of, is_on, pool_named, project_named};
+use limit_rules::from_row_readings::{View, is_on};
 use row_machine::from_records::{Project, Row, Rule};
 use row_machine::from_size_values::{ObjectKind, Text};
 
@@ -26,12 +26,12 @@ pub(crate) fn if_so(breaks: bool, rule: Rule) -> Option<Rule>
 }
 
 /// Whether a project is missing, or is not its own home for rows of a kind.
-fn lacks_home(projects: &[Project], project: &str, kind: ObjectKind) -> bool
+fn lacks_home(view: &View<'_>, project: &str, kind: ObjectKind) -> bool
     ensures { result
-        ≡ (is_none (project_named projects.now project.now)
-        || not (bytes_eq (home_of projects.now project.now kind) project.now)) }
+        ≡ (is_none (project_named view.now.projects project.now)
+        || not (bytes_eq (home_of view.now.projects project.now kind) project.now)) }
 {
-    project_named(projects, project).is_none() || home_of(projects, project, kind) != project
+    view.project_named(project).is_none() || view.home_of(project, kind) != project
 }
 
 /// A row's project is missing, or is not its own home for rows of this kind.
@@ -46,7 +46,7 @@ pub(crate) fn home_missing(view: &View<'_>, row: &Row) -> Option<Rule>
         Row::Instance(row) => (row.project.view(), ObjectKind::Instance),
         Row::Snapshot(row) => (row.project.view(), ObjectKind::Snapshot),
     };
-    if_so(lacks_home(view.projects, project, kind), Rule::N1)
+    if_so(lacks_home(view, project, kind), Rule::N1)
 }
 
 /// A volume's pool or a snapshot's instance is missing.
@@ -55,7 +55,7 @@ pub(crate) fn parent_row_missing(view: &View<'_>, row: &Row) -> Option<Rule>
 {
     match row {
         Row::Volume(row) => {
-            let pool = pool_named(view.pools, row.pool.view());
+            let pool = view.pool_named(row.pool.view());
             if_so(pool.is_none(), Rule::N2)
         }
         Row::Snapshot(row) => {

@@ -5,7 +5,7 @@ ghost use Rattle.row_machine.specs.records.specs.declared.rows.Row.TheVariants a
 ghost use Rattle.row_machine.specs.opening.Opening.{rule_of, forbidden};
 ghost use Rattle.opening_rules.specs.Rules.{forbidden_rule};
 
-use limit_rules::from_row_readings::{View, project_named};
+use limit_rules::from_row_readings::View;
 use row_machine::from_config_lists::{Config, Devices};
 use row_machine::from_records::{Instance, Profile, Project, Row, Rule};
 use row_machine::from_restrictions::{Subject, first_forbidden, is_restricted, policy_of};
@@ -94,7 +94,7 @@ fn forbids_instance(
 fn profile_forbidden(view: &View<'_>, number: u8, row: &Profile) -> Option<Rule>
     ensures { result ≡ forbidden number view.now (row_of.Profile row.now) }
 {
-    match project_named(view.projects, row.project.view()) {
+    match view.project_named(row.project.view()) {
         Some(project) => forbids_profile(project, number, row),
         None => None,
     }
@@ -108,7 +108,7 @@ fn instance_forbidden(
 ) -> Result<Option<Rule>, NoMemory>
     ensures { IfOk result (λ found. found ≡ forbidden number view.now (row_of.Instance row.now)) }
 {
-    match project_named(view.projects, row.project.view()) {
+    match view.project_named(row.project.view()) {
         Some(project) => forbids_instance(alloc, view, project, number, row),
         None => Ok(None),
     }

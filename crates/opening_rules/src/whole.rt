@@ -14,7 +14,7 @@ ghost use Rattle.opening_rules.specs.Rules.{breach_of};
 
 use crate::breach::{Breach, broken_at, broken_in};
 use crate::rules::rows_break_rules;
-use limit_rules::from_row_readings::{View, project_named};
+use limit_rules::from_row_readings::View;
 use limit_rules::{limits_broken, usage_before_changes};
 use row_machine::from_records::{Refusal, Row, Rule};
 use row_machine::from_row_codec::kind_of;
@@ -38,7 +38,7 @@ const ROW_KINDS: [ObjectKind; 7] = [
 fn default_missing(alloc: Global, view: &View<'_>) -> Result<(), Or<Breach>>
     ensures { Says result (default_missing view.now) }
 {
-    if project_named(view.projects, "default").is_some() {
+    if view.project_named("default").is_some() {
         return Ok(());
     }
     Err(Or::Why(broken_in(alloc, "default", Rule::N1)?))

@@ -14,7 +14,7 @@ use restrictions::from_size_values::{NoMemory, Or};
 use restrictions::{Subject, is_restricted};
 use row_machine::Work;
 use row_machine::from_records::{Profile, Project, Refusal};
-use row_readings::{View, project_named};
+use row_readings::View;
 use std::alloc::Global;
 
 /// The number of the first rule that a claim breaks in a project, or one above them all. A project that is not
@@ -143,7 +143,7 @@ pub fn profile_forbidden(
 ) -> Result<(), Or<Refusal>>
     ensures { Says result (profile_forbidden view.now profile.now) }
 {
-    match project_named(view.projects, profile.project.view()) {
+    match view.project_named(profile.project.view()) {
         Some(project) => first_forbids(alloc, project, profile),
         None => Ok(()),
     }

@@ -11,7 +11,7 @@ ghost use Rattle.row_machine.specs.machine.PolicyRules.{snapshot_blocked};
 use restrictions::from_size_values::{ObjectKind, Or};
 use restrictions::{policy_of, snapshots_forbidden};
 use row_machine::from_records::{Command, Refusal, Rule, What};
-use row_readings::{View, project_named};
+use row_readings::View;
 use rule_refusals::on_project;
 use std::alloc::Global;
 
@@ -20,7 +20,7 @@ fn project_blocks(alloc: Global, view: &View<'_>, name: &str) -> Result<(), Or<R
     ensures { Says result (option_and_then (λ p. if snapshots_forbidden (policy_of p.config)
         then Some (on_project rule.F8 p.name) else None) (project_named view.now.projects name.now)) }
 {
-    let Some(project) = project_named(view.projects, name) else {
+    let Some(project) = view.project_named(name) else {
         return Ok(());
     };
     if !snapshots_forbidden(&policy_of(&project.config)) {

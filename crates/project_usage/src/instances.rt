@@ -12,11 +12,11 @@ ghost use Rattle.project_usage.specs.Counted.{instance_part};
 ghost use Rattle.project_usage.specs.Layered.{amounts_over};
 
 use crate::layers::lay_again;
+use row_readings::View;
 use row_readings::from_config_lists::{Config, Devices};
 use row_readings::from_expansion::Expanded;
 use row_readings::from_records::Instance;
 use row_readings::from_size_values::{Amounts, Boxed, NoMemory, Text};
-use row_readings::{View, profile_home};
 use std::alloc::Global;
 
 /// The amounts with those of the instances of the project.
@@ -53,7 +53,7 @@ fn add_expanded(
         → part k a ≡ part k used + sum_by (instance_part view.now project.now k) rows.now) }
     ensures few { IfOk result (λ a. (k : Part) → part k a ≤ part k used + 2 ^ 126) }
 {
-    let home = profile_home(view.projects, project);
+    let home = view.profile_home(project);
     let mut last: &[Text] = &[];
     let mut sum = used;
     for row in rows {

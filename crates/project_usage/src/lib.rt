@@ -32,9 +32,7 @@ pub mod from_row_machine {
 /// Of `row_readings`, for the crates above.
 pub mod from_row_readings {
     pub use row_readings::{
-        View, claimed_instance, claimed_snapshot, claimed_volume, home_of, network_home,
-        network_named, pool_named, power_of, profile_home, project_named, project_of_row,
-        volume_home,
+        View, claimed_instance, claimed_snapshot, claimed_volume, power_of, project_of_row,
     };
 }
 

@@ -5,8 +5,7 @@ use project_usage::from_operations::{OpFault, Operation, Status};
 use project_usage::from_records::{Instance, Profile, Row, Target, Volume};
 use project_usage::from_row_machine::Work;
 use project_usage::from_row_readings::{
-    View, claimed_instance, claimed_snapshot, claimed_volume, network_home, network_named,
-    pool_named, profile_home, project_named, project_of_row, volume_home,
+    View, claimed_instance, claimed_snapshot, claimed_volume, project_of_row,
 };
 use project_usage::from_size_values::{
     Amounts, Boxed, Deed, Kind, NoMemory, ObjectKind, Seq, Text,
@@ -393,17 +392,17 @@ fn finds_rows(view: &View<'_>) -> bool {
         && view.volume_named("lab", "p1", "v").is_none()
         && view.instance_named("lab", "a").is_some()
         && view.instance_named("lab", "b").is_none()
-        && project_named(view.projects, "lab").is_none()
-        && network_named(view.networks, "default", "n").is_none()
-        && pool_named(view.pools, "p0").is_none()
+        && view.project_named("lab").is_none()
+        && view.network_named("default", "n").is_none()
+        && view.pool_named("p0").is_none()
         && view.snapshot_named("lab", "a", "s").is_none()
 }
 
 /// Whether a project that is missing has its profiles, networks and volumes in the project `default`.
 fn finds_homes(view: &View<'_>) -> bool {
-    profile_home(view.projects, "lab") == "default"
-        && network_home(view.projects, "lab") == "default"
-        && volume_home(view.projects, "lab") == "default"
+    view.profile_home("lab") == "default"
+        && view.network_home("lab") == "default"
+        && view.volume_home("lab") == "default"
 }
 
 /// Whether an operation claims an instance of the project `lab`, and nothing else.

@@ -4,10 +4,9 @@ ghost use Rattle.restrictions.specs.size_values.specs.declared.kinds.ObjectKind.
 ghost use Rattle.restrictions.specs.Words.{is_true};
 ghost use Rattle.row_machine.specs.machine.Homes.{is_on, has_feature, home_by, home_of};
 
-use crate::lookups::project_named;
+use crate::view::View;
 use restrictions::from_config_lists::Config;
 use restrictions::from_size_values::{ObjectKind, read_boolean};
-use row_machine::from_records::Project;
 
 /// Whether a text reads as true.
 #[tactic(auto, unfolding(restrictions::specs::Words::is_true))]
@@ -30,62 +29,64 @@ pub fn is_on(config: &Config, key: &str) -> bool
     }
 }
 
-fn has_feature(projects: &[Project], name: &str, key: &str) -> bool
-    ensures { result ≡ has_feature projects.now name.now key.now }
-{
-    match project_named(projects, name) {
-        Some(project) => is_on(&project.config, key),
-        None => false,
+impl View<'_> {
+    fn has_feature(&self, name: &str, key: &str) -> bool
+        ensures { result ≡ has_feature self.now.projects name.now key.now }
+    {
+        match self.project_named(name) {
+            Some(project) => is_on(&project.config, key),
+            None => false,
+        }
     }
-}
 
-fn home_by<'x>(projects: &[Project], name: &'x str, key: &str) -> &'x str
-    ensures { result.now ≡ home_by projects.now name.now key.now }
-{
-    if has_feature(projects, name, key) {
-        name
-    } else {
-        "default"
+    fn home_by<'x>(&self, name: &'x str, key: &str) -> &'x str
+        ensures { result.now ≡ home_by self.now.projects name.now key.now }
+    {
+        if self.has_feature(name, key) {
+            name
+        } else {
+            "default"
+        }
     }
-}
 
-/// The project that the profiles of a project belong to.
-#[tactic(auto, unfolding(row_machine::specs::machine::Homes::home_of))]
-pub fn profile_home<'x>(projects: &[Project], name: &'x str) -> &'x str
-    ensures { result.now ≡ home_of projects.now name.now kind.Profile }
-{
-    home_by(projects, name, "features.profiles")
-}
+    /// The project that the profiles of a project belong to.
+    #[tactic(auto, unfolding(row_machine::specs::machine::Homes::home_of))]
+    pub fn profile_home<'x>(&self, name: &'x str) -> &'x str
+        ensures { result.now ≡ home_of self.now.projects name.now kind.Profile }
+    {
+        self.home_by(name, "features.profiles")
+    }
 
-/// The project that the networks of a project belong to.
-#[tactic(auto, unfolding(row_machine::specs::machine::Homes::home_of))]
-pub fn network_home<'x>(projects: &[Project], name: &'x str) -> &'x str
-    ensures { result.now ≡ home_of projects.now name.now kind.Network }
-{
-    home_by(projects, name, "features.networks")
-}
+    /// The project that the networks of a project belong to.
+    #[tactic(auto, unfolding(row_machine::specs::machine::Homes::home_of))]
+    pub fn network_home<'x>(&self, name: &'x str) -> &'x str
+        ensures { result.now ≡ home_of self.now.projects name.now kind.Network }
+    {
+        self.home_by(name, "features.networks")
+    }
 
-/// The project that the storage volumes of a project belong to.
-#[tactic(auto, unfolding(row_machine::specs::machine::Homes::home_of))]
-pub fn volume_home<'x>(projects: &[Project], name: &'x str) -> &'x str
-    ensures { result.now ≡ home_of projects.now name.now kind.Volume }
-{
-    home_by(projects, name, "features.storage.volumes")
-}
+    /// The project that the storage volumes of a project belong to.
+    #[tactic(auto, unfolding(row_machine::specs::machine::Homes::home_of))]
+    pub fn volume_home<'x>(&self, name: &'x str) -> &'x str
+        ensures { result.now ≡ home_of self.now.projects name.now kind.Volume }
+    {
+        self.home_by(name, "features.storage.volumes")
+    }
 
-/// The project that the objects of a kind belong to, which are asked for in a project.
-#[tactic(auto, unfolding(row_machine::specs::machine::Homes::home_of))]
-pub fn home_of<'x>(projects: &[Project], name: &'x str, kind: ObjectKind) -> &'x str
-    ensures { result.now ≡ home_of projects.now name.now kind }
-{
-    match kind {
-        ObjectKind::Profile => profile_home(projects, name),
-        ObjectKind::Network => network_home(projects, name),
-        ObjectKind::Volume => volume_home(projects, name),
-        ObjectKind::Project => name,
-        ObjectKind::Pool => name,
-        ObjectKind::Instance => name,
-        ObjectKind::Snapshot => name,
-        ObjectKind::Operation => name,
+    /// The project that the objects of a kind belong to, which are asked for in a project.
+    #[tactic(auto, unfolding(row_machine::specs::machine::Homes::home_of))]
+    pub fn home_of<'x>(&self, name: &'x str, kind: ObjectKind) -> &'x str
+        ensures { result.now ≡ home_of self.now.projects name.now kind }
+    {
+        match kind {
+            ObjectKind::Profile => self.profile_home(name),
+            ObjectKind::Network => self.network_home(name),
+            ObjectKind::Volume => self.volume_home(name),
+            ObjectKind::Project => name,
+            ObjectKind::Pool => name,
+            ObjectKind::Instance => name,
+            ObjectKind::Snapshot => name,
+            ObjectKind::Operation => name,
+        }
     }
 }

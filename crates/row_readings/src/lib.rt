@@ -70,8 +70,8 @@ mod view;
 
 pub use amounts::{Load, amounts_of_instance, loads, project_of_row, share_of, usage_in};
 pub use claims::{claimed_instance, claimed_snapshot, claimed_volume, replaced_instance};
-pub use homes::{home_of, is_on, is_true, network_home, profile_home, volume_home};
-pub use lookups::{kept_at, network_named, pool_named, power_of, project_named};
+pub use homes::{is_on, is_true};
+pub use lookups::{kept_at, power_of};
 pub use named::{Named, Names};
 pub use places::{place_named, rises};
 pub use snapshots::next_snapshot;

@@ -1,5 +1,4 @@
-//! Rows and statuses by their names. Profiles, volumes, instances, snapshots and statuses, of which there may be
-//! many, are found by binary search; projects, networks and pools, of which there are few, from the front.
+//! Rows and statuses by their names, found by binary search, and operations by their numbers.
 ghost use Rattle.std.specs.Prelude.{◌≡◌, find};
 ghost use Rattle.std.specs.Option.{option_copied};
 ghost use Rattle.row_machine.specs.operations.specs.Kept.{has_number, kept_at};
@@ -15,29 +14,28 @@ use row_machine::Work;
 use row_machine::from_operations::Operation;
 use row_machine::from_records::{Instance, Network, Pool, Profile, Project, Snapshot, Volume};
 
-/// The project of a name.
-pub fn project_named<'x>(rows: &'x [Project], name: &str) -> Option<&'x Project>
-    ensures { option_copied result ≡ project_named rows.now name.now }
-{
-    rows.iter().find(|r| r.name.view() == name)
-}
-
-/// The network of a name in a project.
-pub fn network_named<'x>(rows: &'x [Network], project: &str, name: &str) -> Option<&'x Network>
-    ensures { option_copied result ≡ network_named rows.now project.now name.now }
-{
-    rows.iter()
-        .find(|r| r.project.view() == project && r.name.view() == name)
-}
-
-/// The storage pool of a name.
-pub fn pool_named<'x>(rows: &'x [Pool], name: &str) -> Option<&'x Pool>
-    ensures { option_copied result ≡ pool_named rows.now name.now }
-{
-    rows.iter().find(|r| r.name.view() == name)
-}
-
 impl<'x> View<'x> {
+    /// The project of a name.
+    pub fn project_named(&self, name: &str) -> Option<&'x Project>
+        ensures { option_copied result ≡ project_named self.now.projects name.now }
+    {
+        row_named(self.projects, Names::One(name))
+    }
+
+    /// The network of a name in a project.
+    pub fn network_named(&self, project: &str, name: &str) -> Option<&'x Network>
+        ensures { option_copied result ≡ network_named self.now.networks project.now name.now }
+    {
+        row_named(self.networks, Names::Two(project, name))
+    }
+
+    /// The storage pool of a name.
+    pub fn pool_named(&self, name: &str) -> Option<&'x Pool>
+        ensures { option_copied result ≡ pool_named self.now.pools name.now }
+    {
+        row_named(self.pools, Names::One(name))
+    }
+
     /// The profile of a name in a project.
     pub fn profile_named(&self, project: &str, name: &str) -> Option<&'x Profile>
         ensures { option_copied result ≡ profile_named self.now.profiles project.now name.now }

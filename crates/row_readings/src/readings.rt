@@ -6,7 +6,6 @@ ghost use Rattle.row_machine.specs.machine.Expansions.{layer_of, expanded_of};
 ghost use Rattle.row_machine.specs.machine.Usage.{usage_of};
 
 use crate::amounts::{loads, usage_in};
-use crate::homes::profile_home;
 use crate::view::View;
 use restrictions::from_size_values::{Amounts, NoMemory, Text};
 use row_machine::from_expansion::Expanded;
@@ -18,7 +17,7 @@ impl View<'_> {
     pub fn expansion(&self, alloc: Global, row: &Instance) -> Result<Expanded, NoMemory>
         ensures { IfOk result (λ e. e ≡ expanded_of self.now.projects self.now.profiles row.now) }
     {
-        let home = profile_home(self.projects, row.project.view());
+        let home = self.profile_home(row.project.view());
         let mut expanded = self.profiles_laid(alloc, home, row.profiles.view())?;
         expanded.lay(&row.config, &row.devices)?;
         Ok(expanded)

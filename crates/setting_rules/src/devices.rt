@@ -10,7 +10,7 @@ use row_machine::from_config_lists::{Config, Device, Devices};
 use row_machine::from_option_tables::SettingFault;
 use row_machine::from_records::{Refusal, Rule};
 use row_machine::from_size_values::{ObjectKind, Or};
-use row_readings::{View, network_home, network_named, pool_named, volume_home};
+use row_readings::View;
 use rule_refusals::{on_object, tables_break};
 use std::alloc::Global;
 
@@ -51,8 +51,8 @@ fn network_missing(
 ) -> Result<(), Or<Refusal>>
     ensures { Says result (network_missing view.now project.now name.now) }
 {
-    let home = network_home(view.projects, project);
-    if network_named(view.networks, home, name).is_some() {
+    let home = view.network_home(project);
+    if view.network_named(home, name).is_some() {
         return Ok(());
     }
     Err(Or::Why(on_object(alloc, Rule::V5, ObjectKind::Network, name)?))
@@ -61,7 +61,7 @@ fn network_missing(
 fn pool_missing(alloc: Global, view: &View<'_>, name: &str) -> Result<(), Or<Refusal>>
     ensures { Says result (pool_missing view.now name.now) }
 {
-    if pool_named(view.pools, name).is_some() {
+    if view.pool_named(name).is_some() {
         return Ok(());
     }
     Err(Or::Why(on_object(alloc, Rule::V5, ObjectKind::Pool, name)?))
@@ -76,7 +76,7 @@ fn volume_missing(
 ) -> Result<(), Or<Refusal>>
     ensures { Says result (volume_missing view.now project.now pool.now name.now) }
 {
-    let home = volume_home(view.projects, project);
+    let home = view.volume_home(project);
     if view.volume_named(home, pool, name).is_some() {
         return Ok(());
     }

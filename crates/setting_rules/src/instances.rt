@@ -20,7 +20,7 @@ use row_machine::from_operations::Operation;
 use row_machine::from_option_tables::{Scope, check_instance};
 use row_machine::from_records::{Instance, Profile, Refusal, Rule};
 use row_machine::from_size_values::{Boxed, Kind, ObjectKind, Or, Text};
-use row_readings::{View, claimed_instance, profile_home};
+use row_readings::{View, claimed_instance};
 use rule_refusals::{on_name, on_object};
 use std::alloc::Global;
 
@@ -67,7 +67,7 @@ fn missing_name<'x>(view: &View<'_>, home: &str, names: &'x [Text]) -> Option<&'
 fn profile_missing(alloc: Global, view: &View<'_>, row: &Instance) -> Result<(), Or<Refusal>>
     ensures { Says result (profile_missing view.now row.now) }
 {
-    let home = profile_home(view.projects, row.project.view());
+    let home = view.profile_home(row.project.view());
     match missing_name(view, home, row.profiles.view()) {
         Some(name) => Err(Or::Why(on_object(alloc, Rule::V5, ObjectKind::Profile, name.view())?)),
         None => Ok(()),
@@ -116,7 +116,7 @@ fn is_among(names: &[Text], name: &str) -> bool
 fn names_profile(view: &View<'_>, profile: &Profile, row: &Instance) -> bool
     ensures { result ≡ names_profile view.now profile.now.project profile.now.name row.now }
 {
-    profile_home(view.projects, row.project.view()) == profile.project.view()
+    view.profile_home(row.project.view()) == profile.project.view()
         && is_among(row.profiles.view(), profile.name.view())
 }
 

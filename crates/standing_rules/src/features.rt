@@ -7,7 +7,7 @@ ghost use Rattle.row_machine.specs.machine.StandingRules.{asks_for_features, cha
 ghost use Rattle.row_machine.specs.machine.StandingRules.{feature_keys};
 
 use new_rows::{new_config, patched_config};
-use object_users::from_row_readings::{View, is_on, project_named};
+use object_users::from_row_readings::{View, is_on};
 use row_machine::from_config_lists::Config;
 use row_machine::from_records::{Body, Project, Target, What};
 use row_machine::from_size_values::{NoMemory, ObjectKind, read_boolean};
@@ -61,7 +61,7 @@ fn put_asks(alloc: Global, view: &View<'_>, of: &Target, body: &Body) -> Result<
     ensures { IfOk result (λ b. b ≡ asks_for_features view.now (what_of.Put of.now body.now)) }
 {
     match of.kind {
-        ObjectKind::Project => match project_named(view.projects, of.name.view()) {
+        ObjectKind::Project => match view.project_named(of.name.view()) {
             Some(row) => put_changes(alloc, row, body),
             None => Ok(false),
         },
@@ -80,7 +80,7 @@ fn patch_asks(view: &View<'_>, of: &Target, body: &Body) -> Result<bool, NoMemor
     ensures { IfOk result (λ b. b ≡ asks_for_features view.now (what_of.Patch of.now body.now)) }
 {
     match of.kind {
-        ObjectKind::Project => match project_named(view.projects, of.name.view()) {
+        ObjectKind::Project => match view.project_named(of.name.view()) {
             Some(row) => patch_changes(row, body),
             None => Ok(false),
         },

@@ -7,7 +7,7 @@ ghost use Rattle.row_machine.specs.machine.Holders.{claim_rows, holder_of, names
 ghost use Rattle.row_machine.specs.machine.StandingRules.{held_profile, profile_held};
 
 use crate::asked::object_changed;
-use object_users::from_row_readings::{View, claimed_instance, profile_home, replaced_instance};
+use object_users::from_row_readings::{View, claimed_instance, replaced_instance};
 use object_users::names_profile;
 use row_machine::Work;
 use row_machine::from_operations::Operation;
@@ -54,7 +54,7 @@ fn held_profile(
 {
     match of.kind {
         ObjectKind::Profile => {
-            let home = profile_home(view.projects, command.project.view());
+            let home = view.profile_home(command.project.view());
             let Some(operation) = holder_of(view, home, of.name.view()) else {
                 return Ok(());
             };

@@ -6,7 +6,7 @@ ghost use Rattle.standing_rules.specs.Protected.{on_user};
 
 use crate::asked::{is_parting, object_changed};
 use crate::users::refuse_first_user;
-use object_users::from_row_readings::{View, home_of};
+use object_users::from_row_readings::View;
 use row_machine::from_records::{Command, Refusal, Rule, Target};
 use row_machine::from_size_values::{NoMemory, Or, Text};
 use rule_refusals::on_object;
@@ -30,7 +30,7 @@ fn used_by_first(
 ) -> Result<(), Or<Refusal>>
     ensures { Says result (used_by_first view.now command.now of.now) }
 {
-    let home = home_of(view.projects, command.project.view(), of.kind);
+    let home = view.home_of(command.project.view(), of.kind);
     match refuse_first_user(alloc, view, home, of) {
         Ok(()) => Ok(()),
         Err(Or::NoMemory) => Err(Or::NoMemory),

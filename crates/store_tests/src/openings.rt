@@ -9,7 +9,6 @@ use core_objects::from_record_keeper::MapKeeper;
 use core_objects::from_records::{Body, Command, Origin, Reply, Row, Target, What};
 use core_objects::from_row_drafts::Draft;
 use core_objects::from_row_machine::RowChange;
-use core_objects::from_row_readings::{profile_home, project_named};
 use core_objects::from_size_values::{Boxed, NoMemory, ObjectKind, Seq, Text};
 use core_objects::from_work_reports::{default_profile, entry_changes};
 use std::alloc::Global;
@@ -119,9 +118,9 @@ fn patch(alloc: Global) -> Result<Command, NoMemory>
 /// Whether the first rows are read back by their names.
 fn is_first(estate: &Estate) -> bool {
     let view = estate.view();
-    profile_home(view.projects, "default") == "default"
-        && project_named(view.projects, "default").is_some()
-        && project_named(view.projects, "lab").is_none()
+    view.profile_home("default") == "default"
+        && view.project_named("default").is_some()
+        && view.project_named("lab").is_none()
         && view.profile_named("default", "default").is_some()
         && view.profile_named("default", "lab").is_none()
 }

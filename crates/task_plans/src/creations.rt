@@ -5,7 +5,7 @@ ghost use Rattle.task_plans.specs.Begun.{task_in};
 
 use crate::snapshots::plan_snapshot;
 use crate::volumes::plan_volume;
-use instance_tasks::from_row_readings::{View, volume_home};
+use instance_tasks::from_row_readings::View;
 use instance_tasks::instance_creation;
 use row_machine::Work;
 use row_machine::from_records::{Body, Target};
@@ -27,7 +27,7 @@ pub(crate) fn plan_create(
         ObjectKind::Instance => instance_creation(alloc, view, project, of, body, moment),
         ObjectKind::Snapshot => plan_snapshot(alloc, view, project, of, moment),
         ObjectKind::Volume => {
-            let home = volume_home(view.projects, project.view());
+            let home = view.volume_home(project.view());
             plan_volume(alloc, view, home, of, body, moment)
         }
         _ => Ok(None),
