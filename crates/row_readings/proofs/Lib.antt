@@ -1,4 +1,5 @@
 pub mod Layered
+pub mod Ranges
 pub mod Risen
 pub mod SameNames
 pub mod Small

@@ -46,7 +46,7 @@ less Equal h = cc
 less Greater h = cc
 
 module _ {X : Type 0} (names : X → List (List ℕ)) where
-  rise-far : (xs : List X) (i j : ℕ) (d : X) → Rise names xs → i < j → j < length xs
+  pub rise-far : (xs : List X) (i j : ℕ) (d : X) → Rise names xs → i < j → j < length xs
       → order (names (get_or xs i d)) (names (get_or xs j d)) ≡ Less
   rise-far [] i j d up ahead within = absurd (omega (arith, within))
   rise-far (x ∷ xs) i zero d up ahead within = absurd (omega (arith, ahead))

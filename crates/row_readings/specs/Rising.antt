@@ -1,6 +1,9 @@
 -- Lists of rows that rise by their names, and where rows stand in them.
-use Rattle.std.specs.Prelude.{◌≡◌, ℕ, List, [], ◌∷◌, Some, None, Result, Ok, Err}
+use Rattle.std.specs.Prelude.{◌≡◌, ℕ, Bool, true, false, List, [], ◌∷◌, Some, None, Result, Ok, Err}
+use Rattle.std.specs.Cmp.Lexicographic.{slice_cmp}
 use Rattle.std.specs.List.{position, position_or_len}
+use Rattle.std.specs.Ordering.{is_lt, nat_cmp}
+use Rattle.std.specs.Str.{bytes_eq}
 use Rattle.row_machine.specs.records.specs.declared.rows.Instance.{Instance}
 use Rattle.row_machine.specs.records.specs.declared.rows.Network.{Network}
 use Rattle.row_machine.specs.records.specs.declared.rows.Pool.{Pool}
@@ -40,6 +43,16 @@ abbrev pub names_in : Names → List (List ℕ)
 names_in (names_of.One first) = first.now ∷ []
 names_in (names_of.Two first second) = first.now ∷ second.now ∷ []
 names_in (names_of.Three first second third) = first.now ∷ second.now ∷ third.now ∷ []
+
+-- whether the first of the names of a row is that of a project
+abbrev pub begins_with : List ℕ → List (List ℕ) → Bool
+begins_with project [] = false
+begins_with project (first ∷ more) = bytes_eq first project
+
+-- whether it comes before that of a project
+abbrev pub comes_before : List ℕ → List (List ℕ) → Bool
+comes_before project [] = true
+comes_before project (first ∷ more) = is_lt (slice_cmp nat_cmp first project)
 
 -- the first row of these names stands at this place, or there is none, and its place is in front of the first row that
 -- these names go before, or after all rows

@@ -4,7 +4,7 @@ ghost use Rattle.std.specs.Cmp.Lexicographic.{slice_cmp};
 ghost use Rattle.std.specs.Ordering.{nat_cmp};
 ghost use Rattle.row_machine.specs.machine.Rows.{project_names, profile_names, network_names, pool_names, volume_names};
 ghost use Rattle.row_machine.specs.machine.Rows.{instance_names, snapshot_names, standing_names};
-ghost use Rattle.row_readings.specs.Rising.{names_in};
+ghost use Rattle.row_readings.specs.Rising.{begins_with, comes_before, names_in};
 
 use crate::view::InstancePower;
 use restrictions::from_size_values::Boxed;
@@ -20,6 +20,28 @@ pub enum Names<'x> {
 }
 
 impl Names<'_> {
+    /// Whether the first of these names is that of a project.
+    pub fn is_of(self, project: &str) -> bool
+        ensures { result ≡ begins_with project.now (names_in self.entry) }
+    {
+        match self {
+            Names::One(first) => first == project,
+            Names::Two(first, _) => first == project,
+            Names::Three(first, _, _) => first == project,
+        }
+    }
+
+    /// Whether the first of these names comes before that of a project.
+    pub(crate) fn is_before(self, project: &str) -> bool
+        ensures { result ≡ comes_before project.now (names_in self.entry) }
+    {
+        match self {
+            Names::One(first) => first < project,
+            Names::Two(first, _) => first < project,
+            Names::Three(first, _, _) => first < project,
+        }
+    }
+
     /// The order of names, text by text: the first that differ decide, and else that there are no more of them.
     pub fn compare(self, others: Names<'_>) -> Ordering
         ensures { result ≡ slice_cmp (slice_cmp nat_cmp) (names_in self.entry) (names_in others.entry) }

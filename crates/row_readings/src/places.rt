@@ -1,11 +1,11 @@
 //! Places of rows in lists that rise by their names.
-ghost use Rattle.std.specs.Prelude.{◌≡◌, find, length};
+ghost use Rattle.std.specs.Prelude.{◌≡◌, ◌≤◌, true, false, filter, find, length};
 ghost use Rattle.std.specs.Bool.{Decides};
-ghost use Rattle.std.specs.List.Sorted.{IsSearchInRange};
+ghost use Rattle.std.specs.List.Sorted.{IsPartitionPoint, IsSearchInRange};
 ghost use Rattle.std.specs.Option.{option_copied};
 ghost use Rattle.row_machine.specs.facts.Whole.{Rise};
 ghost use Rattle.row_machine.specs.machine.Rows.{same_names};
-ghost use Rattle.row_readings.specs.Rising.{names_in, FindsPlace};
+ghost use Rattle.row_readings.specs.Rising.{begins_with, comes_before, names_in, FindsPlace};
 
 use crate::named::{Named, Names};
 use restrictions::from_size_values::Boxed;
@@ -24,6 +24,26 @@ pub fn place_named<T: Named>(rows: &[T], names: Names<'_>) -> Result<usize, usiz
     ensures place { FindsPlace T.names (names_in names.entry) rows.now result }
 {
     rows.binary_search_by(|row| row.lent_names().compare(names))
+}
+
+/// The rows of a project, which follow one another, by binary search.
+pub fn rows_of<'x, T: Named>(rows: &'x [T], project: &str) -> &'x [T]
+    requires { Rise T.names rows.now }
+    ensures { result.now ≡ filter (λ row. begins_with project.now (T.names row)) rows.now }
+{
+    let from = &rows[first_at_or_after(rows, project)..];
+    let count = from.partition_point(|row| row.lent_names().is_of(project));
+    &from[..count]
+}
+
+/// The place of the first row that the name of a project does not go after, or the number of rows.
+fn first_at_or_after<T: Named>(rows: &[T], project: &str) -> usize
+    requires { Rise T.names rows.now }
+    ensures { IsPartitionPoint (λ row. comes_before project.now (T.names row) ≡ true)
+        (λ row. comes_before project.now (T.names row) ≡ false) rows.now result }
+    ensures bound { result ≤ length rows.now }
+{
+    rows.partition_point(|row| row.lent_names().is_before(project))
 }
 
 /// The row of these names, among rows that stand each in memory of its own.
