@@ -80,9 +80,9 @@ module _ (project : List ℕ) where
   before-back (x ∷ xs) (y ∷ ys) less before =
       let y-less : text_order y project ≡ Less = is_less (text_order y project) before in
       ⊎_elim
-          (λ x-less. ap is_lt (nat_list_cmp_total.trans x y project x-less y-less))
-          (λ equal. ap is_lt (nat_list_cmp_total.congr x y project equal ∙ y-less))
-          (not_greater (text_order x y) (order xs ys) less)
+      (λ x-less. ap is_lt (nat_list_cmp_total.trans x y project x-less y-less))
+      (λ equal. ap is_lt (nat_list_cmp_total.congr x y project equal ∙ y-less))
+      (not_greater (text_order x y) (order xs ys) less)
 
   -- names that go before others, and not before the project of those, begin with it too
   begins-back : (names others : List (List ℕ)) → order names others ≡ Less → comes_before project names ≡ false
@@ -92,9 +92,9 @@ module _ (project : List ℕ) where
   begins-back (x ∷ xs) (y ∷ ys) less from begins =
       let is : y ≡ project = same y project begins in
       ⊎_elim
-          (λ x-less. absurd (true≢false (sym (ap is_lt x-less) ∙ ap (λ t. is_lt (text_order x t)) is ∙ from)))
-          (λ equal. subst (λ t. bytes_eq t project ≡ true) (sym (exact_bytes x y equal ∙ is)) (bytes_eq-itself project))
-          (not_greater (text_order x y) (order xs ys) less)
+      (λ x-less. absurd (true≢false (sym (ap is_lt x-less) ∙ ap (λ t. is_lt (text_order x t)) is ∙ from)))
+      (λ equal. subst (λ t. bytes_eq t project ≡ true) (sym (exact_bytes x y equal ∙ is)) (bytes_eq-itself project))
+      (not_greater (text_order x y) (order xs ys) less)
 
 -- ---- the rows of a project in a list that rises
 
@@ -115,10 +115,10 @@ module _ {X : Type 0} (names : X → List (List ℕ)) (project : List ℕ) (xs :
     pub rows-begin : IsPartitionedBy begins (drop from xs)
     rows-begin i j d ordered within is = ⊎_elim
         (λ ahead. subst (λ x. begins x ≡ true) (sym (get_or-drop from xs i d))
-            (begins-back project (names (get_or xs (from + i) d)) (names (get_or xs (from + j) d))
-            (rise-far names xs (from + i) (from + j) d up (omega (ahead, arith)) (far within))
-            (parts.1 (from + i) d (omega arith) (omega (ahead, far within, arith)))
-            (subst (λ x. begins x ≡ true) (get_or-drop from xs j d) is)))
+        (begins-back project (names (get_or xs (from + i) d)) (names (get_or xs (from + j) d))
+        (rise-far names xs (from + i) (from + j) d up (omega (ahead, arith)) (far within))
+        (parts.1 (from + i) d (omega arith) (omega (ahead, far within, arith)))
+        (subst (λ x. begins x ≡ true) (get_or-drop from xs j d) is)))
         (λ other. let equal : j ≡ i = omega (ordered, other, arith) in subst (λ k. begins (get_or (drop from xs) k d) ≡ true) equal is)
         (cases_lt i j) where
           far : j < length (drop from xs) → from + j < length xs

@@ -39,7 +39,7 @@ pub fn rows_of<'x, T: Named>(rows: &'x [T], project: &str) -> &'x [T]
 /// The place of the first row that the name of a project does not go after, or the number of rows.
 fn first_at_or_after<T: Named>(rows: &[T], project: &str) -> usize
     requires { Rise T.names rows.now }
-    ensures { IsPartitionPoint (λ row. comes_before project.now (T.names row) ≡ true)
+    ensures parts { IsPartitionPoint (λ row. comes_before project.now (T.names row) ≡ true)
         (λ row. comes_before project.now (T.names row) ≡ false) rows.now result }
     ensures bound { result ≤ length rows.now }
 {

@@ -4,8 +4,8 @@ use Rattle.row_readings.specs.Rising.{comes_before}
 use Rattle.row_readings.proofs.Ranges.{rows-before}
 use Rattle.row_readings.proofs.places.first_at_or_after.Goals as goal
 
-pub returns : goal.returns
-returns g c =
+pub returns-clause-parts : goal.returns-clause-parts
+returns-clause-parts g c =
     let names = g.T.Named.names in
     c.partition_point.ensures.partitioned (λ row. comes_before c.args.project.now (names row))
     (always_returns_same _ _ _ (λ a r f called. search (rules, of_calls)))
