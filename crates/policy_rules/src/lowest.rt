@@ -11,7 +11,7 @@ use restrictions::{Subject, is_restricted};
 use row_machine::Work;
 use row_machine::from_operations::Operation;
 use row_machine::from_records::{Instance, Profile, Project};
-use row_readings::{View, claimed_instance};
+use row_readings::{View, claimed_instance, rows_of};
 use std::alloc::Global;
 
 #[tactic(auto, unfolding(row_machine::specs::machine::PolicyRules::forbids_profile))]
@@ -32,6 +32,13 @@ fn lowest_of_profiles(project: &Restricted<'_>, profiles: &[Boxed<Profile>]) -> 
         lowest = lowest.min(lowest_of_profile(project, profile));
     }
     lowest
+}
+
+/// The same of all profiles. Those of other projects are not gone over.
+fn lowest_of_own_profiles(view: &View<'_>, project: &Restricted<'_>) -> u8
+    ensures { HoldBelow result (λ n. first_of (own_profile project.now n) view.now.profiles) }
+{
+    lowest_of_profiles(project, rows_of(view.profiles, project.name()))
 }
 
 #[tactic(auto, unfolding(row_machine::specs::machine::PolicyRules::forbids_instance))]
@@ -66,6 +73,18 @@ fn lowest_of_instances(
         lowest = lowest.min(found);
     }
     Ok(lowest)
+}
+
+/// The same of all instances. Those of other projects are not gone over.
+fn lowest_of_own_instances(
+    alloc: Global,
+    view: &View<'_>,
+    project: &Restricted<'_>,
+) -> Result<u8, NoMemory>
+    ensures { IfOk result
+        (λ lowest. HoldBelow lowest (λ n. first_of (own_instance view.now project.now n) view.now.instances)) }
+{
+    lowest_of_instances(alloc, view, project, rows_of(view.instances, project.name()))
 }
 
 pub(crate) fn lowest_of_claim(
@@ -107,8 +126,8 @@ fn lowest_of_project(alloc: Global, view: &View<'_>, project: &Project) -> Resul
         return Ok(u8::MAX);
     }
     let project = Restricted::new(project);
-    let profiles = lowest_of_profiles(&project, view.profiles);
-    let instances = lowest_of_instances(alloc, view, &project, view.instances)?;
+    let profiles = lowest_of_own_profiles(view, &project);
+    let instances = lowest_of_own_instances(alloc, view, &project)?;
     let claims = lowest_of_claims(alloc, view, &project, view.live)?;
     Ok(profiles.min(instances).min(claims))
 }

@@ -12,7 +12,7 @@ use restrictions::{Subject, is_restricted};
 use row_machine::Work;
 use row_machine::from_operations::Operation;
 use row_machine::from_records::{Instance, Profile, Project, Refusal};
-use row_readings::{View, claimed_instance};
+use row_readings::{View, claimed_instance, rows_of};
 use std::alloc::Global;
 
 /// The numbers of the rules on policy.
@@ -55,6 +55,18 @@ fn profiles_forbid(
         }
     }
     Ok(())
+}
+
+/// The same of all profiles. Those of other projects are not gone over.
+fn own_profiles_forbid(
+    alloc: Global,
+    view: &View<'_>,
+    number: u8,
+    project: &Restricted<'_>,
+) -> Result<(), Or<Refusal>>
+    ensures { Says result (first_of (own_profile project.now number) view.now.profiles) }
+{
+    profiles_forbid(alloc, project, number, rows_of(view.profiles, project.name()))
 }
 
 /// An instance of the project is judged by what it has.
@@ -102,6 +114,18 @@ fn instances_forbid(
     Ok(())
 }
 
+/// The same of all instances. Those of other projects are not gone over.
+fn own_instances_forbid(
+    alloc: Global,
+    view: &View<'_>,
+    number: u8,
+    project: &Restricted<'_>,
+) -> Result<(), Or<Refusal>>
+    ensures { Says result (first_of (own_instance view.now project.now number) view.now.instances) }
+{
+    instances_forbid(alloc, view, project, number, rows_of(view.instances, project.name()))
+}
+
 /// A live operation would put an instance of the project that breaks the rule.
 pub(crate) fn claim_forbids(
     alloc: Global,
@@ -145,8 +169,8 @@ fn objects_forbid(
 ) -> Result<(), Or<Refusal>>
     ensures { Says result (own_objects view.now project.now number) }
 {
-    profiles_forbid(alloc, project, number, view.profiles)?;
-    instances_forbid(alloc, view, project, number, view.instances)?;
+    own_profiles_forbid(alloc, view, number, project)?;
+    own_instances_forbid(alloc, view, number, project)?;
     claims_forbid(alloc, view, project, number, view.live)
 }
 

@@ -45,6 +45,13 @@ impl<'a> Restricted<'a> {
         }
     }
 
+    /// The name of the project.
+    pub(crate) fn name(&self) -> &str
+        ensures { result.now ≡ self.now.name }
+    {
+        self.project.name.view()
+    }
+
     /// Whether an object of this project is one of its own.
     pub(crate) fn has(&self, project: &Text) -> bool
         ensures { result ≡ bytes_eq project.now self.now.name }

@@ -3,7 +3,6 @@ use Rattle.std.proofs.lemmas.List.Sums.{sum_by_more_le, sum_by_more, sum_by-take
 use Rattle.row_readings.specs.expansion.specs.Layers.{expanded}
 use Rattle.row_readings.specs.size_values.specs.Amounts.{part}
 use Rattle.row_readings.specs.size_values.proofs.AmountParts.{part-plus}
-use Rattle.row_readings.specs.row_machine.specs.machine.State.{State}
 use Rattle.project_usage.specs.Counted.{instance_part}
 use Rattle.project_usage.proofs.Over.{counted-over}
 use Rattle.project_usage.proofs.Parts.{few-instances}
@@ -20,10 +19,9 @@ plus-sum-requires c = λ k.
     let counts = instance_part s project k in
     let rows = c.args.rows.now in
     let item = c.row-item.result in
-    let inside = c.view.inside in
     let one =
-    counted-over s project k c.deref-row.result.now inside.projects.now s.profiles c.profile_home-home.result.now c.view-names.result.now c.lay_again.new.expanded c.in_ok-more.more
-    (sym c.if-not-is_of.ensures) (ap (λ (t : State). t.projects) c.view.view_is) refl
+    counted-over s project k c.deref-row.result.now s.projects s.profiles c.profile_home-home.result.now c.view-names.result.now c.lay_again.new.expanded c.in_ok-more.more
+    (sym c.if-not-is_of.ensures) refl refl
     c.profile_home-home.ensures c.view-names.ensures c.in_ok-lay_again.ensures c.in_ok-more.ensures
     ∙ ap counts (c.deref-row.ensures ∙ c.row-item.is)
     in
@@ -41,10 +39,9 @@ loop-row-preserved c = (
       let counts = instance_part s project k in
       let rows = c.args.rows.now in
       let item = c.row-item.result in
-      let inside = c.view.inside in
       let one =
-      counted-over s project k c.deref-row.result.now inside.projects.now s.profiles c.profile_home-home.result.now c.view-names.result.now c.lay_again.new.expanded c.in_ok-more.more
-      (sym c.if-not-is_of.ensures) (ap (λ (t : State). t.projects) c.view.view_is) refl
+      counted-over s project k c.deref-row.result.now s.projects s.profiles c.profile_home-home.result.now c.view-names.result.now c.lay_again.new.expanded c.in_ok-more.more
+      (sym c.if-not-is_of.ensures) refl refl
       c.profile_home-home.ensures c.view-names.ensures c.in_ok-lay_again.ensures c.in_ok-more.ensures
       ∙ ap counts (c.deref-row.ensures ∙ c.row-item.is)
       in

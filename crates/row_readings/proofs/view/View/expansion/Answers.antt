@@ -1,7 +1,6 @@
 use Rattle.std.proofs.Common.{map, refl, sym, ap, ◌∙◌}
 use Rattle.restrictions.specs.size_values.specs.declared.kinds.ObjectKind.TheVariants as kind
 use Rattle.row_machine.specs.expansion.specs.Layers.{laid}
-use Rattle.row_machine.specs.machine.State.{State}
 use Rattle.row_machine.specs.machine.Rows.{profile_named}
 use Rattle.row_machine.specs.machine.Homes.{home_of}
 use Rattle.row_machine.specs.machine.Expansions.{layer_of, own_layer, expanded_of}
@@ -20,7 +19,6 @@ returns c =
     ∙ profiles_of-same _ _ _ home _ row.profiles
     refl
     (c.profile_home-home.ensures
-    ∙ ap (λ rows. home_of rows c.view.result.now kind.Profile) (ap (λ (t : State). t.projects) c.self.view_is)
     ∙ ap (λ name. home_of s.projects name kind.Profile) c.view.ensures.value)
     c.view-2.ensures)
     ∙ sym (expanded-push (map (λ name. layer_of (profile_named s.profiles home name)) row.profiles) (own_layer row))
