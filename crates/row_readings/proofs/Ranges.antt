@@ -1,5 +1,5 @@
 -- The rows of a project in a list that rises by names follow one another, and what asks only of them asks of all.
-use Rattle.std.proofs.Common.{◌≡◌, ℕ, zero, suc, ◌+◌, ◌<◌, ◌≤◌, Bool, true, false, cond, Option, None, List, [], ◌∷◌, length, get_or, filter, take, drop, refl, sym, ap, subst, ◌∙◌, ⊎_elim, ◌⊎◌, inl, inr, true≢false, arith}
+use Rattle.std.proofs.Common.{◌≡◌, ℕ, zero, suc, ◌+◌, ◌-◌, ◌<◌, ◌≤◌, Bool, true, false, cond, Option, None, List, [], ◌∷◌, length, get_or, filter, take, drop, refl, sym, ap, subst, ◌∙◌, ⊎_elim, ◌⊎◌, inl, inr, true≢false, arith}
 use Rattle.std.specs.Prelude.{option_or}
 use Rattle.std.specs.Cmp.{tied_itself}
 use Rattle.std.specs.Cmp.Lexicographic.{slice_cmp}
@@ -12,6 +12,7 @@ use Rattle.std.specs.declared.cmp.Ordering.TheVariants.{Less, Equal, Greater}
 use Rattle.std.proofs.lemmas.Bool.{cases_lt}
 use Rattle.std.proofs.lemmas.Cmp.{nat_list_cmp_total}
 use Rattle.std.proofs.lemmas.List.{get_or-drop, length-drop}
+use Rattle.std.proofs.Math.Seq.{take-length}
 use Rattle.std.proofs.lemmas.Map.Lookups.{exact_bytes}
 use Rattle.restrictions.specs.config_lists.proofs.Keys.{same, bytes_eq-itself}
 use Rattle.restrictions.specs.plain_lists.specs.Firsts.{first_of}
@@ -130,6 +131,20 @@ module _ {X : Type 0} (names : X → List (List ℕ)) (project : List ℕ) (xs :
     rows-of count within found =
         passes-in-front begins (drop from xs) count within found.0 found.1
         ∙ passes-after begins xs from inside (λ k d low high. before-other project (names (get_or xs k d)) (parts.0 k d low high))
+
+    -- what a slice from that place on has of them
+    pub rows-found : (count : ℕ) (ys : List X) → ys ≡ drop from xs → count ≤ length ys
+        → (IsPartitionedBy begins ys → IsPartitionPoint (λ row. begins row ≡ true) (λ row. begins row ≡ false) ys count)
+        → take count ys ≡ filter begins xs
+    rows-found count ys is = subst Finds (sym is) (λ within found. rows-of count within (found rows-begin)) where
+      Finds : List X → Type 0
+      Finds zs = count ≤ length zs
+          → (IsPartitionedBy begins zs → IsPartitionPoint (λ row. begins row ≡ true) (λ row. begins row ≡ false) zs count)
+          → take count zs ≡ filter begins xs
+
+-- all that a list has from a place on
+pub all-left : {X : Type 0} (from : ℕ) (xs : List X) → take (length xs - from) (drop from xs) ≡ drop from xs
+all-left from xs = ap (λ n. take n (drop from xs)) (sym (length-drop from xs)) ∙ take-length (drop from xs)
 
 -- ---- what asks only of the rows that pass a test
 
