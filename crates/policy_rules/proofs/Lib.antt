@@ -1,3 +1,4 @@
 mod Below
+mod OwnRows
 pub mod Judged
 pub mod Unrestricted

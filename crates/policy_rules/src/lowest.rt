@@ -84,7 +84,12 @@ fn lowest_of_own_instances(
     ensures { IfOk result
         (λ lowest. HoldBelow lowest (λ n. first_of (own_instance view.now project.now n) view.now.instances)) }
 {
-    lowest_of_instances(alloc, view, project, rows_of(view.instances, project.name()))
+    lowest_of_instances(
+        alloc,
+        view,
+        project,
+        rows_of(view.instances, project.name()),
+    )
 }
 
 pub(crate) fn lowest_of_claim(

@@ -66,7 +66,12 @@ fn own_profiles_forbid(
 ) -> Result<(), Or<Refusal>>
     ensures { Says result (first_of (own_profile project.now number) view.now.profiles) }
 {
-    profiles_forbid(alloc, project, number, rows_of(view.profiles, project.name()))
+    profiles_forbid(
+        alloc,
+        project,
+        number,
+        rows_of(view.profiles, project.name()),
+    )
 }
 
 /// An instance of the project is judged by what it has.
@@ -123,7 +128,13 @@ fn own_instances_forbid(
 ) -> Result<(), Or<Refusal>>
     ensures { Says result (first_of (own_instance view.now project.now number) view.now.instances) }
 {
-    instances_forbid(alloc, view, project, number, rows_of(view.instances, project.name()))
+    instances_forbid(
+        alloc,
+        view,
+        project,
+        number,
+        rows_of(view.instances, project.name()),
+    )
 }
 
 /// A live operation would put an instance of the project that breaks the rule.

@@ -1,4 +1,4 @@
-use Rattle.std.proofs.Common.{sym, ap, ◌∙◌}
+use Rattle.std.proofs.Common.{refl, sym, ap, ◌∙◌}
 use Rattle.row_machine.specs.machine.State.{State}
 use Rattle.policy_rules.proofs.Below.{below-all}
 use Rattle.policy_rules.proofs.Unrestricted.{unrestricted-free}
@@ -10,6 +10,6 @@ returns-then-not-is_restricted c = λ n less.
 
 pub returns : goal.returns
 returns c =
-    below-all c.args.view.now c.new-project.ensures (ap (λ (s : State). s.profiles) c.view.view_is) (ap (λ (s : State). s.instances) c.view.view_is)
+    below-all c.args.view.now c.new-project.ensures refl refl
     (ap (λ (s : State). s.operations.live) c.view.view_is) c.min.ensures c.min-2.ensures
-    c.lowest_of_profiles-profiles.ensures c.in_ok-instances.ensures c.in_ok-claims.ensures
+    c.lowest_of_own_profiles-profiles.ensures c.in_ok-instances.ensures c.in_ok-claims.ensures
