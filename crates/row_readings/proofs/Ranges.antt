@@ -1,10 +1,10 @@
 -- The rows of a project in a list that rises by names follow one another, and what asks only of them asks of all.
-use Rattle.std.proofs.Common.{◌≡◌, ℕ, zero, suc, ◌+◌, ◌-◌, ◌<◌, ◌≤◌, Bool, true, false, cond, Option, None, List, [], ◌∷◌, length, get_or, filter, take, drop, refl, sym, ap, subst, ◌∙◌, ⊎_elim, ◌⊎◌, inl, inr, true≢false, arith}
-use Rattle.std.specs.Prelude.{option_or}
+use Rattle.std.proofs.Common.{◌≡◌, ℕ, zero, suc, ◌+◌, ◌-◌, ◌<◌, ◌≤◌, Bool, true, false, ◌&&◌, ◌||◌, cond, Option, None, List, [], ◌∷◌, length, get_or, filter, take, drop, refl, sym, ap, subst, ◌∙◌, ⊎_elim, ◌⊎◌, inl, inr, true≢false, arith}
 use Rattle.std.specs.Cmp.{tied_itself}
 use Rattle.std.specs.Cmp.Lexicographic.{slice_cmp}
-use Rattle.std.specs.List.{AllWithin, sum_by}
+use Rattle.std.specs.List.{AllWithin, list_any, sum_by}
 use Rattle.std.specs.List.Sorted.{IsPartitionedBy, IsPartitionPoint}
+use Rattle.std.specs.Option.{option_or}
 use Rattle.std.specs.Ordering.{nat_cmp, is_lt, ordering_then}
 use Rattle.std.specs.Str.{bytes_eq}
 use Rattle.std.specs.declared.cmp.Ordering.{Ordering}
@@ -13,6 +13,7 @@ use Rattle.std.proofs.lemmas.Bool.{cases_lt}
 use Rattle.std.proofs.lemmas.Cmp.{nat_list_cmp_total}
 use Rattle.std.proofs.lemmas.List.{get_or-drop, length-drop}
 use Rattle.std.proofs.Math.Seq.{take-length}
+use Rattle.std.proofs.lemmas.List.Sums.{sum_by-cons}
 use Rattle.std.proofs.lemmas.Map.Lookups.{exact_bytes}
 use Rattle.restrictions.specs.config_lists.proofs.Keys.{same, bytes_eq-itself}
 use Rattle.restrictions.specs.plain_lists.specs.Firsts.{first_of}
@@ -146,6 +147,13 @@ module _ {X : Type 0} (names : X → List (List ℕ)) (project : List ℕ) (xs :
 pub all-left : {X : Type 0} (from : ℕ) (xs : List X) → take (length xs - from) (drop from xs) ≡ drop from xs
 all-left from xs = ap (λ n. take n (drop from xs)) (sym (length-drop from xs)) ∙ take-length (drop from xs)
 
+-- texts that differ do so from either side
+pub apart : (a b : List ℕ) → bytes_eq a b ≡ false → bytes_eq b a ≡ false
+apart a b other = at (bytes_eq b a) refl where
+  at : (c : Bool) → bytes_eq b a ≡ c → c ≡ false
+  at false is = refl
+  at true is = absurd (true≢false (sym (bytes_eq-itself a) ∙ ap (bytes_eq a) (sym (same b a is)) ∙ other))
+
 -- ---- what asks only of the rows that pass a test
 
 -- a rule that none of the other rows breaks
@@ -165,8 +173,8 @@ sum_by-filter f p [] other = refl
 sum_by-filter {X} f p (x ∷ xs) other = at (p x) refl (sum_by-filter f p xs other) where
   at : (b : Bool) → p x ≡ b → sum_by f (filter p xs) ≡ sum_by f xs
       → sum_by f (cond b (x ∷ filter p xs) (filter p xs)) ≡ sum_by f (x ∷ xs)
-  at true is more = ap (λ n. f x + n) more
-  at false is more = omega (more, other x is, arith)
+  at true is more = omega (more, sum_by-cons f x xs, sum_by-cons f x (filter p xs), arith)
+  at false is more = more ∙ omega (sum_by-cons f x xs, other x is, arith)
 
 -- a test that none of the other rows passes
 pub filter-filter : {X : Type 0} (q : X → Bool) (p : X → Bool) (xs : List X)
@@ -177,3 +185,12 @@ filter-filter {X} q p (x ∷ xs) other = at (p x) refl (filter-filter q p xs oth
       → filter q (cond b (x ∷ filter p xs) (filter p xs)) ≡ cond (q x) (x ∷ filter q xs) (filter q xs)
   at true is more = ap (λ ys. cond (q x) (x ∷ ys) ys) more
   at false is more = more ∙ sym (ap (λ c. cond c (x ∷ filter q xs) (filter q xs)) (other x is))
+
+-- a row that passes one test passes another
+pub list_any-filter : {X : Type 0} (q : X → Bool) (p : X → Bool) (xs : List X) → list_any q (filter p xs) ≡ list_any (λ x. p x && q x) xs
+list_any-filter q p [] = refl
+list_any-filter {X} q p (x ∷ xs) = at (p x) (list_any-filter q p xs) where
+  at : (b : Bool) → list_any q (filter p xs) ≡ list_any (λ y. p y && q y) xs
+      → list_any q (cond b (x ∷ filter p xs) (filter p xs)) ≡ ((b && q x) || list_any (λ y. p y && q y) xs)
+  at true more = ap (λ c. q x || c) more
+  at false more = more
