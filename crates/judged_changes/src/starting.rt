@@ -224,7 +224,7 @@ fn judge_work(
     claim_uncounts(alloc, after, work)?;
     share_broken(
         alloc,
-        after.projects,
+        after,
         project,
         &beginning.used,
         &beginning.share,

@@ -98,7 +98,7 @@ impl Totals {
             ≡ share_broken view.now.projects name.now (usage_of view.now name.now) share.now) }
         ensures totals { AreTotals view.now self.new }
     {
-        if !needs_usage(view.projects, name, share) {
+        if !needs_usage(view, name, share) {
             return Ok(Amounts::zero());
         }
         if let Some(used) = self.known(name) {

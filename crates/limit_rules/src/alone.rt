@@ -16,7 +16,7 @@ use row_machine::Work;
 use row_machine::from_project_limits::limits_of;
 use row_machine::from_records::{Project, Refusal};
 use row_machine::from_size_values::{Amounts, Or, Part};
-use row_readings::View;
+use row_readings::{View, project_of_row, rows_of};
 use std::alloc::Global;
 
 fn projects_uncount(
@@ -35,11 +35,18 @@ fn projects_uncount(
     Ok(())
 }
 
-/// L0: the row that an operation would put gives no number for a sum that its project limits.
+/// L0: the row that an operation would put gives no number for a sum that its project limits. No other project is
+/// asked.
 pub fn claim_uncounts(alloc: Global, view: &View<'_>, work: &Work) -> Result<(), Or<Refusal>>
     ensures { Says result (claim_uncounts view.now work.now) }
 {
-    projects_uncount(alloc, view, view.projects, work)
+    match &work.claim {
+        Some(row) => {
+            let projects = rows_of(view.projects, project_of_row(row));
+            projects_uncount(alloc, view, projects, work)
+        }
+        None => Ok(()),
+    }
 }
 
 /// One part of a share, above what the project of this name uses already.
@@ -114,39 +121,39 @@ fn is_nothing(share: &Amounts) -> bool
 }
 
 /// Whether the project of this name has a limit.
-fn has_limits(projects: &[Project], name: &str) -> bool
-    ensures { result ≡ has_limits projects.now name.now }
+fn has_limits(view: &View<'_>, name: &str) -> bool
+    ensures { result ≡ has_limits view.now.projects name.now }
 {
-    projects.iter().any(|project| project.name.view() == name && is_limited(project))
+    rows_of(view.projects, name).iter().any(is_limited)
 }
 
 /// Whether a share is judged by what the project of this name uses: it is something, and the project has a limit.
 /// Where it is not, whatever the project uses may stand for it.
-pub fn needs_usage(projects: &[Project], name: &str, share: &Amounts) -> bool
+pub fn needs_usage(view: &View<'_>, name: &str, share: &Amounts) -> bool
     ensures { IsFalse result → (used other : AmountsValue)
-        → share_broken projects.now name.now used share.now ≡ share_broken projects.now name.now other share.now }
+        → share_broken view.now.projects name.now used share.now ≡ share_broken view.now.projects name.now other share.now }
 {
     if is_nothing(share) {
         return false;
     }
-    has_limits(projects, name)
+    has_limits(view, name)
 }
 
 /// L1 to L8: the first limit of the project of this name that what it uses and a share exceed together. A share that is
-/// nothing exceeds none.
+/// nothing exceeds none, and no other project is asked.
 pub fn share_broken(
     alloc: Global,
-    projects: &[Project],
+    view: &View<'_>,
     name: &str,
     used: &Amounts,
     share: &Amounts,
 ) -> Result<(), Or<Refusal>>
     requires used { (k : PartValue) → part k used.now ≤ 2 ^ 127 + 2 ^ 126 }
     requires share { (k : PartValue) → part k share.now < 2 ^ 80 }
-    ensures { Says result (share_broken projects.now name.now used.now share.now) }
+    ensures { Says result (share_broken view.now.projects name.now used.now share.now) }
 {
     if is_nothing(share) {
         return Ok(());
     }
-    share_exceeds(alloc, projects, name, used, share)
+    share_exceeds(alloc, rows_of(view.projects, name), name, used, share)
 }

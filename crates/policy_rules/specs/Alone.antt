@@ -1,6 +1,6 @@
 -- The rules on policy for a new operation alone, and for a new profile: where all facts hold before it, nothing but
 -- what it claims, or what the profile has, can break them.
-use Rattle.std.specs.Prelude.{[], ◌∷◌, Option, option_and_then}
+use Rattle.std.specs.Prelude.{List, [], ◌∷◌, Option, option_and_then}
 use Rattle.restrictions.specs.plain_lists.specs.Firsts.{first_of}
 use Rattle.restrictions.specs.declared.rows.Subject.TheVariants as subject
 use Rattle.restrictions.specs.Forbids.{first_forbidden}
@@ -14,11 +14,15 @@ use Rattle.row_machine.specs.machine.State.{State}
 use Rattle.row_machine.specs.machine.Task.{Task}
 use Rattle.policy_rules.specs.Within.{own_claim}
 
+-- the first rule that the claimed instance breaks in one of these projects, where it is its own
+abbrev pub claim_forbidden_in : State → List Project → Task → Option Refusal
+claim_forbidden_in state projects task =
+    first_of (λ number. first_of (λ project. own_claim state project number task) projects)
+    (1 ∷ 2 ∷ 3 ∷ 4 ∷ 5 ∷ 6 ∷ 7 ∷ [])
+
 -- F1 to F7: the first rule that the claimed instance breaks in a project of its own.
 unfoldable pub claim_forbidden : State → Task → Option Refusal
-claim_forbidden state task =
-    first_of (λ number. first_of (λ project. own_claim state project number task) state.projects)
-    (1 ∷ 2 ∷ 3 ∷ 4 ∷ 5 ∷ 6 ∷ 7 ∷ [])
+claim_forbidden state task = claim_forbidden_in state state.projects task
 
 -- the rule of the first thing that the policy of a project forbids of what a profile has
 abbrev pub first_forbids : Project → Profile → Option Refusal

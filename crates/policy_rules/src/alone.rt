@@ -3,7 +3,7 @@
 ghost use Rattle.std.specs.Prelude.{IfOk};
 ghost use Rattle.restrictions.specs.plain_lists.specs.Firsts.{first_of};
 ghost use Rattle.restrictions.specs.size_values.specs.Causes.{Says};
-ghost use Rattle.policy_rules.specs.Alone.{claim_forbidden, first_forbids, profile_forbidden};
+ghost use Rattle.policy_rules.specs.Alone.{claim_forbidden, claim_forbidden_in, first_forbids, profile_forbidden};
 ghost use Rattle.policy_rules.specs.Lowest.{HoldBelow};
 ghost use Rattle.policy_rules.specs.Within.{own_claim};
 
@@ -14,7 +14,7 @@ use restrictions::from_size_values::{NoMemory, Or};
 use restrictions::{Subject, is_restricted};
 use row_machine::Work;
 use row_machine::from_records::{Profile, Project, Refusal};
-use row_readings::View;
+use row_readings::{View, claimed_instance, rows_of};
 use std::alloc::Global;
 
 /// The number of the first rule that a claim breaks in a project, or one above them all. A project that is not
@@ -84,30 +84,48 @@ fn number_forbids(
     view: &View<'_>,
     lowest: u8,
     number: u8,
+    projects: &[Project],
     work: &Work,
 ) -> Result<(), Or<Refusal>>
-    requires { HoldBelow lowest (λ n. first_of (λ p. own_claim view.now p n work.now) view.now.projects) }
-    ensures { Says result (first_of (λ p. own_claim view.now p number work.now) view.now.projects) }
+    requires { HoldBelow lowest (λ n. first_of (λ p. own_claim view.now p n work.now) projects.now) }
+    ensures { Says result (first_of (λ p. own_claim view.now p number work.now) projects.now) }
 {
     if number < lowest {
         return Ok(());
     }
-    projects_forbid(alloc, view, number, view.projects, work)
+    projects_forbid(alloc, view, number, projects, work)
 }
 
-/// F1 to F7: the first rule on policy that the instance breaks which an operation would put, in the project that it
-/// would stand in.
-#[tactic(auto, unfolding(crate::specs::Alone::claim_forbidden))]
-pub fn claim_forbidden(alloc: Global, view: &View<'_>, work: &Work) -> Result<(), Or<Refusal>>
-    ensures { Says result (claim_forbidden view.now work.now) }
+/// The first rule on policy that the instance breaks, and the first of these projects that forbids it.
+fn claim_forbidden_in(
+    alloc: Global,
+    view: &View<'_>,
+    projects: &[Project],
+    work: &Work,
+) -> Result<(), Or<Refusal>>
+    ensures { Says result (claim_forbidden_in view.now projects.now work.now) }
 {
-    let lowest = lowest_in_all(alloc, view, view.projects, work)?;
+    let lowest = lowest_in_all(alloc, view, projects, work)?;
     for number in NUMBERS {
-        if let Err(why) = number_forbids(alloc, view, lowest, number, work) {
+        if let Err(why) = number_forbids(alloc, view, lowest, number, projects, work) {
             return Err(why);
         }
     }
     Ok(())
+}
+
+/// F1 to F7: the first rule on policy that the instance breaks which an operation would put, in the project that it
+/// would stand in. No other project is asked.
+pub fn claim_forbidden(alloc: Global, view: &View<'_>, work: &Work) -> Result<(), Or<Refusal>>
+    ensures { Says result (claim_forbidden view.now work.now) }
+{
+    match claimed_instance(work) {
+        Some(row) => {
+            let projects = rows_of(view.projects, row.project.view());
+            claim_forbidden_in(alloc, view, projects, work)
+        }
+        None => Ok(()),
+    }
 }
 
 /// The rule of the first thing that a project forbids of what a profile has. One that is not restricted forbids nothing.

@@ -226,7 +226,7 @@ fn later_broken(alloc: Global, rows: &Rows) -> Result<(), Or<Refusal>> {
 fn used_beside(alloc: Global, view: &View<'_>, project: &str) -> Result<Amounts, NoMemory>
     ensures { IfOk result (λ used. (k : Part) → part k used ≤ 2 ^ 127 + 2 ^ 126) }
 {
-    if !needs_usage(view.projects, project, &SHARE) {
+    if !needs_usage(view, project, &SHARE) {
         return Ok(Amounts::zero());
     }
     usage_of(alloc, view, project)
@@ -244,7 +244,7 @@ fn alone_broken(alloc: Global, rows: &Rows) -> Result<(), Or<Refusal>> {
     claim_forbidden(alloc, &after, work)?;
     claim_uncounts(alloc, &after, work)?;
     let used = used_beside(alloc, &rows.before_last(), project)?;
-    share_broken(alloc, after.projects, project, &used, &SHARE)
+    share_broken(alloc, &after, project, &used, &SHARE)
 }
 
 /// An operation that waits for its first call.

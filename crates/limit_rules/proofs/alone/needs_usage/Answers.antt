@@ -4,10 +4,10 @@ use Rattle.limit_rules.proofs.alone.needs_usage.Goals as goal
 
 pub returns-then-is_nothing : goal.returns-then-is_nothing
 returns-then-is_nothing c = λ no used other.
-    nothing-beside c.args.projects.now c.args.name.now used other c.args.share.now
+    nothing-beside c.args.view.now.projects c.args.name.now used other c.args.share.now
     (sym c.is_nothing.ensures ∙ c.if-is_nothing.true)
 
 pub returns : goal.returns
 returns c = λ no used other.
-    unlimited-beside c.args.projects.now c.args.name.now used other c.args.share.now
+    unlimited-beside c.args.view.now.projects c.args.name.now used other c.args.share.now
     (sym c.has_limits.ensures ∙ no)

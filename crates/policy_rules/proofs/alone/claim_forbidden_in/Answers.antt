@@ -1,32 +1,24 @@
-use Rattle.std.proofs.Common.{ℕ, List, [], ◌∷◌, sym, ap, ◌∙◌}
+use Rattle.std.proofs.Common.{ℕ, List, [], ◌∷◌, sym, ◌∙◌}
 use Rattle.std.proofs.lemmas.Grind.{get_or_default_zero}
 use Rattle.restrictions.specs.plain_lists.specs.Firsts.{first_of}
-use Rattle.row_machine.specs.machine.State.{State}
 use Rattle.rule_refusals.proofs.Saying.{refuses-here, free-next}
-use Rattle.policy_rules.specs.Alone.{claim_forbidden}
 use Rattle.policy_rules.specs.Within.{own_claim}
-use Rattle.policy_rules.proofs.alone.claim_forbidden.Goals as goal
-
-pub number_forbids-requires : goal.number_forbids-requires
-number_forbids-requires c = λ n less.
-    ap (λ (t : State). first_of (λ p. own_claim c.args.view.now p n c.args.work.now) t.projects) (sym c.view.view_is)
-    ∙ c.in_ok-lowest.ensures n less
+use Rattle.policy_rules.proofs.alone.claim_forbidden_in.Goals as goal
 
 -- the numbers of the rules
 abbrev numbers : List ℕ
 numbers = 1 ∷ 2 ∷ 3 ∷ 4 ∷ 5 ∷ 6 ∷ 7 ∷ []
 
 pub returns-in-Err : goal.returns-in-Err
-unfolding claim_forbidden
 returns-in-Err c =
     let i = c.loop-number.number-index in
-    refuses-here (λ number. first_of (λ p. own_claim c.args.view.now p number c.args.work.now) c.args.view.now.projects) numbers i _ c.in-Err.why
+    refuses-here (λ number. first_of (λ p. own_claim c.args.view.now p number c.args.work.now) c.args.projects.now) numbers i _ c.in-Err.why
     c.loop-number-test.true (get_or_default_zero numbers i _ c.loop-number-test.true ∙ sym (get_or_default_zero numbers i _ c.loop-number-test.true))
     c.loop-number.invariant c.in-Err.ensures
 
 pub loop-number-preserved : goal.loop-number-preserved
 loop-number-preserved c =
     let i = c.loop-number.number-index in
-    free-next (λ number. first_of (λ p. own_claim c.args.view.now p number c.args.work.now) c.args.view.now.projects) numbers i _
+    free-next (λ number. first_of (λ p. own_claim c.args.view.now p number c.args.work.now) c.args.projects.now) numbers i _
     c.loop-number-test.true (get_or_default_zero numbers i _ c.loop-number-test.true ∙ sym (get_or_default_zero numbers i _ c.loop-number-test.true))
     c.loop-number.invariant c.in_default.ensures
