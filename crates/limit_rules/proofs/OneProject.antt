@@ -1,8 +1,7 @@
 -- What an operation would put is counted and limited in its project alone.
-use Rattle.std.proofs.Common.{◌≡◌, Bool, false, cond, Option, Some, None, List, [], ◌∷◌, filter, refl, ap, ◌∙◌}
+use Rattle.std.proofs.Common.{◌≡◌, ℕ, ◌+◌, false, cond, Some, None, List, [], ◌∷◌, filter, refl, ap, ◌∙◌}
 use Rattle.std.specs.Option.{option_or}
 use Rattle.std.specs.Str.{bytes_eq}
-use Rattle.std.specs.Prelude.{ℕ}
 use Rattle.row_machine.specs.plain_lists.specs.Firsts.{first_of}
 use Rattle.row_machine.specs.plain_lists.proofs.FirstLemmas.{none-first_of}
 use Rattle.row_machine.specs.size_values.specs.declared.amounts.Amounts.{Amounts}
@@ -55,5 +54,5 @@ exceeds-alone projects name used share = λ i. first_of (λ a_part. asked a_part
       ≡ first_of (share_over name used share a_part) projects
   asked a_part = first_of-filter (share_over name used share a_part) (λ project. bytes_eq project.name name) projects
       (λ project other. ap (λ b. cond b
-          (limit_exceeded project (key_of a_part) (limit_on a_part (limits_of project.config)) (part a_part used) (part a_part used + part a_part share))
-          None) other)
+      (limit_exceeded project (key_of a_part) (limit_on a_part (limits_of project.config)) (part a_part used) (part a_part used + part a_part share))
+      None) other)

@@ -11,7 +11,7 @@ ghost use Rattle.limit_rules.specs.Alone.{claim_uncounts, share_over, share_exce
 
 use crate::counts::claim_uncounted;
 use crate::limits::limit_exceeded;
-use crate::parts::{PARTS, is_limited, key_of, limit_on, part_of};
+use crate::parts::{PARTS, is_any_limited, key_of, limit_on, part_of};
 use row_machine::Work;
 use row_machine::from_project_limits::limits_of;
 use row_machine::from_records::{Project, Refusal};
@@ -124,7 +124,7 @@ fn is_nothing(share: &Amounts) -> bool
 fn has_limits(view: &View<'_>, name: &str) -> bool
     ensures { result ≡ has_limits view.now.projects name.now }
 {
-    rows_of(view.projects, name).iter().any(is_limited)
+    is_any_limited(rows_of(view.projects, name))
 }
 
 /// Whether a share is judged by what the project of this name uses: it is something, and the project has a limit.

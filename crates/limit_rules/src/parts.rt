@@ -115,7 +115,7 @@ fn limits_any(limits: &Limits) -> bool
         || limits_sum(limits)
 }
 
-pub(crate) fn is_limited(project: &Project) -> bool
+fn is_limited(project: &Project) -> bool
     ensures { result ≡ limits_any (limits_of project.now.config) }
 {
     limits_any(&limits_of(&project.config))
