@@ -1,12 +1,15 @@
-ghost use Rattle.std.specs.Prelude.{◌≡◌, ◌+◌, ◌<◌, ◌≤◌, [], length, drop, vec_len, vec_capacity, IfOk, OnErr};
+ghost use Rattle.std.specs.Prelude.{◌≡◌, ◌+◌, ◌<◌, ◌≤◌, [], length, drop, vec_len, vec_capacity, IfOk, IfErr, OnErr};
 ghost use Rattle.std.specs.Io.KnownBytes.{IsAtEnd};
 ghost use Rattle.http_heads.specs.size_values.specs.Causes.{HasCauseOrMemory};
+ghost use Rattle.http_heads.specs.Heads.{head_bytes};
 ghost use Rattle.http_heads.specs.Limits.{max_head, max_body};
+ghost use Rattle.http_heads.specs.Readings.{Says, HasReason};
 ghost use Rattle.http_front.specs.Streams.{Ends};
 ghost use Rattle.http_front.specs.Held.{TakesIn, max_piece, most_held};
 
 use crate::source::{Source, SourceFailed};
 use http_heads::from_size_values::{NoMemory, Or};
+use http_heads::{Head, HeadFault, HeaderSpans, read_head};
 use std::alloc::Global;
 use std::marker::Model;
 
@@ -26,6 +29,8 @@ pub struct Buffer {
     start: usize,
     /// Where a read puts its bytes.
     piece: Vec<u8>,
+    /// Where the headers of a head are, while it is read.
+    spans: HeaderSpans,
 }
 
 impl Model for Buffer {
@@ -45,10 +50,12 @@ impl Buffer {
         ensures { IfOk result (λ b. b ≡ []) }
     {
         let piece = vec![in alloc; 0u8; PIECE]?;
+        let spans = HeaderSpans::new(alloc)?;
         Ok(Buffer {
             bytes: Vec::new(alloc),
             start: 0,
             piece,
+            spans,
         })
     }
 
@@ -58,6 +65,18 @@ impl Buffer {
         ensures few { length self.now ≤ most_held }
     {
         &self.bytes[self.start..]
+    }
+
+    /// Reads the head that the first `len` bytes are.
+    pub(crate) fn read_head(&mut self, alloc: Global, len: usize) -> Result<Head, Or<HeadFault>>
+        requires { len ≤ length self.old }
+        ensures ok { IfOk result (Says (head_bytes len self.old)) }
+        ensures small { IfOk result (λ head. head.body ≤ max_body) }
+        ensures err { IfErr result (HasReason (head_bytes len self.old)) }
+        ensures same { self.new ≡ self.old }
+    {
+        let held = &self.bytes[self.start..];
+        read_head(alloc, &held[..len], &mut self.spans)
     }
 
     /// Lets go of the first bytes, which a message has used.

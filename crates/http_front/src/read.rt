@@ -14,9 +14,7 @@ ghost use Rattle.http_front.specs.Held.{IsReadStop, read_stop, head_stop, got_of
 use crate::buffer::Buffer;
 use crate::source::{Source, SourceFailed};
 use http_heads::from_size_values::{NoMemory, Or, Seq};
-use http_heads::{
-    Head, HeadFault, MAX_HEAD, Request, Search, end_of_head, leading_line_bytes, read_head,
-};
+use http_heads::{Head, HeadFault, MAX_HEAD, Request, Search, end_of_head, leading_line_bytes};
 use std::alloc::Global;
 
 /// What one call of `read_request` found at the front of the bytes.
@@ -127,7 +125,7 @@ fn next_request<S: Source>(
     ensures fault { OnFault result (Rose (S.failures source.old) (S.failures source.new)) }
 {
     let len = await_head(buffer, source)?;
-    let head = read_head(alloc, &buffer.view()[..len])?;
+    let head = buffer.read_head(alloc, len)?;
     await_body(buffer, source, len + head.body)?;
     Ok(take_request(alloc, buffer, len, head)?)
 }

@@ -1,8 +1,10 @@
 -- Steps of the search for the end of a head.
-use Rattle.std.proofs.Common.{◌≡◌, ℕ, suc, ◌+◌, ◌-◌, ◌<◌, ◌≤◌, ◌==◌, true, false, cond, List, [], ◌∷◌, ◌++◌, length, take, drop, get_or, Option, Some, None, Result, Ok, Err, IfOk, IfErr, refl, sym, ap, ◌∙◌, subst, arith, append-nil, append_assoc, length-append, length-drop}
+use Rattle.std.proofs.Common.{◌≡◌, ℕ, zero, suc, ◌+◌, ◌-◌, ◌<◌, ◌≤◌, ◌==◌, true, false, cond, List, [], ◌∷◌, ◌++◌, length, take, drop, get_or, Option, Some, None, Result, Ok, Err, IfOk, IfErr, refl, sym, ap, ◌∙◌, subst, arith, append-nil, append_assoc, length-append, length-drop, get_or-drop, add-zero}
 use Rattle.std.specs.Option.{option_map, option_or}
 use Rattle.std.proofs.lemmas.List.{drop_more, drop_all, drop-append-le, get_or_append_left}
+use Rattle.std.proofs.lemmas.Bool.{cond-false, false_from_ne_true}
 use Rattle.std.proofs.Math.Seq.{take-length}
+use Rattle.memchr.specs.Find.{Nowhere, Passes, is_byte}
 use Rattle.http_heads.specs.Heads.{is_line_byte, blank_len, line_end, empty_line_end, head_end}
 use Rattle.http_heads.specs.declared.search.Search.{Search}
 use Rattle.http_heads.specs.declared.search.Search.TheVariants.{Blank, Lines}
@@ -140,3 +142,25 @@ pub HasSearched-further : {s : Search} {bytes : List ℕ} (r : Result ℕ Search
     → IfErr r (λ reached. HasSearched reached bytes)
 HasSearched-further (Ok len) h found = tt
 HasSearched-further (Err reached) h none = record { within = none.1; same = λ more. h.same more ∙ none.2.with more }
+
+-- ---- bytes among which no LF stands
+
+past_byte : (n : ℕ) (bytes : List ℕ) → n < length bytes → (get_or bytes n 0 == 10) ≡ false → FindsSame (Lines n) (Lines (n + 1)) bytes
+past_byte n bytes h other = record {
+  with = λ more. line_step n (get_or bytes n 0) (bytes ++ more) (drop_front n bytes more h) (cond-false _ _ _ other);
+}
+
+past_bytes : (n count : ℕ) (bytes : List ℕ) → n + count ≤ length bytes → ((k : ℕ) → k < count → (get_or bytes (n + k) 0 == 10) ≡ false)
+    → FindsSame (Lines n) (Lines (n + count)) bytes
+past_bytes n zero bytes within other = record { with = λ more. ap (λ at. resumed (Lines at) (bytes ++ more)) (sym (add-zero n)) }
+past_bytes n (suc count) bytes within other =
+    let before = past_bytes n count bytes (omega arith) (λ k low. other k (omega arith)) in
+    let last = past_byte (n + count) bytes (omega arith) (other count (omega arith)) in
+    let next : n + count + 1 ≡ n + suc count = omega arith in
+    subst (λ at. FindsSame (Lines n) (Lines at) bytes) next (same_further before last)
+
+-- the bytes from a place on have no LF before this one of them
+pub past_nowhere : (n count : ℕ) (bytes : List ℕ) → n + count ≤ length bytes → Nowhere (Passes (is_byte 10) (drop n bytes)) 0 count
+    → FindsSame (Lines n) (Lines (n + count)) bytes
+past_nowhere n count bytes within none =
+    past_bytes n count bytes within (λ k low. false_from_ne_true _ (λ is. none k (omega arith) low (ap (λ b. b == 10) (get_or-drop n bytes k 0) ∙ is)))

@@ -15,6 +15,7 @@ use httparse::Status;
 use httparse::spans::{EMPTY_HEADER_SPAN, HeaderSpan, RequestSpans, parse_request};
 use size_values::{NoMemory, Or, Text};
 use std::alloc::Global;
+use std::marker::Model;
 
 /// What a head says: the method, the target, the length of the body, whether the connection ends after it, and the
 /// key of the WebSocket handshake that it asks for.
@@ -27,15 +28,45 @@ pub struct Head {
     pub upgrade: Option<Text>,
 }
 
+/// The place in which `read_head` notes where the headers are. It is made once for many heads, and what a head leaves
+/// there says nothing to the next one: contracts see no value of it.
+#[derive(Drop)]
+pub struct HeaderSpans {
+    spans: Vec<HeaderSpan>,
+}
+
+impl Model for HeaderSpans {
+    ghost use Rattle.std.specs.Prelude.{◌≡◌, vec_len};
+    ghost use Rattle.http_heads.specs.Limits.{max_fields};
+
+    ghost Value = { Unit {0} };
+
+    ghost view = { λ s. tt };
+
+    ghost invariant = { λ s. vec_len s.spans ≡ max_fields };
+}
+
+impl HeaderSpans {
+    /// A place for the most headers that a head has.
+    pub fn new(alloc: Global) -> Result<HeaderSpans, NoMemory> {
+        let spans = vec![in alloc; EMPTY_HEADER_SPAN; MAX_FIELDS]?;
+        Ok(HeaderSpans { spans })
+    }
+}
+
 /// Reads a whole head, with the CR and LF bytes before it. A fault is H1, H3 or H4, the first that stands.
-pub fn read_head(alloc: Global, bytes: &[u8]) -> Result<Head, Or<HeadFault>>
+pub fn read_head(
+    alloc: Global,
+    bytes: &[u8],
+    places: &mut HeaderSpans,
+) -> Result<Head, Or<HeadFault>>
     ensures ok { IfOk result (Says (after_blank bytes.now)) }
     ensures small { IfOk result (λ head. head.body ≤ max_body) }
     ensures err { IfErr result (HasReason (after_blank bytes.now)) }
 {
     let text = &bytes[leading_line_bytes(bytes)..];
-    let mut headers = [EMPTY_HEADER_SPAN; MAX_FIELDS];
-    match spans_of(text, &mut headers) {
+    let headers = places.spans.as_mut_slice();
+    match spans_of(text, headers) {
         Some(spans) => head_of(alloc, text, &headers[..spans.headers], &spans),
         None => Err(Or::Why(HeadFault::H1)),
     }

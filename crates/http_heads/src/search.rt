@@ -1,6 +1,9 @@
-ghost use Rattle.std.specs.Prelude.{◌≡◌, ℕ, ◌<◌, ◌≤◌, List, Some, None, length, slice_index, IfOk, IfErr, false};
+ghost use Rattle.std.specs.Prelude.{◌≡◌, ℕ, ◌<◌, ◌≤◌, List, Some, None, length, slice_index, IfOk, IfErr, IfSome};
+ghost use Rattle.std.specs.Prelude.{IfNone, false};
 ghost use Rattle.http_heads.specs.Heads.{is_line_byte, blank_len, head_end};
 ghost use Rattle.http_heads.specs.Search.{FindsSame, GoesOn, HasSearched, Follows, StandsAt};
+
+use memchr::memchr;
 
 /// How far the search for the end of a head has come.
 #[derive(Clone, Copy)]
@@ -64,24 +67,38 @@ fn end_in_lines(bytes: &[u8], from: usize) -> Result<usize, Search>
     requires { from ≤ length bytes.now }
     ensures { GoesOn bytes.now (Search.Lines from) result }
 {
-    for at in from..bytes.len() {
-        match empty_line_at(bytes, at) {
+    let mut next = from;
+    while let Some(at) = line_feed_from(bytes, next) {
+        match after_line_feed(bytes, at) {
             After::LineEnd(len) => return Ok(at + 1 + len),
             After::Open => return Err(Search::Lines(at)),
-            After::Other => {}
+            After::Other => next = at + 1,
         }
     }
     Err(Search::Lines(bytes.len()))
 }
 
-/// What stands at the place: an LF and a line end after it, or no such thing.
-fn empty_line_at(bytes: &[u8], at: usize) -> After
-    requires { at < length bytes.now }
+/// The place of the first LF from here on: no empty line begins before it.
+fn line_feed_from(bytes: &[u8], from: usize) -> Option<usize>
+    requires { from ≤ length bytes.now }
+    ensures low { IfSome result (λ at. from ≤ at) }
+    ensures within { IfSome result (λ at. at < length bytes.now) }
+    ensures is { IfSome result (λ at. slice_index bytes.now at ≡ 10) }
+    ensures same { IfSome result (λ at. FindsSame (Search.Lines from) (Search.Lines at) bytes.now) }
+    ensures none { IfNone result (FindsSame (Search.Lines from) (Search.Lines (length bytes.now)) bytes.now) }
+{
+    match memchr(b'\n', &bytes[from..]) {
+        Some(count) => Some(from + count),
+        None => None,
+    }
+}
+
+/// What stands at the place of an LF: it and a line end after it, or no such thing.
+fn after_line_feed(bytes: &[u8], at: usize) -> After
+    requires within { at < length bytes.now }
+    requires is { slice_index bytes.now at ≡ 10 }
     ensures { StandsAt bytes.now at result }
 {
-    if bytes[at] != b'\n' {
-        return After::Other;
-    }
     line_end(&bytes[at + 1..])
 }
 

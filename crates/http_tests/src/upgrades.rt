@@ -1,7 +1,7 @@
 //! Heads, and the key of the WebSocket handshake that each of them asks for.
 
 use crate::answers::{Want, is_text, reads_as};
-use http_front::from_http_heads::read_head;
+use http_front::from_http_heads::{HeaderSpans, read_head};
 use std::alloc::Global;
 
 /// The key in the example of RFC 6455, section 1.3.
@@ -216,7 +216,10 @@ const HEADS: &[(&[u8], Option<&str>)] = &[
 
 /// Whether what is read of the head tells this key.
 fn head_tells(alloc: Global, text: &[u8], wanted: Option<&str>) -> bool {
-    let head = read_head(alloc, text);
+    let Ok(mut places) = HeaderSpans::new(alloc) else {
+        return false;
+    };
+    let head = read_head(alloc, text, &mut places);
     let tells = match &head {
         Ok(head) => is_text(&head.upgrade, wanted),
         Err(_) => false,
