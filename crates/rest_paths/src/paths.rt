@@ -26,26 +26,31 @@ fn after_slash(text: &str) -> &str
     }
 }
 
-/// The path of a target, which is not decoded: all before the first question mark (RFC 3986, section 3.4).
-#[tactic(auto, unfolding(crate::specs::Paths::path_of))]
-pub fn path_of(target: &str) -> &str
-    ensures { result.now ≡ path_of target.now }
+/// The path and the query of a target, neither of them decoded: what stands before its first question mark, and what
+/// stands after it (RFC 3986, section 3.4).
+#[tactic(auto, unfolding(crate::specs::Paths::path_of, crate::specs::Paths::query_of))]
+pub fn split_target(target: &str) -> (&str, &str)
+    ensures path { result.0.now ≡ path_of target.now }
+    ensures query { result.1.now ≡ query_of target.now }
 {
     match target.split_once('?') {
-        Some((path, _)) => path,
-        None => target,
+        Some(parts) => parts,
+        None => (target, ""),
     }
 }
 
-/// The query of a target: all after the first question mark (RFC 3986, section 3.4).
-#[tactic(auto, unfolding(crate::specs::Paths::query_of))]
+/// The path of a target: all before the first question mark.
+pub fn path_of(target: &str) -> &str
+    ensures { result.now ≡ path_of target.now }
+{
+    split_target(target).0
+}
+
+/// The query of a target: all after the first question mark.
 pub fn query_of(target: &str) -> &str
     ensures { result.now ≡ query_of target.now }
 {
-    match target.split_once('?') {
-        Some((_, query)) => query,
-        None => "",
-    }
+    split_target(target).1
 }
 
 /// What stands after the first three slashes.

@@ -40,18 +40,18 @@ after_any : {A : Type 0} (r : Result A Refusal) (f : A → Result Command Refusa
 after_any (Ok x) f fine = fine x
 after_any (Err refusal) f fine = tt
 
-at_place : (place : Place) (verb : Verb) (target : List ℕ) (sent : Option Data) (boot : ℕ) → CommandIsFormed (command_at place verb target sent boot)
+at_place : (place : Place) (verb : Verb) (path query_text : List ℕ) (sent : Option Data) (boot : ℕ) → CommandIsFormed (command_at place verb path query_text sent boot)
 unfolding command_at
-at_place place verb target sent boot =
-    after_good (λ query. is_timeout (wait_timeout query) ≡ true) (query_from_text (query_of target)) _ (timeout_formed (query_of target)) (λ query time.
-    in_project (project_of query) _ (asked_formed place verb (path_of target) query boot sent time))
+at_place place verb path query_text sent boot =
+    after_good (λ query. is_timeout (wait_timeout query) ≡ true) (query_from_text query_text) _ (timeout_formed query_text) (λ query time.
+    in_project (project_of query) _ (asked_formed place verb path query boot sent time))
 
 pub routed_formed : RoutedIsFormed
 unfolding command_of
 routed_formed request boot =
     after_any (needed rule.A1 (line_of (path_of request.target))) _ (λ line.
     after_any (needed rule.A2 (verb_offered line request.method)) _ (λ verb.
-    at_place line.place verb request.target (sent_body verb request.body) boot))
+    at_place line.place verb (path_of request.target) (query_of request.target) (sent_body verb request.body) boot))
 
 -- a command that a function returns is formed
 pub formed_due : (result : Result Command (Or Refusal)) (request : Request) (boot : ℕ) → Gives result (command_of request boot) → IfOk result (λ c. IsTrue (is_formed c))

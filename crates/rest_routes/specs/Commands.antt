@@ -28,15 +28,15 @@ what_of place verb path query boot sent =
 
 -- A request at its place, by its query (A3) and then by what it asks for. The daemon's boot word is that of the ids of
 -- operations.
-unfoldable pub command_at : Place → Verb → List ℕ → Option Data → ℕ → Result Command Refusal
-command_at place verb target sent boot =
-    followed (query_from_text (query_of target)) (λ query.
+unfoldable pub command_at : Place → Verb → List ℕ → List ℕ → Option Data → ℕ → Result Command Refusal
+command_at place verb path query_text sent boot =
+    followed (query_from_text query_text) (λ query.
     mapped (λ asked. record { project = project_of query; what = asked })
-    (what_of place verb (path_of target) query boot sent))
+    (what_of place verb path query boot sent))
 
 -- The command that a request asks for, or its refusal: its path is listed (A1), and its method is offered there (A2).
 unfoldable pub command_of : Request → ℕ → Result Command Refusal
 command_of request boot =
     followed (needed rule.A1 (line_of (path_of request.target))) (λ line.
     followed (needed rule.A2 (verb_offered line request.method)) (λ verb.
-    command_at line.place verb request.target (sent_body verb request.body) boot))
+    command_at line.place verb (path_of request.target) (query_of request.target) (sent_body verb request.body) boot))

@@ -10,8 +10,8 @@ use rest_bodies::from_records::{Command, Refusal, Rule, What};
 use rest_bodies::from_size_values::{NoMemory, Or};
 use rest_bodies::object_in;
 use rest_paths::{
-    PathTable, Place, Query, Verb, has_body, path_of, plain_refusal, project_of, query_from_text,
-    query_of, verb_offered,
+    PathTable, Place, Query, Verb, has_body, plain_refusal, project_of, query_from_text,
+    split_target, verb_offered,
 };
 use rest_replies::from_http_heads::Request;
 use serde_json::Value;
@@ -44,20 +44,21 @@ fn what_of(
     what_without_body(alloc, place, verb, path, query, boot)
 }
 
-/// The command that a method, a target and a body ask for at a place.
+/// The command that a method, the two parts of a target and a body ask for at a place.
 #[tactic(auto, unfolding(crate::specs::Commands::command_at))]
 fn command_at(
     alloc: Global,
     place: Place,
     verb: Verb,
-    target: &str,
+    path: &str,
+    query_text: &str,
     sent: &Option<Value>,
     boot: u64,
 ) -> Result<Command, Or<Refusal>>
-    ensures { Gives result (command_at place verb target.now (option_map view sent.now) boot) }
+    ensures { Gives result (command_at place verb path.now query_text.now
+        (option_map view sent.now) boot) }
 {
-    let query = query_from_text(alloc, query_of(target))?;
-    let path = path_of(target);
+    let query = query_from_text(alloc, query_text)?;
     let what = what_of(alloc, place, verb, path, &query, boot, sent)?;
     match project_of(alloc, query) {
         Ok(project) => Ok(Command { project, what }),
@@ -78,13 +79,13 @@ pub(crate) fn command_of(
 ) -> Result<Command, Or<Refusal>>
     ensures { Gives result (command_of request.now boot) }
 {
-    let target = request.target.view();
-    let Some(line) = table.line_of(path_of(target)) else {
+    let (path, query_text) = split_target(request.target.view());
+    let Some(line) = table.line_of(path) else {
         return Err(plain_refusal(alloc, Rule::A1));
     };
     let Some(verb) = verb_offered(line, request.method.view()) else {
         return Err(plain_refusal(alloc, Rule::A2));
     };
     let sent = sent_body(alloc, verb, request.body.view())?;
-    command_at(alloc, line.place, verb, target, &sent, boot)
+    command_at(alloc, line.place, verb, path, query_text, &sent, boot)
 }
