@@ -1,5 +1,5 @@
 -- Sums of what rows and claims add to one part of what a project uses.
-use Rattle.std.proofs.Common.{◌≡◌, ℕ, ◌+◌, ◌<◌, ◌≤◌, ◌^◌, Bool, true, false, cond, Option, Some, None, List, [], ◌∷◌, ◌++◌, map, length, refl, sym, ap, ◌∙◌, arith}
+use Rattle.std.proofs.Common.{◌≡◌, ℕ, ◌+◌, ◌<◌, ◌≤◌, ◌^◌, Bool, true, false, cond, Option, Some, None, List, [], ◌∷◌, ◌++◌, map, filter, length, refl, sym, ap, ◌∙◌, arith}
 use Rattle.std.specs.List.{All, sum_by}
 use Rattle.std.specs.Option.{option_map, option_map_or}
 use Rattle.std.specs.Str.{bytes_eq}
@@ -15,6 +15,7 @@ use Rattle.row_readings.specs.row_machine.specs.machine.Expansions.{expanded_of}
 use Rattle.row_readings.specs.row_machine.specs.machine.State.{State}
 use Rattle.row_readings.specs.row_machine.specs.machine.Task.{Task}
 use Rattle.row_readings.specs.row_machine.specs.machine.Usage.{Load, loads, instance_load, volume_load, claim_load, amount_for, used, usage_of}
+use Rattle.row_readings.proofs.Ranges.{sum_by-filter}
 use Rattle.row_readings.proofs.Small.{AreLow, low-instance, low-volume, low-share_of}
 use Rattle.row_readings.specs.size_values.specs.Amounts.{part, nothing}
 use Rattle.row_readings.specs.size_values.specs.declared.amounts.Amounts.{Amounts}
@@ -103,9 +104,24 @@ part-of_usage s project part_of.Memory = refl
 part-of_usage s project part_of.Processes = refl
 part-of_usage s project part_of.Disk = refl
 
--- three sums, each begun with the one before it, are the usage
+-- instances of other projects add nothing
+own-instances : (s : State) (project : List ℕ) (k : Part) (rows : List Instance)
+    → sum_by (instance_part s project k) (filter (λ row. bytes_eq row.project project) rows) ≡ sum_by (instance_part s project k) rows
+own-instances s project k rows =
+    sum_by-filter (instance_part s project k) (λ (row : Instance). bytes_eq row.project project) rows
+    (λ row other. ap (λ t. cond t (part k (amounts_of_instance s row)) 0) other)
+
+-- nor do their volumes
+own-volumes : (project : List ℕ) (k : Part) (rows : List Volume)
+    → sum_by (volume_part project k) (filter (λ row. bytes_eq row.project project) rows) ≡ sum_by (volume_part project k) rows
+own-volumes project k rows =
+    sum_by-filter (volume_part project k) (λ (row : Volume). bytes_eq row.project project) rows
+    (λ row other. ap (λ t. cond t (part k (volume_load row).amounts) 0) other)
+
+-- three sums, each begun with the one before it, over the instances and volumes of the project, are the usage
 pub usage-summed : (s : State) (project : List ℕ) (none some more all : Amounts) (instances : List Instance) (volumes : List Volume) (live : List (Operation Task))
-    → none ≡ nothing → instances ≡ s.instances → volumes ≡ s.volumes → live ≡ s.operations.live
+    → none ≡ nothing → instances ≡ filter (λ row. bytes_eq row.project project) s.instances
+    → volumes ≡ filter (λ row. bytes_eq row.project project) s.volumes → live ≡ s.operations.live
     → ((k : Part) → part k some ≡ part k none + sum_by (instance_part s project k) instances)
     → ((k : Part) → part k more ≡ part k some + sum_by (volume_part project k) volumes)
     → ((k : Part) → part k all ≡ part k more + sum_by (λ o. claim_part s project k o.work) live)
@@ -121,6 +137,8 @@ usage-summed s project none some more all instances volumes live none_is instanc
         ap (part k) none_is,
         none-of k,
         ap (sum_by (instance_part s project k)) instances_are,
+        own-instances s project k s.instances,
         ap (sum_by (volume_part project k)) volumes_are,
+        own-volumes project k s.volumes,
         ap (sum_by (λ (o : Operation Task). claim_part s project k o.work)) live_are,
       )

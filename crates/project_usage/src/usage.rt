@@ -10,7 +10,7 @@ use row_readings::from_operations::Operation;
 use row_readings::from_records::Volume;
 use row_readings::from_row_machine::Work;
 use row_readings::from_size_values::{Amounts, Boxed, NoMemory};
-use row_readings::{View, project_of_row, share_of};
+use row_readings::{View, project_of_row, rows_of, share_of};
 use std::alloc::Global;
 
 /// What a project uses of its limits, with what live operations claim: the sum over its own rows and claims. No list of
@@ -19,8 +19,9 @@ pub fn usage_of(alloc: Global, view: &View<'_>, project: &str) -> Result<Amounts
     ensures usage { IfOk result (λ a. a ≡ usage_of view.now project.now) }
     ensures few { IfOk result (λ a. (k : Part) → part k a ≤ 2 ^ 127 + 2 ^ 126) }
 {
-    let used = add_instances(alloc, view, view.instances, project, Amounts::zero())?;
-    let used = add_volumes(view.volumes, project, used);
+    let instances = rows_of(view.instances, project);
+    let used = add_instances(alloc, view, instances, project, Amounts::zero())?;
+    let used = add_volumes(rows_of(view.volumes, project), project, used);
     add_claims(alloc, view, view.live, project, used)
 }
 
