@@ -1,4 +1,5 @@
 pub mod Asked
+pub mod Bytes
 pub mod Lasts
 pub mod Links
 pub mod Texts

@@ -3,6 +3,7 @@ ghost use Rattle.std.specs.Prelude.{◌≡◌, true, IfOk};
 ghost use Rattle.rest_replies.specs.row_machine.specs.machine.Refusals.{plain_refusal};
 ghost use Rattle.rest_answers.specs.Texts.{HasText, malformed_text, printed, rule_of};
 
+use crate::reply_text::ReplyText;
 use core_turns::from_rule_refusals::nothing_told;
 use rest_replies::from_http_front::{HeadFault, reply_bytes};
 use rest_replies::from_records::{Refusal, Reply, Rule};
@@ -14,7 +15,7 @@ use std::alloc::Global;
 #[derive(Drop)]
 pub enum Answered {
     /// These bytes.
-    Printed(Seq<u8>),
+    Printed(ReplyText),
     /// Memory was refused before anything changed: the reply that takes none
     /// (`http_front::no_memory_reply`).
     NoMemory,
@@ -34,12 +35,12 @@ fn made_text(alloc: Global, reply: &Reply, boot: u64, last: bool) -> Result<Seq<
 
 /// The bytes of a reply: those that stand ready, or else it is made.
 #[tactic(auto, unfolding(crate::specs::Texts::printed))]
-fn text_of(alloc: Global, reply: &Reply, boot: u64, last: bool) -> Result<Seq<u8>, NoMemory>
+fn text_of(alloc: Global, reply: &Reply, boot: u64, last: bool) -> Result<ReplyText, NoMemory>
     ensures { IfOk result (λ bytes. bytes ≡ printed reply.now boot last) }
 {
     match known_reply(reply, last) {
-        Some(text) => Seq::of_bytes(alloc, text),
-        None => made_text(alloc, reply, boot, last),
+        Some(text) => Ok(ReplyText::ready(text)),
+        None => Ok(ReplyText::made(made_text(alloc, reply, boot, last)?)),
     }
 }
 
@@ -88,7 +89,7 @@ pub fn print_malformed(alloc: Global, fault: HeadFault) -> Result<Seq<u8>, NoMem
     ensures { IfOk result (λ bytes. bytes ≡ malformed_text fault) }
 {
     let reply = Reply::Refused(refusal_of(alloc, fault));
-    let text = text_of(alloc, &reply, 0, true);
+    let text = made_text(alloc, &reply, 0, true);
     drop(reply);
     text
 }
