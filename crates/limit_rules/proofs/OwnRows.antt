@@ -1,5 +1,5 @@
 -- What a project counts within itself asks nothing of the rows of other projects.
-use Rattle.std.proofs.Common.{◌≡◌, Option, None, List, cond, filter, ap}
+use Rattle.std.proofs.Common.{◌≡◌, None, List, cond, filter, ap}
 use Rattle.std.specs.Str.{bytes_eq}
 use Rattle.row_machine.specs.plain_lists.specs.Firsts.{first_of}
 use Rattle.row_machine.specs.records.specs.declared.rows.Instance.{Instance}

@@ -1,10 +1,10 @@
 -- The limits by tables of sums are the limits by all that counts.
-use Rattle.std.proofs.Common.{◌≡◌, ℕ, zero, suc, ◌<◌, List, [], ◌∷◌, length, map, get_or, refl, sym, ap, ap₂, ◌∙◌, arith}
+use Rattle.std.proofs.Common.{◌≡◌, ℕ, zero, suc, ◌<◌, List, [], ◌∷◌, length, get_or, refl, sym, ap, ap₂, ◌∙◌, arith}
 use Rattle.std.specs.Option.{option_or}
 use Rattle.std.specs.List.{zip}
 use Rattle.std.proofs.lemmas.Slice.Zip.{length-zip, get_or-zip}
 use Rattle.row_machine.specs.plain_lists.specs.Firsts.{first_of}
-use Rattle.row_machine.specs.size_values.specs.Amounts.{nothing, part}
+use Rattle.row_machine.specs.size_values.specs.Amounts.{nothing}
 use Rattle.row_machine.specs.size_values.specs.declared.amounts.Amounts.{Amounts}
 use Rattle.row_machine.specs.size_values.specs.declared.amounts.Part.{Part}
 use Rattle.row_machine.specs.project_limits.specs.Admission.{key_of, limit_on, parts}
@@ -13,7 +13,7 @@ use Rattle.row_machine.specs.records.specs.declared.rows.Project.{Project}
 use Rattle.row_machine.specs.machine.LimitRules.{limit_exceeded}
 use Rattle.row_machine.specs.machine.Usage.{Load}
 use Rattle.limit_rules.specs.Exceeding.{part_over, parts_over}
-use Rattle.limit_rules.specs.Sums.{sums_for, sums_of, Line, lines, line_over, lines_over}
+use Rattle.limit_rules.specs.Sums.{sums_for, sums_of, lines, line_over, lines_over}
 use Rattle.limit_rules.proofs.Summed.{part-sums}
 
 -- ---- the line at a place
