@@ -13,7 +13,7 @@ use row_machine::from_operations::Operation;
 use row_machine::from_project_limits::{SumKey, countable, limits_of, volume_countable};
 use row_machine::from_records::{Instance, Project, Refusal, Rule, Volume};
 use row_machine::from_size_values::{Boxed, Or, Text};
-use row_readings::{View, claimed_instance, claimed_volume};
+use row_readings::{View, claimed_instance, claimed_volume, rows_of};
 use rule_refusals::on_key_of;
 use std::alloc::Global;
 
@@ -163,11 +163,35 @@ fn claims_uncounted(
     Ok(())
 }
 
+/// The first instance of the project that is not countable. Instances of other projects are not asked.
+fn own_instances_uncounted(
+    alloc: Global,
+    view: &View<'_>,
+    project: &Project,
+) -> Result<(), Or<Refusal>>
+    ensures { Says result (first_of (own_instance view.now project.now) view.now.instances) }
+{
+    let rows = rows_of(view.instances, project.name.view());
+    instances_uncounted(alloc, view, project, rows)
+}
+
+/// The first volume of the project that is not countable. Volumes of other projects are not asked.
+fn own_volumes_uncounted(
+    alloc: Global,
+    view: &View<'_>,
+    project: &Project,
+) -> Result<(), Or<Refusal>>
+    ensures { Says result (first_of (own_volume project.now) view.now.volumes) }
+{
+    let rows = rows_of(view.volumes, project.name.view());
+    volumes_uncounted(alloc, project, rows)
+}
+
 fn objects_uncounted(alloc: Global, view: &View<'_>, project: &Project) -> Result<(), Or<Refusal>>
     ensures { Says result (own_objects view.now project.now) }
 {
-    instances_uncounted(alloc, view, project, view.instances)?;
-    volumes_uncounted(alloc, project, view.volumes)?;
+    own_instances_uncounted(alloc, view, project)?;
+    own_volumes_uncounted(alloc, view, project)?;
     claims_uncounted(alloc, view, project, view.live)
 }
 
