@@ -10,6 +10,7 @@ mod alone;
 mod counts;
 mod limits;
 mod parts;
+mod sums;
 mod usage;
 
 pub use alone::{claim_uncounts, needs_usage, share_broken};

@@ -3,20 +3,23 @@ ghost use Rattle.std.specs.Prelude.{◌≡◌, ◌<◌, ◌^◌, IfOk, Some, fil
 ghost use Rattle.std.specs.Str.{bytes_eq};
 ghost use Rattle.row_machine.specs.plain_lists.specs.Firsts.{first_of};
 ghost use Rattle.row_machine.specs.size_values.specs.Causes.{Says};
-ghost use Rattle.row_machine.specs.project_limits.specs.Admission.{parts};
+ghost use Rattle.row_machine.specs.facts.Whole.{Rise};
+ghost use Rattle.row_machine.specs.machine.Rows.{project_names};
 ghost use Rattle.row_machine.specs.machine.State.{State};
 ghost use Rattle.row_machine.specs.machine.Usage.{loads};
 ghost use Rattle.row_machine.specs.machine.LimitRules.{over_refusal, limit_exceeded, limits_broken};
 ghost use Rattle.row_readings.specs.Loads.{AreSmall};
 ghost use Rattle.limit_rules.specs.Counting.{counts_in};
-ghost use Rattle.limit_rules.specs.Exceeding.{part_over, parts_over, networks_over, all_over, Serves};
+ghost use Rattle.limit_rules.specs.Exceeding.{parts_over, networks_over, all_over, Serves};
+ghost use Rattle.limit_rules.specs.Sums.{line_over, lines, lines_over};
 
 use crate::parts::{PARTS, is_any_limited, key_of, limit_on, limit_rule, limit_text, part_of};
+use crate::sums::sums_of;
 use crate::usage::Usage;
 use row_machine::from_project_limits::{LimitKey, Over, limits_of};
 use row_machine::from_records::{Kept, Network, Project, Refusal};
-use row_machine::from_size_values::{NoMemory, Or, Part, Text};
-use row_readings::{Load, View, loads, usage_in};
+use row_machine::from_size_values::{Amounts, NoMemory, Or, Part, Text};
+use row_readings::{Load, View, loads};
 use std::alloc::Global;
 
 /// A refusal by a limit of a project.
@@ -66,62 +69,78 @@ pub(crate) fn limit_exceeded(
 
 // ---- the parts of what projects use
 
-/// A part that the project does not limit is not summed.
-fn project_exceeds(
+/// By what the project uses before and after. A part that it does not limit is not looked at.
+fn line_exceeds(
     alloc: Global,
     part: Part,
-    before: &[Load],
-    after: &[Load],
     project: &Project,
+    before: &Amounts,
+    after: &Amounts,
 ) -> Result<(), Or<Refusal>>
-    requires before { AreSmall before.now }
-    requires after { AreSmall after.now }
-    ensures { Says result (part_over before.now after.now part project.now) }
+    ensures { Says result (line_over part (project.now, (before.now, after.now))) }
 {
     let Some(limit) = limit_on(part, &limits_of(&project.config)) else {
         return Ok(());
     };
-    let before = part_of(part, &usage_in(before, project.name.view()));
-    let after = part_of(part, &usage_in(after, project.name.view()));
+    let before = part_of(part, before);
+    let after = part_of(part, after);
     limit_exceeded(alloc, project, key_of(part), limit, before, after)
 }
 
+/// By the sums of each project, at its place.
 fn part_exceeds(
     alloc: Global,
     part: Part,
-    before: &[Load],
-    after: &[Load],
     projects: &[Project],
+    before: &[Amounts],
+    after: &[Amounts],
 ) -> Result<(), Or<Refusal>>
-    requires before { AreSmall before.now }
-    requires after { AreSmall after.now }
-    ensures { Says result (first_of (part_over before.now after.now part) projects.now) }
+    requires before { length before.now ≡ length projects.now }
+    requires after { length after.now ≡ length projects.now }
+    ensures { Says result (first_of (line_over part) (lines projects.now before.now after.now)) }
 {
-    for project in projects {
-        if let Err(why) = project_exceeds(alloc, part, before, after, project) {
+    for (place, project) in projects.iter().enumerate() {
+        if let Err(why) = line_exceeds(alloc, part, project, &before[place], &after[place]) {
             return Err(why);
         }
     }
     Ok(())
 }
 
-/// The first part of what projects use that is above its limit, and the first project at which it is.
+fn sums_exceed(
+    alloc: Global,
+    projects: &[Project],
+    before: &[Amounts],
+    after: &[Amounts],
+) -> Result<(), Or<Refusal>>
+    requires before { length before.now ≡ length projects.now }
+    requires after { length after.now ≡ length projects.now }
+    ensures { Says result (lines_over (lines projects.now before.now after.now)) }
+{
+    for part in PARTS {
+        if let Err(why) = part_exceeds(alloc, part, projects, before, after) {
+            return Err(why);
+        }
+    }
+    Ok(())
+}
+
+/// The first part of what projects use that is above its limit, and the first project at which it is. What counts is
+/// summed once for all projects.
 fn parts_exceed(
     alloc: Global,
     before: &[Load],
     after: &[Load],
     projects: &[Project],
 ) -> Result<(), Or<Refusal>>
+    requires rising { Rise project_names projects.now }
     requires before { AreSmall before.now }
     requires after { AreSmall after.now }
     ensures { Says result (parts_over before.now after.now projects.now) }
 {
-    for part in PARTS {
-        if let Err(why) = part_exceeds(alloc, part, before, after, projects) {
-            return Err(why);
-        }
-    }
-    Ok(())
+    let before = sums_of(alloc, before, projects)?;
+    let after = sums_of(alloc, after, projects)?;
+    sums_exceed(alloc, projects, &before, &after)
 }
 
 fn loads_exceed(alloc: Global, before: &[Load], after: &View<'_>) -> Result<(), Or<Refusal>>

@@ -21,8 +21,8 @@ use std::marker::Model;
 /// What counts for the limits of a project.
 #[derive(Drop)]
 pub struct Load {
-    project: Text,
-    amounts: Amounts,
+    pub project: Text,
+    pub amounts: Amounts,
 }
 
 impl Model for Load {
