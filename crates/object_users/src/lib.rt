@@ -10,6 +10,7 @@ pub mod from_object_links {
 pub mod from_row_readings {
     pub use row_readings::{
         View, claimed_instance, claimed_volume, is_on, power_of, project_of_row, replaced_instance,
+        rows_of,
     };
 }
 

@@ -11,7 +11,7 @@ use crate::row_ref::{AnyRow, RowRef};
 use crate::uses::{instance_uses, names_profile, profile_uses, volume_uses};
 use row_machine::from_records::Target;
 use row_machine::from_size_values::{NoMemory, ObjectKind, Seq, Text};
-use row_readings::View;
+use row_readings::{View, rows_of};
 use std::alloc::Global;
 
 /// The instances, networks, volumes and profiles of a project.
@@ -19,10 +19,10 @@ fn rows_in<'x>(alloc: Global, view: &View<'x>, project: &str) -> Result<Vec<RowR
     ensures { IfOk result (λ all. all.items ≡ rows_in view.now project.now) }
 {
     let mut all = Vec::new(alloc);
-    add_instances(view.instances, project, &mut all)?;
-    add_networks(view.networks, project, &mut all)?;
-    add_volumes(view.volumes, project, &mut all)?;
-    add_profiles(view.profiles, project, &mut all)?;
+    add_instances(rows_of(view.instances, project), &mut all)?;
+    add_networks(rows_of(view.networks, project), &mut all)?;
+    add_volumes(rows_of(view.volumes, project), &mut all)?;
+    add_profiles(rows_of(view.profiles, project), &mut all)?;
     Ok(all)
 }
 

@@ -1,8 +1,7 @@
 -- The links of single users, each of which may be the first one.
-use Rattle.std.specs.Prelude.{ℕ, ◌&&◌, false, List, Option, Some, None, filter, if◌then◌else◌}
+use Rattle.std.specs.Prelude.{ℕ, ◌&&◌, false, List, Option, Some, None, if◌then◌else◌}
 use Rattle.std.specs.Option.{option_map_or}
 use Rattle.std.specs.Str.{bytes_eq}
-use Rattle.row_machine.specs.plain_lists.specs.Firsts.{first_of}
 use Rattle.row_machine.specs.operations.specs.declared.operation.Operation.{Operation}
 use Rattle.row_machine.specs.records.specs.declared.rows.Profile.{Profile}
 use Rattle.row_machine.specs.records.specs.declared.rows.Volume.{Volume}
@@ -38,31 +37,3 @@ claim_link state home of project operation =
 -- an instance that names the profile
 abbrev pub naming_link : State → List ℕ → List ℕ → Instance → Option (List ℕ)
 naming_link state home profile instance = user_link (names_profile state home profile instance) (row.Instance instance)
-
--- the first profile of a project that names the object
-abbrev pub first_profile_link : State → List ℕ → Target → List ℕ → List Profile → Option (List ℕ)
-first_profile_link state home of project rows =
-    first_of (profile_link state home of) (filter (λ profile. bytes_eq profile.project project) rows)
-
--- the same of one profile
-abbrev pub profile_link_in : State → List ℕ → Target → List ℕ → Profile → Option (List ℕ)
-profile_link_in state home of project profile =
-    if bytes_eq profile.project project then profile_link state home of profile else None
-
--- the first instance of a project that names the object
-abbrev pub first_instance_link : State → List ℕ → Target → List ℕ → List Instance → Option (List ℕ)
-first_instance_link state home of project rows =
-    first_of (instance_link state home of) (filter (λ instance. bytes_eq instance.project project) rows)
-
--- the same of one instance
-abbrev pub instance_link_in : State → List ℕ → Target → List ℕ → Instance → Option (List ℕ)
-instance_link_in state home of project instance =
-    if bytes_eq instance.project project then instance_link state home of instance else None
-
--- the first volume of a project that names the object
-abbrev pub first_volume_link : Target → List ℕ → List Volume → Option (List ℕ)
-first_volume_link of project rows = first_of (volume_link of) (filter (λ volume. bytes_eq volume.project project) rows)
-
--- the same of one volume
-abbrev pub volume_link_in : Target → List ℕ → Volume → Option (List ℕ)
-volume_link_in of project volume = if bytes_eq volume.project project then volume_link of volume else None

@@ -8,12 +8,11 @@ ghost use Rattle.row_machine.specs.size_values.specs.Causes.{Says};
 ghost use Rattle.row_machine.specs.machine.Claims.{project_of_row};
 ghost use Rattle.row_machine.specs.machine.Holders.{first_user_of, profile_user, user_in};
 ghost use Rattle.row_machine.specs.shown.Links.{link_of};
-ghost use Rattle.standing_rules.specs.Users.{claim_link, first_instance_link, first_profile_link, first_volume_link};
-ghost use Rattle.standing_rules.specs.Users.{instance_link_in, naming_link, profile_link_in, volume_link_in};
+ghost use Rattle.standing_rules.specs.Users.{claim_link, instance_link, naming_link, profile_link, volume_link};
 
 use crate::uses::claim_uses;
 use object_users::from_object_links::link_of;
-use object_users::from_row_readings::{View, project_of_row};
+use object_users::from_row_readings::{View, project_of_row, rows_of};
 use object_users::{instance_uses, names_profile, profile_uses, volume_uses};
 use row_machine::Work;
 use row_machine::from_operations::Operation;
@@ -65,20 +64,16 @@ fn unless_user(
     Err(Or::Why(link))
 }
 
-/// The link of a profile of the project, where it names the object.
+/// The link of a profile, where it names the object.
 fn unused_by_profile(
     alloc: Global,
     view: &View<'_>,
     home: &str,
     of: &Target,
-    project: &str,
     row: &Profile,
 ) -> Result<(), Or<Text>>
-    ensures { Says result (profile_link_in view.now home.now of.now project.now row.now) }
+    ensures { Says result (profile_link view.now home.now of.now row.now) }
 {
-    if row.project.view() != project {
-        return Ok(());
-    }
     let uses = profile_uses(view, home, of, row);
     unless_user(
         alloc,
@@ -90,39 +85,34 @@ fn unused_by_profile(
     )
 }
 
-/// The first profile of the project that names the object.
+/// The first profile that names the object.
 fn unused_by_profiles(
     alloc: Global,
     view: &View<'_>,
     home: &str,
     of: &Target,
-    project: &str,
     rows: &[Boxed<Profile>],
 ) -> Result<(), Or<Text>>
-    ensures { Says result (first_profile_link view.now home.now of.now project.now rows.now) }
+    ensures { Says result (first_of (profile_link view.now home.now of.now) rows.now) }
 {
     for row in rows {
-        if let Err(link) = unused_by_profile(alloc, view, home, of, project, row) {
+        if let Err(link) = unused_by_profile(alloc, view, home, of, row) {
             return Err(link);
         }
     }
     Ok(())
 }
 
-/// The link of an instance of the project, where it names the object.
+/// The link of an instance, where it names the object.
 fn unused_by_instance(
     alloc: Global,
     view: &View<'_>,
     home: &str,
     of: &Target,
-    project: &str,
     row: &Instance,
 ) -> Result<(), Or<Text>>
-    ensures { Says result (instance_link_in view.now home.now of.now project.now row.now) }
+    ensures { Says result (instance_link view.now home.now of.now row.now) }
 {
-    if row.project.view() != project {
-        return Ok(());
-    }
     let uses = instance_uses(alloc, view, home, of, row)?;
     unless_user(
         alloc,
@@ -134,32 +124,28 @@ fn unused_by_instance(
     )
 }
 
-/// The first instance of the project that names the object.
+/// The first instance that names the object.
 fn unused_by_instances(
     alloc: Global,
     view: &View<'_>,
     home: &str,
     of: &Target,
-    project: &str,
     rows: &[Boxed<Instance>],
 ) -> Result<(), Or<Text>>
-    ensures { Says result (first_instance_link view.now home.now of.now project.now rows.now) }
+    ensures { Says result (first_of (instance_link view.now home.now of.now) rows.now) }
 {
     for row in rows {
-        if let Err(link) = unused_by_instance(alloc, view, home, of, project, row) {
+        if let Err(link) = unused_by_instance(alloc, view, home, of, row) {
             return Err(link);
         }
     }
     Ok(())
 }
 
-/// The link of a volume of the project, where it names the object.
-fn unused_by_volume(alloc: Global, of: &Target, project: &str, row: &Volume) -> Result<(), Or<Text>>
-    ensures { Says result (volume_link_in of.now project.now row.now) }
+/// The link of a volume, where it names the object.
+fn unused_by_volume(alloc: Global, of: &Target, row: &Volume) -> Result<(), Or<Text>>
+    ensures { Says result (volume_link of.now row.now) }
 {
-    if row.project.view() != project {
-        return Ok(());
-    }
     let uses = volume_uses(of, row);
     unless_user(
         alloc,
@@ -171,17 +157,12 @@ fn unused_by_volume(alloc: Global, of: &Target, project: &str, row: &Volume) -> 
     )
 }
 
-/// The first volume of the project that names the object.
-fn unused_by_volumes(
-    alloc: Global,
-    of: &Target,
-    project: &str,
-    rows: &[Boxed<Volume>],
-) -> Result<(), Or<Text>>
-    ensures { Says result (first_volume_link of.now project.now rows.now) }
+/// The first volume that names the object.
+fn unused_by_volumes(alloc: Global, of: &Target, rows: &[Boxed<Volume>]) -> Result<(), Or<Text>>
+    ensures { Says result (first_of (volume_link of.now) rows.now) }
 {
     for row in rows {
-        if let Err(link) = unused_by_volume(alloc, of, project, row) {
+        if let Err(link) = unused_by_volume(alloc, of, row) {
             return Err(link);
         }
     }
@@ -245,9 +226,9 @@ fn unused_in(
     ensures { Says result (user_in view.now home.now of.now project.now.name) }
 {
     let project = project.name.view();
-    unused_by_profiles(alloc, view, home, of, project, view.profiles)?;
-    unused_by_instances(alloc, view, home, of, project, view.instances)?;
-    unused_by_volumes(alloc, of, project, view.volumes)?;
+    unused_by_profiles(alloc, view, home, of, rows_of(view.profiles, project))?;
+    unused_by_instances(alloc, view, home, of, rows_of(view.instances, project))?;
+    unused_by_volumes(alloc, of, rows_of(view.volumes, project))?;
     unused_by_claims(alloc, view, home, of, project, view.live)
 }
 

@@ -1,7 +1,6 @@
-use Rattle.std.proofs.Common.{◌≡◌, ◌++◌, map, take, filter}
-use Rattle.std.specs.Str.{bytes_eq}
+use Rattle.std.proofs.Common.{◌≡◌, ◌++◌, map, take}
 use Rattle.row_machine.specs.records.specs.declared.rows.Row.TheVariants as row
 use Rattle.object_users.proofs.gathered.add_profiles.Given as goal
 
 abbrev pub invariant-loop-row : goal.invariant-loop-row
-invariant-loop-row l = l.all.items ≡ l.initial.all.items ++ map row.Profile (filter (λ r. bytes_eq r.project l.project) (take l.row-index l.rows))
+invariant-loop-row l = l.all.items ≡ l.initial.all.items ++ map row.Profile (take l.row-index l.rows)

@@ -1,14 +1,13 @@
-use Rattle.std.specs.Str.{bytes_eq}
+use Rattle.rule_refusals.proofs.Saying.{refuses-here, free-next}
 use Rattle.standing_rules.specs.Users.{volume_link}
-use Rattle.standing_rules.proofs.Filtered.{filtered-here, filtered-next}
 use Rattle.standing_rules.proofs.users.unused_by_volumes.Goals as goal
 
 pub returns-in-Err : goal.returns-in-Err
 returns-in-Err c =
-    filtered-here (volume_link c.args.of.now) (λ r. bytes_eq r.project c.args.project.now) c.args.rows.now c.loop-row.row-index c.row-item.result
-    c.loop-row-test.true c.row-item.is c.loop-row.invariant c.in-Err.link (rw c.deref.ensures at c.in-Err.ensures)
+    refuses-here (volume_link c.args.of.now) c.args.rows.now c.loop-row.row-index c.row-item.result c.in-Err.link
+    c.loop-row-test.true c.row-item.is c.loop-row.invariant (rw c.deref.ensures at c.in-Err.ensures)
 
 pub loop-row-preserved : goal.loop-row-preserved
 loop-row-preserved c =
-    filtered-next (volume_link c.args.of.now) (λ r. bytes_eq r.project c.args.project.now) c.args.rows.now c.loop-row.row-index c.row-item.result
+    free-next (volume_link c.args.of.now) c.args.rows.now c.loop-row.row-index c.row-item.result
     c.loop-row-test.true c.row-item.is c.loop-row.invariant (rw c.deref.ensures at c.in_default.ensures)
