@@ -25,6 +25,7 @@ Usage: stream.py projects COUNT          creations of the projects p1 to pCOUNT
        stream.py waits FIRST LAST                    waits for the operations of these numbers, of the boot word 0
        stream.py made PROJECT FIRST LAST OPERATION   the same creations, each with a wait for its operation after it; the first
                                                      operation has the number OPERATION
+       stream.py tenants FIRST LAST COUNT OPERATION  the tenants tFIRST to tLAST, with limits, each with COUNT such instances
        stream.py put-profile PROJECT COUNT           COUNT times the PUT of the profile `default`, with another description
        stream.py reads TARGET COUNT                  COUNT times the GET of TARGET
        stream.py name LETTER NUMBER                  the name of the row of a number: a project (p), a profile (a), a network
@@ -215,6 +216,12 @@ def made(project, first, last, operation):
         yield wait(operation + number - first)
 
 
+def tenants(first, last, count, operation):
+    for number in range(first, last + 1):
+        yield from tenant(f"t{number}", "limits")
+        yield from made(f"t{number}", 1, count, operation + count * (number - first))
+
+
 def numbers(seed):
     while True:
         seed = (6364136223846793005 * seed + 1442695040888963407) % 2**64
@@ -267,6 +274,7 @@ KINDS = {
     "creations": (creations, (str, int, int)),
     "waits": (waits, (int, int)),
     "made": (made, (str, int, int, int)),
+    "tenants": (tenants, (int, int, int, int)),
     "put-profile": (put_profile, (str, int)),
     "reads": (reads, (str, int)),
     "name": (lambda letter, number: [name(letter, number).encode("ascii")], (str, int)),

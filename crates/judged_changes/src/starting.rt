@@ -222,13 +222,7 @@ fn judge_work(
     claim_forbidden(alloc, after, work)?;
     snapshot_blocked(alloc, after, command)?;
     claim_uncounts(alloc, after, work)?;
-    share_broken(
-        alloc,
-        after,
-        project,
-        &beginning.used,
-        &beginning.share,
-    )?;
+    share_broken(alloc, after, project, &beginning.used, &beginning.share)?;
     refuse_entry(alloc, beginning.fault)?;
     claim_tables_broken(alloc, after, claim)
 }
