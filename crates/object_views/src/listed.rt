@@ -4,11 +4,11 @@ ghost use Rattle.object_users.specs.Lent.{row_in};
 ghost use Rattle.row_machine.specs.machine.Plans.{row_of};
 ghost use Rattle.row_machine.specs.shown.Views.{listed};
 
+use object_users::from_row_readings::{View, rows_of};
 use object_users::{
     AnyRow, RowRef, add_instances, add_networks, add_pools, add_profiles, add_projects,
     add_snapshots, add_volumes_in,
 };
-use project_usage::from_row_readings::View;
 use row_machine::from_records::Target;
 use row_machine::from_size_values::{NoMemory, ObjectKind};
 use std::alloc::Global;
@@ -24,15 +24,23 @@ fn add_listed<'x>(
 {
     match of.kind {
         ObjectKind::Project => add_projects(view.projects, all),
-        ObjectKind::Profile => add_profiles(view.profiles, view.profile_home(project), all),
-        ObjectKind::Network => add_networks(view.networks, view.network_home(project), all),
+        ObjectKind::Profile => {
+            let home = view.profile_home(project);
+            add_profiles(rows_of(view.profiles, home), all)
+        }
+        ObjectKind::Network => {
+            let home = view.network_home(project);
+            add_networks(rows_of(view.networks, home), all)
+        }
         ObjectKind::Pool => add_pools(view.pools, all),
         ObjectKind::Volume => {
             let home = view.volume_home(project);
-            add_volumes_in(view.volumes, home, of.pool.view(), all)
+            add_volumes_in(rows_of(view.volumes, home), of.pool.view(), all)
         }
-        ObjectKind::Instance => add_instances(view.instances, project, all),
-        ObjectKind::Snapshot => { add_snapshots(view.snapshots, project, of.instance.view(), all) }
+        ObjectKind::Instance => add_instances(rows_of(view.instances, project), all),
+        ObjectKind::Snapshot => {
+            add_snapshots(rows_of(view.snapshots, project), of.instance.view(), all)
+        }
         ObjectKind::Operation => Ok(()),
     }
 }
