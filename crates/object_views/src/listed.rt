@@ -14,7 +14,6 @@ use row_machine::from_size_values::{NoMemory, ObjectKind};
 use std::alloc::Global;
 
 /// Adds the rows of a list.
-#[tactic(auto, using(crate::proofs::Twice::filtered_twice))]
 fn add_listed<'x>(
     view: &View<'x>,
     project: &str,
