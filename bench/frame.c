@@ -30,9 +30,11 @@ static size_t body_len(const char *p, size_t len) {
     return 0;
 }
 
+/* What the server answers to GET /1.0. */
 static const char reply[] =
-    "HTTP/1.1 501 Not Implemented\r\nContent-Type: application/json\r\nContent-Length: 82\r\n\r\n"
-    "{\"error\":\"not built yet\",\"error_code\":501,\"metadata\":{\"rule\":\"A0\"},\"type\":\"error\"}";
+    "HTTP/1.1 200 OK\r\nContent-Type: application/json\r\nContent-Length: 159\r\n\r\n"
+    "{\"metadata\":{\"api_extensions\":[],\"api_status\":\"stable\",\"api_version\":\"1.0\",\"auth\":\"trusted\",\"public\":false},"
+    "\"status\":\"Success\",\"status_code\":200,\"type\":\"sync\"}";
 
 int main(int argc, char **argv) {
     (void)argv;
