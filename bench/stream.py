@@ -183,8 +183,8 @@ def tenant(project, *limits):
     yield from put_profile(project, 1)
 
 
-def put_profile(project, count):
-    root = {"path": "/", "pool": f"pool-{project}", "size": "10GiB", "type": "disk"}
+def put_profile(project, count, pool=None):
+    root = {"path": "/", "pool": pool or f"pool-{project}", "size": "10GiB", "type": "disk"}
     for number in range(count):
         body = {"description": f"the {number}th", "devices": {"root": root}}
         yield request("PUT", f"/1.0/profiles/default?project={project}", compact(body))
@@ -217,9 +217,14 @@ def made(project, first, last, operation):
 
 
 def tenants(first, last, count, operation):
+    """All have their root disks in one pool, which the first of them makes: there may be 64 pools."""
     for number in range(first, last + 1):
-        yield from tenant(f"t{number}", "limits")
-        yield from made(f"t{number}", 1, count, operation + count * (number - first))
+        project, pool = f"t{number}", "pool-t1"
+        if number == 1:
+            yield request("POST", "/1.0/storage-pools", compact({"driver": "dir", "name": pool}))
+        yield request("POST", "/1.0/projects", compact({"config": {"restricted": "true", **LIMITS}, "name": project}))
+        yield from put_profile(project, 1, pool)
+        yield from made(project, 1, count, operation + count * (number - first))
 
 
 def numbers(seed):
