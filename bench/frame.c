@@ -1,7 +1,7 @@
 /* Frames the HTTP/1.1 requests on standard input and prints how many there are: the least work that any reader of
    them has to do. A head ends with the first empty line, and its Content-Length says how long the body is.
    It takes no care of faults. Without arguments it answers nothing; with one it writes a reply that stands ready
-   behind each request, as a server must that answers each before it goes on. */
+   after each request, as a server must that answers each before it goes on. */
 #include <stdio.h>
 #include <stdlib.h>
 #include <string.h>
