@@ -1,10 +1,9 @@
 -- What each project uses, summed load by load in a table with a line for each project.
 use Rattle.std.proofs.Common.{◌≡◌, ℕ, zero, suc, ◌+◌, ◌<◌, ◌^◌, Bool, true, false, cond, Some, None, List, [], ◌∷◌, length, map, take, get_or, set, position, refl, sym, ap, ap₂, subst, ◌∙◌, inr, arith}
 use Rattle.std.specs.List.{sum_by}
-use Rattle.std.specs.Ordering.{is_lt, ordering_reverse}
+use Rattle.std.specs.Ordering.{ordering_reverse}
 use Rattle.std.specs.Str.{bytes_eq}
-use Rattle.std.specs.declared.cmp.Ordering.{Ordering}
-use Rattle.std.specs.declared.cmp.Ordering.TheVariants.{Less, Equal, Greater}
+use Rattle.std.specs.declared.cmp.Ordering.TheVariants.{Greater}
 use Rattle.std.proofs.lemmas.List.{get_or-map}
 use Rattle.std.proofs.lemmas.List.Quantifiers.{position-Some}
 use Rattle.std.proofs.lemmas.List.Sums.{sum_by_more, sum_by-take-le}
@@ -23,6 +22,7 @@ use Rattle.row_machine.specs.facts.Whole.{Rise}
 use Rattle.row_machine.specs.machine.Rows.{same_names, texts_before, project_names, is_project}
 use Rattle.row_machine.specs.machine.Usage.{Load, amount_for}
 use Rattle.row_readings.specs.Loads.{AreSmall}
+use Rattle.row_readings.proofs.Risen.{less}
 use Rattle.row_readings.proofs.SameNames.{order, total, same-is, same-other}
 use Rattle.row_readings.proofs.Totals.{sum-small}
 use Rattle.limit_rules.specs.Sums.{sums_for, sums_of}
@@ -81,11 +81,6 @@ module _ (loads : List Load) (i : ℕ) (load : Load) (within : i < length loads)
   sums-other project other = amounts-same _ _ (λ k. omega (arith, more k project false other))
 
 -- ---- a table with a line for each element of a list that rises by names
-
-less : (o : Ordering) → is_lt o ≡ true → o ≡ Less
-less Less e = refl
-less Equal e = cc
-less Greater e = cc
 
 module _ {X Y : Type 0} (names : X → List (List ℕ)) (wanted : List (List ℕ)) (f g : X → Y)
     (stays : (x : X) → same_names (names x) wanted ≡ false → f x ≡ g x) where

@@ -206,25 +206,27 @@ fn project_uncounted(alloc: Global, view: &View<'_>, project: &Project) -> Resul
     objects_uncounted(alloc, view, project)
 }
 
-fn projects_uncounted(
+/// L0 of these projects: the first of them, and there the first instance, volume or claim, that gives no number for a sum
+/// that its project limits.
+pub fn counts_broken_in(
     alloc: Global,
-    view: &View<'_>,
+    after: &View<'_>,
     projects: &[Project],
 ) -> Result<(), Or<Refusal>>
-    ensures { Says result (first_of (project_uncounted view.now) projects.now) }
+    ensures { Says result (first_of (project_uncounted after.now) projects.now) }
 {
     for project in projects {
-        if let Err(why) = project_uncounted(alloc, view, project) {
+        if let Err(why) = project_uncounted(alloc, after, project) {
             return Err(why);
         }
     }
     Ok(())
 }
 
-/// The first instance, volume or claim that gives no number for a sum that its project limits.
+/// L0 of all projects.
 #[tactic(auto, unfolding(row_machine::specs::machine::LimitRules::counts_broken))]
 pub fn counts_broken(alloc: Global, after: &View<'_>) -> Result<(), Or<Refusal>>
     ensures { Says result (counts_broken after.now) }
 {
-    projects_uncounted(alloc, after, after.projects)
+    counts_broken_in(alloc, after, after.projects)
 }

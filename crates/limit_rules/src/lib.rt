@@ -8,12 +8,15 @@ pub mod from_row_readings {
 
 mod alone;
 mod counts;
+mod in_use;
 mod limits;
 mod parts;
 mod sums;
 mod usage;
 
 pub use alone::{claim_uncounts, needs_usage, share_broken};
-pub use counts::counts_broken;
+pub use counts::{counts_broken, counts_broken_in};
+pub use in_use::{InUse, uses_exceed};
 pub use limits::limits_broken;
+pub use parts::{is_any_limit_set, is_any_limited};
 pub use usage::{Usage, usage_before, usage_before_changes};

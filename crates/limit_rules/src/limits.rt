@@ -70,7 +70,7 @@ pub(crate) fn limit_exceeded(
 // ---- the parts of what projects use
 
 /// By what the project uses before and after. A part that it does not limit is not looked at.
-fn line_exceeds(
+pub(crate) fn line_exceeds(
     alloc: Global,
     part: Part,
     project: &Project,

@@ -122,7 +122,7 @@ fn is_limited(project: &Project) -> bool
 }
 
 /// Whether one of the projects has a limit.
-pub(crate) fn is_any_limited(projects: &[Project]) -> bool
+pub fn is_any_limited(projects: &[Project]) -> bool
     ensures { result ≡ is_any_limited projects.now }
 {
     projects.iter().any(is_limited)
@@ -147,7 +147,7 @@ fn sets_limit(change: &RowChange) -> bool
 }
 
 /// Whether one of the changes puts a project with a limit.
-pub(crate) fn is_any_limit_set(changes: &[RowChange]) -> bool
+pub fn is_any_limit_set(changes: &[RowChange]) -> bool
     ensures { result ≡ list_any sets_limit changes.now }
 {
     changes.iter().any(sets_limit)

@@ -1,5 +1,5 @@
--- What a project forbids within itself: nothing of what belongs to other projects.
-use Rattle.std.specs.Prelude.{ℕ, [], ◌∷◌, Option, None, if◌then◌else◌, option_and_then}
+-- What a project forbids within itself: nothing of what belongs to other projects; and what some projects forbid.
+use Rattle.std.specs.Prelude.{ℕ, List, [], ◌∷◌, Option, None, if◌then◌else◌, option_and_then}
 use Rattle.std.specs.Str.{bytes_eq}
 use Rattle.restrictions.specs.plain_lists.specs.Firsts.{first, first_of}
 use Rattle.row_machine.specs.records.specs.declared.refusals.Refusal.{Refusal}
@@ -9,7 +9,7 @@ use Rattle.row_machine.specs.records.specs.declared.rows.Instance.{Instance}
 use Rattle.row_machine.specs.machine.Task.{Task}
 use Rattle.row_machine.specs.machine.State.{State}
 use Rattle.row_machine.specs.machine.Claims.{claimed_instance}
-use Rattle.row_machine.specs.machine.PolicyRules.{forbids_profile, forbids_instance}
+use Rattle.row_machine.specs.machine.PolicyRules.{forbids_profile, forbids_instance, project_forbids}
 
 -- a profile of the project
 abbrev pub own_profile : Project → ℕ → Profile → Option Refusal
@@ -32,3 +32,8 @@ own_objects state project number = first
     ∷ first_of (own_instance state project number) state.instances
     ∷ first_of (λ operation. own_claim state project number operation.work) state.operations.live
     ∷ [])
+
+-- F1 to F7 of some projects: the first rule that is broken, and the first of them at which it is
+abbrev pub policy_broken_in : State → List Project → Option Refusal
+policy_broken_in state projects =
+    first_of (λ number. first_of (project_forbids state number) projects) (1 ∷ 2 ∷ 3 ∷ 4 ∷ 5 ∷ 6 ∷ 7 ∷ [])

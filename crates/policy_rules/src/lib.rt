@@ -9,5 +9,5 @@ mod restricted;
 mod snapshots;
 
 pub use alone::{claim_forbidden, profile_forbidden};
-pub use policy::policy_broken;
+pub use policy::{policy_broken, policy_broken_in};
 pub use snapshots::snapshot_blocked;

@@ -3,7 +3,7 @@ ghost use Rattle.restrictions.specs.plain_lists.specs.Firsts.{first_of};
 ghost use Rattle.restrictions.specs.size_values.specs.Causes.{Says};
 ghost use Rattle.row_machine.specs.machine.PolicyRules.{project_forbids, policy_broken};
 ghost use Rattle.policy_rules.specs.Lowest.{HoldBelow};
-ghost use Rattle.policy_rules.specs.Within.{own_profile, own_instance, own_claim, own_objects};
+ghost use Rattle.policy_rules.specs.Within.{own_profile, own_instance, own_claim, own_objects, policy_broken_in};
 
 use crate::lowest::lowest_broken;
 use crate::restricted::{Restricted, subject_of};
@@ -218,28 +218,45 @@ fn projects_forbid(
 }
 
 /// The rule of this number. It is not asked where it is known to hold.
-fn number_forbids(alloc: Global, view: &View<'_>, lowest: u8, number: u8) -> Result<(), Or<Refusal>>
-    requires { HoldBelow lowest (λ n. first_of (project_forbids view.now n) view.now.projects) }
-    ensures { Says result (first_of (project_forbids view.now number) view.now.projects) }
+fn number_forbids(
+    alloc: Global,
+    view: &View<'_>,
+    lowest: u8,
+    number: u8,
+    projects: &[Project],
+) -> Result<(), Or<Refusal>>
+    requires { HoldBelow lowest (λ n. first_of (project_forbids view.now n) projects.now) }
+    ensures { Says result (first_of (project_forbids view.now number) projects.now) }
 {
     if number < lowest {
         return Ok(());
     }
-    projects_forbid(alloc, view, number, view.projects)
+    projects_forbid(alloc, view, number, projects)
 }
 
-/// The first rule on policy that is broken, and the first project, profile or instance at which it is. One walk over
-/// the projects finds the number of that rule, and a second one where it is broken: where none is, there is no second
-/// walk.
-#[tactic(auto, unfolding(row_machine::specs::machine::PolicyRules::policy_broken))]
-pub fn policy_broken(alloc: Global, after: &View<'_>) -> Result<(), Or<Refusal>>
-    ensures { Says result (policy_broken after.now) }
+/// F1 to F7 of these projects: the first rule that is broken, and the first of them, and what it has, at which it is.
+/// One walk over the projects finds the number of that rule, and a second one where it is broken: where none is, there
+/// is no second walk.
+pub fn policy_broken_in(
+    alloc: Global,
+    after: &View<'_>,
+    projects: &[Project],
+) -> Result<(), Or<Refusal>>
+    ensures { Says result (policy_broken_in after.now projects.now) }
 {
-    let lowest = lowest_broken(alloc, after, after.projects)?;
+    let lowest = lowest_broken(alloc, after, projects)?;
     for number in NUMBERS {
-        if let Err(why) = number_forbids(alloc, after, lowest, number) {
+        if let Err(why) = number_forbids(alloc, after, lowest, number, projects) {
             return Err(why);
         }
     }
     Ok(())
+}
+
+/// F1 to F7 of all projects.
+#[tactic(auto, unfolding(row_machine::specs::machine::PolicyRules::policy_broken))]
+pub fn policy_broken(alloc: Global, after: &View<'_>) -> Result<(), Or<Refusal>>
+    ensures { Says result (policy_broken after.now) }
+{
+    policy_broken_in(alloc, after, after.projects)
 }

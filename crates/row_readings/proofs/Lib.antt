@@ -1,3 +1,4 @@
+pub mod Homes
 pub mod Layered
 pub mod Ranges
 pub mod Risen

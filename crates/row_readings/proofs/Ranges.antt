@@ -19,7 +19,7 @@ use Rattle.restrictions.specs.config_lists.proofs.Keys.{same, bytes_eq-itself}
 use Rattle.restrictions.specs.plain_lists.specs.Firsts.{first_of}
 use Rattle.row_machine.specs.facts.Whole.{Rise}
 use Rattle.row_readings.specs.Rising.{begins_with, comes_before}
-use Rattle.row_readings.proofs.Risen.{rise-far}
+use Rattle.row_readings.proofs.Risen.{less, rise-far}
 use Rattle.row_readings.proofs.SameNames.{order}
 
 -- ---- tests that pass at places that follow one another
@@ -70,17 +70,12 @@ module _ (project : List ℕ) where
   not_greater Equal b e = inr refl
   not_greater Greater b e = cc
 
-  is_less : (a : Ordering) → is_lt a ≡ true → a ≡ Less
-  is_less Less e = refl
-  is_less Equal e = cc
-  is_less Greater e = cc
-
   -- names that go before others come before a project where those do
   before-back : (names others : List (List ℕ)) → order names others ≡ Less → comes_before project others ≡ true → comes_before project names ≡ true
   before-back [] others less before = refl
   before-back (x ∷ xs) [] less before = cc
   before-back (x ∷ xs) (y ∷ ys) less before =
-      let y-less : text_order y project ≡ Less = is_less (text_order y project) before in
+      let y-less : text_order y project ≡ Less = less (text_order y project) before in
       ⊎_elim
       (λ x-less. ap is_lt (nat_list_cmp_total.trans x y project x-less y-less))
       (λ equal. ap is_lt (nat_list_cmp_total.congr x y project equal ∙ y-less))

@@ -40,7 +40,7 @@ module _ {X : Type 0} (p : X → Bool) where
 
 -- ---- lists that rise
 
-less : (o : Ordering) → is_lt o ≡ true → o ≡ Less
+pub less : (o : Ordering) → is_lt o ≡ true → o ≡ Less
 less Less h = refl
 less Equal h = cc
 less Greater h = cc

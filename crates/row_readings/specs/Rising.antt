@@ -1,5 +1,6 @@
 -- Lists of rows that rise by their names, and where rows stand in them.
-use Rattle.std.specs.Prelude.{◌≡◌, ℕ, Bool, true, false, List, [], ◌∷◌, Some, None, Result, Ok, Err}
+use Rattle.std.specs.Prelude.{◌≡◌, ℕ, Bool, true, false, List, [], ◌∷◌, filter, Some, None, Result, Ok, Err}
+use Rattle.std.specs.Prelude.{if◌then◌else◌}
 use Rattle.std.specs.Cmp.Lexicographic.{slice_cmp}
 use Rattle.std.specs.List.{position, position_or_len}
 use Rattle.std.specs.Ordering.{is_lt, nat_cmp}
@@ -12,7 +13,8 @@ use Rattle.row_machine.specs.records.specs.declared.rows.Project.{Project}
 use Rattle.row_machine.specs.records.specs.declared.rows.Snapshot.{Snapshot}
 use Rattle.row_machine.specs.records.specs.declared.rows.Volume.{Volume}
 use Rattle.row_machine.specs.facts.Whole.{Rise}
-use Rattle.row_machine.specs.machine.Rows.{same_names, texts_before, project_names, profile_names, network_names}
+use Rattle.row_machine.specs.machine.Rows.{default_name, same_names, texts_before, project_names, profile_names}
+use Rattle.row_machine.specs.machine.Rows.{network_names}
 use Rattle.row_machine.specs.machine.Rows.{pool_names, volume_names, instance_names, snapshot_names, standing_names}
 use Rattle.row_machine.specs.machine.State.{State, Standing}
 use Rattle.row_readings.specs.declared.named.Names.{Names}
@@ -48,6 +50,11 @@ names_in (names_of.Three first second third) = first.now ∷ second.now ∷ thir
 abbrev pub begins_with : List ℕ → List (List ℕ) → Bool
 begins_with project [] = false
 begins_with project (first ∷ more) = bytes_eq first project
+
+-- the rows of the projects that may have this home: of all where it is `default`, and else of the project of this name
+abbrev pub rows_at_home : {X : Type 0} → (X → List (List ℕ)) → List ℕ → List X → List X
+rows_at_home names home rows =
+    if bytes_eq home default_name then rows else filter (λ row. begins_with home (names row)) rows
 
 -- whether it comes before that of a project
 abbrev pub comes_before : List ℕ → List (List ℕ) → Bool

@@ -73,6 +73,6 @@ pub use claims::{claimed_instance, claimed_snapshot, claimed_volume, replaced_in
 pub use homes::{is_on, is_true};
 pub use lookups::{kept_at, power_of};
 pub use named::{Named, Names};
-pub use places::{place_named, rises, rows_of};
+pub use places::{place_named, rises, rows_at_home, rows_of};
 pub use snapshots::next_snapshot;
 pub use view::{InstancePower, View};

@@ -5,7 +5,7 @@ ghost use Rattle.std.specs.List.Sorted.{IsPartitionPoint, IsSearchInRange};
 ghost use Rattle.std.specs.Option.{option_copied};
 ghost use Rattle.row_machine.specs.facts.Whole.{Rise};
 ghost use Rattle.row_machine.specs.machine.Rows.{same_names};
-ghost use Rattle.row_readings.specs.Rising.{begins_with, comes_before, names_in, FindsPlace};
+ghost use Rattle.row_readings.specs.Rising.{begins_with, comes_before, names_in, rows_at_home, FindsPlace};
 
 use crate::named::{Named, Names};
 use restrictions::from_size_values::Boxed;
@@ -34,6 +34,19 @@ pub fn rows_of<'x, T: Named>(rows: &'x [T], project: &str) -> &'x [T]
     let from = &rows[first_at_or_after(rows, project)..];
     let count = from.partition_point(|row| row.lent_names().is_of(project));
     &from[..count]
+}
+
+/// The rows of those projects that may have this home: of all where it is `default`, which projects share, and else of
+/// the project of this name.
+pub fn rows_at_home<'x, T: Named>(rows: &'x [T], home: &str) -> &'x [T]
+    requires { Rise T.names rows.now }
+    ensures { result.now ≡ rows_at_home T.names home.now rows.now }
+{
+    if home == "default" {
+        rows
+    } else {
+        rows_of(rows, home)
+    }
 }
 
 /// The place of the first row that the name of a project does not go after, or the number of rows.

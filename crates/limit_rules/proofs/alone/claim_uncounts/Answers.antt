@@ -1,4 +1,4 @@
-use Rattle.std.proofs.Common.{◌≡◌, Some, None, filter, sym, ap, ◌∙◌}
+use Rattle.std.proofs.Common.{◌≡◌, Some, filter, sym, ap, ◌∙◌}
 use Rattle.std.specs.Str.{bytes_eq}
 use Rattle.row_machine.specs.plain_lists.specs.Firsts.{first_of}
 use Rattle.row_machine.specs.machine.Claims.{project_of_row}

@@ -1,8 +1,8 @@
 use Rattle.std.proofs.Common.{◌≡◌, None, take}
 use Rattle.restrictions.specs.plain_lists.specs.Firsts.{first_of}
 use Rattle.row_machine.specs.machine.PolicyRules.{project_forbids}
-use Rattle.policy_rules.proofs.policy.policy_broken.Given as goal
+use Rattle.policy_rules.proofs.policy.policy_broken_in.Given as goal
 
 -- those before break nothing
 abbrev pub invariant-loop-number : goal.invariant-loop-number
-invariant-loop-number l = first_of (λ number. first_of (project_forbids l.after number) l.after.projects) (take l.number-index l.number-items) ≡ None
+invariant-loop-number l = first_of (λ number. first_of (project_forbids l.after number) l.projects) (take l.number-index l.number-items) ≡ None

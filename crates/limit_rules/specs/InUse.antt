@@ -1,0 +1,33 @@
+-- L1 to L8 of the projects of one name, by what they used before a change and what they use after it.
+use Rattle.std.specs.Prelude.{ℕ, List, [], ◌∷◌, Option}
+use Rattle.row_machine.specs.plain_lists.specs.Firsts.{first, first_of}
+use Rattle.row_machine.specs.size_values.specs.declared.amounts.Amounts.{Amounts}
+use Rattle.row_machine.specs.size_values.specs.declared.amounts.Part.{Part}
+use Rattle.row_machine.specs.project_limits.specs.Admission.{parts}
+use Rattle.row_machine.specs.project_limits.specs.Limits.{limits_of}
+use Rattle.row_machine.specs.project_limits.specs.declared.admission.LimitKey.TheVariants.{Networks}
+use Rattle.row_machine.specs.records.specs.declared.refusals.Refusal.{Refusal}
+use Rattle.row_machine.specs.records.specs.declared.rows.Project.{Project}
+use Rattle.row_machine.specs.machine.LimitRules.{limit_exceeded}
+use Rattle.limit_rules.specs.Sums.{line_over}
+use Rattle.limit_rules.specs.declared.in_use.InUse.{InUse}
+
+-- one part of what the project used, and uses
+abbrev pub part_over : Amounts → Amounts → Part → Project → Option Refusal
+part_over before after a_part project = line_over a_part (project, (before, after))
+
+-- the first part, and the first project at which it is exceeded
+abbrev pub amounts_over : List Project → Amounts → Amounts → Option Refusal
+amounts_over projects before after = first_of (λ a_part. first_of (part_over before after a_part) projects) parts
+
+-- its number of networks
+abbrev pub networks_over : ℕ → ℕ → Project → Option Refusal
+networks_over before after project =
+    limit_exceeded project Networks (limits_of project.config).networks before after
+
+-- the first part that is exceeded, or else the number of networks
+abbrev pub uses_over : List Project → InUse → InUse → Option Refusal
+uses_over projects before after = first
+    (amounts_over projects before.amounts after.amounts
+    ∷ first_of (networks_over before.networks after.networks) projects
+    ∷ [])
