@@ -64,7 +64,7 @@ first_slash (b ∷ bs) back none =
     let h = both_true (not (is_slash b)) (list_all (λ c. not (is_slash c)) bs) none in
     rw h.0 (omega (arith, first_slash bs back h.1))
 
-before_joined : (front back : List ℕ) → HasNoSlash front → before_first is_slash (two_names front back) ≡ front
+pub before_joined : (front back : List ℕ) → HasNoSlash front → before_first is_slash (two_names front back) ≡ front
 before_joined front back none = ap (λ n. take n (two_names front back)) (first_slash front back none) ∙ take_at front (47 ∷ back) (length front) refl
 
 after_joined : (front back : List ℕ) → HasNoSlash front → after_first is_slash (two_names front back) ≡ back
