@@ -20,8 +20,9 @@ use Rattle.machine_laws.specs.row_machine.specs.machine.PolicyRules.{forbids, fo
 use Rattle.machine_laws.specs.row_machine.specs.machine.Refusals.{on_key_of}
 use Rattle.machine_laws.specs.row_machine.specs.machine.Rows.{is_project, project_named, project_names}
 use Rattle.machine_laws.proofs.LimitsForbidden.{rule_numbers, is_rule, forbids-none, rule-or_not}
+use Rattle.limit_rules.specs.row_readings.proofs.Ranges.{apart}
 use Rattle.policy_rules.specs.Alone.{first_forbids}
-use Rattle.claim_laws.proofs.Own.{apart, or-none}
+use Rattle.claim_laws.proofs.Own.{or-none}
 
 -- ---- of seven numbers
 

@@ -5,3 +5,5 @@ pub mod Limits
 pub mod Alone
 mod Asked
 pub mod NewProfiles
+mod Others
+pub mod OneProject

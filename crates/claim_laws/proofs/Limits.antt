@@ -32,7 +32,8 @@ use Rattle.machine_laws.specs.row_machine.specs.facts.Whole.{IsWithin, AreWithin
 use Rattle.machine_laws.proofs.Base.{claiming-reads}
 use Rattle.project_usage.proofs.Parts.{none-of, part-of_usage}
 use Rattle.limit_rules.specs.Alone.{share_over, share_exceeds, share_broken}
-use Rattle.claim_laws.proofs.Own.{apart, or-none}
+use Rattle.limit_rules.specs.row_readings.proofs.Ranges.{apart}
+use Rattle.claim_laws.proofs.Own.{or-none}
 
 -- ---- parts
 
@@ -87,7 +88,7 @@ nothing-fits share is =
     same-parts share nothing (λ k. let low = fits-part share nothing is k in omega (arith, low, none-of k))
 
 -- a limit within which what is used stays is not exceeded
-unexceeded : (p : Project) (key : LimitKey) (limit : Option ℕ) (n : ℕ) → IfSome limit (λ l. n ≤ l) → limit_exceeded p key limit n n ≡ None
+pub unexceeded : (p : Project) (key : LimitKey) (limit : Option ℕ) (n : ℕ) → IfSome limit (λ l. n ≤ l) → limit_exceeded p key limit n n ≡ None
 unexceeded p key None n h = refl
 unexceeded p key (Some l) n h =
     let within : nat_lt l (n + amount_above n n) ≡ false = grind (arith, nat_tests, h) in

@@ -2,12 +2,11 @@
 use Rattle.std.proofs.Common.{◌≡◌, ℕ, Bool, true, false, cond, Option, Some, None, List, [], ◌∷◌, ◌++◌, filter, refl, sym, ◌∙◌, ap}
 use Rattle.std.specs.Option.{option_or, option_and_then, option_to_list}
 use Rattle.std.specs.Str.{bytes_eq}
-use Rattle.std.proofs.lemmas.Bool.{false≢true}
 use Rattle.machine_laws.specs.plain_lists.specs.Firsts.{first_of}
 use Rattle.machine_laws.specs.plain_lists.specs.Members.{Mem}
 use Rattle.machine_laws.specs.plain_lists.proofs.Elements.{Mem-right}
 use Rattle.machine_laws.specs.plain_lists.proofs.Readings.{Mem-read}
-use Rattle.machine_laws.specs.config_lists.proofs.Keys.{same, bytes_eq-itself}
+use Rattle.machine_laws.specs.config_lists.proofs.Keys.{same}
 use Rattle.machine_laws.specs.operations.specs.declared.operation.Operation.{Operation}
 use Rattle.machine_laws.specs.row_machine.specs.machine.Claims.{of_live}
 use Rattle.machine_laws.specs.row_machine.specs.machine.State.{State}
@@ -35,13 +34,6 @@ module _ {X R : Type 0} (rule : X → Option R) (project : X → List ℕ) (name
     at : (b : Bool) → bytes_eq (project x) name ≡ b → first_of rule (cond b (x ∷ []) []) ≡ None
     at true is = ap (λ o. option_or o None) (free x refl (same (project x) name is))
     at false is = refl
-
--- two texts that differ do so either way
-pub apart : (a b : List ℕ) → bytes_eq a b ≡ false → bytes_eq b a ≡ false
-apart a b differ = at (bytes_eq b a) refl where
-  at : (test : Bool) → bytes_eq b a ≡ test → test ≡ false
-  at true is = absurd (false≢true (sym differ ∙ ap (bytes_eq a) (same b a is) ∙ bytes_eq-itself a))
-  at false is = refl
 
 pub or-none : {R : Type 0} (o : Option R) → option_or o None ≡ o
 or-none None = refl

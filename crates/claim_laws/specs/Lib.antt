@@ -5,3 +5,4 @@ pub use Rattle.policy_rules as policy_rules
 pub use Rattle.project_usage as project_usage
 pub mod Alone
 pub mod NewProfile
+pub mod OneProject

@@ -1,6 +1,8 @@
-//! The laws that a new operation is judged by what it claims alone, and a new profile by what it has.
+//! The laws that a new operation is judged by what it claims alone, a new profile by what it has, and changes within a
+//! project in that project.
 ghost use Rattle.claim_laws.specs.Alone.{ClaimsAreJudgedAlone};
 ghost use Rattle.claim_laws.specs.NewProfile.{NewProfilesAreJudgedAlone};
+ghost use Rattle.claim_laws.specs.OneProject.{ProjectsAreJudgedAlone};
 
 /// Where all facts hold, the state with one more operation breaks a rule on what is counted, on policy or on limits
 /// exactly where the claimed row breaks it: all else was judged before.
@@ -12,4 +14,11 @@ pub fn claims_are_judged_alone()
 /// and none on what is counted or on limits: no instance names it yet.
 pub fn new_profiles_are_judged_alone()
     ensures { NewProfilesAreJudgedAlone }
+{}
+
+/// Where all facts hold, the state after changes of the rows of one project breaks a rule on policy, on what is counted
+/// or on limits exactly where that project breaks it: all others have and use what they did. Profiles of `default` are no
+/// such rows, since instances of other projects have them.
+pub fn projects_are_judged_alone()
+    ensures { ProjectsAreJudgedAlone }
 {}

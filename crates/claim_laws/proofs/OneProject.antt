@@ -1,0 +1,407 @@
+-- Changes within a project are judged in that project alone: all others have and use what they did.
+use Rattle.std.proofs.Common.{◌≡◌, ℕ, ◌+◌, Bool, true, false, cond, not, Option, Some, None, List, [], ◌∷◌, ◌++◌, ◌⊎◌, filter, length, refl, sym, ◌∙◌, ap, ap₂, subst, inl, inr, arith, true≢false}
+use Rattle.std.specs.Prelude.{codes, if◌then◌else◌}
+use Rattle.std.specs.List.{find, list_all, sum_by}
+use Rattle.std.specs.Option.{option_and_then, option_map, option_map_or, option_or, option_to_list}
+use Rattle.std.specs.Str.{bytes_eq}
+use Rattle.machine_laws.specs.plain_lists.specs.Firsts.{first_of}
+use Rattle.machine_laws.specs.plain_lists.specs.Members.{Mem, Each}
+use Rattle.machine_laws.specs.plain_lists.proofs.Elements.{Each-head, Each-tail, Mem-append, Mem-left, Mem-right}
+use Rattle.machine_laws.specs.plain_lists.proofs.FirstLemmas.{none-first_of, first_of-same}
+use Rattle.machine_laws.specs.plain_lists.proofs.Readings.{sum_by-same}
+use Rattle.machine_laws.specs.config_lists.proofs.Keys.{same, bytes_eq-itself}
+use Rattle.machine_laws.specs.size_values.specs.Amounts.{part}
+use Rattle.machine_laws.specs.size_values.specs.declared.amounts.Part.{Part}
+use Rattle.machine_laws.specs.size_values.specs.declared.kinds.ObjectKind.TheVariants as kind
+use Rattle.machine_laws.specs.operations.specs.declared.operation.Operation.{Operation}
+use Rattle.machine_laws.specs.operations.specs.Kept.{Kept}
+use Rattle.machine_laws.specs.project_limits.specs.Admission.{limit_on, key_of, parts}
+use Rattle.machine_laws.specs.project_limits.specs.Limits.{limits_of}
+use Rattle.machine_laws.specs.project_limits.specs.declared.admission.LimitKey.TheVariants as limit_key
+use Rattle.machine_laws.specs.records.specs.declared.refusals.Refusal.{Refusal}
+use Rattle.machine_laws.specs.records.specs.declared.rows.Project.{Project}
+use Rattle.machine_laws.specs.records.specs.declared.rows.Profile.{Profile}
+use Rattle.machine_laws.specs.records.specs.declared.rows.Network.{Network}
+use Rattle.machine_laws.specs.records.specs.declared.rows.Volume.{Volume}
+use Rattle.machine_laws.specs.records.specs.declared.rows.Instance.{Instance}
+use Rattle.machine_laws.specs.records.specs.declared.rows.Row.{Row}
+use Rattle.machine_laws.specs.records.specs.declared.rows.Row.TheVariants as row
+use Rattle.machine_laws.specs.row_machine.specs.declared.changes.RowChange.{RowChange}
+use Rattle.machine_laws.specs.row_machine.specs.facts.Whole.{IsWhole, IsWithin, IsClean}
+use Rattle.machine_laws.specs.row_machine.specs.machine.Changes.{applied}
+use Rattle.machine_laws.specs.row_machine.specs.machine.Claims.{of_live, amounts_of_instance, claimed_instance, claimed_volume, judged_instances, judged_volumes, project_of_row, replaced_instance, share_of}
+use Rattle.machine_laws.specs.row_machine.specs.machine.Homes.{home_of, is_on}
+use Rattle.machine_laws.specs.row_machine.specs.machine.LimitRules.{instance_uncounted, volume_uncounts, claim_uncounted, project_uncounted, counts_broken, limit_exceeded, part_exceeds, networks_exceed, limits_broken}
+use Rattle.machine_laws.specs.row_machine.specs.machine.PolicyRules.{forbids_profile, forbids_instance, project_forbids, policy_broken}
+use Rattle.machine_laws.specs.row_machine.specs.machine.Rows.{default_name, is_project, is_profile, is_instance, project_named, profile_named, instance_named}
+use Rattle.machine_laws.specs.row_machine.specs.machine.State.{State}
+use Rattle.machine_laws.specs.row_machine.specs.machine.Task.{Task}
+use Rattle.machine_laws.specs.row_machine.specs.machine.Usage.{used, usage_of, networks_of}
+use Rattle.machine_laws.proofs.Expansions.{home_in, IsAlike, amounts-alike, uncounted-alike, forbids-alike}
+use Rattle.machine_laws.proofs.ExpansionsApart.{fails-by, home-either, profile-so}
+use Rattle.machine_laws.proofs.ExpansionsNamed.{claim-is, row-judged}
+use Rattle.machine_laws.proofs.Found.{instance-found}
+use Rattle.machine_laws.proofs.LimitsForbidden.{rule_numbers}
+use Rattle.machine_laws.proofs.NamesSuccess.{Mem-filter}
+use Rattle.machine_laws.proofs.SharesAlike.{IsShareAlike, share-alike}
+use Rattle.machine_laws.proofs.SharesApart.{instance-so, replaces-or_not}
+use Rattle.machine_laws.proofs.SharesAtOnce.{claim-judged}
+use Rattle.limit_rules.specs.InUse.{part_over, networks_over, uses_over}
+use Rattle.limit_rules.specs.row_readings.proofs.Ranges.{apart, filter-filter, sum_by-filter}
+use Rattle.policy_rules.specs.Within.{policy_broken_in}
+use Rattle.project_usage.specs.Counted.{instance_part, volume_part, claim_part}
+use Rattle.project_usage.proofs.Parts.{part-of_usage, used-parts}
+use Rattle.claim_laws.specs.OneProject.{is_within, in_use, project_touched, project_within, projects_of, IsProjectJudgedAlone, ProjectsAreJudgedAlone}
+use Rattle.claim_laws.proofs.Limits.{unexceeded}
+use Rattle.claim_laws.proofs.Others.{AreBeside, Mem-back, Mem-passes, beside-itself, changes-beside, find-filter, is_other}
+use Rattle.claim_laws.proofs.Own.{claimed, last-of, listed-none}
+
+-- ---- lists
+
+-- a rule that is broken only by what passes a test, and there as another rule
+first_of-passing : {X R : Type 0} (q : X → Bool) (rule other : X → Option R) (xs : List X)
+    → Each (λ x. q x ≡ false → rule x ≡ None) xs → ((x : X) → q x ≡ true → rule x ≡ other x)
+    → first_of rule xs ≡ first_of other (filter q xs)
+first_of-passing q rule other [] free alike = refl
+first_of-passing q rule other (x ∷ xs) free alike = at (q x) refl (first_of-passing q rule other xs (Each-tail free) alike) where
+  at : (b : Bool) → q x ≡ b → first_of rule xs ≡ first_of other (filter q xs)
+      → option_or (rule x) (first_of rule xs) ≡ first_of other (cond b (x ∷ filter q xs) (filter q xs))
+  at true is more = ap₂ option_or (alike x is) more
+  at false is more = ap (λ o. option_or o (first_of rule xs)) (Each-head free is) ∙ more
+
+-- two rules that are not broken
+none-of_two : {R : Type 0} {a b : Option R} → a ≡ None → b ≡ None → option_or a (option_or b None) ≡ None
+none-of_two {b} first second = ap (λ o. option_or o (option_or b None)) first ∙ ap (λ o. option_or o None) second
+
+not-other : (b : Bool) → not b ≡ false → b ≡ true
+not-other true is = refl
+not-other false is = absurd (true≢false is)
+
+other-not : (b : Bool) → not b ≡ true → b ≡ false
+other-not false is = refl
+other-not true is = absurd (true≢false (sym is))
+
+module _ (s t : State) (p : List ℕ) (h : IsWhole s) (b : AreBeside p s t) where
+  -- ---- what another project looks up
+
+  project-alike : (name : List ℕ) → bytes_eq name p ≡ false → project_named t.projects name ≡ project_named s.projects name
+  project-alike name other =
+      sym (find-filter test (is_project name) t.projects tells)
+      ∙ ap (find (is_project name)) b.projects
+      ∙ find-filter test (is_project name) s.projects tells where
+        test : Project → Bool
+        test r = is_other p r.name
+
+        tells : (y : Project) → is_project name y ≡ true → is_other p y.name ≡ true
+        tells y is = ap (is_other p) (same y.name name is) ∙ ap not other
+
+  profile-alike : (home name : List ℕ) → bytes_eq home p ≡ false → profile_named t.profiles home name ≡ profile_named s.profiles home name
+  profile-alike home name other =
+      sym (find-filter test (is_profile home name) t.profiles tells)
+      ∙ ap (find (is_profile home name)) b.profiles
+      ∙ find-filter test (is_profile home name) s.profiles tells where
+        test : Profile → Bool
+        test r = is_other p r.project
+
+        tells : (y : Profile) → is_profile home name y ≡ true → is_other p y.project ≡ true
+        tells y is = ap (is_other p) (profile-so home name y is).0 ∙ ap not other
+
+  instance-alike : (project name : List ℕ) → bytes_eq project p ≡ false → instance_named t.instances project name ≡ instance_named s.instances project name
+  instance-alike project name other =
+      sym (find-filter test (is_instance project name) t.instances tells)
+      ∙ ap (find (is_instance project name)) b.instances
+      ∙ find-filter test (is_instance project name) s.instances tells where
+        test : Instance → Bool
+        test r = is_other p r.project
+
+        tells : (y : Instance) → is_instance project name y ≡ true → is_other p y.project ≡ true
+        tells y is = ap (is_other p) (instance-so project name y is).0 ∙ ap not other
+
+  -- a profile of `default` is the same, whether that is another project or not
+  default-alike : (name : List ℕ) → profile_named t.profiles default_name name ≡ profile_named s.profiles default_name name
+  default-alike name = at (bytes_eq default_name p) refl where
+    at : (c : Bool) → bytes_eq default_name p ≡ c → profile_named t.profiles default_name name ≡ profile_named s.profiles default_name name
+    at true is = ap (λ rows. profile_named rows default_name name) (b.shared (ap (bytes_eq p) (same default_name p is) ∙ bytes_eq-itself p))
+    at false is = profile-alike default_name name is
+
+  home-alike : (name : List ℕ) → bytes_eq name p ≡ false → home_of t.projects name kind.Profile ≡ home_of s.projects name kind.Profile
+  unfolding home_of
+  home-alike name other = ap
+      (λ found. if option_map_or (λ (r : Project). is_on r.config (codes "features.profiles")) found false then name else default_name)
+      (project-alike name other)
+
+  -- an instance of another project has what it had
+  alike : (i : Instance) → bytes_eq i.project p ≡ false → IsAlike s t i
+  alike i other = record { home = home-alike i.project other; profiles = λ name m. found name (home-either s i.project) } where
+    found : (name : List ℕ) → (home_in s i ≡ i.project) ⊎ (home_in s i ≡ default_name)
+        → profile_named t.profiles (home_in s i) name ≡ profile_named s.profiles (home_in s i) name
+    found name (inl is) =
+        subst (λ home. profile_named t.profiles home name ≡ profile_named s.profiles home name) (sym is) (profile-alike i.project name other)
+    found name (inr is) =
+        subst (λ home. profile_named t.profiles home name ≡ profile_named s.profiles home name) (sym is) (default-alike name)
+
+  -- ---- what another project has
+
+  project-there : (q : Project) → Mem q t.projects → bytes_eq q.name p ≡ false → Mem q s.projects
+  project-there q m other = Mem-back (λ (r : Project). is_other p r.name) q s.projects t.projects b.projects m (ap not other)
+
+  -- the project of what is a project's own is another one too
+  own-other : (name q : List ℕ) → bytes_eq name q ≡ true → bytes_eq q p ≡ false → bytes_eq name p ≡ false
+  own-other name q own other = ap (λ n. bytes_eq n p) (same name q own) ∙ other
+
+  profile-there : (r : Profile) → Mem r t.profiles → bytes_eq r.project p ≡ false → Mem r s.profiles
+  profile-there r m other = Mem-back (λ (x : Profile). is_other p x.project) r s.profiles t.profiles b.profiles m (ap not other)
+
+  volume-there : (r : Volume) → Mem r t.volumes → bytes_eq r.project p ≡ false → Mem r s.volumes
+  volume-there r m other = Mem-back (λ (x : Volume). is_other p x.project) r s.volumes t.volumes b.volumes m (ap not other)
+
+  instance-there : (i : Instance) → Mem i t.instances → bytes_eq i.project p ≡ false → Mem i s.instances
+  instance-there i m other = Mem-back (λ (x : Instance). is_other p x.project) i s.instances t.instances b.instances m (ap not other)
+
+  judged-there : (i : Instance) → Mem i (judged_instances t) → bytes_eq i.project p ≡ false → Mem i (judged_instances s)
+  unfolding judged_instances
+  judged-there i m other = elim (Mem-append i t.instances (of_live claimed_instance t) m) [
+    | inl row ↦ row-judged s i (instance-there i row other)
+    | inr claim ↦ Mem-right i s.instances (of_live claimed_instance s)
+        (subst (λ (ops : Kept Task). Mem i (of_live claimed_instance (record s { operations = ops }))) b.operations claim)
+  ]
+
+  -- ---- policy
+
+  policy-other : (number : ℕ) (q : Project) → Mem q t.projects → bytes_eq q.name p ≡ false → project_forbids t number q ≡ None
+  policy-other number q m other = none-of_two
+      (none-first_of (forbids_profile q number) (filter own_profile t.profiles) (record { at = profiles }))
+      (none-first_of (forbids_instance t q number) (filter own_instance (judged_instances t)) (record { at = instances })) where
+        clean : IsClean s q
+        clean = h.limits.policy.at q (project-there q m other)
+
+        own_profile : Profile → Bool
+        own_profile r = bytes_eq r.project q.name
+
+        own_instance : Instance → Bool
+        own_instance i = bytes_eq i.project q.name
+
+        profiles : (r : Profile) → Mem r (filter own_profile t.profiles) → forbids_profile q number r ≡ None
+        profiles r n =
+            let own = Mem-passes own_profile r t.profiles n in
+            clean.profiles.at r (profile-there r (Mem-filter own_profile r t.profiles n) (own-other r.project q.name own other))
+            (same r.project q.name own) number
+
+        instances : (i : Instance) → Mem i (filter own_instance (judged_instances t)) → forbids_instance t q number i ≡ None
+        instances i n =
+            let own = Mem-passes own_instance i (judged_instances t) n in
+            let away = own-other i.project q.name own other in
+            forbids-alike q number (alike i away)
+            ∙ clean.instances.at i (judged-there i (Mem-filter own_instance i (judged_instances t) n) away) (same i.project q.name own) number
+
+  policy-within : policy_broken t ≡ policy_broken_in t (projects_of t p)
+  unfolding policy_broken
+  policy-within = first_of-same
+      (λ number. first_of (project_forbids t number) t.projects)
+      (λ number. first_of (project_forbids t number) (projects_of t p)) rule_numbers
+      (record {
+        at = λ number n. first_of-passing (λ (q : Project). bytes_eq q.name p) (project_forbids t number) (project_forbids t number) t.projects
+            (record { at = policy-other number }) (λ q own. refl);
+      })
+
+  -- ---- counts
+
+  counts-other : (q : Project) → Mem q t.projects → bytes_eq q.name p ≡ false → project_uncounted t q ≡ None
+  unfolding judged_volumes
+  counts-other q m other = last-of
+      (none-first_of (instance_uncounted t q) (filter own_instance t.instances) (record { at = instances }))
+      (none-first_of (volume_uncounts q) (filter own_volume t.volumes) (record { at = volumes }))
+      (none-first_of (λ (o : Operation Task). claim_uncounted t q o.work) t.operations.live (record { at = claims })) where
+        within : IsWithin s q
+        within = h.limits.limits.at q (project-there q m other)
+
+        own_instance : Instance → Bool
+        own_instance i = bytes_eq i.project q.name
+
+        own_volume : Volume → Bool
+        own_volume v = bytes_eq v.project q.name
+
+        counted : (i : Instance) → Mem i (judged_instances s) → i.project ≡ q.name → instance_uncounted t q i ≡ None
+        counted i n own =
+            uncounted-alike q (alike i (ap (λ name. bytes_eq name p) own ∙ other))
+            ∙ within.instances.at i n own
+
+        instances : (i : Instance) → Mem i (filter own_instance t.instances) → instance_uncounted t q i ≡ None
+        instances i n =
+            let own = Mem-passes own_instance i t.instances n in
+            counted i (row-judged s i (instance-there i (Mem-filter own_instance i t.instances n) (own-other i.project q.name own other)))
+            (same i.project q.name own)
+
+        volumes : (v : Volume) → Mem v (filter own_volume t.volumes) → volume_uncounts q v ≡ None
+        volumes v n =
+            let own = Mem-passes own_volume v t.volumes n in
+            let there : Mem v s.volumes = volume-there v (Mem-filter own_volume v t.volumes n) (own-other v.project q.name own other) in
+            within.volumes.at v (Mem-left v s.volumes (of_live claimed_volume s) there) (same v.project q.name own)
+
+        claims : (o : Operation Task) → Mem o t.operations.live → claim_uncounted t q o.work ≡ None
+        claims o n =
+            let live : Mem o s.operations.live = subst (λ (ops : Kept Task). Mem o ops.live) b.operations n in
+            none-of_two
+            (listed-none (instance_uncounted t q) (λ (i : Instance). i.project) q.name (claimed_instance o.work)
+            (λ i is own. counted i (claim-judged s o i live is) own))
+            (listed-none (volume_uncounts q) (λ (v : Volume). v.project) q.name (claimed_volume o.work)
+            (λ v is own. within.volumes.at v (claimed claimed_volume s s.volumes o v live is) own))
+
+  counts-within : counts_broken t ≡ first_of (project_uncounted t) (projects_of t p)
+  unfolding counts_broken
+  counts-within = first_of-passing (λ (q : Project). bytes_eq q.name p) (project_uncounted t) (project_uncounted t) t.projects
+      (record { at = counts-other }) (λ q own. refl)
+
+  -- ---- shares
+
+  module _ (o : Operation Task) (m : Mem o s.operations.live) (other : bytes_eq o.work.project p ≡ false) where
+    -- the row that it replaces is of its project
+    replaced-alike : replaced_instance t o.work ≡ replaced_instance s o.work
+    replaced-alike = elim (replaces-or_not s o.work (h.operations.deeds.at o m) (h.links.operations.at o m)) [
+      | inl r ↦ ap (found t) r.names ∙ instance-alike o.work.project o.work.target.name other ∙ sym (ap (found s) r.names)
+      | inr none ↦ ap (found t) none ∙ sym (ap (found s) none)
+    ] where
+      found : State → Option (List ℕ × List ℕ) → Option Instance
+      found u names = option_and_then (λ (n : List ℕ × List ℕ). instance_named u.instances n.0 n.1) names
+
+    replaced-own : (i : Instance) → replaced_instance s o.work ≡ Some i → i.project ≡ o.work.project
+    replaced-own i is = elim (replaces-or_not s o.work (h.operations.deeds.at o m) (h.links.operations.at o m)) [
+      | inl r ↦ (instance-found s.instances o.work.project o.work.target.name i (sym (ap found r.names) ∙ is)).0
+      | inr none ↦ absurd (some-none (sym is ∙ ap found none))
+    ] where
+      found : Option (List ℕ × List ℕ) → Option Instance
+      found names = option_and_then (λ (n : List ℕ × List ℕ). instance_named s.instances n.0 n.1) names
+
+      some-none : Some i ≡ None → ⊥
+      some-none e = cc
+
+    same-share : IsShareAlike s t o.work
+    same-share = record {
+      claimed = λ i is. amounts-alike (alike i
+          (ap (λ name. bytes_eq name p) ((h.links.operations.at o m).claim_project (row.Instance i) (claim-is o.work i is)) ∙ other));
+      replaced = replaced-alike;
+      old = λ i is. amounts-alike (alike i (ap (λ name. bytes_eq name p) (replaced-own i is) ∙ other));
+    }
+
+  -- ---- usage
+
+  module _ (q : List ℕ) (k : Part) (other : bytes_eq q p ≡ false) where
+    -- what is of the project of the changes adds nothing
+    adds-nothing : (name : List ℕ) (n : ℕ) → is_other p name ≡ false → cond (bytes_eq name q) n 0 ≡ 0
+    adds-nothing name n is = ap (λ c. cond c n 0)
+        (ap (λ x. bytes_eq x q) (same name p (not-other (bytes_eq name p) is)) ∙ apart q p other)
+
+    instances-add : sum_by (instance_part t q k) t.instances ≡ sum_by (instance_part s q k) s.instances
+    instances-add =
+        sym (sum_by-filter (instance_part t q k) test t.instances (λ i is. adds-nothing i.project (part k (amounts_of_instance t i)) is))
+        ∙ ap (sum_by (instance_part t q k)) b.instances
+        ∙ sum_by-same (instance_part t q k) (instance_part s q k) (filter test s.instances) (record { at = counts })
+        ∙ sum_by-filter (instance_part s q k) test s.instances (λ i is. adds-nothing i.project (part k (amounts_of_instance s i)) is) where
+          test : Instance → Bool
+          test i = is_other p i.project
+
+          counts : (i : Instance) → Mem i (filter test s.instances) → instance_part t q k i ≡ instance_part s q k i
+          counts i m = ap (λ a. cond (bytes_eq i.project q) (part k a) 0)
+              (amounts-alike (alike i (other-not (bytes_eq i.project p) (Mem-passes test i s.instances m))))
+
+    volumes-add : sum_by (volume_part q k) t.volumes ≡ sum_by (volume_part q k) s.volumes
+    volumes-add =
+        sym (sum_by-filter (volume_part q k) test t.volumes (λ v is. adds-nothing v.project _ is))
+        ∙ ap (sum_by (volume_part q k)) b.volumes
+        ∙ sum_by-filter (volume_part q k) test s.volumes (λ v is. adds-nothing v.project _ is) where
+          test : Volume → Bool
+          test v = is_other p v.project
+
+    claim-adds : (o : Operation Task) → Mem o s.operations.live → claim_part t q k o.work ≡ claim_part s q k o.work
+    claim-adds o m = at o.work.claim refl where
+      adds : State → Row → ℕ
+      adds u new = cond (bytes_eq (project_of_row new) q) (part k (share_of u o.work)) 0
+
+      own : (new : Row) → o.work.claim ≡ Some new → (c : Bool) → bytes_eq (project_of_row new) q ≡ c
+          → cond c (part k (share_of t o.work)) 0 ≡ cond c (part k (share_of s o.work)) 0
+      own new is true of = ap (part k) (share-alike o.work (same-share o m
+          (ap (λ name. bytes_eq name p) (sym ((h.links.operations.at o m).claim_project new is) ∙ same (project_of_row new) q of) ∙ other)))
+      own new is false of = refl
+
+      at : (claim : Option Row) → o.work.claim ≡ claim → option_map_or (adds t) claim 0 ≡ option_map_or (adds s) claim 0
+      at None is = refl
+      at (Some new) is = own new is (bytes_eq (project_of_row new) q) refl
+
+    claims-add : sum_by (λ (o : Operation Task). claim_part t q k o.work) t.operations.live
+        ≡ sum_by (λ (o : Operation Task). claim_part s q k o.work) s.operations.live
+    claims-add =
+        ap (λ (ops : Kept Task). sum_by (λ (o : Operation Task). claim_part t q k o.work) ops.live) b.operations
+        ∙ sum_by-same (λ (o : Operation Task). claim_part t q k o.work) (λ (o : Operation Task). claim_part s q k o.work) s.operations.live
+        (record { at = claim-adds })
+
+    used-other : used t q k ≡ used s q k
+    used-other = omega (arith, used-parts t q k, used-parts s q k, instances-add, volumes-add, claims-add)
+
+  networks-other : (q : List ℕ) → bytes_eq q p ≡ false → networks_of t q ≡ networks_of s q
+  unfolding networks_of
+  networks-other q other =
+      sym (ap length (filter-filter own test t.networks none))
+      ∙ ap (λ rows. length (filter own rows)) b.networks
+      ∙ ap length (filter-filter own test s.networks none) where
+        own : Network → Bool
+        own n = bytes_eq n.project q
+
+        test : Network → Bool
+        test n = is_other p n.project
+
+        none : (n : Network) → test n ≡ false → own n ≡ false
+        none n is = ap (λ x. bytes_eq x q) (same n.project p (not-other (bytes_eq n.project p) is)) ∙ apart q p other
+
+  -- ---- limits
+
+  part-other : (k : Part) (q : Project) → Mem q t.projects → bytes_eq q.name p ≡ false → part_exceeds s t k q ≡ None
+  unfolding part_exceeds
+  part-other k q m other =
+      ap (limit_exceeded q (key_of k) (limit_on k (limits_of q.config)) (used s q.name k)) (used-other q.name k other)
+      ∙ unexceeded q (key_of k) (limit_on k (limits_of q.config)) (used s q.name k) ((h.limits.limits.at q (project-there q m other)).parts k)
+
+  part-own : (k : Part) (q : Project) → bytes_eq q.name p ≡ true → part_exceeds s t k q ≡ part_over (usage_of s p) (usage_of t p) k q
+  unfolding part_exceeds
+  part-own k q own = ap₂ (limit_exceeded q (key_of k) (limit_on k (limits_of q.config))) (uses s) (uses t) where
+    uses : (u : State) → used u q.name k ≡ part k (usage_of u p)
+    uses u = ap (λ name. used u name k) (same q.name p own) ∙ sym (part-of_usage u p k)
+
+  count-other : (q : Project) → Mem q t.projects → bytes_eq q.name p ≡ false → networks_exceed s t q ≡ None
+  unfolding networks_exceed
+  count-other q m other =
+      ap (limit_exceeded q limit_key.Networks (limits_of q.config).networks (networks_of s q.name)) (networks-other q.name other)
+      ∙ unexceeded q limit_key.Networks (limits_of q.config).networks (networks_of s q.name) (h.limits.limits.at q (project-there q m other)).networks
+
+  count-own : (q : Project) → bytes_eq q.name p ≡ true → networks_exceed s t q ≡ networks_over (networks_of s p) (networks_of t p) q
+  unfolding networks_exceed
+  count-own q own = ap₂ (limit_exceeded q limit_key.Networks (limits_of q.config).networks)
+      (ap (networks_of s) (same q.name p own)) (ap (networks_of t) (same q.name p own))
+
+  limits-within : limits_broken s t ≡ uses_over (projects_of t p) (in_use s p) (in_use t p)
+  unfolding limits_broken
+  limits-within = ap₂ (λ of_parts of_networks. option_or of_parts (option_or of_networks None))
+      (first_of-same (λ k. first_of (part_exceeds s t k) t.projects) (λ k. first_of (part_over (usage_of s p) (usage_of t p) k) (projects_of t p)) parts
+      (record {
+        at = λ k n. first_of-passing (λ (q : Project). bytes_eq q.name p) (part_exceeds s t k) (part_over (usage_of s p) (usage_of t p) k) t.projects
+            (record { at = part-other k }) (part-own k);
+      }))
+      (first_of-passing (λ (q : Project). bytes_eq q.name p) (networks_exceed s t) (networks_over (networks_of s p) (networks_of t p)) t.projects
+      (record { at = count-other }) count-own)
+
+-- ---- changes
+
+all-within : (cs : List RowChange) (p : List ℕ) → project_within cs ≡ Some p → list_all (is_within p) cs ≡ true
+all-within [] p is = cc
+all-within (c ∷ cs) p is = at (list_all (is_within (project_touched c)) (c ∷ cs)) refl is where
+  at : (b : Bool) → list_all (is_within (project_touched c)) (c ∷ cs) ≡ b → cond b (Some (project_touched c)) None ≡ Some p
+      → list_all (is_within p) (c ∷ cs) ≡ true
+  at true all found = let own : project_touched c ≡ p = cc in subst (λ name. list_all (is_within name) (c ∷ cs) ≡ true) own all
+  at false all found = cc
+
+pub projects-alone : ProjectsAreJudgedAlone
+projects-alone s cs p h is = record { policy = policy-within s t p h b; counts = counts-within s t p h b; limits = limits-within s t p h b } where
+  t : State
+  t = applied s cs
+
+  b : AreBeside p s t
+  b = changes-beside p s h cs s (all-within cs p is) (beside-itself p s)

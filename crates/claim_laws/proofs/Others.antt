@@ -1,0 +1,315 @@
+-- Changes within a project leave the rows of all others.
+use Rattle.std.proofs.Common.{◌≡◌, ℕ, Bool, true, false, cond, not, ◌&&◌, Some, None, List, [], ◌∷◌, ◌++◌, filter, refl, sym, ◌∙◌, ap, subst, inl, inr, true≢false}
+use Rattle.std.specs.List.{before_first, find, list_all, list_any}
+use Rattle.std.specs.Str.{bytes_eq}
+use Rattle.machine_laws.specs.plain_lists.specs.Edits.{changed_first, dropped, inserted, replaced}
+use Rattle.machine_laws.specs.plain_lists.specs.Members.{Mem, Each}
+use Rattle.machine_laws.specs.plain_lists.proofs.Elements.{Each-left, Each-map, Each-tail, Each-head}
+use Rattle.machine_laws.specs.config_lists.proofs.Keys.{same, bytes_eq-itself}
+use Rattle.machine_laws.specs.size_values.specs.declared.kinds.ObjectKind.{ObjectKind}
+use Rattle.machine_laws.specs.size_values.specs.declared.kinds.ObjectKind.TheVariants as kind
+use Rattle.machine_laws.specs.operations.specs.Kept.{Kept}
+use Rattle.machine_laws.specs.records.specs.declared.rows.Project.{Project}
+use Rattle.machine_laws.specs.records.specs.declared.rows.Profile.{Profile}
+use Rattle.machine_laws.specs.records.specs.declared.rows.Network.{Network}
+use Rattle.machine_laws.specs.records.specs.declared.rows.Volume.{Volume}
+use Rattle.machine_laws.specs.records.specs.declared.rows.Instance.{Instance}
+use Rattle.machine_laws.specs.records.specs.declared.rows.Row.{Row}
+use Rattle.machine_laws.specs.records.specs.declared.rows.Row.TheVariants as row
+use Rattle.machine_laws.specs.row_codec.specs.Reading.{is_slash}
+use Rattle.machine_laws.specs.row_codec.specs.Rows.{HasGoodKey}
+use Rattle.machine_laws.specs.row_codec.specs.Spelling.{two_names}
+use Rattle.machine_laws.specs.row_codec.proofs.Fields.{both_true}
+use Rattle.machine_laws.specs.row_codec.proofs.Names.{HasNoSlash, before_joined, good_no_slash}
+use Rattle.machine_laws.specs.row_machine.specs.declared.changes.RowChange.{RowChange}
+use Rattle.machine_laws.specs.row_machine.specs.declared.changes.RowChange.TheVariants as change
+use Rattle.machine_laws.specs.row_machine.specs.facts.Whole.{IsWhole, claims_of}
+use Rattle.machine_laws.specs.row_machine.specs.machine.Changes.{applied, changed, has_key, with_row, without_row}
+use Rattle.machine_laws.specs.row_machine.specs.machine.Rows.{default_name, same_names, texts_before, put_by, project_names, profile_names, network_names, volume_names, instance_names}
+use Rattle.machine_laws.specs.row_machine.specs.machine.State.{State}
+use Rattle.machine_laws.specs.row_machine.specs.machine.Task.{Task}
+use Rattle.machine_laws.proofs.ExpansionsApart.{fails-by}
+use Rattle.machine_laws.proofs.Found.{two_same, three_same}
+use Rattle.machine_laws.proofs.LimitsBroken.{Mem-filter}
+use Rattle.machine_laws.proofs.NamesRows.{EachRow, each-row}
+use Rattle.machine_laws.proofs.NamesSuccess.{Mem-filter as Mem-filtered}
+use Rattle.claim_laws.specs.OneProject.{is_within}
+
+-- ---- what passes a test, where that fails on all that is put and dropped
+
+module _ {X : Type 0} (q : X → Bool) where
+  filter-changed : (p : X → Bool) (x : X) (xs : List X) → q x ≡ false → ((y : X) → p y ≡ true → q y ≡ false)
+      → filter q (changed_first p (λ _. x) xs) ≡ filter q xs
+  filter-changed p x [] fails tells = refl
+  filter-changed p x (y ∷ ys) fails tells = at (p y) refl (filter-changed p x ys fails tells) where
+    at : (b : Bool) → p y ≡ b → filter q (changed_first p (λ _. x) ys) ≡ filter q ys
+        → filter q (cond b (x ∷ ys) (y ∷ changed_first p (λ _. x) ys)) ≡ cond (q y) (y ∷ filter q ys) (filter q ys)
+    at true is more =
+        ap (λ b. cond b (x ∷ filter q ys) (filter q ys)) fails
+        ∙ sym (ap (λ b. cond b (y ∷ filter q ys) (filter q ys)) (tells y is))
+    at false is more = ap (λ zs. cond (q y) (y ∷ zs) zs) more
+
+  filter-inserted : (before : X → Bool) (x : X) (xs : List X) → q x ≡ false → filter q (inserted before x xs) ≡ filter q xs
+  filter-inserted before x [] fails = ap (λ b. cond b (x ∷ []) []) fails
+  filter-inserted before x (y ∷ ys) fails = at (before y) (filter-inserted before x ys fails) where
+    at : (b : Bool) → filter q (inserted before x ys) ≡ filter q ys
+        → filter q (cond b (x ∷ y ∷ ys) (y ∷ inserted before x ys)) ≡ filter q (y ∷ ys)
+    at true more = ap (λ b. cond b (x ∷ filter q (y ∷ ys)) (filter q (y ∷ ys))) fails
+    at false more = ap (λ zs. cond (q y) (y ∷ zs) zs) more
+
+  filter-replaced : (p before : X → Bool) (x : X) (xs : List X) → q x ≡ false → ((y : X) → p y ≡ true → q y ≡ false)
+      → filter q (replaced p before x xs) ≡ filter q xs
+  filter-replaced p before x xs fails tells = at (list_any p xs) where
+    at : (b : Bool) → filter q (cond b (changed_first p (λ _. x) xs) (inserted before x xs)) ≡ filter q xs
+    at true = filter-changed p x xs fails tells
+    at false = filter-inserted before x xs fails
+
+  filter-dropped : (p : X → Bool) (xs : List X) → Each (λ y. p y ≡ true → q y ≡ false) xs → filter q (dropped p xs) ≡ filter q xs
+  filter-dropped p [] apart = refl
+  filter-dropped p (y ∷ ys) apart = at (p y) refl (filter-dropped p ys (Each-tail apart)) where
+    at : (b : Bool) → p y ≡ b → filter q (dropped p ys) ≡ filter q ys
+        → filter q (cond b ys (y ∷ dropped p ys)) ≡ cond (q y) (y ∷ filter q ys) (filter q ys)
+    at true is more = sym (ap (λ b. cond b (y ∷ filter q ys) (filter q ys)) (Each-head apart is))
+    at false is more = ap (λ zs. cond (q y) (y ∷ zs) zs) more
+
+  -- what passes stands in each list of which the same passes
+  pub Mem-back : (x : X) (xs ys : List X) → filter q ys ≡ filter q xs → Mem x ys → q x ≡ true → Mem x xs
+  Mem-back x xs ys same m is = Mem-filtered q x xs (subst (Mem x) same (Mem-filter q x ys m is))
+
+  pub Mem-passes : (x : X) (xs : List X) → Mem x (filter q xs) → q x ≡ true
+  Mem-passes x [] m = absurd m
+  Mem-passes x (y ∷ ys) m = at (q y) refl m (Mem-passes x ys) where
+    at : (b : Bool) → q y ≡ b → Mem x (cond b (y ∷ filter q ys) (filter q ys)) → (Mem x (filter q ys) → q x ≡ true) → q x ≡ true
+    at true is (inl e) more = ap q e ∙ is
+    at true is (inr n) more = more n
+    at false is n more = more n
+
+  -- a search that finds only what passes
+  pub find-filter : (p : X → Bool) (xs : List X) → ((x : X) → p x ≡ true → q x ≡ true) → find p (filter q xs) ≡ find p xs
+  find-filter p [] tells = refl
+  find-filter p (y ∷ ys) tells = at (q y) refl (find-filter p ys tells) where
+    at : (b : Bool) → q y ≡ b → find p (filter q ys) ≡ find p ys
+        → find p (cond b (y ∷ filter q ys) (filter q ys)) ≡ cond (p y) (Some y) (find p ys)
+    at true is more = ap (λ o. cond (p y) (Some y) o) more
+    at false is more = more
+        ∙ sym (ap (λ b. cond b (Some y) (find p ys)) (fails-by (p y) (λ hit. true≢false (sym (tells y hit) ∙ is))))
+
+-- ---- rows of other projects
+
+-- whether the project of this name is another one
+abbrev pub is_other : List ℕ → List ℕ → Bool
+is_other project name = not (bytes_eq name project)
+
+-- the rows of other projects are the same in both lists
+abbrev pub SameOthers : {X : Type 0} → (X → List ℕ) → List ℕ → List X → List X → Type 0
+SameOthers of project before after = filter (λ x. is_other project (of x)) after ≡ filter (λ x. is_other project (of x)) before
+
+module _ {X : Type 0} (of : X → List ℕ) (project : List ℕ) where
+  put-others : (names : X → List (List ℕ)) (x : X) (rows : List X) → of x ≡ project
+      → ((y : X) → same_names (names y) (names x) ≡ true → of y ≡ of x) → SameOthers of project rows (put_by names x rows)
+  put-others names x rows own tells =
+      filter-replaced (λ y. is_other project (of y)) (λ y. same_names (names y) (names x)) (λ y. texts_before (names x) (names y)) x rows
+      (fails x own) (λ y is. fails y (tells y is ∙ own)) where
+        fails : (y : X) → of y ≡ project → is_other project (of y) ≡ false
+        fails y is = ap (is_other project) is ∙ ap not (bytes_eq-itself project)
+
+  -- a row of another project would stand among those of before
+  drop-others : (gone : X → Bool) (before rows : List X) → SameOthers of project before rows
+      → Each (λ y. gone y ≡ true → of y ≡ project) before → SameOthers of project rows (dropped gone rows)
+  drop-others gone before rows same own = filter-dropped (λ y. is_other project (of y)) gone rows (record { at = fails }) where
+    fails : (y : X) → Mem y rows → gone y ≡ true → is_other project (of y) ≡ false
+    fails y m is = fails-by (is_other project (of y)) (λ other.
+        let there : Mem y before = Mem-back (λ z. is_other project (of z)) y before rows same m other in
+        true≢false (sym other ∙ ap (is_other project) (own.at y there is) ∙ ap not (bytes_eq-itself project)))
+
+-- ---- two states
+
+-- all rows of other projects are the same in both, and all operations, and all profiles where the project is `default`
+pub record AreBeside (p : List ℕ) (s t : State) : Type 0 where
+  pub projects : SameOthers (λ (r : Project). r.name) p s.projects t.projects
+  pub profiles : SameOthers (λ (r : Profile). r.project) p s.profiles t.profiles
+  pub shared : bytes_eq p default_name ≡ true → t.profiles ≡ s.profiles
+  pub networks : SameOthers (λ (r : Network). r.project) p s.networks t.networks
+  pub volumes : SameOthers (λ (r : Volume). r.project) p s.volumes t.volumes
+  pub instances : SameOthers (λ (r : Instance). r.project) p s.instances t.instances
+  pub operations : t.operations ≡ s.operations
+
+pub beside-itself : (p : List ℕ) (s : State) → AreBeside p s s
+beside-itself p s = record {
+  projects = refl;
+  profiles = refl;
+  shared = λ is. refl;
+  networks = refl;
+  volumes = refl;
+  instances = refl;
+  operations = refl;
+}
+
+-- the project of a row is what stands before the slash of its key
+key-project : (p front back key : List ℕ) → HasNoSlash front → bytes_eq (before_first is_slash key) p ≡ true
+    → bytes_eq (two_names front back) key ≡ true → front ≡ p
+key-project p front back key none own is =
+    sym (before_joined front back none)
+    ∙ ap (before_first is_slash) (same (two_names front back) key is)
+    ∙ same (before_first is_slash key) p own
+
+module _ (p : List ℕ) (s : State) (h : IsWhole s) where
+  good : EachRow HasGoodKey s
+  good = each-row s (Each-left (claims_of s) h.names.good)
+
+  put-beside : (r : Row) (t : State) → is_within p (change.Put r) ≡ true → AreBeside p s t → AreBeside p s (with_row r t)
+  put-beside (row.Project r) t is b = record {
+    projects = put-others (λ (x : Project). x.name) p project_names r t.projects (same r.name p (both_true _ _ is).0)
+        (λ y names. same y.name r.name names) ∙ b.projects;
+    profiles = b.profiles;
+    shared = b.shared;
+    networks = b.networks;
+    volumes = b.volumes;
+    instances = b.instances;
+    operations = b.operations;
+  }
+  put-beside (row.Profile r) t is b = record {
+    projects = b.projects;
+    profiles = put-others (λ (x : Profile). x.project) p profile_names r t.profiles (same r.project p (both_true _ _ is).0)
+        (λ y names. (two_same y.project r.project y.name r.name names).0) ∙ b.profiles;
+    shared = λ shares. absurd (true≢false (sym (both_true _ _ is).1 ∙ ap not shares));
+    networks = b.networks;
+    volumes = b.volumes;
+    instances = b.instances;
+    operations = b.operations;
+  }
+  put-beside (row.Network r) t is b = record {
+    projects = b.projects;
+    profiles = b.profiles;
+    shared = b.shared;
+    networks = put-others (λ (x : Network). x.project) p network_names r t.networks (same r.project p (both_true _ _ is).0)
+        (λ y names. (two_same y.project r.project y.name r.name names).0) ∙ b.networks;
+    volumes = b.volumes;
+    instances = b.instances;
+    operations = b.operations;
+  }
+  put-beside (row.Volume r) t is b = record {
+    projects = b.projects;
+    profiles = b.profiles;
+    shared = b.shared;
+    networks = b.networks;
+    volumes = put-others (λ (x : Volume). x.project) p volume_names r t.volumes (same r.project p (both_true _ _ is).0)
+        (λ y names. (three_same y.project r.project y.pool r.pool y.name r.name names).0) ∙ b.volumes;
+    instances = b.instances;
+    operations = b.operations;
+  }
+  put-beside (row.Instance r) t is b = record {
+    projects = b.projects;
+    profiles = b.profiles;
+    shared = b.shared;
+    networks = b.networks;
+    volumes = b.volumes;
+    instances = put-others (λ (x : Instance). x.project) p instance_names r t.instances (same r.project p (both_true _ _ is).0)
+        (λ y names. (two_same y.project r.project y.name r.name names).0) ∙ b.instances;
+    operations = b.operations;
+  }
+  put-beside (row.Pool r) t is b = record {
+    projects = b.projects;
+    profiles = b.profiles;
+    shared = b.shared;
+    networks = b.networks;
+    volumes = b.volumes;
+    instances = b.instances;
+    operations = b.operations;
+  }
+  put-beside (row.Snapshot r) t is b = record {
+    projects = b.projects;
+    profiles = b.profiles;
+    shared = b.shared;
+    networks = b.networks;
+    volumes = b.volumes;
+    instances = b.instances;
+    operations = b.operations;
+  }
+
+  gone-beside : (of : ObjectKind) (key : List ℕ) (t : State) → is_within p (change.Remove of key) ≡ true → AreBeside p s t
+      → AreBeside p s (without_row of key t)
+  gone-beside kind.Project key t is b = record {
+    projects = drop-others (λ (x : Project). x.name) p (λ r. has_key key (row.Project r)) s.projects t.projects b.projects
+        (record { at = λ y m hit. same y.name key hit ∙ same key p (both_true _ _ is).0 }) ∙ b.projects;
+    profiles = b.profiles;
+    shared = b.shared;
+    networks = b.networks;
+    volumes = b.volumes;
+    instances = b.instances;
+    operations = b.operations;
+  }
+  gone-beside kind.Profile key t is b = record {
+    projects = b.projects;
+    profiles = drop-others (λ (x : Profile). x.project) p (λ r. has_key key (row.Profile r)) s.profiles t.profiles b.profiles
+        (Each-map (λ y fine hit. key-project p y.project y.name key (good_no_slash kind.Project y.project fine.0) (both_true _ _ is).0 hit) good.profiles)
+        ∙ b.profiles;
+    shared = λ shares. absurd (true≢false (sym (both_true _ _ is).1 ∙ ap not shares));
+    networks = b.networks;
+    volumes = b.volumes;
+    instances = b.instances;
+    operations = b.operations;
+  }
+  gone-beside kind.Network key t is b = record {
+    projects = b.projects;
+    profiles = b.profiles;
+    shared = b.shared;
+    networks = drop-others (λ (x : Network). x.project) p (λ r. has_key key (row.Network r)) s.networks t.networks b.networks
+        (Each-map (λ y fine hit. key-project p y.project y.name key (good_no_slash kind.Project y.project fine.0) (both_true _ _ is).0 hit) good.networks)
+        ∙ b.networks;
+    volumes = b.volumes;
+    instances = b.instances;
+    operations = b.operations;
+  }
+  gone-beside kind.Volume key t is b = record {
+    projects = b.projects;
+    profiles = b.profiles;
+    shared = b.shared;
+    networks = b.networks;
+    volumes = drop-others (λ (x : Volume). x.project) p (λ r. has_key key (row.Volume r)) s.volumes t.volumes b.volumes
+        (Each-map (λ y fine hit.
+        key-project p y.project (two_names y.pool y.name) key (good_no_slash kind.Project y.project fine.0) (both_true _ _ is).0 hit) good.volumes)
+        ∙ b.volumes;
+    instances = b.instances;
+    operations = b.operations;
+  }
+  gone-beside kind.Instance key t is b = record {
+    projects = b.projects;
+    profiles = b.profiles;
+    shared = b.shared;
+    networks = b.networks;
+    volumes = b.volumes;
+    instances = drop-others (λ (x : Instance). x.project) p (λ r. has_key key (row.Instance r)) s.instances t.instances b.instances
+        (Each-map (λ y fine hit. key-project p y.project y.name key (good_no_slash kind.Project y.project fine.0) (both_true _ _ is).0 hit) good.instances)
+        ∙ b.instances;
+    operations = b.operations;
+  }
+  gone-beside kind.Pool key t is b = record {
+    projects = b.projects;
+    profiles = b.profiles;
+    shared = b.shared;
+    networks = b.networks;
+    volumes = b.volumes;
+    instances = b.instances;
+    operations = b.operations;
+  }
+  gone-beside kind.Snapshot key t is b = record {
+    projects = b.projects;
+    profiles = b.profiles;
+    shared = b.shared;
+    networks = b.networks;
+    volumes = b.volumes;
+    instances = b.instances;
+    operations = b.operations;
+  }
+  gone-beside kind.Operation key t is b = b
+
+  change-beside : (c : RowChange) (t : State) → is_within p c ≡ true → AreBeside p s t → AreBeside p s (changed t c)
+  change-beside (change.Put r) = put-beside r
+  change-beside (change.Remove of key) = gone-beside of key
+
+  pub changes-beside : (cs : List RowChange) (t : State) → list_all (is_within p) cs ≡ true → AreBeside p s t → AreBeside p s (applied t cs)
+  changes-beside [] t all b = b
+  changes-beside (c ∷ cs) t all b =
+      let parts = both_true (is_within p c) (list_all (is_within p) cs) all in
+      changes-beside cs (changed t c) parts.1 (change-beside c t parts.0 b)

@@ -1,0 +1,5 @@
+use Rattle.claim_laws.proofs.OneProject.{projects-alone}
+use Rattle.claim_laws.proofs.laws.projects_are_judged_alone.Goals as goal
+
+pub returns : goal.returns
+returns c = projects-alone
