@@ -5,6 +5,7 @@ use Rattle.row_machine.specs.plain_lists.specs.Members.{Each}
 use Rattle.row_machine.specs.plain_lists.specs.Firsts.{first_of}
 use Rattle.row_machine.specs.plain_lists.proofs.Elements.{Each-none, Each-cons, Each-map}
 use Rattle.row_machine.specs.plain_lists.proofs.FirstLemmas.{none-first_of}
+use Rattle.row_machine.specs.size_values.specs.Amounts.{part}
 use Rattle.row_machine.specs.size_values.specs.declared.amounts.Part.{Part}
 use Rattle.row_machine.specs.size_values.specs.declared.amounts.Part.TheVariants as part_of
 use Rattle.row_machine.specs.size_values.specs.declared.kinds.Kind.{Kind}
@@ -29,6 +30,8 @@ use Rattle.row_machine.specs.machine.Expansions.{expanded_of}
 use Rattle.row_machine.specs.machine.LimitRules.{project_uncounted, claim_uncounted, instance_uncounted, volume_uncounts, limits_broken, part_exceeds, networks_exceed, limit_exceeded, object_uncounted}
 use Rattle.rule_refusals.proofs.Saying.{none-or}
 use Rattle.limit_rules.specs.Exceeding.{limits_sum, limits_any, is_any_limited}
+use Rattle.limit_rules.specs.InUse.{part_over, networks_over, uses_over}
+use Rattle.limit_rules.specs.declared.in_use.InUse.{InUse}
 
 -- ---- limits that are not set
 
@@ -135,3 +138,17 @@ unlimited-fits before after e =
     (none-first_of (λ k. first_of (part_exceeds before after k) after.projects) parts
     (record { at = λ k m. none-first_of (part_exceeds before after k) after.projects (Each-map (part-none before after k) free) }))
     (none-or (none-first_of (networks_exceed before after) after.projects (Each-map (networks-none before after) free)) refl)
+
+-- of projects that used so much and use so much
+pub unlimited-uses : (projects : List Project) (before after : InUse) → is_any_limited projects ≡ false → uses_over projects before after ≡ None
+unlimited-uses projects before after e =
+    let free = each-free projects e in
+    none-or
+    (none-first_of (λ k. first_of (part_over before.amounts after.amounts k) projects) parts
+    (record { at = λ k m. none-first_of (part_over before.amounts after.amounts k) projects (Each-map (part-free k) free) }))
+    (none-or (none-first_of (networks_over before.networks after.networks) projects (Each-map networks-free free)) refl) where
+      part-free : (k : Part) (p : Project) → HasNone (limits_of p.config) → part_over before.amounts after.amounts k p ≡ None
+      part-free k p free = ap (λ limit. limit_exceeded p (key_of k) limit (part k before.amounts) (part k after.amounts)) (free.parts k)
+
+      networks-free : (p : Project) → HasNone (limits_of p.config) → networks_over before.networks after.networks p ≡ None
+      networks-free p free = ap (λ limit. limit_exceeded p Networks limit before.networks after.networks) free.networks
