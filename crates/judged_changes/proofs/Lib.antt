@@ -1,1 +1,2 @@
 mod NewProfiles
+mod OneProject

@@ -1,7 +1,7 @@
 -- What changes of rows and new operations break, and the reply that tells it.
 use Rattle.std.specs.Prelude.{ℕ, List, [], ◌∷◌, Option, option_map}
 use Rattle.std.specs.Option.{option_to_list}
-use Rattle.setting_rules.specs.plain_lists.specs.Firsts.{first}
+use Rattle.setting_rules.specs.plain_lists.specs.Firsts.{first, first_of}
 use Rattle.setting_rules.specs.size_values.specs.declared.amounts.Amounts.{Amounts}
 use Rattle.setting_rules.specs.size_values.specs.declared.memory.Or.{Or}
 use Rattle.setting_rules.specs.size_values.specs.declared.memory.Or.TheVariants as or
@@ -14,11 +14,14 @@ use Rattle.setting_rules.specs.records.specs.declared.rows.Row.{Row}
 use Rattle.setting_rules.specs.row_machine.specs.machine.State.{State}
 use Rattle.setting_rules.specs.row_machine.specs.machine.SettingRules.{settings_broken}
 use Rattle.setting_rules.specs.row_machine.specs.machine.PolicyRules.{policy_broken, snapshot_blocked}
-use Rattle.setting_rules.specs.row_machine.specs.machine.LimitRules.{counts_broken, limits_broken}
+use Rattle.setting_rules.specs.row_machine.specs.machine.LimitRules.{counts_broken, limits_broken, project_uncounted}
 use Rattle.setting_rules.specs.row_machine.specs.machine.TableRules.{enter_refusal, tables_broken}
 use Rattle.setting_rules.specs.row_machine.specs.machine.Task.{Task}
+use Rattle.kept_totals.specs.claim_laws.specs.OneProject.{in_use, projects_of}
 use Rattle.kept_totals.specs.limit_rules.specs.Alone.{claim_uncounts, share_broken}
+use Rattle.kept_totals.specs.limit_rules.specs.InUse.{uses_over}
 use Rattle.kept_totals.specs.policy_rules.specs.Alone.{claim_forbidden}
+use Rattle.kept_totals.specs.policy_rules.specs.Within.{policy_broken_in}
 
 -- the first rule that changes break which put these rows, judged over the state after them
 unfoldable pub changes_judged : State → State → List Row → Option Refusal
@@ -33,6 +36,14 @@ changes_judged state later rows = first
 -- the first rule on policy and limits that changes break, of all projects, judged over the state after them
 abbrev pub projects_judged : State → State → Option Refusal
 projects_judged state later = first (policy_broken later ∷ counts_broken later ∷ limits_broken state later ∷ [])
+
+-- the same of the projects of a name, by what they use in both states
+abbrev pub project_judged : List ℕ → State → State → Option Refusal
+project_judged project state later = first
+    (policy_broken_in later (projects_of later project)
+    ∷ first_of (project_uncounted later) (projects_of later project)
+    ∷ uses_over (projects_of later project) (in_use state project) (in_use later project)
+    ∷ [])
 
 -- The first rule that a new operation breaks, judged over the state with it, by what it claims alone: by why it could
 -- not be entered, and by what the project of its share uses beside it.

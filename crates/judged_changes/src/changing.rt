@@ -19,6 +19,7 @@ ghost use Rattle.judged_changes.specs.Before.{Judges};
 ghost use Rattle.judged_changes.specs.Judged.{changes_judged, projects_judged, reply_for};
 ghost use Rattle.judged_changes.specs.Commits.{Commits};
 
+use crate::one_project::{OneProject, project_before, project_broken, project_within};
 use kept_totals::from_limit_rules::{Usage, counts_broken, limits_broken, usage_before_changes};
 use kept_totals::from_policy_rules::{policy_broken, profile_forbidden};
 use kept_totals::from_record_keeper::Keeper;
@@ -121,6 +122,8 @@ fn profile_put_forbidden(
 pub enum Before {
     /// The changes put one new profile. No instance names it, and so it alone can break a rule, in its project.
     NewProfile,
+    /// The changes are of rows of one project, which is judged alone.
+    OneProject(OneProject),
     /// What counted for limits before the changes. They are judged over all projects.
     Counted(Usage),
 }
@@ -132,14 +135,21 @@ pub struct Ready {
     pub changes: Seq<RowChange>,
 }
 
-/// What changes are judged by that are to be made. For one new profile nothing is counted.
+/// What changes are judged by that are to be made. For one new profile nothing is counted, and for changes within a
+/// project what that one uses.
 fn before_changes(alloc: Global, view: &View<'_>, changes: &[RowChange]) -> Result<Before, NoMemory>
     ensures { IfOk result (λ b. Judges b view.now changes.now) }
 {
     if puts_new_profile(view, changes) {
         return Ok(Before::NewProfile);
     }
-    Ok(Before::Counted(usage_before_changes(alloc, view, changes)?))
+    match project_within(changes) {
+        Some(project) => {
+            let before = project_before(alloc, view, changes, project)?;
+            Ok(Before::OneProject(before))
+        }
+        None => Ok(Before::Counted(usage_before_changes(alloc, view, changes)?)),
+    }
 }
 
 /// Takes all memory that a change needs, but for its entries.
@@ -185,6 +195,7 @@ fn judge_projects(
 {
     match before {
         Before::NewProfile => profile_put_forbidden(alloc, after, changes),
+        Before::OneProject(project) => project_broken(alloc, project, after),
         Before::Counted(usage) => projects_broken(alloc, usage, after),
     }
 }

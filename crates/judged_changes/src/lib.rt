@@ -26,7 +26,9 @@ pub mod from_work_reports {
 }
 
 mod changing;
+mod one_project;
 mod starting;
 
 pub use changing::{Before, Ready, commit, give_up, judge, make_ready, refused_reply};
+pub use one_project::OneProject;
 pub use starting::{Beginning, judge_claim, make_beginning, settle_beginning};

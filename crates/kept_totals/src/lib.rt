@@ -5,15 +5,21 @@
 /// Of `limit_rules`, for the crates above.
 pub mod from_limit_rules {
     pub use claim_laws::from_limit_rules::{
-        Usage, claim_uncounts, counts_broken, limits_broken, share_broken, usage_before_changes,
+        InUse, Usage, claim_uncounts, counts_broken, counts_broken_in, is_any_limit_set,
+        is_any_limited, limits_broken, share_broken, usage_before_changes, uses_exceed,
     };
 }
 
 /// Of `policy_rules`, for the crates above.
 pub mod from_policy_rules {
     pub use claim_laws::from_policy_rules::{
-        claim_forbidden, policy_broken, profile_forbidden, snapshot_blocked,
+        claim_forbidden, policy_broken, policy_broken_in, profile_forbidden, snapshot_blocked,
     };
+}
+
+/// Of `project_usage`, for the crates above.
+pub mod from_project_usage {
+    pub use claim_laws::from_project_usage::usage_of;
 }
 
 /// Of `record_keeper`, for the crates above.

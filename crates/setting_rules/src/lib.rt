@@ -30,7 +30,7 @@ pub mod from_row_machine {
 
 /// Of `row_readings`, for the crates above.
 pub mod from_row_readings {
-    pub use row_readings::{View, kept_at, project_of_row, share_of};
+    pub use row_readings::{View, kept_at, project_of_row, rows_of, share_of};
 }
 
 /// Of `rule_refusals`, for the crates above.
@@ -40,7 +40,7 @@ pub mod from_rule_refusals {
 
 /// Of `size_values`, for the crates above.
 pub mod from_size_values {
-    pub use row_machine::from_size_values::{Amounts, NoMemory, Or, Seq, Text};
+    pub use row_machine::from_size_values::{Amounts, NoMemory, ObjectKind, Or, Seq, Text};
 }
 
 mod devices;

@@ -1,0 +1,173 @@
+//! Changes of the rows of one project, which are judged in that project alone.
+ghost use Rattle.std.specs.Prelude.{◌≡◌, IfOk};
+ghost use Rattle.std.specs.List.{before_first};
+ghost use Rattle.std.specs.Option.{option_copied};
+ghost use Rattle.setting_rules.specs.size_values.specs.Causes.{Says};
+ghost use Rattle.setting_rules.specs.row_machine.specs.row_codec.specs.Reading.{is_slash};
+ghost use Rattle.setting_rules.specs.row_machine.specs.machine.Changes.{applied};
+ghost use Rattle.setting_rules.specs.row_machine.specs.machine.State.{State};
+ghost use Rattle.kept_totals.specs.claim_laws.specs.OneProject.{in_use, is_within, project_of_key, project_touched};
+ghost use Rattle.kept_totals.specs.claim_laws.specs.OneProject.{project_within, projects_of, touches_profile};
+ghost use Rattle.kept_totals.specs.limit_rules.specs.InUse.{uses_over};
+ghost use Rattle.judged_changes.specs.Before.{Knows};
+ghost use Rattle.judged_changes.specs.Judged.{project_judged};
+
+use kept_totals::from_limit_rules::{
+    InUse, counts_broken_in, is_any_limit_set, is_any_limited, uses_exceed,
+};
+use kept_totals::from_policy_rules::policy_broken_in;
+use kept_totals::from_project_usage::usage_of;
+use setting_rules::from_records::{Refusal, Row};
+use setting_rules::from_row_machine::RowChange;
+use setting_rules::from_row_readings::{View, project_of_row, rows_of};
+use setting_rules::from_size_values::{Amounts, NoMemory, ObjectKind, Or, Text};
+use std::alloc::Global;
+
+/// A project of which changes put and remove rows, and what it used of its limits before them.
+#[derive(Drop)]
+pub struct OneProject {
+    pub name: Text,
+    pub used: InUse,
+}
+
+// ---- within which project changes are
+
+/// What stands in front of the first slash of a key.
+fn before_slash(key: &str) -> &str
+    ensures { result.now ≡ before_first is_slash key.now }
+{
+    match key.split_once('/') {
+        Some((front, _)) => front,
+        None => key,
+    }
+}
+
+/// The project of a row by its key. A pool is of none.
+fn project_of_key(of: ObjectKind, key: &str) -> &str
+    ensures { result.now ≡ project_of_key of key.now }
+{
+    match of {
+        ObjectKind::Project => key,
+        ObjectKind::Pool => "",
+        ObjectKind::Profile => before_slash(key),
+        ObjectKind::Network => before_slash(key),
+        ObjectKind::Volume => before_slash(key),
+        ObjectKind::Instance => before_slash(key),
+        ObjectKind::Snapshot => before_slash(key),
+        ObjectKind::Operation => before_slash(key),
+    }
+}
+
+/// The project whose row a change puts or removes.
+fn project_touched(change: &RowChange) -> &str
+    ensures { result.now ≡ project_touched change.now }
+{
+    match change {
+        RowChange::Put(row) => project_of_row(row),
+        RowChange::Remove(of, key) => project_of_key(*of, key.view()),
+    }
+}
+
+/// Whether a change puts or removes a profile.
+fn touches_profile(change: &RowChange) -> bool
+    ensures { result ≡ touches_profile change.now }
+{
+    match change {
+        RowChange::Put(row) => matches!(row, Row::Profile(_)),
+        RowChange::Remove(of, _) => matches!(of, ObjectKind::Profile),
+    }
+}
+
+/// Whether a change touches rows of this project alone. A profile of `default` is one that instances of other projects
+/// have.
+fn is_within(project: &str, change: &RowChange) -> bool
+    ensures { result ≡ is_within project.now change.now }
+{
+    project_touched(change) == project && !(touches_profile(change) && project == "default")
+}
+
+/// The project within which all changes are.
+pub(crate) fn project_within(changes: &[RowChange]) -> Option<&str>
+    ensures { option_copied result ≡ project_within changes.now }
+{
+    let project = project_touched(changes.first()?);
+    if !changes.iter().all(|change| is_within(project, change)) {
+        return None;
+    }
+    Some(project)
+}
+
+// ---- what it uses
+
+/// What a project uses of its limits.
+#[tactic(auto, unfolding(setting_rules::specs::row_machine::specs::machine::Usage::networks_of))]
+fn in_use(alloc: Global, view: &View<'_>, project: &str) -> Result<InUse, NoMemory>
+    ensures { IfOk result (λ used. used ≡ in_use view.now project.now) }
+{
+    let amounts = usage_of(alloc, view, project)?;
+    let networks = rows_of(view.networks, project).len();
+    Ok(InUse { amounts, networks })
+}
+
+/// What the project uses before these changes. Where it has no limit, before or after them, nothing is summed.
+fn use_before(
+    alloc: Global,
+    view: &View<'_>,
+    changes: &[RowChange],
+    project: &str,
+) -> Result<InUse, NoMemory>
+    ensures { IfOk result (λ used. Knows project.now used view.now (applied view.now changes.now)) }
+{
+    if is_any_limited(rows_of(view.projects, project)) || is_any_limit_set(changes) {
+        return in_use(alloc, view, project);
+    }
+    Ok(InUse {
+        amounts: Amounts::zero(),
+        networks: 0,
+    })
+}
+
+/// The project of these changes, and what it uses before them.
+pub(crate) fn project_before(
+    alloc: Global,
+    view: &View<'_>,
+    changes: &[RowChange],
+    project: &str,
+) -> Result<OneProject, NoMemory>
+    ensures name { IfOk result (λ of. of.name ≡ project.now) }
+    ensures used { IfOk result (λ of. Knows project.now of.used view.now (applied view.now changes.now)) }
+{
+    let used = use_before(alloc, view, changes, project)?;
+    let name = Text::from_text(alloc, project)?;
+    Ok(OneProject { name, used })
+}
+
+// ---- what is judged
+
+/// L1 to L8 of the project. Where it has no limit nothing is summed.
+fn limits_broken(alloc: Global, of: &OneProject, after: &View<'_>) -> Result<(), Or<Refusal>>
+    ensures { (s : State) → Knows of.now.name of.now.used s after.now → Says result
+        (uses_over (projects_of after.now of.now.name) (in_use s of.now.name) (in_use after.now of.now.name)) }
+{
+    let projects = rows_of(after.projects, of.name.view());
+    if !is_any_limited(projects) {
+        return Ok(());
+    }
+    let used = in_use(alloc, after, of.name.view())?;
+    uses_exceed(alloc, projects, &of.used, &used)
+}
+
+/// The first rule on policy and limits that is broken in the project.
+pub(crate) fn project_broken(
+    alloc: Global,
+    of: &OneProject,
+    after: &View<'_>,
+) -> Result<(), Or<Refusal>>
+    ensures { (s : State) → Knows of.now.name of.now.used s after.now
+        → Says result (project_judged of.now.name s after.now) }
+{
+    let projects = rows_of(after.projects, of.name.view());
+    policy_broken_in(alloc, after, projects)?;
+    counts_broken_in(alloc, after, projects)?;
+    limits_broken(alloc, of, after)
+}
