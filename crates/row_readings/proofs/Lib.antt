@@ -1,4 +1,4 @@
-pub mod Homes
+pub mod AtHome
 pub mod Layered
 pub mod Ranges
 pub mod Risen
