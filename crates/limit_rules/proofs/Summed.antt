@@ -22,7 +22,7 @@ use Rattle.row_machine.specs.facts.Whole.{Rise}
 use Rattle.row_machine.specs.machine.Rows.{same_names, texts_before, project_names, is_project}
 use Rattle.row_machine.specs.machine.Usage.{Load, amount_for}
 use Rattle.row_readings.specs.Loads.{AreSmall}
-use Rattle.row_readings.proofs.Risen.{less}
+use Rattle.row_readings.proofs.Risen.{is-less}
 use Rattle.row_readings.proofs.SameNames.{order, total, same-is, same-other}
 use Rattle.row_readings.proofs.Totals.{sum-small}
 use Rattle.limit_rules.specs.Sums.{sums_for, sums_of}
@@ -95,7 +95,7 @@ module _ {X Y : Type 0} (names : X → List (List ℕ)) (wanted : List (List ℕ
   after : (x y : X) → test x ≡ true → texts_before (names x) (names y) ≡ true → test y ≡ false
   after x y is before =
       same-other (names y) wanted Greater
-      (ap (order (names y)) (sym (same-is (names x) wanted is)) ∙ total.antisymm (names y) (names x) ∙ ap ordering_reverse (less _ before))
+      (ap (order (names y)) (sym (same-is (names x) wanted is)) ∙ total.antisymm (names y) (names x) ∙ ap ordering_reverse (is-less _ before))
       (inr refl)
 
   line-at : (xs : List X) (i : ℕ) (d : X) → Rise names xs → i < length xs → test (get_or xs i d) ≡ true

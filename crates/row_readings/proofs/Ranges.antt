@@ -19,7 +19,7 @@ use Rattle.restrictions.specs.config_lists.proofs.Keys.{same, bytes_eq-itself}
 use Rattle.restrictions.specs.plain_lists.specs.Firsts.{first_of}
 use Rattle.row_machine.specs.facts.Whole.{Rise}
 use Rattle.row_readings.specs.Rising.{begins_with, comes_before}
-use Rattle.row_readings.proofs.Risen.{less, rise-far}
+use Rattle.row_readings.proofs.Risen.{is-less, rise-far}
 use Rattle.row_readings.proofs.SameNames.{order}
 
 -- ---- tests that pass at places that follow one another
@@ -75,7 +75,7 @@ module _ (project : List ℕ) where
   before-back [] others less before = refl
   before-back (x ∷ xs) [] less before = cc
   before-back (x ∷ xs) (y ∷ ys) less before =
-      let y-less : text_order y project ≡ Less = less (text_order y project) before in
+      let y-less : text_order y project ≡ Less = is-less (text_order y project) before in
       ⊎_elim
       (λ x-less. ap is_lt (nat_list_cmp_total.trans x y project x-less y-less))
       (λ equal. ap is_lt (nat_list_cmp_total.congr x y project equal ∙ y-less))

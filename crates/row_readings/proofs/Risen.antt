@@ -40,17 +40,17 @@ module _ {X : Type 0} (p : X → Bool) where
 
 -- ---- lists that rise
 
-pub less : (o : Ordering) → is_lt o ≡ true → o ≡ Less
-less Less h = refl
-less Equal h = cc
-less Greater h = cc
+pub is-less : (o : Ordering) → is_lt o ≡ true → o ≡ Less
+is-less Less h = refl
+is-less Equal h = cc
+is-less Greater h = cc
 
 module _ {X : Type 0} (names : X → List (List ℕ)) where
   pub rise-far : (xs : List X) (i j : ℕ) (d : X) → Rise names xs → i < j → j < length xs
       → order (names (get_or xs i d)) (names (get_or xs j d)) ≡ Less
   rise-far [] i j d up ahead within = absurd (omega (arith, within))
   rise-far (x ∷ xs) i zero d up ahead within = absurd (omega (arith, ahead))
-  rise-far (x ∷ xs) zero (suc j) d up ahead within = less _ (Each-get_or j d up.0 (omega (arith, within)))
+  rise-far (x ∷ xs) zero (suc j) d up ahead within = is-less _ (Each-get_or j d up.0 (omega (arith, within)))
   rise-far (x ∷ xs) (suc i) (suc j) d up ahead within = rise-far xs i j d up.1 (omega (arith, ahead)) (omega (arith, within))
 
   after : (a b : List (List ℕ)) (o : Ordering) → order a b ≡ o → order b a ≡ ordering_reverse o
@@ -110,7 +110,7 @@ module _ {X : Type 0} (names : X → List (List ℕ)) where
       (each (suc k) d (omega (arith, within)))) in
       let first : texts_before (names x) (names y) ≡ true = sym (each 0 x (omega arith)) in (
         Each-cons (λ z. texts_before (names x) (names z) ≡ true) first
-            (Each-map (λ z then. ap is_lt (total.trans (names x) (names y) (names z) (less _ first) (less _ then))) rest.0),
+            (Each-map (λ z then. ap is_lt (total.trans (names x) (names y) (names z) (is-less _ first) (is-less _ then))) rest.0),
         rest,
       )
 
