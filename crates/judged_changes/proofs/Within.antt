@@ -1,5 +1,5 @@
 -- Changes within a project are judged in it, which says as much as all projects.
-use Rattle.std.proofs.Common.{◌≡◌, ℕ, true, Option, Some, None, List, sym, ap, subst, ◌∙◌, inl, inr, true≢false}
+use Rattle.std.proofs.Common.{◌≡◌, ℕ, Option, Some, None, List, sym, ap, subst, ◌∙◌, inl, inr}
 use Rattle.std.specs.Option.{option_or}
 use Rattle.setting_rules.specs.row_machine.specs.declared.changes.RowChange.{RowChange}
 use Rattle.setting_rules.specs.row_machine.specs.facts.Whole.{IsWhole}
@@ -7,10 +7,11 @@ use Rattle.setting_rules.specs.row_machine.specs.machine.Changes.{applied}
 use Rattle.setting_rules.specs.row_machine.specs.machine.State.{State}
 use Rattle.kept_totals.specs.claim_laws.specs.OneProject.{in_use, project_within, projects_of, IsProjectJudgedAlone}
 use Rattle.kept_totals.specs.claim_laws.proofs.OneProject.{projects-alone}
-use Rattle.kept_totals.specs.limit_rules.specs.Exceeding.{is_any_limited}
+use Rattle.kept_totals.specs.limit_rules.specs.InUse.{uses_over}
 use Rattle.kept_totals.specs.limit_rules.specs.declared.in_use.InUse.{InUse}
+use Rattle.kept_totals.specs.limit_rules.proofs.Unlimited.{unlimited-uses}
 use Rattle.judged_changes.specs.Before.{Knows}
-use Rattle.judged_changes.specs.Judged.{project_judged, projects_judged}
+use Rattle.judged_changes.specs.Judged.{project_exceeds, project_forbidden, project_judged, project_uncounts, projects_judged}
 
 -- of three rules each says as much as another one
 three-same : {R : Type 0} {a b c x y z : Option R} → a ≡ x → b ≡ y → c ≡ z
@@ -20,15 +21,20 @@ three-same {R} {a} {b} {c} {x} {y} {z} first second third =
     ∙ ap (λ o. option_or x (option_or o (option_or c None))) second
     ∙ ap (λ o. option_or x (option_or y (option_or o None))) third
 
-pub judged-within : (s later : State) (cs : List RowChange) (name : List ℕ) → IsWhole s → later ≡ applied s cs → project_within cs ≡ Some name
-    → project_judged name s later ≡ projects_judged s later
-judged-within s later cs name whole made within =
-    subst (λ t. project_judged name s t ≡ projects_judged s t) (sym made) (alike (projects-alone s cs name whole within)) where
-      alike : IsProjectJudgedAlone s (applied s cs) name → project_judged name s (applied s cs) ≡ projects_judged s (applied s cs)
-      alike judged = three-same (sym judged.policy) (sym judged.counts) (sym judged.limits)
+pub judged-within : (s later : State) (cs : List RowChange) (name : List ℕ) (used : InUse) → IsWhole s → later ≡ applied s cs
+    → project_within cs ≡ Some name → Knows name used s later → project_judged name used later ≡ projects_judged s later
+unfolding project_forbidden project_uncounts project_exceeds
+judged-within s later cs name used whole made within knows = subst
+    (λ t. Knows name used s t → project_judged name used t ≡ projects_judged s t) (sym made) (alike (projects-alone s cs name whole within)) knows where
+      t : State
+      t = applied s cs
 
--- where a project has a limit, it is known what it used
-pub used-known : (s later : State) (name : List ℕ) (used : InUse) → is_any_limited (projects_of later name) ≡ true → Knows name used s later
-    → used ≡ in_use s name
-used-known s later name used limited (inl is) = is
-used-known s later name used limited (inr free) = absurd (true≢false (sym limited ∙ free))
+      -- where no limit is set, what was used says nothing
+      same-uses : Knows name used s t → uses_over (projects_of t name) used (in_use t name) ≡ uses_over (projects_of t name) (in_use s name) (in_use t name)
+      same-uses (inl is) = ap (λ u. uses_over (projects_of t name) u (in_use t name)) is
+      same-uses (inr free) =
+          unlimited-uses (projects_of t name) used (in_use t name) free
+          ∙ sym (unlimited-uses (projects_of t name) (in_use s name) (in_use t name) free)
+
+      alike : IsProjectJudgedAlone s t name → Knows name used s t → project_judged name used t ≡ projects_judged s t
+      alike judged known = three-same (sym judged.policy) (sym judged.counts) (same-uses known ∙ sym judged.limits)
