@@ -1,2 +1,3 @@
+pub mod AtHome
 mod Sorting
 mod Idle

@@ -10,16 +10,18 @@ pub mod from_object_links {
 pub mod from_row_readings {
     pub use row_readings::{
         View, claimed_instance, claimed_volume, is_on, power_of, project_of_row, replaced_instance,
-        rows_of,
+        rows_at_home, rows_of,
     };
 }
 
+mod at_home;
 mod gathered;
 mod row_links;
 mod row_ref;
 mod users;
 mod uses;
 
+pub use at_home::project_may_use;
 pub use gathered::{
     add_instances, add_networks, add_pools, add_profiles, add_projects, add_snapshots, add_volumes,
     add_volumes_in,

@@ -5,13 +5,14 @@ ghost use Rattle.row_machine.specs.machine.Holders.{instance_uses, names_profile
 ghost use Rattle.row_machine.specs.shown.Links.{sorted, target_of};
 ghost use Rattle.row_machine.specs.shown.Views.{links, rows_in, rows_using, used_by};
 
+use crate::at_home::rows_that_may_use;
 use crate::gathered::{add_instances, add_networks, add_profiles, add_volumes};
 use crate::row_links::{sorted_links, target_of};
 use crate::row_ref::{AnyRow, RowRef};
 use crate::uses::{instance_uses, names_profile, profile_uses, volume_uses};
-use row_machine::from_records::Target;
-use row_machine::from_size_values::{NoMemory, ObjectKind, Seq, Text};
-use row_readings::{View, rows_of};
+use row_machine::from_records::{Instance, Profile, Target};
+use row_machine::from_size_values::{Boxed, NoMemory, ObjectKind, Seq, Text};
+use row_readings::{View, rows_at_home, rows_of};
 use std::alloc::Global;
 
 /// The instances, networks, volumes and profiles of a project.
@@ -26,18 +27,19 @@ fn rows_in<'x>(alloc: Global, view: &View<'x>, project: &str) -> Result<Vec<RowR
     Ok(all)
 }
 
-/// The instances that name the profile of this home and name.
-fn instances_naming<'x>(
+/// Those of these instances that name the profile of this home and name.
+fn naming_among<'x>(
     alloc: Global,
     view: &View<'x>,
     home: &str,
     profile: &str,
+    rows: &'x [Boxed<Instance>],
 ) -> Result<Vec<RowRef<'x>>, NoMemory>
     ensures { IfOk result (λ all. all.items
-        ≡ map row.Instance (filter (names_profile view.now home.now profile.now) view.now.instances)) }
+        ≡ map row.Instance (filter (names_profile view.now home.now profile.now) rows.now)) }
 {
     let mut all = Vec::new(alloc);
-    for row in view.instances {
+    for row in rows {
         if names_profile(view, home, profile, row) {
             all.push(RowRef {
                 row: AnyRow::Instance(row),
@@ -47,6 +49,44 @@ fn instances_naming<'x>(
     Ok(all)
 }
 
+/// The instances that name the profile of this home and name. Those of projects that can't have this home are not gone
+/// over.
+fn instances_naming<'x>(
+    alloc: Global,
+    view: &View<'x>,
+    home: &str,
+    profile: &str,
+) -> Result<Vec<RowRef<'x>>, NoMemory>
+    ensures { IfOk result (λ all. all.items
+        ≡ map row.Instance (filter (names_profile view.now home.now profile.now) view.now.instances)) }
+{
+    let rows = rows_at_home(view.instances, home);
+    naming_among(alloc, view, home, profile, rows)
+}
+
+/// Adds those of these instances that name the object.
+fn add_instances_among<'x>(
+    alloc: Global,
+    view: &View<'x>,
+    home: &str,
+    of: &Target,
+    rows: &'x [Boxed<Instance>],
+    all: &mut Vec<RowRef<'x>>,
+) -> Result<(), NoMemory>
+    ensures { OnOk result (all.new.items ≡ all.old.items
+        ++ map row.Instance (filter (instance_uses view.now home.now of.now) rows.now)) }
+{
+    for row in rows {
+        if instance_uses(alloc, view, home, of, row)? {
+            all.push(RowRef {
+                row: AnyRow::Instance(row),
+            })?;
+        }
+    }
+    Ok(())
+}
+
+/// Adds the instances that name the object. Those of projects that can't have its home are not gone over.
 fn add_using_instances<'x>(
     alloc: Global,
     view: &View<'x>,
@@ -57,16 +97,32 @@ fn add_using_instances<'x>(
     ensures { OnOk result (all.new.items ≡ all.old.items
         ++ map row.Instance (filter (instance_uses view.now home.now of.now) view.now.instances)) }
 {
-    for row in view.instances {
-        if instance_uses(alloc, view, home, of, row)? {
+    let rows = rows_that_may_use(view.instances, home, of);
+    add_instances_among(alloc, view, home, of, rows, all)
+}
+
+/// Adds those of these profiles that name the object.
+fn add_profiles_among<'x>(
+    view: &View<'x>,
+    home: &str,
+    of: &Target,
+    rows: &'x [Boxed<Profile>],
+    all: &mut Vec<RowRef<'x>>,
+) -> Result<(), NoMemory>
+    ensures { OnOk result (all.new.items ≡ all.old.items
+        ++ map row.Profile (filter (profile_uses view.now home.now of.now) rows.now)) }
+{
+    for row in rows {
+        if profile_uses(view, home, of, row) {
             all.push(RowRef {
-                row: AnyRow::Instance(row),
+                row: AnyRow::Profile(row),
             })?;
         }
     }
     Ok(())
 }
 
+/// Adds the profiles that name the object. Those of projects that can't have its home are not gone over.
 fn add_using_profiles<'x>(
     view: &View<'x>,
     home: &str,
@@ -76,14 +132,8 @@ fn add_using_profiles<'x>(
     ensures { OnOk result (all.new.items ≡ all.old.items
         ++ map row.Profile (filter (profile_uses view.now home.now of.now) view.now.profiles)) }
 {
-    for row in view.profiles {
-        if profile_uses(view, home, of, row) {
-            all.push(RowRef {
-                row: AnyRow::Profile(row),
-            })?;
-        }
-    }
-    Ok(())
+    let rows = rows_that_may_use(view.profiles, home, of);
+    add_profiles_among(view, home, of, rows, all)
 }
 
 fn add_volumes_of<'x>(

@@ -12,8 +12,8 @@ ghost use Rattle.standing_rules.specs.Users.{claim_link, instance_link, naming_l
 
 use crate::uses::claim_uses;
 use object_users::from_object_links::link_of;
-use object_users::from_row_readings::{View, project_of_row, rows_of};
-use object_users::{instance_uses, names_profile, profile_uses, volume_uses};
+use object_users::from_row_readings::{View, project_of_row, rows_at_home, rows_of};
+use object_users::{instance_uses, names_profile, profile_uses, project_may_use, volume_uses};
 use row_machine::Work;
 use row_machine::from_operations::Operation;
 use row_machine::from_records::{Instance, Profile, Project, Target, Volume};
@@ -215,7 +215,8 @@ fn unused_by_claims(
     Ok(())
 }
 
-/// The first user within a project: its profiles, instances, volumes, and then the claims of its live operations.
+/// The first user within a project: its profiles, instances, volumes, and then the claims of its live operations. Where
+/// the project can't have the home of the object, its rows are no users, and are not gone over.
 fn unused_in(
     alloc: Global,
     view: &View<'_>,
@@ -226,6 +227,9 @@ fn unused_in(
     ensures { Says result (user_in view.now home.now of.now project.now.name) }
 {
     let project = project.name.view();
+    if !project_may_use(home, of, project) {
+        return unused_by_claims(alloc, view, home, of, project, view.live);
+    }
     unused_by_profiles(alloc, view, home, of, rows_of(view.profiles, project))?;
     unused_by_instances(alloc, view, home, of, rows_of(view.instances, project))?;
     unused_by_volumes(alloc, of, rows_of(view.volumes, project))?;
@@ -289,6 +293,19 @@ fn unnamed_by_all(
     Ok(())
 }
 
+/// The first instance that names the profile of this home. Those of projects that can't have this home are not gone over.
+fn unnamed_at_home(
+    alloc: Global,
+    view: &View<'_>,
+    home: &str,
+    profile: &str,
+) -> Result<(), Or<Text>>
+    ensures { Says result (profile_user view.now home.now profile.now) }
+{
+    let rows = rows_at_home(view.instances, home);
+    unnamed_by_all(alloc, view, home, profile, rows)
+}
+
 /// The first user of an object of this home. Kinds but profiles, networks, pools and volumes have no users.
 #[tactic(auto, unfolding(row_machine::specs::machine::Holders::first_user_of))]
 pub(crate) fn refuse_first_user(
@@ -300,7 +317,7 @@ pub(crate) fn refuse_first_user(
     ensures { Says result (first_user_of view.now home.now of.now) }
 {
     match of.kind {
-        ObjectKind::Profile => { unnamed_by_all(alloc, view, home, of.name.view(), view.instances) }
+        ObjectKind::Profile => unnamed_at_home(alloc, view, home, of.name.view()),
         ObjectKind::Network | ObjectKind::Pool | ObjectKind::Volume => {
             unused_within(alloc, view, home, of, view.projects)
         }

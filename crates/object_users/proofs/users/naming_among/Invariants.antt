@@ -1,7 +1,7 @@
 use Rattle.std.proofs.Common.{◌≡◌, map, take, filter}
 use Rattle.row_machine.specs.records.specs.declared.rows.Row.TheVariants as row
 use Rattle.row_machine.specs.machine.Holders.{names_profile}
-use Rattle.object_users.proofs.users.instances_naming.Given as goal
+use Rattle.object_users.proofs.users.naming_among.Given as goal
 
 abbrev pub invariant-loop-row : goal.invariant-loop-row
-invariant-loop-row l = l.all.items ≡ map row.Instance (filter (names_profile l.view l.home l.profile) (take l.row-index l.row-items))
+invariant-loop-row l = l.all.items ≡ map row.Instance (filter (names_profile l.view l.home l.profile) (take l.row-index l.rows))
