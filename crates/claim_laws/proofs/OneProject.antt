@@ -1,8 +1,8 @@
 -- Changes within a project are judged in that project alone: all others have and use what they did.
-use Rattle.std.proofs.Common.{◌≡◌, ℕ, ◌+◌, Bool, true, false, cond, not, Option, Some, None, List, [], ◌∷◌, ◌++◌, ◌⊎◌, filter, length, refl, sym, ◌∙◌, ap, ap₂, subst, inl, inr, arith, true≢false}
+use Rattle.std.proofs.Common.{◌≡◌, ℕ, Bool, true, false, cond, not, Option, Some, None, List, [], ◌∷◌, ◌⊎◌, filter, length, refl, sym, ◌∙◌, ap, ap₂, subst, inl, inr, arith, true≢false}
 use Rattle.std.specs.Prelude.{codes, if◌then◌else◌}
 use Rattle.std.specs.List.{find, list_all, sum_by}
-use Rattle.std.specs.Option.{option_and_then, option_map, option_map_or, option_or, option_to_list}
+use Rattle.std.specs.Option.{option_and_then, option_map, option_map_or, option_or}
 use Rattle.std.specs.Str.{bytes_eq}
 use Rattle.machine_laws.specs.plain_lists.specs.Firsts.{first_of}
 use Rattle.machine_laws.specs.plain_lists.specs.Members.{Mem, Each}
@@ -18,7 +18,6 @@ use Rattle.machine_laws.specs.operations.specs.Kept.{Kept}
 use Rattle.machine_laws.specs.project_limits.specs.Admission.{limit_on, key_of, parts}
 use Rattle.machine_laws.specs.project_limits.specs.Limits.{limits_of}
 use Rattle.machine_laws.specs.project_limits.specs.declared.admission.LimitKey.TheVariants as limit_key
-use Rattle.machine_laws.specs.records.specs.declared.refusals.Refusal.{Refusal}
 use Rattle.machine_laws.specs.records.specs.declared.rows.Project.{Project}
 use Rattle.machine_laws.specs.records.specs.declared.rows.Profile.{Profile}
 use Rattle.machine_laws.specs.records.specs.declared.rows.Network.{Network}
@@ -36,9 +35,9 @@ use Rattle.machine_laws.specs.row_machine.specs.machine.PolicyRules.{forbids_pro
 use Rattle.machine_laws.specs.row_machine.specs.machine.Rows.{default_name, is_project, is_profile, is_instance, project_named, profile_named, instance_named}
 use Rattle.machine_laws.specs.row_machine.specs.machine.State.{State}
 use Rattle.machine_laws.specs.row_machine.specs.machine.Task.{Task}
-use Rattle.machine_laws.specs.row_machine.specs.machine.Usage.{used, usage_of, networks_of}
+use Rattle.machine_laws.specs.row_machine.specs.machine.Usage.{Load, amount_for, used, usage_of, networks_of}
 use Rattle.machine_laws.proofs.Expansions.{home_in, IsAlike, amounts-alike, uncounted-alike, forbids-alike}
-use Rattle.machine_laws.proofs.ExpansionsApart.{fails-by, home-either, profile-so}
+use Rattle.machine_laws.proofs.ExpansionsApart.{home-either, profile-so}
 use Rattle.machine_laws.proofs.ExpansionsNamed.{claim-is, row-judged}
 use Rattle.machine_laws.proofs.Found.{instance-found}
 use Rattle.machine_laws.proofs.LimitsForbidden.{rule_numbers}
@@ -51,7 +50,7 @@ use Rattle.limit_rules.specs.row_readings.proofs.Ranges.{apart, filter-filter, s
 use Rattle.policy_rules.specs.Within.{policy_broken_in}
 use Rattle.project_usage.specs.Counted.{instance_part, volume_part, claim_part}
 use Rattle.project_usage.proofs.Parts.{part-of_usage, used-parts}
-use Rattle.claim_laws.specs.OneProject.{is_within, in_use, project_touched, project_within, projects_of, IsProjectJudgedAlone, ProjectsAreJudgedAlone}
+use Rattle.claim_laws.specs.OneProject.{is_within, in_use, project_touched, project_within, projects_of, ProjectsAreJudgedAlone}
 use Rattle.claim_laws.proofs.Limits.{unexceeded}
 use Rattle.claim_laws.proofs.Others.{AreBeside, Mem-back, Mem-passes, beside-itself, changes-beside, find-filter, is_other}
 use Rattle.claim_laws.proofs.Own.{claimed, last-of, listed-none}
@@ -314,8 +313,8 @@ module _ (s t : State) (p : List ℕ) (h : IsWhole s) (b : AreBeside p s t) wher
 
     claim-adds : (o : Operation Task) → Mem o s.operations.live → claim_part t q k o.work ≡ claim_part s q k o.work
     claim-adds o m = at o.work.claim refl where
-      adds : State → Row → ℕ
-      adds u new = cond (bytes_eq (project_of_row new) q) (part k (share_of u o.work)) 0
+      load : State → Row → Load
+      load u new = record { project = project_of_row new; amounts = share_of u o.work }
 
       own : (new : Row) → o.work.claim ≡ Some new → (c : Bool) → bytes_eq (project_of_row new) q ≡ c
           → cond c (part k (share_of t o.work)) 0 ≡ cond c (part k (share_of s o.work)) 0
@@ -323,7 +322,8 @@ module _ (s t : State) (p : List ℕ) (h : IsWhole s) (b : AreBeside p s t) wher
           (ap (λ name. bytes_eq name p) (sym ((h.links.operations.at o m).claim_project new is) ∙ same (project_of_row new) q of) ∙ other)))
       own new is false of = refl
 
-      at : (claim : Option Row) → o.work.claim ≡ claim → option_map_or (adds t) claim 0 ≡ option_map_or (adds s) claim 0
+      at : (claim : Option Row) → o.work.claim ≡ claim
+          → option_map_or (amount_for q k) (option_map (load t) claim) 0 ≡ option_map_or (amount_for q k) (option_map (load s) claim) 0
       at None is = refl
       at (Some new) is = own new is (bytes_eq (project_of_row new) q) refl
 

@@ -1,5 +1,5 @@
 -- Changes within a project leave the rows of all others.
-use Rattle.std.proofs.Common.{◌≡◌, ℕ, Bool, true, false, cond, not, ◌&&◌, Some, None, List, [], ◌∷◌, ◌++◌, filter, refl, sym, ◌∙◌, ap, subst, inl, inr, true≢false}
+use Rattle.std.proofs.Common.{◌≡◌, ℕ, Bool, true, false, cond, not, Some, List, [], ◌∷◌, filter, refl, sym, ◌∙◌, ap, subst, inl, inr, true≢false}
 use Rattle.std.specs.List.{before_first, find, list_all, list_any}
 use Rattle.std.specs.Str.{bytes_eq}
 use Rattle.machine_laws.specs.plain_lists.specs.Edits.{changed_first, dropped, inserted, replaced}
@@ -8,7 +8,6 @@ use Rattle.machine_laws.specs.plain_lists.proofs.Elements.{Each-left, Each-map, 
 use Rattle.machine_laws.specs.config_lists.proofs.Keys.{same, bytes_eq-itself}
 use Rattle.machine_laws.specs.size_values.specs.declared.kinds.ObjectKind.{ObjectKind}
 use Rattle.machine_laws.specs.size_values.specs.declared.kinds.ObjectKind.TheVariants as kind
-use Rattle.machine_laws.specs.operations.specs.Kept.{Kept}
 use Rattle.machine_laws.specs.records.specs.declared.rows.Project.{Project}
 use Rattle.machine_laws.specs.records.specs.declared.rows.Profile.{Profile}
 use Rattle.machine_laws.specs.records.specs.declared.rows.Network.{Network}
@@ -27,7 +26,6 @@ use Rattle.machine_laws.specs.row_machine.specs.facts.Whole.{IsWhole, claims_of}
 use Rattle.machine_laws.specs.row_machine.specs.machine.Changes.{applied, changed, has_key, with_row, without_row}
 use Rattle.machine_laws.specs.row_machine.specs.machine.Rows.{default_name, same_names, texts_before, put_by, project_names, profile_names, network_names, volume_names, instance_names}
 use Rattle.machine_laws.specs.row_machine.specs.machine.State.{State}
-use Rattle.machine_laws.specs.row_machine.specs.machine.Task.{Task}
 use Rattle.machine_laws.proofs.ExpansionsApart.{fails-by}
 use Rattle.machine_laws.proofs.Found.{two_same, three_same}
 use Rattle.machine_laws.proofs.LimitsBroken.{Mem-filter}

@@ -1,2 +1,2 @@
 mod NewProfiles
-mod OneProject
+mod Within

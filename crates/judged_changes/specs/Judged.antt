@@ -20,6 +20,7 @@ use Rattle.setting_rules.specs.row_machine.specs.machine.Task.{Task}
 use Rattle.kept_totals.specs.claim_laws.specs.OneProject.{in_use, projects_of}
 use Rattle.kept_totals.specs.limit_rules.specs.Alone.{claim_uncounts, share_broken}
 use Rattle.kept_totals.specs.limit_rules.specs.InUse.{uses_over}
+use Rattle.kept_totals.specs.limit_rules.specs.declared.in_use.InUse.{InUse}
 use Rattle.kept_totals.specs.policy_rules.specs.Alone.{claim_forbidden}
 use Rattle.kept_totals.specs.policy_rules.specs.Within.{policy_broken_in}
 
@@ -37,13 +38,19 @@ changes_judged state later rows = first
 abbrev pub projects_judged : State → State → Option Refusal
 projects_judged state later = first (policy_broken later ∷ counts_broken later ∷ limits_broken state later ∷ [])
 
--- the same of the projects of a name, by what they use in both states
-abbrev pub project_judged : List ℕ → State → State → Option Refusal
-project_judged project state later = first
-    (policy_broken_in later (projects_of later project)
-    ∷ first_of (project_uncounted later) (projects_of later project)
-    ∷ uses_over (projects_of later project) (in_use state project) (in_use later project)
-    ∷ [])
+-- the same of the projects of a name: rules on policy, on what is counted, and on limits, by what they used before
+unfoldable pub project_forbidden : List ℕ → State → Option Refusal
+project_forbidden project later = policy_broken_in later (projects_of later project)
+
+unfoldable pub project_uncounts : List ℕ → State → Option Refusal
+project_uncounts project later = first_of (project_uncounted later) (projects_of later project)
+
+unfoldable pub project_exceeds : List ℕ → InUse → State → Option Refusal
+project_exceeds project used later = uses_over (projects_of later project) used (in_use later project)
+
+abbrev pub project_judged : List ℕ → InUse → State → Option Refusal
+project_judged project used later = first
+    (project_forbidden project later ∷ project_uncounts project later ∷ project_exceeds project used later ∷ [])
 
 -- The first rule that a new operation breaks, judged over the state with it, by what it claims alone: by why it could
 -- not be entered, and by what the project of its share uses beside it.

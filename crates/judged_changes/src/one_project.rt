@@ -1,16 +1,14 @@
 //! Changes of the rows of one project, which are judged in that project alone.
 ghost use Rattle.std.specs.Prelude.{◌≡◌, IfOk};
-ghost use Rattle.std.specs.List.{before_first};
+ghost use Rattle.std.specs.List.{before_first, list_all};
 ghost use Rattle.std.specs.Option.{option_copied};
 ghost use Rattle.setting_rules.specs.size_values.specs.Causes.{Says};
 ghost use Rattle.setting_rules.specs.row_machine.specs.row_codec.specs.Reading.{is_slash};
 ghost use Rattle.setting_rules.specs.row_machine.specs.machine.Changes.{applied};
-ghost use Rattle.setting_rules.specs.row_machine.specs.machine.State.{State};
 ghost use Rattle.kept_totals.specs.claim_laws.specs.OneProject.{in_use, is_within, project_of_key, project_touched};
-ghost use Rattle.kept_totals.specs.claim_laws.specs.OneProject.{project_within, projects_of, touches_profile};
-ghost use Rattle.kept_totals.specs.limit_rules.specs.InUse.{uses_over};
+ghost use Rattle.kept_totals.specs.claim_laws.specs.OneProject.{project_within, touches_profile};
 ghost use Rattle.judged_changes.specs.Before.{Knows};
-ghost use Rattle.judged_changes.specs.Judged.{project_judged};
+ghost use Rattle.judged_changes.specs.Judged.{project_exceeds, project_forbidden, project_judged, project_uncounts};
 
 use kept_totals::from_limit_rules::{
     InUse, counts_broken_in, is_any_limit_set, is_any_limited, uses_exceed,
@@ -86,21 +84,32 @@ fn is_within(project: &str, change: &RowChange) -> bool
     project_touched(change) == project && !(touches_profile(change) && project == "default")
 }
 
+fn are_within(project: &str, changes: &[RowChange]) -> bool
+    ensures { result ≡ list_all (is_within project.now) changes.now }
+{
+    changes.iter().all(|change| is_within(project, change))
+}
+
 /// The project within which all changes are.
 pub(crate) fn project_within(changes: &[RowChange]) -> Option<&str>
     ensures { option_copied result ≡ project_within changes.now }
 {
-    let project = project_touched(changes.first()?);
-    if !changes.iter().all(|change| is_within(project, change)) {
-        return None;
+    match changes {
+        [first, ..] => {
+            let project = project_touched(first);
+            if are_within(project, changes) {
+                Some(project)
+            } else {
+                None
+            }
+        }
+        [] => None,
     }
-    Some(project)
 }
 
 // ---- what it uses
 
 /// What a project uses of its limits.
-#[tactic(auto, unfolding(setting_rules::specs::row_machine::specs::machine::Usage::networks_of))]
 fn in_use(alloc: Global, view: &View<'_>, project: &str) -> Result<InUse, NoMemory>
     ensures { IfOk result (λ used. used ≡ in_use view.now project.now) }
 {
@@ -144,10 +153,25 @@ pub(crate) fn project_before(
 
 // ---- what is judged
 
+/// F1 to F7 of the project.
+fn policy_broken(alloc: Global, of: &OneProject, after: &View<'_>) -> Result<(), Or<Refusal>>
+    ensures { Says result (project_forbidden of.now.name after.now) }
+{
+    let projects = rows_of(after.projects, of.name.view());
+    policy_broken_in(alloc, after, projects)
+}
+
+/// L0 of the project.
+fn counts_broken(alloc: Global, of: &OneProject, after: &View<'_>) -> Result<(), Or<Refusal>>
+    ensures { Says result (project_uncounts of.now.name after.now) }
+{
+    let projects = rows_of(after.projects, of.name.view());
+    counts_broken_in(alloc, after, projects)
+}
+
 /// L1 to L8 of the project. Where it has no limit nothing is summed.
 fn limits_broken(alloc: Global, of: &OneProject, after: &View<'_>) -> Result<(), Or<Refusal>>
-    ensures { (s : State) → Knows of.now.name of.now.used s after.now → Says result
-        (uses_over (projects_of after.now of.now.name) (in_use s of.now.name) (in_use after.now of.now.name)) }
+    ensures { Says result (project_exceeds of.now.name of.now.used after.now) }
 {
     let projects = rows_of(after.projects, of.name.view());
     if !is_any_limited(projects) {
@@ -163,11 +187,9 @@ pub(crate) fn project_broken(
     of: &OneProject,
     after: &View<'_>,
 ) -> Result<(), Or<Refusal>>
-    ensures { (s : State) → Knows of.now.name of.now.used s after.now
-        → Says result (project_judged of.now.name s after.now) }
+    ensures { Says result (project_judged of.now.name of.now.used after.now) }
 {
-    let projects = rows_of(after.projects, of.name.view());
-    policy_broken_in(alloc, after, projects)?;
-    counts_broken_in(alloc, after, projects)?;
+    policy_broken(alloc, of, after)?;
+    counts_broken(alloc, of, after)?;
     limits_broken(alloc, of, after)
 }

@@ -32,7 +32,7 @@ pub mod from_row_machine {
 /// Of `row_readings`, for the crates above.
 pub mod from_row_readings {
     pub use row_readings::{
-        View, claimed_instance, claimed_snapshot, claimed_volume, power_of, project_of_row,
+        View, claimed_instance, claimed_snapshot, claimed_volume, power_of, project_of_row, rows_of,
     };
 }
 

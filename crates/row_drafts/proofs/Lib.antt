@@ -9,3 +9,4 @@ mod Orders
 mod Risen
 mod Rooms
 mod Settled
+mod Slashes

@@ -31,11 +31,15 @@ fn place_of<T: Placed>(rows: &[T], row: &T) -> Result<usize, usize>
     place_named(rows, row.lent_names())
 }
 
-/// The place of the row of a key.
+/// The place of the row of a key, by binary search where the key tells the names of the row, and else from the front.
 fn place_keyed<T: Placed>(rows: &[T], key: &str) -> Option<usize>
+    requires { Rise T.names rows.now }
     ensures { result ≡ position (T.keyed key.now) rows.now }
 {
-    rows.iter().position(|row| row.has_key(key))
+    match T::names_of_key(key) {
+        Some(names) => place_named(rows, names).ok(),
+        None => rows.iter().position(|row| row.has_key(key)),
+    }
 }
 
 /// Puts an item at a place of a vector that has room for it. It takes no memory.
@@ -100,6 +104,7 @@ pub(crate) fn put_new<T: Placed + Drop>(rows: &mut Vec<T>, row: T) -> Step<T>
 
 /// Without the row of this key.
 pub(crate) fn remove<T: Placed + Drop>(rows: &mut Vec<T>, key: &str) -> Step<T>
+    requires rises { Rise T.names rows.old.items }
     ensures rows { rows.new.items ≡ dropped (T.keyed key.now) rows.old.items }
     ensures back { before_step result rows.new.items ≡ rows.old.items }
     ensures fits { FitsStep result rows.new.items }

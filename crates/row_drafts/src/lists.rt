@@ -189,6 +189,7 @@ impl Lists {
 
     /// Removes the row of a kind and key.
     pub(crate) fn remove(&mut self, kind: ObjectKind, key: &str) -> Undone
+        requires rises { AreRising self.old.state }
         ensures state { self.new.state ≡ without_row kind key.now self.old.state }
         ensures room { self.old.room ≤ self.new.room + 1 }
         ensures back { before_change result self.new.state ≡ self.old.state }

@@ -1,14 +1,16 @@
 //! What the key of each kind of row is.
-ghost use Rattle.std.specs.Prelude.{◌≡◌, ℕ, List, Bool};
+ghost use Rattle.std.specs.Prelude.{◌≡◌, ◌∷◌, ℕ, List, [], Bool, IfSome};
 ghost use Rattle.std.specs.Str.{bytes_eq};
 ghost use Rattle.machine_laws.specs.records.specs.declared.rows.Row.TheVariants as row;
-ghost use Rattle.machine_laws.specs.row_codec.specs.Spelling.{two_names};
+ghost use Rattle.machine_laws.specs.row_codec.specs.Spelling.{two_names, three_names};
 ghost use Rattle.machine_laws.specs.row_machine.specs.machine.Changes.{has_key};
+ghost use Rattle.machine_laws.specs.row_machine.specs.machine.Rows.{same_names};
+ghost use Rattle.row_readings.specs.Rising.{names_in};
 
-use crate::keys::{is_three_names, is_two_names};
+use crate::keys::{is_three_names, is_two_names, three_names_in, two_names_in};
 use machine_laws::from_records::{Instance, Network, Pool, Profile, Project, Snapshot, Volume};
 use machine_laws::from_size_values::Boxed;
-use row_readings::{InstancePower, Named};
+use row_readings::{InstancePower, Named, Names};
 
 /// A row that stands in the order of its names, and has a key.
 pub(crate) trait Placed: Named {
@@ -17,6 +19,35 @@ pub(crate) trait Placed: Named {
 
     fn has_key(&self, key: &str) -> bool
         ensures { result ≡ keyed key.now self.now };
+
+    /// The names of the row that has this key, where the key tells them. A key of one name always does, and one of
+    /// several names does where it has no slashes but those between them.
+    fn names_of_key(key: &str) -> Option<Names<'_>>
+        ensures { IfSome result (λ told. (row : Self) →
+            keyed key.now row ≡ same_names (Self.names row) (names_in told)) };
+}
+
+/// The names of the row of a key of two names, where the key tells them.
+fn two_told(key: &str) -> Option<Names<'_>>
+    ensures { IfSome result (λ told. (first second : List ℕ) →
+        bytes_eq (two_names first second) key.now ≡ same_names (first ∷ second ∷ []) (names_in told)) }
+{
+    match two_names_in(key) {
+        Some((first, second)) => Some(Names::Two(first, second)),
+        None => None,
+    }
+}
+
+/// The names of the row of a key of three names, where the key tells them.
+fn three_told(key: &str) -> Option<Names<'_>>
+    ensures { IfSome result (λ told. (first second third : List ℕ) →
+        bytes_eq (three_names first second third) key.now
+        ≡ same_names (first ∷ second ∷ third ∷ []) (names_in told)) }
+{
+    match three_names_in(key) {
+        Some((first, second, third)) => Some(Names::Three(first, second, third)),
+        None => None,
+    }
 }
 
 impl<T: Placed> Placed for Boxed<T> {
@@ -25,6 +56,10 @@ impl<T: Placed> Placed for Boxed<T> {
     fn has_key(&self, key: &str) -> bool {
         T::has_key(self, key)
     }
+
+    fn names_of_key(key: &str) -> Option<Names<'_>> {
+        T::names_of_key(key)
+    }
 }
 
 impl Placed for Project {
@@ -32,6 +67,10 @@ impl Placed for Project {
 
     fn has_key(&self, key: &str) -> bool {
         self.name.view() == key
+    }
+
+    fn names_of_key(key: &str) -> Option<Names<'_>> {
+        Some(Names::One(key))
     }
 }
 
@@ -45,6 +84,10 @@ impl Placed for Profile {
             self.name.view().as_bytes(),
         )
     }
+
+    fn names_of_key(key: &str) -> Option<Names<'_>> {
+        two_told(key)
+    }
 }
 
 impl Placed for Network {
@@ -57,6 +100,10 @@ impl Placed for Network {
             self.name.view().as_bytes(),
         )
     }
+
+    fn names_of_key(key: &str) -> Option<Names<'_>> {
+        two_told(key)
+    }
 }
 
 impl Placed for Pool {
@@ -64,6 +111,10 @@ impl Placed for Pool {
 
     fn has_key(&self, key: &str) -> bool {
         self.name.view() == key
+    }
+
+    fn names_of_key(key: &str) -> Option<Names<'_>> {
+        Some(Names::One(key))
     }
 }
 
@@ -78,6 +129,10 @@ impl Placed for Volume {
             self.name.view().as_bytes(),
         )
     }
+
+    fn names_of_key(key: &str) -> Option<Names<'_>> {
+        three_told(key)
+    }
 }
 
 impl Placed for Instance {
@@ -89,6 +144,10 @@ impl Placed for Instance {
             self.project.view().as_bytes(),
             self.name.view().as_bytes(),
         )
+    }
+
+    fn names_of_key(key: &str) -> Option<Names<'_>> {
+        two_told(key)
     }
 }
 
@@ -103,6 +162,10 @@ impl Placed for Snapshot {
             self.name.view().as_bytes(),
         )
     }
+
+    fn names_of_key(key: &str) -> Option<Names<'_>> {
+        three_told(key)
+    }
 }
 
 impl Placed for InstancePower {
@@ -114,5 +177,9 @@ impl Placed for InstancePower {
             self.project.view().as_bytes(),
             self.name.view().as_bytes(),
         )
+    }
+
+    fn names_of_key(key: &str) -> Option<Names<'_>> {
+        two_told(key)
     }
 }

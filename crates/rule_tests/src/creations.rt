@@ -5,16 +5,17 @@ ghost use Rattle.project_usage.specs.size_values.specs.declared.amounts.Part.{Pa
 use instance_tasks::instance_creation;
 use lent_rows::{Rows, both, config, device};
 use limit_rules::{
-    claim_uncounts, counts_broken, limits_broken, needs_usage, share_broken, usage_before,
+    InUse, claim_uncounts, counts_broken, counts_broken_in, is_any_limited, limits_broken,
+    needs_usage, share_broken, usage_before, uses_exceed,
 };
 use name_rules::from_row_machine::Work;
 use name_rules::names_broken;
-use policy_rules::{claim_forbidden, policy_broken};
+use policy_rules::{claim_forbidden, policy_broken, policy_broken_in};
 use project_usage::from_operations::{OpFault, Operation, Status};
 use project_usage::from_records::{
     Body, Command, Driver, Origin, Pool, Project, Refusal, Row, Rule, Target, What,
 };
-use project_usage::from_row_readings::View;
+use project_usage::from_row_readings::{View, rows_of};
 use project_usage::from_size_values::{Amounts, NoMemory, ObjectKind, Or, Seq, Text};
 use project_usage::usage_of;
 use setting_rules::claim_settings_broken;
@@ -83,6 +84,17 @@ const CREATIONS: &[Creation] = &[
         of: "no number for its operation",
     },
 ];
+
+/// By what the rules are judged that are judged with the claim.
+#[derive(Clone, Copy)]
+enum Judged {
+    /// By all rows.
+    Wholly,
+    /// By the rows of its project.
+    InItsProject,
+    /// By what it claims.
+    Alone,
+}
 
 /// What each of these instances counts for.
 const SHARE: Amounts = Amounts {
@@ -198,12 +210,12 @@ fn asked_broken(alloc: Global, view: &View<'_>, command: &Command) -> Result<(),
     standing_broken(alloc, view, command)
 }
 
-/// The rules that are judged with the claim of the last operation, over all rows, or by what it claims alone.
-fn claim_broken(alloc: Global, rows: &Rows, alone: bool) -> Result<(), Or<Refusal>> {
-    if alone {
-        alone_broken(alloc, rows)?;
-    } else {
-        later_broken(alloc, rows)?;
+/// The rules that are judged with the claim of the last operation.
+fn claim_broken(alloc: Global, rows: &Rows, judged: Judged) -> Result<(), Or<Refusal>> {
+    match judged {
+        Judged::Wholly => later_broken(alloc, rows)?,
+        Judged::InItsProject => project_broken(alloc, rows)?,
+        Judged::Alone => alone_broken(alloc, rows)?,
     }
     entry_broken(alloc, &rows.before_last())?;
     let after = rows.view();
@@ -220,6 +232,32 @@ fn later_broken(alloc: Global, rows: &Rows) -> Result<(), Or<Refusal>> {
     let broken = limits_broken(alloc, &before, &after);
     drop(before);
     broken
+}
+
+/// What a project uses of its limits.
+fn in_use(alloc: Global, view: &View<'_>, project: &str) -> Result<InUse, NoMemory> {
+    let amounts = usage_of(alloc, view, project)?;
+    let networks = rows_of(view.networks, project).len();
+    Ok(InUse { amounts, networks })
+}
+
+/// Settings, and policy and limits of the project of the last claim.
+fn project_broken(alloc: Global, rows: &Rows) -> Result<(), Or<Refusal>> {
+    let after = rows.view();
+    claim_settings_broken(alloc, &after, last_claim(&after))?;
+    let Some(operation) = after.live.last() else {
+        return Ok(());
+    };
+    let project = operation.work.project.view();
+    let projects = rows_of(after.projects, project);
+    policy_broken_in(alloc, &after, projects)?;
+    counts_broken_in(alloc, &after, projects)?;
+    if !is_any_limited(projects) {
+        return Ok(());
+    }
+    let before = in_use(alloc, &rows.before_last(), project)?;
+    let later = in_use(alloc, &after, project)?;
+    uses_exceed(alloc, projects, &before, &later)
 }
 
 /// What a project uses, where its share is judged by it.
@@ -291,13 +329,13 @@ fn creation_broken(
     alloc: Global,
     rows: &mut Rows,
     command: &Command,
-    alone: bool,
+    judged: Judged,
 ) -> Result<(), Or<Refusal>> {
     asked_broken(alloc, &rows.view(), command)?;
     if !enter(alloc, rows, command)? {
         return Ok(());
     }
-    claim_broken(alloc, rows, alone)
+    claim_broken(alloc, rows, judged)
 }
 
 /// Whether the answer is this rule, or none.
@@ -313,10 +351,10 @@ pub(crate) fn is_rule(answer: Result<(), Or<Refusal>>, rule: Option<Rule>) -> bo
     }
 }
 
-fn answers(alloc: Global, rows: &mut Rows, case: Creation, alone: bool) -> bool {
+fn answers(alloc: Global, rows: &mut Rows, case: Creation, judged: Judged) -> bool {
     match command(alloc, case) {
         Ok(command) => {
-            let answer = creation_broken(alloc, rows, &command, alone);
+            let answer = creation_broken(alloc, rows, &command, judged);
             drop(command);
             is_rule(answer, case.rule)
         }
@@ -325,11 +363,11 @@ fn answers(alloc: Global, rows: &mut Rows, case: Creation, alone: bool) -> bool 
 }
 
 /// Whether the creation breaks its rule first.
-fn breaks(alloc: Global, case: Creation, alone: bool) -> bool {
+fn breaks(alloc: Global, case: Creation, judged: Judged) -> bool {
     let mut rows = Rows::empty(alloc);
     rows.next = case.next;
     let filled = fill(alloc, &mut rows);
-    let right = filled.is_ok() && answers(alloc, &mut rows, case, alone);
+    let right = filled.is_ok() && answers(alloc, &mut rows, case, judged);
     drop(rows);
     right
 }
@@ -337,13 +375,24 @@ fn breaks(alloc: Global, case: Creation, alone: bool) -> bool {
 #[test]
 fn creations_break_the_first_rule(rt: HostRuntime) {
     for case in CREATIONS {
-        assert!(rt; breaks(rt.alloc(), *case, false), "{}", case.of);
+        assert!(rt; breaks(rt.alloc(), *case, Judged::Wholly), "{}", case.of);
     }
 }
 
 #[test]
 fn creations_are_judged_alone(rt: HostRuntime) {
     for case in CREATIONS {
-        assert!(rt; breaks(rt.alloc(), *case, true), "{}", case.of);
+        assert!(rt; breaks(rt.alloc(), *case, Judged::Alone), "{}", case.of);
+    }
+}
+
+#[test]
+fn creations_are_judged_in_their_project(rt: HostRuntime) {
+    for case in CREATIONS {
+        assert!(rt;
+            breaks(rt.alloc(), *case, Judged::InItsProject),
+            "{}",
+            case.of
+        );
     }
 }
