@@ -13,7 +13,7 @@ returns-in-NewProfile c = λ s whole made by.
 
 pub returns-in-OneProject : goal.returns-in-OneProject
 returns-in-OneProject c = λ s whole made by.
-    let of = c.in-OneProject.project.now in
+    let of = c.in-OneProject.project in
     let judges = subst (λ b. Judges b s c.args.changes.now) c.in-OneProject.is by in
     subst (Says c.project_broken.result)
     (judged-within s c.args.after.now c.args.changes.now of.name of.used whole made judges.0 (subst (Knows of.name of.used s) (sym made) judges.1))
