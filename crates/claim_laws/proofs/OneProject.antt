@@ -45,7 +45,7 @@ use Rattle.machine_laws.proofs.NamesSuccess.{Mem-filter}
 use Rattle.machine_laws.proofs.SharesAlike.{IsShareAlike, share-alike}
 use Rattle.machine_laws.proofs.SharesApart.{instance-so, replaces-or_not}
 use Rattle.machine_laws.proofs.SharesAtOnce.{claim-judged}
-use Rattle.limit_rules.specs.InUse.{part_over, networks_over, uses_over}
+use Rattle.limit_rules.specs.InUse.{part_use_over, network_use_over, uses_over}
 use Rattle.limit_rules.specs.row_readings.proofs.Ranges.{apart, filter-filter, sum_by-filter}
 use Rattle.policy_rules.specs.Within.{policy_broken_in}
 use Rattle.project_usage.specs.Counted.{instance_part, volume_part, claim_part}
@@ -360,7 +360,7 @@ module _ (s t : State) (p : List ℕ) (h : IsWhole s) (b : AreBeside p s t) wher
       ap (limit_exceeded q (key_of k) (limit_on k (limits_of q.config)) (used s q.name k)) (used-other q.name k other)
       ∙ unexceeded q (key_of k) (limit_on k (limits_of q.config)) (used s q.name k) ((h.limits.limits.at q (project-there q m other)).parts k)
 
-  part-own : (k : Part) (q : Project) → bytes_eq q.name p ≡ true → part_exceeds s t k q ≡ part_over (usage_of s p) (usage_of t p) k q
+  part-own : (k : Part) (q : Project) → bytes_eq q.name p ≡ true → part_exceeds s t k q ≡ part_use_over (usage_of s p) (usage_of t p) k q
   unfolding part_exceeds
   part-own k q own = ap₂ (limit_exceeded q (key_of k) (limit_on k (limits_of q.config))) (uses s) (uses t) where
     uses : (u : State) → used u q.name k ≡ part k (usage_of u p)
@@ -372,7 +372,7 @@ module _ (s t : State) (p : List ℕ) (h : IsWhole s) (b : AreBeside p s t) wher
       ap (limit_exceeded q limit_key.Networks (limits_of q.config).networks (networks_of s q.name)) (networks-other q.name other)
       ∙ unexceeded q limit_key.Networks (limits_of q.config).networks (networks_of s q.name) (h.limits.limits.at q (project-there q m other)).networks
 
-  count-own : (q : Project) → bytes_eq q.name p ≡ true → networks_exceed s t q ≡ networks_over (networks_of s p) (networks_of t p) q
+  count-own : (q : Project) → bytes_eq q.name p ≡ true → networks_exceed s t q ≡ network_use_over (networks_of s p) (networks_of t p) q
   unfolding networks_exceed
   count-own q own = ap₂ (limit_exceeded q limit_key.Networks (limits_of q.config).networks)
       (ap (networks_of s) (same q.name p own)) (ap (networks_of t) (same q.name p own))
@@ -380,12 +380,12 @@ module _ (s t : State) (p : List ℕ) (h : IsWhole s) (b : AreBeside p s t) wher
   limits-within : limits_broken s t ≡ uses_over (projects_of t p) (in_use s p) (in_use t p)
   unfolding limits_broken
   limits-within = ap₂ (λ of_parts of_networks. option_or of_parts (option_or of_networks None))
-      (first_of-same (λ k. first_of (part_exceeds s t k) t.projects) (λ k. first_of (part_over (usage_of s p) (usage_of t p) k) (projects_of t p)) parts
+      (first_of-same (λ k. first_of (part_exceeds s t k) t.projects) (λ k. first_of (part_use_over (usage_of s p) (usage_of t p) k) (projects_of t p)) parts
       (record {
-        at = λ k n. first_of-passing (λ (q : Project). bytes_eq q.name p) (part_exceeds s t k) (part_over (usage_of s p) (usage_of t p) k) t.projects
+        at = λ k n. first_of-passing (λ (q : Project). bytes_eq q.name p) (part_exceeds s t k) (part_use_over (usage_of s p) (usage_of t p) k) t.projects
             (record { at = part-other k }) (part-own k);
       }))
-      (first_of-passing (λ (q : Project). bytes_eq q.name p) (networks_exceed s t) (networks_over (networks_of s p) (networks_of t p)) t.projects
+      (first_of-passing (λ (q : Project). bytes_eq q.name p) (networks_exceed s t) (network_use_over (networks_of s p) (networks_of t p)) t.projects
       (record { at = count-other }) count-own)
 
 -- ---- changes

@@ -40,7 +40,7 @@ touches_profile (change.Put (row.Profile profile)) = true
 touches_profile (change.Remove kind.Profile key) = true
 touches_profile other = false
 
--- Whether a change touches rows of this project alone, and none that instances of others have: that are only profiles
+-- Whether a change touches rows of this project alone, and none that instances of others have: those are only profiles
 -- of the project `default`.
 abbrev pub is_within : List ℕ → RowChange → Bool
 is_within project one =

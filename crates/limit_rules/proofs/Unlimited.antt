@@ -30,7 +30,7 @@ use Rattle.row_machine.specs.machine.Expansions.{expanded_of}
 use Rattle.row_machine.specs.machine.LimitRules.{project_uncounted, claim_uncounted, instance_uncounted, volume_uncounts, limits_broken, part_exceeds, networks_exceed, limit_exceeded, object_uncounted}
 use Rattle.rule_refusals.proofs.Saying.{none-or}
 use Rattle.limit_rules.specs.Exceeding.{limits_sum, limits_any, is_any_limited}
-use Rattle.limit_rules.specs.InUse.{part_over, networks_over, uses_over}
+use Rattle.limit_rules.specs.InUse.{part_use_over, network_use_over, uses_over}
 use Rattle.limit_rules.specs.declared.in_use.InUse.{InUse}
 
 -- ---- limits that are not set
@@ -144,11 +144,11 @@ pub unlimited-uses : (projects : List Project) (before after : InUse) → is_any
 unlimited-uses projects before after e =
     let free = each-free projects e in
     none-or
-    (none-first_of (λ k. first_of (part_over before.amounts after.amounts k) projects) parts
-    (record { at = λ k m. none-first_of (part_over before.amounts after.amounts k) projects (Each-map (part-free k) free) }))
-    (none-or (none-first_of (networks_over before.networks after.networks) projects (Each-map networks-free free)) refl) where
-      part-free : (k : Part) (p : Project) → HasNone (limits_of p.config) → part_over before.amounts after.amounts k p ≡ None
+    (none-first_of (λ k. first_of (part_use_over before.amounts after.amounts k) projects) parts
+    (record { at = λ k m. none-first_of (part_use_over before.amounts after.amounts k) projects (Each-map (part-free k) free) }))
+    (none-or (none-first_of (network_use_over before.networks after.networks) projects (Each-map networks-free free)) refl) where
+      part-free : (k : Part) (p : Project) → HasNone (limits_of p.config) → part_use_over before.amounts after.amounts k p ≡ None
       part-free k p free = ap (λ limit. limit_exceeded p (key_of k) limit (part k before.amounts) (part k after.amounts)) (free.parts k)
 
-      networks-free : (p : Project) → HasNone (limits_of p.config) → networks_over before.networks after.networks p ≡ None
+      networks-free : (p : Project) → HasNone (limits_of p.config) → network_use_over before.networks after.networks p ≡ None
       networks-free p free = ap (λ limit. limit_exceeded p Networks limit before.networks after.networks) free.networks

@@ -13,21 +13,21 @@ use Rattle.limit_rules.specs.Sums.{line_over}
 use Rattle.limit_rules.specs.declared.in_use.InUse.{InUse}
 
 -- one part of what the project used, and uses
-abbrev pub part_over : Amounts → Amounts → Part → Project → Option Refusal
-part_over before after a_part project = line_over a_part (project, (before, after))
+abbrev pub part_use_over : Amounts → Amounts → Part → Project → Option Refusal
+part_use_over before after a_part project = line_over a_part (project, (before, after))
 
 -- the first part, and the first project at which it is exceeded
 abbrev pub amounts_over : List Project → Amounts → Amounts → Option Refusal
-amounts_over projects before after = first_of (λ a_part. first_of (part_over before after a_part) projects) parts
+amounts_over projects before after = first_of (λ a_part. first_of (part_use_over before after a_part) projects) parts
 
 -- its number of networks
-abbrev pub networks_over : ℕ → ℕ → Project → Option Refusal
-networks_over before after project =
+abbrev pub network_use_over : ℕ → ℕ → Project → Option Refusal
+network_use_over before after project =
     limit_exceeded project Networks (limits_of project.config).networks before after
 
 -- the first part that is exceeded, or else the number of networks
 abbrev pub uses_over : List Project → InUse → InUse → Option Refusal
 uses_over projects before after = first
     (amounts_over projects before.amounts after.amounts
-    ∷ first_of (networks_over before.networks after.networks) projects
+    ∷ first_of (network_use_over before.networks after.networks) projects
     ∷ [])

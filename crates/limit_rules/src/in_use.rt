@@ -1,7 +1,7 @@
 //! L1 to L8 of the projects of one name, by what they used before a change and what they use after it.
 ghost use Rattle.row_machine.specs.plain_lists.specs.Firsts.{first_of};
 ghost use Rattle.row_machine.specs.size_values.specs.Causes.{Says};
-ghost use Rattle.limit_rules.specs.InUse.{amounts_over, part_over, networks_over, uses_over};
+ghost use Rattle.limit_rules.specs.InUse.{amounts_over, part_use_over, network_use_over, uses_over};
 
 use crate::limits::{limit_exceeded, line_exceeds};
 use crate::parts::PARTS;
@@ -17,14 +17,14 @@ pub struct InUse {
     pub networks: usize,
 }
 
-fn part_exceeds(
+fn part_use_exceeds(
     alloc: Global,
     part: Part,
     projects: &[Project],
     before: &Amounts,
     after: &Amounts,
 ) -> Result<(), Or<Refusal>>
-    ensures { Says result (first_of (part_over before.now after.now part) projects.now) }
+    ensures { Says result (first_of (part_use_over before.now after.now part) projects.now) }
 {
     for project in projects {
         if let Err(why) = line_exceeds(alloc, part, project, before, after) {
@@ -43,20 +43,20 @@ fn amounts_exceed(
     ensures { Says result (amounts_over projects.now before.now after.now) }
 {
     for part in PARTS {
-        if let Err(why) = part_exceeds(alloc, part, projects, before, after) {
+        if let Err(why) = part_use_exceeds(alloc, part, projects, before, after) {
             return Err(why);
         }
     }
     Ok(())
 }
 
-fn count_exceeds(
+fn network_use_exceeds(
     alloc: Global,
     project: &Project,
     before: usize,
     after: usize,
 ) -> Result<(), Or<Refusal>>
-    ensures { Says result (networks_over before after project.now) }
+    ensures { Says result (network_use_over before after project.now) }
 {
     let Some(limit) = limits_of(&project.config).networks else {
         return Ok(());
@@ -71,16 +71,16 @@ fn count_exceeds(
     )
 }
 
-fn networks_exceed(
+fn network_uses_exceed(
     alloc: Global,
     projects: &[Project],
     before: usize,
     after: usize,
 ) -> Result<(), Or<Refusal>>
-    ensures { Says result (first_of (networks_over before after) projects.now) }
+    ensures { Says result (first_of (network_use_over before after) projects.now) }
 {
     for project in projects {
-        if let Err(why) = count_exceeds(alloc, project, before, after) {
+        if let Err(why) = network_use_exceeds(alloc, project, before, after) {
             return Err(why);
         }
     }
@@ -98,5 +98,5 @@ pub fn uses_exceed(
     ensures { Says result (uses_over projects.now before.now after.now) }
 {
     amounts_exceed(alloc, projects, &before.amounts, &after.amounts)?;
-    networks_exceed(alloc, projects, before.networks, after.networks)
+    network_uses_exceed(alloc, projects, before.networks, after.networks)
 }

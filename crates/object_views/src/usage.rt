@@ -1,27 +1,16 @@
 //! The usage of a project: each limit with what is used of it.
-ghost use Rattle.std.specs.Prelude.{◌≡◌, ◌++◌, ◌∷◌, [], length, filter, IfOk, OnOk, map};
-ghost use Rattle.std.specs.Str.{bytes_eq};
+ghost use Rattle.std.specs.Prelude.{◌≡◌, ◌++◌, ◌∷◌, [], IfOk, OnOk, map};
 ghost use Rattle.row_machine.specs.size_values.specs.Amounts.{part};
 ghost use Rattle.row_machine.specs.project_limits.specs.Admission.{limit_on, parts};
 ghost use Rattle.row_machine.specs.records.specs.declared.replies.LimitKeyName.TheVariants as line;
 ghost use Rattle.row_machine.specs.shown.Views.{line_key, usage_view};
 
-use project_usage::from_row_readings::View;
+use project_usage::from_row_readings::{View, rows_of};
 use project_usage::usage_of;
 use row_machine::from_project_limits::{Limits, limits_of};
-use row_machine::from_records::{LimitKeyName, Network, Project, UsageLine, View as Shown};
+use row_machine::from_records::{LimitKeyName, Project, UsageLine, View as Shown};
 use row_machine::from_size_values::{Amounts, NoMemory, Seq};
 use std::alloc::Global;
-
-/// The number of networks of a project.
-fn networks_of(networks: &[Network], project: &str) -> u128
-    ensures { result ≡ length (filter (λ n. bytes_eq n.project project.now) networks.now) }
-{
-    networks
-        .iter()
-        .filter(|network| network.project.view() == project)
-        .count() as u128
-}
 
 /// Each limit with what is used of it.
 fn usage_lines(
@@ -93,7 +82,7 @@ pub(crate) fn usage_view(
 {
     let limits = limits_of(&project.config);
     let used = usage_of(alloc, view, project.name.view())?;
-    let networks = networks_of(view.networks, project.name.view());
+    let networks = rows_of(view.networks, project.name.view()).len() as u128;
     let lines = usage_lines(alloc, &limits, &used, networks)?;
     Ok(Shown::Usage(lines))
 }

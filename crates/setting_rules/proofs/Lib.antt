@@ -1,1 +1,2 @@
+mod AtHome
 pub mod Naming

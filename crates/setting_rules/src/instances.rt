@@ -20,7 +20,7 @@ use row_machine::from_operations::Operation;
 use row_machine::from_option_tables::{Scope, check_instance};
 use row_machine::from_records::{Instance, Profile, Refusal, Rule};
 use row_machine::from_size_values::{Boxed, Kind, ObjectKind, Or, Text};
-use row_readings::{View, claimed_instance};
+use row_readings::{View, claimed_instance, rows_at_home};
 use rule_refusals::{on_name, on_object};
 use std::alloc::Global;
 
@@ -151,6 +151,18 @@ fn instances_break(
     Ok(())
 }
 
+/// The instances that are there. Those of projects that can't have the home of the profile are not gone over.
+fn instances_at_home_break(
+    alloc: Global,
+    view: &View<'_>,
+    profile: &Profile,
+) -> Result<(), Or<Refusal>>
+    ensures { Says result (first_of (where_named view.now profile.now) view.now.instances) }
+{
+    let rows = rows_at_home(view.instances, profile.project.view());
+    instances_break(alloc, view, profile, rows)
+}
+
 fn claim_breaks(
     alloc: Global,
     view: &View<'_>,
@@ -184,7 +196,7 @@ fn claims_break(
 fn named_broken(alloc: Global, view: &View<'_>, profile: &Profile) -> Result<(), Or<Refusal>>
     ensures { Says result (all_named view.now profile.now) }
 {
-    instances_break(alloc, view, profile, view.instances)?;
+    instances_at_home_break(alloc, view, profile)?;
     claims_break(alloc, view, profile, view.live)
 }
 

@@ -1,1 +1,2 @@
 mod AtHome
+mod OwnRows

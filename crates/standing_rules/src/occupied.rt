@@ -8,7 +8,7 @@ ghost use Rattle.row_machine.specs.machine.StandingRules.{is_occupied, must_be_e
 
 use crate::asked::{is_parting, object_changed};
 use crate::features::asks_for_features;
-use object_users::from_row_readings::View;
+use object_users::from_row_readings::{View, rows_of};
 use row_machine::Work;
 use row_machine::from_operations::Operation;
 use row_machine::from_records::{
@@ -49,14 +49,40 @@ fn has_operation(live: &[Operation<Work>], project: &str) -> bool
     live.iter().any(|o| o.work.project.view() == project)
 }
 
+// ---- of all rows, those of the project alone are gone over
+
+fn project_has_instance(view: &View<'_>, project: &str) -> bool
+    ensures { result ≡ list_any (λ r. bytes_eq r.project project.now) view.now.instances }
+{
+    has_instance(rows_of(view.instances, project), project)
+}
+
+fn project_has_network(view: &View<'_>, project: &str) -> bool
+    ensures { result ≡ list_any (λ r. bytes_eq r.project project.now) view.now.networks }
+{
+    has_network(rows_of(view.networks, project), project)
+}
+
+fn project_has_volume(view: &View<'_>, project: &str) -> bool
+    ensures { result ≡ list_any (λ r. bytes_eq r.project project.now) view.now.volumes }
+{
+    has_volume(rows_of(view.volumes, project), project)
+}
+
+fn project_has_own_profile(view: &View<'_>, project: &str) -> bool
+    ensures { result ≡ list_any (λ r. bytes_eq r.project project.now && not (bytes_eq r.name default_name)) view.now.profiles }
+{
+    has_own_profile(rows_of(view.profiles, project), project)
+}
+
 /// Whether a project has an instance, a network, a volume, a profile other than `default`, or a live operation.
 fn is_occupied(view: &View<'_>, name: &str) -> bool
     ensures { result ≡ is_occupied view.now name.now }
 {
-    has_instance(view.instances, name)
-        || has_network(view.networks, name)
-        || has_volume(view.volumes, name)
-        || has_own_profile(view.profiles, name)
+    project_has_instance(view, name)
+        || project_has_network(view, name)
+        || project_has_volume(view, name)
+        || project_has_own_profile(view, name)
         || has_operation(view.live, name)
 }
 

@@ -11,7 +11,7 @@ use object_links::from_records::{Instance, Snapshot};
 use object_links::from_row_machine::{RowChange, Work};
 use object_links::from_size_values::{Boxed, NoMemory, ObjectKind, Seq};
 use object_links::{three_names, two_names};
-use row_readings::View;
+use row_readings::{View, rows_of};
 use std::alloc::Global;
 
 /// The change that removes a snapshot.
@@ -58,6 +58,23 @@ fn remove_snapshots(
     Ok(())
 }
 
+/// Adds the removals of all snapshots of an instance. Those of other projects are not gone over.
+fn remove_snapshots_of(
+    alloc: Global,
+    view: &View<'_>,
+    project: &str,
+    instance: &str,
+    changes: &mut Seq<RowChange>,
+) -> Result<(), NoMemory>
+    ensures { OnOk result (changes.new ≡ changes.old
+        ++ map removal (map row_of.Snapshot
+        (filter (λ r. if bytes_eq r.project project.now
+        then bytes_eq r.instance instance.now else false) view.now.snapshots))) }
+{
+    let rows = rows_of(view.snapshots, project);
+    remove_snapshots(alloc, rows, project, instance, changes)
+}
+
 fn remove_instance(
     alloc: Global,
     row: Option<&Instance>,
@@ -82,7 +99,7 @@ pub(crate) fn removes_instance(
     ensures { IfOk result (λ cs. cs ≡ removes_instance view.now project.now name.now) }
 {
     let mut changes = Seq::new(alloc);
-    remove_snapshots(alloc, view.snapshots, project, name, &mut changes)?;
+    remove_snapshots_of(alloc, view, project, name, &mut changes)?;
     let row = view.instance_named(project, name);
     remove_instance(alloc, row, &mut changes)?;
     Ok(changes)

@@ -9,7 +9,7 @@ use crate::removals::{is_of, removes_instance};
 use object_links::from_records::{Instance, Row, Snapshot};
 use object_links::from_row_machine::{RowChange, Work};
 use object_links::from_size_values::{Boxed, NoMemory, Seq, Text};
-use row_readings::View;
+use row_readings::{View, rows_of};
 use std::alloc::Global;
 
 /// A snapshot as one of another instance.
@@ -73,6 +73,25 @@ fn put_moved(
     Ok(())
 }
 
+/// Puts an instance, and the snapshots of the one whose place it takes. Those of other projects are not gone over.
+fn put_moved_of(
+    alloc: Global,
+    view: &View<'_>,
+    project: &str,
+    instance: &str,
+    to: &Instance,
+    changes: &mut Seq<RowChange>,
+) -> Result<(), NoMemory>
+    ensures { OnOk result (changes.new ≡ changes.old
+        ++ map change.Put (row_of.Instance to.now
+        ∷ map (λ r. row_of.Snapshot (record r { instance = to.now.name; project = to.now.project }))
+        (filter (λ r. if bytes_eq r.project project.now
+        then bytes_eq r.instance instance.now else false) view.now.snapshots))) }
+{
+    let rows = rows_of(view.snapshots, project);
+    put_moved(alloc, rows, project, instance, to, changes)
+}
+
 /// A row takes the place of the instance that an operation is about, and the snapshots go with it.
 pub(crate) fn renames_instance(
     alloc: Global,
@@ -85,6 +104,6 @@ pub(crate) fn renames_instance(
     let project = work.project.view();
     let name = work.target.name.view();
     let mut changes = removes_instance(alloc, view, project, name)?;
-    put_moved(alloc, view.snapshots, project, name, to, &mut changes)?;
+    put_moved_of(alloc, view, project, name, to, &mut changes)?;
     Ok(changes)
 }
