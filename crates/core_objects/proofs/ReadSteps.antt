@@ -59,7 +59,7 @@ reads s c moment is = reads-only s c.project c.what moment is
 
 module _ (s : State) (c : Command) (moment : ℕ) (h : ReadsOnly s c moment) where
   -- a read changes nothing
-  changes_of-read : changes_of s c moment ≡ []
+  pub changes_of-read : changes_of s c moment ≡ []
   unfolding changes_of
   changes_of-read = ap (unless_refused (broken s c moment)) h.plan ∙ none-of (broken s c moment)
 
@@ -73,7 +73,7 @@ module _ (s : State) (c : Command) (moment : ℕ) (h : ReadsOnly s c moment) whe
       ∙ ap (λ o. first (o ∷ [])) h.uncancelled
 
   -- its step
-  read-step : broken s c moment ≡ None → step s (event.Ask c moment) well ≡ Some (and_then (answer.Reply (read s c.project c.what)) s)
+  pub read-step : broken s c moment ≡ None → step s (event.Ask c moment) well ≡ Some (and_then (answer.Reply (read s c.project c.what)) s)
   unfolding step accepted
   read-step unbroken = ap (after_command s c moment well) unbroken ∙ ap (λ p. Some (carried_out s c moment p)) h.plan ∙ ap Some h.answers
 

@@ -1,5 +1,6 @@
 mod Holding
 mod Ordered
+mod Server
 mod ShortKept
 mod Turning
 mod Workers

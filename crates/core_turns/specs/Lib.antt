@@ -13,5 +13,6 @@ pub use Rattle.core_instances.specs.work_reports as work_reports
 pub mod Commands
 pub mod Hearing
 pub mod Opens
+pub mod Server
 pub mod Turns
 pub mod View

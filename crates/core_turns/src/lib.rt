@@ -39,9 +39,11 @@ pub mod from_rule_refusals {
 mod asking;
 mod daemon;
 mod hearing;
+mod laws;
 mod promise;
 mod working;
 
 pub use core_instances::from_core_rows::OpenFault;
 pub use daemon::Daemon;
+pub use laws::server_is_told;
 pub use promise::no_project_is_above_its_limits;

@@ -1,5 +1,7 @@
 //! What is written for a reply.
-ghost use Rattle.std.specs.Prelude.{◌≡◌, true, IfOk};
+ghost use Rattle.std.specs.Prelude.{◌≡◌, ℕ, true, false, IfOk};
+ghost use Rattle.rest_replies.specs.records.specs.declared.replies.Reply.TheVariants as reply;
+ghost use Rattle.rest_replies.specs.records.specs.declared.replies.View.TheVariants as view;
 ghost use Rattle.rest_replies.specs.row_machine.specs.machine.Refusals.{plain_refusal};
 ghost use Rattle.rest_answers.specs.Texts.{HasText, malformed_text, printed, rule_of};
 
@@ -8,7 +10,7 @@ use core_turns::from_rule_refusals::nothing_told;
 use rest_replies::from_http_front::{HeadFault, reply_bytes};
 use rest_replies::from_records::{Refusal, Reply, Rule};
 use rest_replies::from_size_values::{NoMemory, Seq};
-use rest_replies::{known_reply, no_memory_is_known, print};
+use rest_replies::{known_reply, no_memory_is_known, print, server_text};
 use std::alloc::Global;
 
 /// What is to be written for a request.
@@ -59,6 +61,13 @@ pub fn answer_for(alloc: Global, reply: &Reply, boot: u64, last: bool) -> Answer
             Err(NoMemory) => Answered::Unprinted,
         },
     }
+}
+
+/// What is to be written for who asks for the server, where the connection stays open after it. It takes no memory.
+pub fn server_answer() -> Answered
+    ensures { (boot : ℕ) → HasText result (reply.One view.Server) boot false }
+{
+    Answered::Printed(ReplyText::ready(server_text()))
 }
 
 /// The rule that a malformed place breaks.

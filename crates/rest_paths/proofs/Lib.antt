@@ -4,3 +4,4 @@ pub mod Rows
 pub mod Taken
 pub mod Timeouts
 mod Events
+pub mod Server

@@ -1,6 +1,8 @@
 //! Replies that depend on nothing: they are sent as they stand here, and not made anew.
-ghost use Rattle.std.specs.Prelude.{◌≡◌, ℕ, IfSome, is_some};
+ghost use Rattle.std.specs.Prelude.{◌≡◌, ℕ, false, IfSome, is_some};
 ghost use Rattle.http_front.specs.Replies.{reply_text};
+ghost use Rattle.reply_views.specs.records.specs.declared.replies.Reply.TheVariants as reply;
+ghost use Rattle.reply_views.specs.records.specs.declared.replies.View.TheVariants as view;
 ghost use Rattle.rest_replies.specs.Replies.{printed_of, is_server, stands_ready};
 
 use reply_views::from_records::{Reply, View};
@@ -21,6 +23,13 @@ fn is_server(shown: &View) -> bool
         View::Server => true,
         _ => false,
     }
+}
+
+/// The whole text of the reply that tells of the server, where the connection stays open after it.
+pub fn server_text() -> &'static [u8]
+    ensures { (boot : ℕ) → result.now ≡ reply_text (printed_of (reply.One view.Server) boot false) }
+{
+    SERVER
 }
 
 /// The whole text of a reply that depends on nothing, where the connection stays open after it.

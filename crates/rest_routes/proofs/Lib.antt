@@ -1,3 +1,4 @@
+mod ByGet
 mod FormedBodies
 mod FormedCommands
 mod FormedOrigins

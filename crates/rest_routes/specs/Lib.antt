@@ -9,6 +9,7 @@ pub use Rattle.rest_replies as rest_replies
 pub use Rattle.rest_replies.specs.row_machine as row_machine
 pub use Rattle.rest_bodies.specs.size_values as size_values
 pub mod Commands
+pub mod Known
 pub mod Routed
 pub mod Shapes
 pub mod Targets

@@ -49,6 +49,7 @@ pub mod from_size_values {
 }
 
 mod commands;
+mod known;
 mod laws;
 mod router;
 mod shapes;
@@ -56,6 +57,7 @@ mod targets;
 mod with_body;
 mod without_body;
 
+pub use known::asks_for_server;
 pub use laws::what_is_routed_is_formed;
 pub use rest_bodies::names_first_bad;
 pub use rest_replies::{id_text, number_of, print, print_notice};

@@ -1,14 +1,16 @@
 -- One request comes to its reply, from what its parts ensure.
-use Rattle.std.proofs.Common.{◌≡◌, ◌≤◌, ◌<◌, ℕ, List, [], ◌∷◌, length, Some, None, Result, Ok, Err, refl, sym}
+use Rattle.std.proofs.Common.{◌≡◌, ◌≤◌, ◌<◌, ℕ, false, List, [], ◌∷◌, length, Some, None, Result, Ok, Err, refl, sym}
 use Rattle.std.proofs.Common.{subst}
 use Rattle.run_words.specs.size_values.specs.Moments.{moment_limit}
 use Rattle.run_words.specs.size_values.specs.declared.memory.Or.{Or}
 use Rattle.run_words.specs.size_values.specs.declared.memory.Or.TheVariants as or
 use Rattle.serial_steps.specs.http_front.specs.Clocks.{Reads}
+use Rattle.rest_routes.specs.http_heads.specs.declared.request.Request.{Request}
 use Rattle.rest_routes.specs.records.specs.declared.commands.Command.{Command}
 use Rattle.rest_routes.specs.records.specs.declared.refusals.Refusal.{Refusal}
 use Rattle.rest_routes.specs.records.specs.declared.replies.Reply.{Reply}
 use Rattle.rest_routes.specs.records.specs.declared.replies.Reply.TheVariants as reply
+use Rattle.rest_routes.specs.records.specs.declared.replies.View.TheVariants as view
 use Rattle.rest_routes.specs.row_machine.specs.declared.events.Answer.{Answer}
 use Rattle.rest_routes.specs.row_machine.specs.declared.events.Answer.TheVariants as answer
 use Rattle.rest_routes.specs.row_machine.specs.declared.events.Event.TheVariants as event
@@ -21,7 +23,11 @@ use Rattle.serial_steps.specs.core_turns.specs.Turns.{IsTurn}
 use Rattle.serial_steps.specs.Steps.{Site, Step, WaitsFor, most_steps}
 use Rattle.rest_routes.specs.rest_paths.specs.Answers.{IsDue}
 use Rattle.rest_answers.specs.Asked.{showing}
-use Rattle.rest_service.specs.Answers.{Reaches, Shows}
+use Rattle.rest_answers.specs.Texts.{HasText}
+use Rattle.rest_answers.specs.declared.answers.Answered.{Answered}
+use Rattle.rest_routes.specs.Commands.{command_of}
+use Rattle.rest_routes.specs.Known.{server_asked}
+use Rattle.rest_service.specs.Answers.{Answers, Reaches, Shows}
 use Rattle.rest_service.specs.Exchanges.{Carries, carried_out}
 
 -- a command was asked at the next moment of the clock, and was answered so
@@ -52,6 +58,20 @@ replied {w} {w'} {c} {moment} {a} r asks is = record {
   outcome = asks.turn.outcome;
   held = None;
   comes = subst (λ b. Carries w (Ok c) (Some moment) asks.turn.outcome b w') (sym is) (carries asks);
+}
+
+-- who asks for the server was told of it, by the text that stands ready where the connection stays open
+pub server-replied : (boot : ℕ) (w w' : Site) (request : Request) (result : Answered) (moment : ℕ)
+    → command_of request boot ≡ Ok server_asked → request.last ≡ false
+    → IsTurn w.serial.state w.store (event.Ask server_asked moment) (answer.Reply (reply.One view.Server)) w'.serial.state w'.store
+    → w'.serial.hand ≡ w.serial.hand → w'.host ≡ w.host → Reads w.clock (moment ∷ []) w'.clock → moment < moment_limit
+    → HasText result (reply.One view.Server) boot false → Answers boot w w' request result
+server-replied boot w w' request result moment asked open turn hand host read early text = record {
+  reply = reply.One view.Server;
+  reaches =
+      subst (λ asks. Reaches w asks (reply.One view.Server) w') (sym asked)
+      (replied (reply.One view.Server) (record { turn = turn; hand = hand; host = host; read = read; early = early }) refl);
+  text = subst (λ last. HasText result (reply.One view.Server) boot last) (sym open) text;
 }
 
 -- an operation was asked for in the project of a command

@@ -1,17 +1,20 @@
 //! How a command comes to its reply.
-ghost use Rattle.std.specs.Prelude.{◌≡◌, true, Ok};
+ghost use Rattle.std.specs.Prelude.{◌≡◌, true, false, Ok, ℕ};
 ghost use Rattle.rest_routes.specs.records.specs.Forms.{is_formed};
 ghost use Rattle.rest_routes.specs.Commands.{command_of};
-ghost use Rattle.serial_steps.specs.Steps.{hosted, site};
-ghost use Rattle.rest_service.specs.Answers.{Reaches, Shows};
+ghost use Rattle.rest_routes.specs.Known.{server_asked};
+ghost use Rattle.serial_steps.specs.record_keeper.specs.Store.{Store};
+ghost use Rattle.serial_steps.specs.Steps.{Hosted, hosted, site};
+ghost use Rattle.rest_service.specs.Answers.{Answers, Reaches, Shows};
 
-use rest_answers::{Asked, asked_of, reply_of};
+use rest_answers::{Answered, Asked, asked_of, reply_of, server_answer};
 use rest_routes::Router;
 use rest_routes::from_host_model::Host;
 use rest_routes::from_records::{Command, Reply, What};
 use run_words::from_size_values::Text;
 use serial_steps::SerialDaemon;
 use serial_steps::from_core_rows::refused_reply;
+use serial_steps::from_core_turns::server_is_told;
 use serial_steps::from_http_front::{Clock, Request};
 use serial_steps::from_record_keeper::Keeper;
 use std::alloc::Global;
@@ -65,6 +68,23 @@ fn carry_out<R: Keeper, H: Host, C: Clock>(
             show_operation(alloc, daemon, keeper, clock, project, number)
         }
     }
+}
+
+/// Tells of the server, at the next moment of the clock. What is told depends on no row, so the daemon isn't asked.
+pub(crate) fn tell_of_server<C: Clock>(
+    daemon: &SerialDaemon,
+    clock: &mut C,
+    request: &Request,
+) -> Answered
+    requires asked { (boot : ℕ) → command_of request.now boot ≡ Ok server_asked }
+    requires open { request.now.last ≡ false }
+    ensures { (boot : ℕ) (store : Store) (host : Hosted) → Answers boot
+        (site daemon.now store host (C.readings clock.old)) (site daemon.now store host (C.readings clock.new))
+        request.now result }
+{
+    server_is_told();
+    let _moment = clock.now();
+    server_answer()
 }
 
 /// Routes a request and asks for its command, at the next moment of the clock.

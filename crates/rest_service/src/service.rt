@@ -5,10 +5,10 @@ ghost use Rattle.serial_steps.specs.Steps.{hosted, site, Step};
 ghost use Rattle.rest_service.specs.Answers.{Answers, OpensService};
 ghost use Rattle.rest_service.specs.Exchanges.{IsPaced};
 
-use crate::asking::reply_to;
+use crate::asking::{reply_to, tell_of_server};
 use rest_answers::{Answered, answer_for};
-use rest_routes::Router;
 use rest_routes::from_host_model::Host;
+use rest_routes::{Router, asks_for_server};
 use run_words::Pace;
 use serial_steps::SerialDaemon;
 use serial_steps::from_core_rows::OpenFault;
@@ -53,7 +53,8 @@ impl Service {
 
     /// Answers one request: routes it, asks for its command, and prints the reply. Where the
     /// command waits for an operation, the worker makes its steps until that has ended. The clock
-    /// is read once for each command that is asked, each call that is asked for and each report.
+    /// is read once for each command that is asked, each call that is asked for and each report. Who
+    /// asks for the server is told of it by a text that stands ready.
     /// The boot word is that of the ids of operations.
     pub fn answer<R: Keeper, H: Host, C: Clock>(
         &mut self,
@@ -71,6 +72,9 @@ impl Service {
             (C.readings clock.new))
             request.now result }
     {
+        if asks_for_server(request) && !request.last {
+            return tell_of_server(&self.daemon, clock, request);
+        }
         let reply = reply_to(
             alloc,
             &self.router,

@@ -9,7 +9,7 @@ pub mod from_core_rows {
 
 /// Of `core_turns`, for the crates above.
 pub mod from_core_turns {
-    pub use core_turns::Daemon;
+    pub use core_turns::{Daemon, server_is_told};
 }
 
 /// Of `host_model`, for the crates above.

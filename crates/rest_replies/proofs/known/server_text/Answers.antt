@@ -1,0 +1,11 @@
+use Rattle.std.proofs.Common.{refl}
+use Rattle.std.specs.Fmt.{digits}
+use Rattle.json.specs.Print.{escape_byte}
+use Rattle.http_front.specs.Replies.{reply_text}
+use Rattle.reply_views.specs.Views.{server_data}
+use Rattle.rest_replies.specs.Replies.{printed_of, success_data}
+use Rattle.rest_replies.proofs.known.server_text.Goals as goal
+
+pub returns : goal.returns
+unfolding printed_of reply_text success_data server_data digits escape_byte
+returns c = λ boot. refl

@@ -1,0 +1,15 @@
+//! The request whose reply depends on no row.
+ghost use Rattle.std.specs.Prelude.{◌≡◌, IsTrue, Ok, ℕ};
+ghost use Rattle.rest_routes.specs.Commands.{command_of};
+ghost use Rattle.rest_routes.specs.Known.{is_server_asked, server_asked};
+
+use rest_replies::from_http_heads::Request;
+
+/// Whether a request asks for the server, by GET `/1.0` without a query. It is told by two comparisons, since most
+/// requests of those who only look whether the server is there are such.
+pub fn asks_for_server(request: &Request) -> bool
+    ensures asked { result ≡ is_server_asked request.now }
+    ensures command { IsTrue result → (boot : ℕ) → command_of request.now boot ≡ Ok server_asked }
+{
+    request.method.view() == "GET" && request.target.view() == "/1.0"
+}
