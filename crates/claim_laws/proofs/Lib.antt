@@ -7,3 +7,4 @@ mod Asked
 pub mod NewProfiles
 mod Others
 pub mod OneProject
+pub mod Renamed

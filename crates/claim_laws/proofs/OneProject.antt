@@ -1,15 +1,15 @@
--- Changes within a project are judged in that project alone: all others have and use what they did.
+-- Changes of the rows of some projects are judged in those alone: all others have and use what they did.
 use Rattle.std.proofs.Common.{◌≡◌, ℕ, Bool, true, false, cond, not, Option, Some, None, List, [], ◌∷◌, ◌⊎◌, filter, length, refl, sym, ◌∙◌, ap, ap₂, subst, inl, inr, arith, true≢false}
 use Rattle.std.specs.Prelude.{codes, if◌then◌else◌}
 use Rattle.std.specs.List.{find, list_all, sum_by}
 use Rattle.std.specs.Option.{option_and_then, option_map, option_map_or, option_or}
 use Rattle.std.specs.Str.{bytes_eq}
-use Rattle.machine_laws.specs.plain_lists.specs.Firsts.{first_of}
+use Rattle.machine_laws.specs.plain_lists.specs.Firsts.{first, first_of}
 use Rattle.machine_laws.specs.plain_lists.specs.Members.{Mem, Each}
 use Rattle.machine_laws.specs.plain_lists.proofs.Elements.{Each-head, Each-tail, Mem-append, Mem-left, Mem-right}
 use Rattle.machine_laws.specs.plain_lists.proofs.FirstLemmas.{none-first_of, first_of-same}
 use Rattle.machine_laws.specs.plain_lists.proofs.Readings.{sum_by-same}
-use Rattle.machine_laws.specs.config_lists.proofs.Keys.{same, bytes_eq-itself}
+use Rattle.machine_laws.specs.config_lists.proofs.Keys.{same}
 use Rattle.machine_laws.specs.size_values.specs.Amounts.{part}
 use Rattle.machine_laws.specs.size_values.specs.declared.amounts.Part.{Part}
 use Rattle.machine_laws.specs.size_values.specs.declared.kinds.ObjectKind.TheVariants as kind
@@ -18,6 +18,7 @@ use Rattle.machine_laws.specs.operations.specs.Kept.{Kept}
 use Rattle.machine_laws.specs.project_limits.specs.Admission.{limit_on, key_of, parts}
 use Rattle.machine_laws.specs.project_limits.specs.Limits.{limits_of}
 use Rattle.machine_laws.specs.project_limits.specs.declared.admission.LimitKey.TheVariants as limit_key
+use Rattle.machine_laws.specs.records.specs.declared.refusals.Refusal.{Refusal}
 use Rattle.machine_laws.specs.records.specs.declared.rows.Project.{Project}
 use Rattle.machine_laws.specs.records.specs.declared.rows.Profile.{Profile}
 use Rattle.machine_laws.specs.records.specs.declared.rows.Network.{Network}
@@ -37,7 +38,7 @@ use Rattle.machine_laws.specs.row_machine.specs.machine.State.{State}
 use Rattle.machine_laws.specs.row_machine.specs.machine.Task.{Task}
 use Rattle.machine_laws.specs.row_machine.specs.machine.Usage.{Load, amount_for, used, usage_of, networks_of}
 use Rattle.machine_laws.proofs.Expansions.{home_in, IsAlike, amounts-alike, uncounted-alike, forbids-alike}
-use Rattle.machine_laws.proofs.ExpansionsApart.{home-either, profile-so}
+use Rattle.machine_laws.proofs.ExpansionsApart.{fails-by, home-either, profile-so}
 use Rattle.machine_laws.proofs.ExpansionsNamed.{claim-is, row-judged}
 use Rattle.machine_laws.proofs.Found.{instance-found}
 use Rattle.machine_laws.proofs.LimitsForbidden.{rule_numbers}
@@ -46,11 +47,12 @@ use Rattle.machine_laws.proofs.SharesAlike.{IsShareAlike, share-alike}
 use Rattle.machine_laws.proofs.SharesApart.{instance-so, replaces-or_not}
 use Rattle.machine_laws.proofs.SharesAtOnce.{claim-judged}
 use Rattle.limit_rules.specs.InUse.{part_use_over, network_use_over, uses_over}
-use Rattle.limit_rules.specs.row_readings.proofs.Ranges.{apart, filter-filter, sum_by-filter}
+use Rattle.limit_rules.specs.row_readings.proofs.Ranges.{filter-filter, sum_by-filter}
 use Rattle.policy_rules.specs.Within.{policy_broken_in}
 use Rattle.project_usage.specs.Counted.{instance_part, volume_part, claim_part}
 use Rattle.project_usage.proofs.Parts.{part-of_usage, used-parts}
-use Rattle.claim_laws.specs.OneProject.{is_within, in_use, project_touched, project_within, projects_of, ProjectsAreJudgedAlone}
+use Rattle.claim_laws.specs.OneProject.{is_within, in_use, project_of_all, project_touched, projects_of}
+use Rattle.claim_laws.specs.OneProject.{IsProjectJudgedAlone}
 use Rattle.claim_laws.proofs.Limits.{unexceeded}
 use Rattle.claim_laws.proofs.Others.{AreBeside, Mem-back, Mem-passes, beside-itself, changes-beside, find-filter, is_other}
 use Rattle.claim_laws.proofs.Own.{claimed, last-of, listed-none}
@@ -76,61 +78,66 @@ not-other : (b : Bool) → not b ≡ false → b ≡ true
 not-other true is = refl
 not-other false is = absurd (true≢false is)
 
-other-not : (b : Bool) → not b ≡ true → b ≡ false
+pub other-not : (b : Bool) → not b ≡ true → b ≡ false
 other-not false is = refl
 other-not true is = absurd (true≢false (sym is))
 
-module _ (s t : State) (p : List ℕ) (h : IsWhole s) (b : AreBeside p s t) where
+-- the first limit that one of these projects exceeds
+abbrev pub exceeding : State → State → List Project → Option Refusal
+exceeding s t projects = first
+    (first_of (λ k. first_of (part_exceeds s t k) projects) parts ∷ first_of (networks_exceed s t) projects ∷ [])
+
+module _ (s t : State) (such : List ℕ → Bool) (h : IsWhole s) (b : AreBeside such s t) where
   -- ---- what another project looks up
 
-  project-alike : (name : List ℕ) → bytes_eq name p ≡ false → project_named t.projects name ≡ project_named s.projects name
+  project-alike : (name : List ℕ) → such name ≡ false → project_named t.projects name ≡ project_named s.projects name
   project-alike name other =
       sym (find-filter test (is_project name) t.projects tells)
       ∙ ap (find (is_project name)) b.projects
       ∙ find-filter test (is_project name) s.projects tells where
         test : Project → Bool
-        test r = is_other p r.name
+        test r = is_other such r.name
 
-        tells : (y : Project) → is_project name y ≡ true → is_other p y.name ≡ true
-        tells y is = ap (is_other p) (same y.name name is) ∙ ap not other
+        tells : (y : Project) → is_project name y ≡ true → is_other such y.name ≡ true
+        tells y is = ap (is_other such) (same y.name name is) ∙ ap not other
 
-  profile-alike : (home name : List ℕ) → bytes_eq home p ≡ false → profile_named t.profiles home name ≡ profile_named s.profiles home name
+  profile-alike : (home name : List ℕ) → such home ≡ false → profile_named t.profiles home name ≡ profile_named s.profiles home name
   profile-alike home name other =
       sym (find-filter test (is_profile home name) t.profiles tells)
       ∙ ap (find (is_profile home name)) b.profiles
       ∙ find-filter test (is_profile home name) s.profiles tells where
         test : Profile → Bool
-        test r = is_other p r.project
+        test r = is_other such r.project
 
-        tells : (y : Profile) → is_profile home name y ≡ true → is_other p y.project ≡ true
-        tells y is = ap (is_other p) (profile-so home name y is).0 ∙ ap not other
+        tells : (y : Profile) → is_profile home name y ≡ true → is_other such y.project ≡ true
+        tells y is = ap (is_other such) (profile-so home name y is).0 ∙ ap not other
 
-  instance-alike : (project name : List ℕ) → bytes_eq project p ≡ false → instance_named t.instances project name ≡ instance_named s.instances project name
+  instance-alike : (project name : List ℕ) → such project ≡ false → instance_named t.instances project name ≡ instance_named s.instances project name
   instance-alike project name other =
       sym (find-filter test (is_instance project name) t.instances tells)
       ∙ ap (find (is_instance project name)) b.instances
       ∙ find-filter test (is_instance project name) s.instances tells where
         test : Instance → Bool
-        test r = is_other p r.project
+        test r = is_other such r.project
 
-        tells : (y : Instance) → is_instance project name y ≡ true → is_other p y.project ≡ true
-        tells y is = ap (is_other p) (instance-so project name y is).0 ∙ ap not other
+        tells : (y : Instance) → is_instance project name y ≡ true → is_other such y.project ≡ true
+        tells y is = ap (is_other such) (instance-so project name y is).0 ∙ ap not other
 
   -- a profile of `default` is the same, whether that is another project or not
   default-alike : (name : List ℕ) → profile_named t.profiles default_name name ≡ profile_named s.profiles default_name name
-  default-alike name = at (bytes_eq default_name p) refl where
-    at : (c : Bool) → bytes_eq default_name p ≡ c → profile_named t.profiles default_name name ≡ profile_named s.profiles default_name name
-    at true is = ap (λ rows. profile_named rows default_name name) (b.shared (ap (bytes_eq p) (same default_name p is) ∙ bytes_eq-itself p))
+  default-alike name = at (such default_name) refl where
+    at : (c : Bool) → such default_name ≡ c → profile_named t.profiles default_name name ≡ profile_named s.profiles default_name name
+    at true is = ap (λ rows. profile_named rows default_name name) (b.shared is)
     at false is = profile-alike default_name name is
 
-  home-alike : (name : List ℕ) → bytes_eq name p ≡ false → home_of t.projects name kind.Profile ≡ home_of s.projects name kind.Profile
+  home-alike : (name : List ℕ) → such name ≡ false → home_of t.projects name kind.Profile ≡ home_of s.projects name kind.Profile
   unfolding home_of
   home-alike name other = ap
       (λ found. if option_map_or (λ (r : Project). is_on r.config (codes "features.profiles")) found false then name else default_name)
       (project-alike name other)
 
   -- an instance of another project has what it had
-  alike : (i : Instance) → bytes_eq i.project p ≡ false → IsAlike s t i
+  alike : (i : Instance) → such i.project ≡ false → IsAlike s t i
   alike i other = record { home = home-alike i.project other; profiles = λ name m. found name (home-either s i.project) } where
     found : (name : List ℕ) → (home_in s i ≡ i.project) ⊎ (home_in s i ≡ default_name)
         → profile_named t.profiles (home_in s i) name ≡ profile_named s.profiles (home_in s i) name
@@ -141,23 +148,23 @@ module _ (s t : State) (p : List ℕ) (h : IsWhole s) (b : AreBeside p s t) wher
 
   -- ---- what another project has
 
-  project-there : (q : Project) → Mem q t.projects → bytes_eq q.name p ≡ false → Mem q s.projects
-  project-there q m other = Mem-back (λ (r : Project). is_other p r.name) q s.projects t.projects b.projects m (ap not other)
+  project-there : (q : Project) → Mem q t.projects → such q.name ≡ false → Mem q s.projects
+  project-there q m other = Mem-back (λ (r : Project). is_other such r.name) q s.projects t.projects b.projects m (ap not other)
 
   -- the project of what is a project's own is another one too
-  own-other : (name q : List ℕ) → bytes_eq name q ≡ true → bytes_eq q p ≡ false → bytes_eq name p ≡ false
-  own-other name q own other = ap (λ n. bytes_eq n p) (same name q own) ∙ other
+  own-other : (name q : List ℕ) → bytes_eq name q ≡ true → such q ≡ false → such name ≡ false
+  own-other name q own other = ap such (same name q own) ∙ other
 
-  profile-there : (r : Profile) → Mem r t.profiles → bytes_eq r.project p ≡ false → Mem r s.profiles
-  profile-there r m other = Mem-back (λ (x : Profile). is_other p x.project) r s.profiles t.profiles b.profiles m (ap not other)
+  profile-there : (r : Profile) → Mem r t.profiles → such r.project ≡ false → Mem r s.profiles
+  profile-there r m other = Mem-back (λ (x : Profile). is_other such x.project) r s.profiles t.profiles b.profiles m (ap not other)
 
-  volume-there : (r : Volume) → Mem r t.volumes → bytes_eq r.project p ≡ false → Mem r s.volumes
-  volume-there r m other = Mem-back (λ (x : Volume). is_other p x.project) r s.volumes t.volumes b.volumes m (ap not other)
+  volume-there : (r : Volume) → Mem r t.volumes → such r.project ≡ false → Mem r s.volumes
+  volume-there r m other = Mem-back (λ (x : Volume). is_other such x.project) r s.volumes t.volumes b.volumes m (ap not other)
 
-  instance-there : (i : Instance) → Mem i t.instances → bytes_eq i.project p ≡ false → Mem i s.instances
-  instance-there i m other = Mem-back (λ (x : Instance). is_other p x.project) i s.instances t.instances b.instances m (ap not other)
+  instance-there : (i : Instance) → Mem i t.instances → such i.project ≡ false → Mem i s.instances
+  instance-there i m other = Mem-back (λ (x : Instance). is_other such x.project) i s.instances t.instances b.instances m (ap not other)
 
-  judged-there : (i : Instance) → Mem i (judged_instances t) → bytes_eq i.project p ≡ false → Mem i (judged_instances s)
+  judged-there : (i : Instance) → Mem i (judged_instances t) → such i.project ≡ false → Mem i (judged_instances s)
   unfolding judged_instances
   judged-there i m other = elim (Mem-append i t.instances (of_live claimed_instance t) m) [
     | inl row ↦ row-judged s i (instance-there i row other)
@@ -167,7 +174,11 @@ module _ (s t : State) (p : List ℕ) (h : IsWhole s) (b : AreBeside p s t) wher
 
   -- ---- policy
 
-  policy-other : (number : ℕ) (q : Project) → Mem q t.projects → bytes_eq q.name p ≡ false → project_forbids t number q ≡ None
+  -- the projects in which the changes are
+  abbrev those : List Project
+  those = filter (λ (q : Project). such q.name) t.projects
+
+  policy-other : (number : ℕ) (q : Project) → Mem q t.projects → such q.name ≡ false → project_forbids t number q ≡ None
   policy-other number q m other = none-of_two
       (none-first_of (forbids_profile q number) (filter own_profile t.profiles) (record { at = profiles }))
       (none-first_of (forbids_instance t q number) (filter own_instance (judged_instances t)) (record { at = instances })) where
@@ -193,19 +204,19 @@ module _ (s t : State) (p : List ℕ) (h : IsWhole s) (b : AreBeside p s t) wher
             forbids-alike q number (alike i away)
             ∙ clean.instances.at i (judged-there i (Mem-filter own_instance i (judged_instances t) n) away) (same i.project q.name own) number
 
-  policy-within : policy_broken t ≡ policy_broken_in t (projects_of t p)
+  pub policy-within : policy_broken t ≡ policy_broken_in t those
   unfolding policy_broken
   policy-within = first_of-same
       (λ number. first_of (project_forbids t number) t.projects)
-      (λ number. first_of (project_forbids t number) (projects_of t p)) rule_numbers
+      (λ number. first_of (project_forbids t number) those) rule_numbers
       (record {
-        at = λ number n. first_of-passing (λ (q : Project). bytes_eq q.name p) (project_forbids t number) (project_forbids t number) t.projects
+        at = λ number n. first_of-passing (λ (q : Project). such q.name) (project_forbids t number) (project_forbids t number) t.projects
             (record { at = policy-other number }) (λ q own. refl);
       })
 
   -- ---- counts
 
-  counts-other : (q : Project) → Mem q t.projects → bytes_eq q.name p ≡ false → project_uncounted t q ≡ None
+  counts-other : (q : Project) → Mem q t.projects → such q.name ≡ false → project_uncounted t q ≡ None
   unfolding judged_volumes
   counts-other q m other = last-of
       (none-first_of (instance_uncounted t q) (filter own_instance t.instances) (record { at = instances }))
@@ -222,7 +233,7 @@ module _ (s t : State) (p : List ℕ) (h : IsWhole s) (b : AreBeside p s t) wher
 
         counted : (i : Instance) → Mem i (judged_instances s) → i.project ≡ q.name → instance_uncounted t q i ≡ None
         counted i n own =
-            uncounted-alike q (alike i (ap (λ name. bytes_eq name p) own ∙ other))
+            uncounted-alike q (alike i (ap such own ∙ other))
             ∙ within.instances.at i n own
 
         instances : (i : Instance) → Mem i (filter own_instance t.instances) → instance_uncounted t q i ≡ None
@@ -246,14 +257,14 @@ module _ (s t : State) (p : List ℕ) (h : IsWhole s) (b : AreBeside p s t) wher
             (listed-none (volume_uncounts q) (λ (v : Volume). v.project) q.name (claimed_volume o.work)
             (λ v is own. within.volumes.at v (claimed claimed_volume s s.volumes o v live is) own))
 
-  counts-within : counts_broken t ≡ first_of (project_uncounted t) (projects_of t p)
+  pub counts-within : counts_broken t ≡ first_of (project_uncounted t) those
   unfolding counts_broken
-  counts-within = first_of-passing (λ (q : Project). bytes_eq q.name p) (project_uncounted t) (project_uncounted t) t.projects
+  counts-within = first_of-passing (λ (q : Project). such q.name) (project_uncounted t) (project_uncounted t) t.projects
       (record { at = counts-other }) (λ q own. refl)
 
   -- ---- shares
 
-  module _ (o : Operation Task) (m : Mem o s.operations.live) (other : bytes_eq o.work.project p ≡ false) where
+  module _ (o : Operation Task) (m : Mem o s.operations.live) (other : such o.work.project ≡ false) where
     -- the row that it replaces is of its project
     replaced-alike : replaced_instance t o.work ≡ replaced_instance s o.work
     replaced-alike = elim (replaces-or_not s o.work (h.operations.deeds.at o m) (h.links.operations.at o m)) [
@@ -277,18 +288,21 @@ module _ (s t : State) (p : List ℕ) (h : IsWhole s) (b : AreBeside p s t) wher
     same-share : IsShareAlike s t o.work
     same-share = record {
       claimed = λ i is. amounts-alike (alike i
-          (ap (λ name. bytes_eq name p) ((h.links.operations.at o m).claim_project (row.Instance i) (claim-is o.work i is)) ∙ other));
+          (ap such ((h.links.operations.at o m).claim_project (row.Instance i) (claim-is o.work i is)) ∙ other));
       replaced = replaced-alike;
-      old = λ i is. amounts-alike (alike i (ap (λ name. bytes_eq name p) (replaced-own i is) ∙ other));
+      old = λ i is. amounts-alike (alike i (ap such (replaced-own i is) ∙ other));
     }
 
   -- ---- usage
 
-  module _ (q : List ℕ) (k : Part) (other : bytes_eq q p ≡ false) where
-    -- what is of the project of the changes adds nothing
-    adds-nothing : (name : List ℕ) (n : ℕ) → is_other p name ≡ false → cond (bytes_eq name q) n 0 ≡ 0
-    adds-nothing name n is = ap (λ c. cond c n 0)
-        (ap (λ x. bytes_eq x q) (same name p (not-other (bytes_eq name p) is)) ∙ apart q p other)
+  -- the name of such a project is not that of another one
+  differs : (name q : List ℕ) → such name ≡ true → such q ≡ false → bytes_eq name q ≡ false
+  differs name q is other = fails-by (bytes_eq name q) (λ one. true≢false (sym is ∙ ap such (same name q one) ∙ other))
+
+  module _ (q : List ℕ) (k : Part) (other : such q ≡ false) where
+    -- what is of the projects of the changes adds nothing
+    adds-nothing : (name : List ℕ) (n : ℕ) → is_other such name ≡ false → cond (bytes_eq name q) n 0 ≡ 0
+    adds-nothing name n is = ap (λ c. cond c n 0) (differs name q (not-other (such name) is) other)
 
     instances-add : sum_by (instance_part t q k) t.instances ≡ sum_by (instance_part s q k) s.instances
     instances-add =
@@ -297,11 +311,11 @@ module _ (s t : State) (p : List ℕ) (h : IsWhole s) (b : AreBeside p s t) wher
         ∙ sum_by-same (instance_part t q k) (instance_part s q k) (filter test s.instances) (record { at = counts })
         ∙ sum_by-filter (instance_part s q k) test s.instances (λ i is. adds-nothing i.project (part k (amounts_of_instance s i)) is) where
           test : Instance → Bool
-          test i = is_other p i.project
+          test i = is_other such i.project
 
           counts : (i : Instance) → Mem i (filter test s.instances) → instance_part t q k i ≡ instance_part s q k i
           counts i m = ap (λ a. cond (bytes_eq i.project q) (part k a) 0)
-              (amounts-alike (alike i (other-not (bytes_eq i.project p) (Mem-passes test i s.instances m))))
+              (amounts-alike (alike i (other-not (such i.project) (Mem-passes test i s.instances m))))
 
     volumes-add : sum_by (volume_part q k) t.volumes ≡ sum_by (volume_part q k) s.volumes
     volumes-add =
@@ -309,7 +323,7 @@ module _ (s t : State) (p : List ℕ) (h : IsWhole s) (b : AreBeside p s t) wher
         ∙ ap (sum_by (volume_part q k)) b.volumes
         ∙ sum_by-filter (volume_part q k) test s.volumes (λ v is. adds-nothing v.project _ is) where
           test : Volume → Bool
-          test v = is_other p v.project
+          test v = is_other such v.project
 
     claim-adds : (o : Operation Task) → Mem o s.operations.live → claim_part t q k o.work ≡ claim_part s q k o.work
     claim-adds o m = at o.work.claim refl where
@@ -319,7 +333,7 @@ module _ (s t : State) (p : List ℕ) (h : IsWhole s) (b : AreBeside p s t) wher
       own : (new : Row) → o.work.claim ≡ Some new → (c : Bool) → bytes_eq (project_of_row new) q ≡ c
           → cond c (part k (share_of t o.work)) 0 ≡ cond c (part k (share_of s o.work)) 0
       own new is true of = ap (part k) (share-alike o.work (same-share o m
-          (ap (λ name. bytes_eq name p) (sym ((h.links.operations.at o m).claim_project new is) ∙ same (project_of_row new) q of) ∙ other)))
+          (ap such (sym ((h.links.operations.at o m).claim_project new is) ∙ same (project_of_row new) q of) ∙ other)))
       own new is false of = refl
 
       at : (claim : Option Row) → o.work.claim ≡ claim
@@ -337,7 +351,7 @@ module _ (s t : State) (p : List ℕ) (h : IsWhole s) (b : AreBeside p s t) wher
     used-other : used t q k ≡ used s q k
     used-other = omega (arith, used-parts t q k, used-parts s q k, instances-add, volumes-add, claims-add)
 
-  networks-other : (q : List ℕ) → bytes_eq q p ≡ false → networks_of t q ≡ networks_of s q
+  networks-other : (q : List ℕ) → such q ≡ false → networks_of t q ≡ networks_of s q
   unfolding networks_of
   networks-other q other =
       sym (ap length (filter-filter own test t.networks none))
@@ -347,50 +361,65 @@ module _ (s t : State) (p : List ℕ) (h : IsWhole s) (b : AreBeside p s t) wher
         own n = bytes_eq n.project q
 
         test : Network → Bool
-        test n = is_other p n.project
+        test n = is_other such n.project
 
         none : (n : Network) → test n ≡ false → own n ≡ false
-        none n is = ap (λ x. bytes_eq x q) (same n.project p (not-other (bytes_eq n.project p) is)) ∙ apart q p other
+        none n is = differs n.project q (not-other (such n.project) is) other
 
   -- ---- limits
 
-  part-other : (k : Part) (q : Project) → Mem q t.projects → bytes_eq q.name p ≡ false → part_exceeds s t k q ≡ None
+  part-other : (k : Part) (q : Project) → Mem q t.projects → such q.name ≡ false → part_exceeds s t k q ≡ None
   unfolding part_exceeds
   part-other k q m other =
       ap (limit_exceeded q (key_of k) (limit_on k (limits_of q.config)) (used s q.name k)) (used-other q.name k other)
       ∙ unexceeded q (key_of k) (limit_on k (limits_of q.config)) (used s q.name k) ((h.limits.limits.at q (project-there q m other)).parts k)
 
+  count-other : (q : Project) → Mem q t.projects → such q.name ≡ false → networks_exceed s t q ≡ None
+  unfolding networks_exceed
+  count-other q m other =
+      ap (limit_exceeded q limit_key.Networks (limits_of q.config).networks (networks_of s q.name)) (networks-other q.name other)
+      ∙ unexceeded q limit_key.Networks (limits_of q.config).networks (networks_of s q.name) (h.limits.limits.at q (project-there q m other)).networks
+
+  pub limits-within : limits_broken s t ≡ exceeding s t those
+  unfolding limits_broken
+  limits-within = ap₂ (λ of_parts of_networks. option_or of_parts (option_or of_networks None))
+      (first_of-same (λ k. first_of (part_exceeds s t k) t.projects) (λ k. first_of (part_exceeds s t k) those) parts
+      (record {
+        at = λ k n. first_of-passing (λ (q : Project). such q.name) (part_exceeds s t k) (part_exceeds s t k) t.projects
+            (record { at = part-other k }) (λ q own. refl);
+      }))
+      (first_of-passing (λ (q : Project). such q.name) (networks_exceed s t) (networks_exceed s t) t.projects
+      (record { at = count-other }) (λ q own. refl))
+
+-- ---- what one project exceeds
+
+module _ (s t : State) (p : List ℕ) where
   part-own : (k : Part) (q : Project) → bytes_eq q.name p ≡ true → part_exceeds s t k q ≡ part_use_over (usage_of s p) (usage_of t p) k q
   unfolding part_exceeds
   part-own k q own = ap₂ (limit_exceeded q (key_of k) (limit_on k (limits_of q.config))) (uses s) (uses t) where
     uses : (u : State) → used u q.name k ≡ part k (usage_of u p)
     uses u = ap (λ name. used u name k) (same q.name p own) ∙ sym (part-of_usage u p k)
 
-  count-other : (q : Project) → Mem q t.projects → bytes_eq q.name p ≡ false → networks_exceed s t q ≡ None
-  unfolding networks_exceed
-  count-other q m other =
-      ap (limit_exceeded q limit_key.Networks (limits_of q.config).networks (networks_of s q.name)) (networks-other q.name other)
-      ∙ unexceeded q limit_key.Networks (limits_of q.config).networks (networks_of s q.name) (h.limits.limits.at q (project-there q m other)).networks
-
   count-own : (q : Project) → bytes_eq q.name p ≡ true → networks_exceed s t q ≡ network_use_over (networks_of s p) (networks_of t p) q
   unfolding networks_exceed
   count-own q own = ap₂ (limit_exceeded q limit_key.Networks (limits_of q.config).networks)
       (ap (networks_of s) (same q.name p own)) (ap (networks_of t) (same q.name p own))
 
-  limits-within : limits_broken s t ≡ uses_over (projects_of t p) (in_use s p) (in_use t p)
-  unfolding limits_broken
-  limits-within = ap₂ (λ of_parts of_networks. option_or of_parts (option_or of_networks None))
-      (first_of-same (λ k. first_of (part_exceeds s t k) t.projects) (λ k. first_of (part_use_over (usage_of s p) (usage_of t p) k) (projects_of t p)) parts
+  pub exceeding-own : exceeding s t (projects_of t p) ≡ uses_over (projects_of t p) (in_use s p) (in_use t p)
+  exceeding-own = ap₂ (λ of_parts of_networks. option_or of_parts (option_or of_networks None))
+      (first_of-same (λ k. first_of (part_exceeds s t k) (projects_of t p)) (λ k. first_of (part_use_over (usage_of s p) (usage_of t p) k) (projects_of t p)) parts
       (record {
-        at = λ k n. first_of-passing (λ (q : Project). bytes_eq q.name p) (part_exceeds s t k) (part_use_over (usage_of s p) (usage_of t p) k) t.projects
-            (record { at = part-other k }) (part-own k);
+        at = λ k n. first_of-same (part_exceeds s t k) (part_use_over (usage_of s p) (usage_of t p) k) (projects_of t p)
+            (record { at = λ q m. part-own k q (Mem-passes named q t.projects m) });
       }))
-      (first_of-passing (λ (q : Project). bytes_eq q.name p) (networks_exceed s t) (network_use_over (networks_of s p) (networks_of t p)) t.projects
-      (record { at = count-other }) count-own)
+      (first_of-same (networks_exceed s t) (network_use_over (networks_of s p) (networks_of t p)) (projects_of t p)
+      (record { at = λ q m. count-own q (Mem-passes named q t.projects m) })) where
+        named : Project → Bool
+        named q = bytes_eq q.name p
 
--- ---- changes
+-- ---- changes of one project
 
-all-within : (cs : List RowChange) (p : List ℕ) → project_within cs ≡ Some p → list_all (is_within p) cs ≡ true
+all-within : (cs : List RowChange) (p : List ℕ) → project_of_all cs ≡ Some p → list_all (is_within p) cs ≡ true
 all-within [] p is = cc
 all-within (c ∷ cs) p is = at (list_all (is_within (project_touched c)) (c ∷ cs)) refl is where
   at : (b : Bool) → list_all (is_within (project_touched c)) (c ∷ cs) ≡ b → cond b (Some (project_touched c)) None ≡ Some p
@@ -398,10 +427,17 @@ all-within (c ∷ cs) p is = at (list_all (is_within (project_touched c)) (c ∷
   at true all found = let own : project_touched c ≡ p = cc in subst (λ name. list_all (is_within name) (c ∷ cs) ≡ true) own all
   at false all found = cc
 
-pub projects-alone : ProjectsAreJudgedAlone
-projects-alone s cs p h is = record { policy = policy-within s t p h b; counts = counts-within s t p h b; limits = limits-within s t p h b } where
+pub one-alone : (s : State) (cs : List RowChange) (p : List ℕ) → IsWhole s → project_of_all cs ≡ Some p → IsProjectJudgedAlone s (applied s cs) p
+one-alone s cs p h is = record {
+  policy = policy-within s t own h b;
+  counts = counts-within s t own h b;
+  limits = limits-within s t own h b ∙ exceeding-own s t p;
+} where
   t : State
   t = applied s cs
 
-  b : AreBeside p s t
-  b = changes-beside p s h cs s (all-within cs p is) (beside-itself p s)
+  own : List ℕ → Bool
+  own name = bytes_eq name p
+
+  b : AreBeside own s t
+  b = changes-beside own s h cs s (all-within cs p is) (beside-itself own s)

@@ -1,11 +1,11 @@
--- Changes within a project leave the rows of all others.
+-- Changes of the rows of some projects leave those of all others.
 use Rattle.std.proofs.Common.{◌≡◌, ℕ, Bool, true, false, cond, not, Some, List, [], ◌∷◌, filter, refl, sym, ◌∙◌, ap, subst, inl, inr, true≢false}
 use Rattle.std.specs.List.{before_first, find, list_all, list_any}
 use Rattle.std.specs.Str.{bytes_eq}
 use Rattle.machine_laws.specs.plain_lists.specs.Edits.{changed_first, dropped, inserted, replaced}
 use Rattle.machine_laws.specs.plain_lists.specs.Members.{Mem, Each}
 use Rattle.machine_laws.specs.plain_lists.proofs.Elements.{Each-left, Each-map, Each-tail, Each-head}
-use Rattle.machine_laws.specs.config_lists.proofs.Keys.{same, bytes_eq-itself}
+use Rattle.machine_laws.specs.config_lists.proofs.Keys.{same}
 use Rattle.machine_laws.specs.size_values.specs.declared.kinds.ObjectKind.{ObjectKind}
 use Rattle.machine_laws.specs.size_values.specs.declared.kinds.ObjectKind.TheVariants as kind
 use Rattle.machine_laws.specs.records.specs.declared.rows.Project.{Project}
@@ -31,7 +31,7 @@ use Rattle.machine_laws.proofs.Found.{two_same, three_same}
 use Rattle.machine_laws.proofs.LimitsBroken.{Mem-filter}
 use Rattle.machine_laws.proofs.NamesRows.{EachRow, each-row}
 use Rattle.machine_laws.proofs.NamesSuccess.{Mem-filter as Mem-filtered}
-use Rattle.claim_laws.specs.OneProject.{is_within}
+use Rattle.claim_laws.specs.OneProject.{touches_such}
 
 -- ---- what passes a test, where that fails on all that is put and dropped
 
@@ -55,7 +55,7 @@ module _ {X : Type 0} (q : X → Bool) where
     at true more = ap (λ b. cond b (x ∷ filter q (y ∷ ys)) (filter q (y ∷ ys))) fails
     at false more = ap (λ zs. cond (q y) (y ∷ zs) zs) more
 
-  filter-replaced : (p before : X → Bool) (x : X) (xs : List X) → q x ≡ false → ((y : X) → p y ≡ true → q y ≡ false)
+  pub filter-replaced : (p before : X → Bool) (x : X) (xs : List X) → q x ≡ false → ((y : X) → p y ≡ true → q y ≡ false)
       → filter q (replaced p before x xs) ≡ filter q xs
   filter-replaced p before x xs fails tells = at (list_any p xs) where
     at : (b : Bool) → filter q (cond b (changed_first p (λ _. x) xs) (inserted before x xs)) ≡ filter q xs
@@ -94,46 +94,44 @@ module _ {X : Type 0} (q : X → Bool) where
 
 -- ---- rows of other projects
 
--- whether the project of this name is another one
-abbrev pub is_other : List ℕ → List ℕ → Bool
-is_other project name = not (bytes_eq name project)
+-- whether the project of this name is another one than such
+abbrev pub is_other : (List ℕ → Bool) → List ℕ → Bool
+is_other such name = not (such name)
 
 -- the rows of other projects are the same in both lists
-abbrev pub SameOthers : {X : Type 0} → (X → List ℕ) → List ℕ → List X → List X → Type 0
-SameOthers of project before after = filter (λ x. is_other project (of x)) after ≡ filter (λ x. is_other project (of x)) before
+abbrev pub SameOthers : {X : Type 0} → (X → List ℕ) → (List ℕ → Bool) → List X → List X → Type 0
+SameOthers of such before after = filter (λ x. is_other such (of x)) after ≡ filter (λ x. is_other such (of x)) before
 
-module _ {X : Type 0} (of : X → List ℕ) (project : List ℕ) where
-  put-others : (names : X → List (List ℕ)) (x : X) (rows : List X) → of x ≡ project
-      → ((y : X) → same_names (names y) (names x) ≡ true → of y ≡ of x) → SameOthers of project rows (put_by names x rows)
+module _ {X : Type 0} (of : X → List ℕ) (such : List ℕ → Bool) where
+  put-others : (names : X → List (List ℕ)) (x : X) (rows : List X) → such (of x) ≡ true
+      → ((y : X) → same_names (names y) (names x) ≡ true → of y ≡ of x) → SameOthers of such rows (put_by names x rows)
   put-others names x rows own tells =
-      filter-replaced (λ y. is_other project (of y)) (λ y. same_names (names y) (names x)) (λ y. texts_before (names x) (names y)) x rows
-      (fails x own) (λ y is. fails y (tells y is ∙ own)) where
-        fails : (y : X) → of y ≡ project → is_other project (of y) ≡ false
-        fails y is = ap (is_other project) is ∙ ap not (bytes_eq-itself project)
+      filter-replaced (λ y. is_other such (of y)) (λ y. same_names (names y) (names x)) (λ y. texts_before (names x) (names y)) x rows
+      (ap not own) (λ y is. ap not (ap such (tells y is) ∙ own))
 
   -- a row of another project would stand among those of before
-  drop-others : (gone : X → Bool) (before rows : List X) → SameOthers of project before rows
-      → Each (λ y. gone y ≡ true → of y ≡ project) before → SameOthers of project rows (dropped gone rows)
-  drop-others gone before rows same own = filter-dropped (λ y. is_other project (of y)) gone rows (record { at = fails }) where
-    fails : (y : X) → Mem y rows → gone y ≡ true → is_other project (of y) ≡ false
-    fails y m is = fails-by (is_other project (of y)) (λ other.
-        let there : Mem y before = Mem-back (λ z. is_other project (of z)) y before rows same m other in
-        true≢false (sym other ∙ ap (is_other project) (own.at y there is) ∙ ap not (bytes_eq-itself project)))
+  drop-others : (gone : X → Bool) (before rows : List X) → SameOthers of such before rows
+      → Each (λ y. gone y ≡ true → such (of y) ≡ true) before → SameOthers of such rows (dropped gone rows)
+  drop-others gone before rows same own = filter-dropped (λ y. is_other such (of y)) gone rows (record { at = fails }) where
+    fails : (y : X) → Mem y rows → gone y ≡ true → is_other such (of y) ≡ false
+    fails y m is = fails-by (is_other such (of y)) (λ other.
+        let there : Mem y before = Mem-back (λ z. is_other such (of z)) y before rows same m other in
+        true≢false (sym other ∙ ap not (own.at y there is)))
 
 -- ---- two states
 
--- all rows of other projects are the same in both, and all operations, and all profiles where the project is `default`
-pub record AreBeside (p : List ℕ) (s t : State) : Type 0 where
-  pub projects : SameOthers (λ (r : Project). r.name) p s.projects t.projects
-  pub profiles : SameOthers (λ (r : Profile). r.project) p s.profiles t.profiles
-  pub shared : bytes_eq p default_name ≡ true → t.profiles ≡ s.profiles
-  pub networks : SameOthers (λ (r : Network). r.project) p s.networks t.networks
-  pub volumes : SameOthers (λ (r : Volume). r.project) p s.volumes t.volumes
-  pub instances : SameOthers (λ (r : Instance). r.project) p s.instances t.instances
+-- all rows of other projects are the same in both, and all operations, and all profiles where `default` is such a project
+pub record AreBeside (such : List ℕ → Bool) (s t : State) : Type 0 where
+  pub projects : SameOthers (λ (r : Project). r.name) such s.projects t.projects
+  pub profiles : SameOthers (λ (r : Profile). r.project) such s.profiles t.profiles
+  pub shared : such default_name ≡ true → t.profiles ≡ s.profiles
+  pub networks : SameOthers (λ (r : Network). r.project) such s.networks t.networks
+  pub volumes : SameOthers (λ (r : Volume). r.project) such s.volumes t.volumes
+  pub instances : SameOthers (λ (r : Instance). r.project) such s.instances t.instances
   pub operations : t.operations ≡ s.operations
 
-pub beside-itself : (p : List ℕ) (s : State) → AreBeside p s s
-beside-itself p s = record {
+pub beside-itself : (such : List ℕ → Bool) (s : State) → AreBeside such s s
+beside-itself such s = record {
   projects = refl;
   profiles = refl;
   shared = λ is. refl;
@@ -144,20 +142,18 @@ beside-itself p s = record {
 }
 
 -- the project of a row is what stands before the slash of its key
-key-project : (p front back key : List ℕ) → HasNoSlash front → bytes_eq (before_first is_slash key) p ≡ true
-    → bytes_eq (two_names front back) key ≡ true → front ≡ p
-key-project p front back key none own is =
-    sym (before_joined front back none)
-    ∙ ap (before_first is_slash) (same (two_names front back) key is)
-    ∙ same (before_first is_slash key) p own
+key-project : (such : List ℕ → Bool) (front back key : List ℕ) → HasNoSlash front → such (before_first is_slash key) ≡ true
+    → bytes_eq (two_names front back) key ≡ true → such front ≡ true
+key-project such front back key none own is =
+    ap such (sym (before_joined front back none) ∙ ap (before_first is_slash) (same (two_names front back) key is)) ∙ own
 
-module _ (p : List ℕ) (s : State) (h : IsWhole s) where
+module _ (such : List ℕ → Bool) (s : State) (h : IsWhole s) where
   good : EachRow HasGoodKey s
   good = each-row s (Each-left (claims_of s) h.names.good)
 
-  put-beside : (r : Row) (t : State) → is_within p (change.Put r) ≡ true → AreBeside p s t → AreBeside p s (with_row r t)
+  put-beside : (r : Row) (t : State) → touches_such such (change.Put r) ≡ true → AreBeside such s t → AreBeside such s (with_row r t)
   put-beside (row.Project r) t is b = record {
-    projects = put-others (λ (x : Project). x.name) p project_names r t.projects (same r.name p (both_true _ _ is).0)
+    projects = put-others (λ (x : Project). x.name) such project_names r t.projects (both_true _ _ is).0
         (λ y names. same y.name r.name names) ∙ b.projects;
     profiles = b.profiles;
     shared = b.shared;
@@ -168,7 +164,7 @@ module _ (p : List ℕ) (s : State) (h : IsWhole s) where
   }
   put-beside (row.Profile r) t is b = record {
     projects = b.projects;
-    profiles = put-others (λ (x : Profile). x.project) p profile_names r t.profiles (same r.project p (both_true _ _ is).0)
+    profiles = put-others (λ (x : Profile). x.project) such profile_names r t.profiles (both_true _ _ is).0
         (λ y names. (two_same y.project r.project y.name r.name names).0) ∙ b.profiles;
     shared = λ shares. absurd (true≢false (sym (both_true _ _ is).1 ∙ ap not shares));
     networks = b.networks;
@@ -180,7 +176,7 @@ module _ (p : List ℕ) (s : State) (h : IsWhole s) where
     projects = b.projects;
     profiles = b.profiles;
     shared = b.shared;
-    networks = put-others (λ (x : Network). x.project) p network_names r t.networks (same r.project p (both_true _ _ is).0)
+    networks = put-others (λ (x : Network). x.project) such network_names r t.networks (both_true _ _ is).0
         (λ y names. (two_same y.project r.project y.name r.name names).0) ∙ b.networks;
     volumes = b.volumes;
     instances = b.instances;
@@ -191,7 +187,7 @@ module _ (p : List ℕ) (s : State) (h : IsWhole s) where
     profiles = b.profiles;
     shared = b.shared;
     networks = b.networks;
-    volumes = put-others (λ (x : Volume). x.project) p volume_names r t.volumes (same r.project p (both_true _ _ is).0)
+    volumes = put-others (λ (x : Volume). x.project) such volume_names r t.volumes (both_true _ _ is).0
         (λ y names. (three_same y.project r.project y.pool r.pool y.name r.name names).0) ∙ b.volumes;
     instances = b.instances;
     operations = b.operations;
@@ -202,7 +198,7 @@ module _ (p : List ℕ) (s : State) (h : IsWhole s) where
     shared = b.shared;
     networks = b.networks;
     volumes = b.volumes;
-    instances = put-others (λ (x : Instance). x.project) p instance_names r t.instances (same r.project p (both_true _ _ is).0)
+    instances = put-others (λ (x : Instance). x.project) such instance_names r t.instances (both_true _ _ is).0
         (λ y names. (two_same y.project r.project y.name r.name names).0) ∙ b.instances;
     operations = b.operations;
   }
@@ -225,11 +221,11 @@ module _ (p : List ℕ) (s : State) (h : IsWhole s) where
     operations = b.operations;
   }
 
-  gone-beside : (of : ObjectKind) (key : List ℕ) (t : State) → is_within p (change.Remove of key) ≡ true → AreBeside p s t
-      → AreBeside p s (without_row of key t)
+  gone-beside : (of : ObjectKind) (key : List ℕ) (t : State) → touches_such such (change.Remove of key) ≡ true → AreBeside such s t
+      → AreBeside such s (without_row of key t)
   gone-beside kind.Project key t is b = record {
-    projects = drop-others (λ (x : Project). x.name) p (λ r. has_key key (row.Project r)) s.projects t.projects b.projects
-        (record { at = λ y m hit. same y.name key hit ∙ same key p (both_true _ _ is).0 }) ∙ b.projects;
+    projects = drop-others (λ (x : Project). x.name) such (λ r. has_key key (row.Project r)) s.projects t.projects b.projects
+        (record { at = λ y m hit. ap such (same y.name key hit) ∙ (both_true _ _ is).0 }) ∙ b.projects;
     profiles = b.profiles;
     shared = b.shared;
     networks = b.networks;
@@ -239,8 +235,8 @@ module _ (p : List ℕ) (s : State) (h : IsWhole s) where
   }
   gone-beside kind.Profile key t is b = record {
     projects = b.projects;
-    profiles = drop-others (λ (x : Profile). x.project) p (λ r. has_key key (row.Profile r)) s.profiles t.profiles b.profiles
-        (Each-map (λ y fine hit. key-project p y.project y.name key (good_no_slash kind.Project y.project fine.0) (both_true _ _ is).0 hit) good.profiles)
+    profiles = drop-others (λ (x : Profile). x.project) such (λ r. has_key key (row.Profile r)) s.profiles t.profiles b.profiles
+        (Each-map (λ y fine hit. key-project such y.project y.name key (good_no_slash kind.Project y.project fine.0) (both_true _ _ is).0 hit) good.profiles)
         ∙ b.profiles;
     shared = λ shares. absurd (true≢false (sym (both_true _ _ is).1 ∙ ap not shares));
     networks = b.networks;
@@ -252,8 +248,8 @@ module _ (p : List ℕ) (s : State) (h : IsWhole s) where
     projects = b.projects;
     profiles = b.profiles;
     shared = b.shared;
-    networks = drop-others (λ (x : Network). x.project) p (λ r. has_key key (row.Network r)) s.networks t.networks b.networks
-        (Each-map (λ y fine hit. key-project p y.project y.name key (good_no_slash kind.Project y.project fine.0) (both_true _ _ is).0 hit) good.networks)
+    networks = drop-others (λ (x : Network). x.project) such (λ r. has_key key (row.Network r)) s.networks t.networks b.networks
+        (Each-map (λ y fine hit. key-project such y.project y.name key (good_no_slash kind.Project y.project fine.0) (both_true _ _ is).0 hit) good.networks)
         ∙ b.networks;
     volumes = b.volumes;
     instances = b.instances;
@@ -264,9 +260,9 @@ module _ (p : List ℕ) (s : State) (h : IsWhole s) where
     profiles = b.profiles;
     shared = b.shared;
     networks = b.networks;
-    volumes = drop-others (λ (x : Volume). x.project) p (λ r. has_key key (row.Volume r)) s.volumes t.volumes b.volumes
+    volumes = drop-others (λ (x : Volume). x.project) such (λ r. has_key key (row.Volume r)) s.volumes t.volumes b.volumes
         (Each-map (λ y fine hit.
-        key-project p y.project (two_names y.pool y.name) key (good_no_slash kind.Project y.project fine.0) (both_true _ _ is).0 hit) good.volumes)
+        key-project such y.project (two_names y.pool y.name) key (good_no_slash kind.Project y.project fine.0) (both_true _ _ is).0 hit) good.volumes)
         ∙ b.volumes;
     instances = b.instances;
     operations = b.operations;
@@ -277,8 +273,8 @@ module _ (p : List ℕ) (s : State) (h : IsWhole s) where
     shared = b.shared;
     networks = b.networks;
     volumes = b.volumes;
-    instances = drop-others (λ (x : Instance). x.project) p (λ r. has_key key (row.Instance r)) s.instances t.instances b.instances
-        (Each-map (λ y fine hit. key-project p y.project y.name key (good_no_slash kind.Project y.project fine.0) (both_true _ _ is).0 hit) good.instances)
+    instances = drop-others (λ (x : Instance). x.project) such (λ r. has_key key (row.Instance r)) s.instances t.instances b.instances
+        (Each-map (λ y fine hit. key-project such y.project y.name key (good_no_slash kind.Project y.project fine.0) (both_true _ _ is).0 hit) good.instances)
         ∙ b.instances;
     operations = b.operations;
   }
@@ -302,12 +298,12 @@ module _ (p : List ℕ) (s : State) (h : IsWhole s) where
   }
   gone-beside kind.Operation key t is b = b
 
-  change-beside : (c : RowChange) (t : State) → is_within p c ≡ true → AreBeside p s t → AreBeside p s (changed t c)
+  change-beside : (c : RowChange) (t : State) → touches_such such c ≡ true → AreBeside such s t → AreBeside such s (changed t c)
   change-beside (change.Put r) = put-beside r
   change-beside (change.Remove of key) = gone-beside of key
 
-  pub changes-beside : (cs : List RowChange) (t : State) → list_all (is_within p) cs ≡ true → AreBeside p s t → AreBeside p s (applied t cs)
+  pub changes-beside : (cs : List RowChange) (t : State) → list_all (touches_such such) cs ≡ true → AreBeside such s t → AreBeside such s (applied t cs)
   changes-beside [] t all b = b
   changes-beside (c ∷ cs) t all b =
-      let parts = both_true (is_within p c) (list_all (is_within p) cs) all in
+      let parts = both_true (touches_such such c) (list_all (touches_such such) cs) all in
       changes-beside cs (changed t c) parts.1 (change-beside c t parts.0 b)

@@ -1,7 +1,8 @@
 -- Changes of the rows of one project are judged in that project alone.
-use Rattle.std.specs.Prelude.{◌≡◌, ℕ, Bool, true, false, not, ◌&&◌, List, [], ◌∷◌, filter, Option, Some, None}
+use Rattle.std.specs.Prelude.{◌≡◌, ℕ, Bool, true, false, not, ◌&&◌, ◌||◌, List, [], ◌∷◌, filter, Option, Some, None}
 use Rattle.std.specs.Prelude.{if◌then◌else◌}
 use Rattle.std.specs.List.{before_first, list_all}
+use Rattle.std.specs.Option.{option_and_then, option_map_or, option_or}
 use Rattle.std.specs.Str.{bytes_eq}
 use Rattle.machine_laws.specs.plain_lists.specs.Firsts.{first_of}
 use Rattle.machine_laws.specs.size_values.specs.declared.kinds.ObjectKind.{ObjectKind}
@@ -40,17 +41,56 @@ touches_profile (change.Put (row.Profile profile)) = true
 touches_profile (change.Remove kind.Profile key) = true
 touches_profile other = false
 
--- Whether a change touches rows of this project alone, and none that instances of others have: those are only profiles
+-- Whether a change touches rows of such projects alone, and none that instances of others have: those are only profiles
 -- of the project `default`.
-abbrev pub is_within : List ℕ → RowChange → Bool
-is_within project one =
-    bytes_eq (project_touched one) project && not (touches_profile one && bytes_eq project default_name)
+abbrev pub touches_such : (List ℕ → Bool) → RowChange → Bool
+touches_such such one = such (project_touched one) && not (touches_profile one && such default_name)
 
--- the project within which all changes are
-abbrev pub project_within : List RowChange → Option (List ℕ)
-project_within [] = None
-project_within (one ∷ more) =
+-- it touches rows of this project alone
+abbrev pub is_within : List ℕ → RowChange → Bool
+is_within project = touches_such (λ name. bytes_eq name project)
+
+-- it touches rows of these two projects alone
+abbrev pub is_between : List ℕ → List ℕ → RowChange → Bool
+is_between old new = touches_such (λ name. bytes_eq name old || bytes_eq name new)
+
+-- the project whose rows all changes touch
+abbrev pub project_of_all : List RowChange → Option (List ℕ)
+project_of_all [] = None
+project_of_all (one ∷ more) =
     if list_all (is_within (project_touched one)) (one ∷ more) then Some (project_touched one) else None
+
+-- the project whose row a change removes
+abbrev pub project_removed : RowChange → Option (List ℕ)
+project_removed (change.Remove kind.Project key) = Some key
+project_removed other = None
+
+-- the project whose row a change puts
+abbrev pub project_put : RowChange → Option (List ℕ)
+project_put (change.Put (row.Project project)) = Some project.name
+project_put other = None
+
+-- whether a change may follow when the project of the old name is gone: it does not come back
+abbrev pub is_after_rename : List ℕ → List ℕ → RowChange → Bool
+is_after_rename old new one =
+    is_between old new one && not (option_map_or (λ put. bytes_eq put old) (project_put one) false)
+
+-- the new name of a project whose row under the old one is gone: the first of these changes puts it
+abbrev pub renamed_from : List ℕ → List RowChange → Option (List ℕ)
+renamed_from old [] = None
+renamed_from old (one ∷ more) = option_and_then
+    (λ new. if list_all (is_after_rename old new) (one ∷ more) then Some new else None)
+    (project_put one)
+
+-- The new name of a project that gets one: its row is removed first, that under the new name is put next, and all changes
+-- touch rows of these two names alone.
+abbrev pub project_renamed : List RowChange → Option (List ℕ)
+project_renamed [] = None
+project_renamed (one ∷ more) = option_and_then (λ old. renamed_from old more) (project_removed one)
+
+-- the project within which all changes are, which may get another name by them
+abbrev pub project_within : List RowChange → Option (List ℕ)
+project_within changes = option_or (project_of_all changes) (project_renamed changes)
 
 -- the projects of a name
 abbrev pub projects_of : State → List ℕ → List Project
@@ -61,7 +101,8 @@ abbrev pub in_use : State → List ℕ → InUse
 in_use state project = record { amounts = usage_of state project; networks = networks_of state project }
 
 -- Where all facts hold, changes within a project leave all that others have and use: what the state after them breaks of
--- the rules on policy (F1 to F7), on what is counted (L0) and on limits (L1 to L8), it breaks in that project.
+-- the rules on policy (F1 to F7), on what is counted (L0) and on limits (L1 to L8), it breaks in that project. Where that
+-- gets another name, none is left under the old one.
 pub record IsProjectJudgedAlone (state later : State) (project : List ℕ) : Type 0 where
   pub policy : policy_broken later ≡ policy_broken_in later (projects_of later project)
   pub counts : counts_broken later ≡ first_of (project_uncounted later) (projects_of later project)

@@ -6,7 +6,7 @@ use Rattle.setting_rules.specs.row_machine.specs.facts.Whole.{IsWhole}
 use Rattle.setting_rules.specs.row_machine.specs.machine.Changes.{applied}
 use Rattle.setting_rules.specs.row_machine.specs.machine.State.{State}
 use Rattle.kept_totals.specs.claim_laws.specs.OneProject.{in_use, project_within, projects_of, IsProjectJudgedAlone}
-use Rattle.kept_totals.specs.claim_laws.proofs.OneProject.{projects-alone}
+use Rattle.kept_totals.specs.claim_laws.proofs.Renamed.{projects-alone}
 use Rattle.kept_totals.specs.limit_rules.specs.InUse.{uses_over}
 use Rattle.kept_totals.specs.limit_rules.specs.declared.in_use.InUse.{InUse}
 use Rattle.kept_totals.specs.limit_rules.proofs.Unlimited.{unlimited-uses}

@@ -1,12 +1,15 @@
 //! Changes of the rows of one project, which are judged in that project alone.
-ghost use Rattle.std.specs.Prelude.{◌≡◌, IfOk};
+ghost use Rattle.std.specs.Prelude.{◌≡◌, IfOk, false};
 ghost use Rattle.std.specs.List.{before_first, list_all};
-ghost use Rattle.std.specs.Option.{option_copied};
+ghost use Rattle.std.specs.Option.{option_copied, option_map_or};
+ghost use Rattle.std.specs.Str.{bytes_eq};
 ghost use Rattle.setting_rules.specs.size_values.specs.Causes.{Says};
 ghost use Rattle.setting_rules.specs.row_machine.specs.row_codec.specs.Reading.{is_slash};
 ghost use Rattle.setting_rules.specs.row_machine.specs.machine.Changes.{applied};
-ghost use Rattle.kept_totals.specs.claim_laws.specs.OneProject.{in_use, is_within, project_of_key, project_touched};
-ghost use Rattle.kept_totals.specs.claim_laws.specs.OneProject.{project_within, touches_profile};
+ghost use Rattle.kept_totals.specs.claim_laws.specs.OneProject.{in_use, is_after_rename, is_between, is_within};
+ghost use Rattle.kept_totals.specs.claim_laws.specs.OneProject.{project_of_all, project_of_key, project_put};
+ghost use Rattle.kept_totals.specs.claim_laws.specs.OneProject.{project_removed, project_renamed, project_touched};
+ghost use Rattle.kept_totals.specs.claim_laws.specs.OneProject.{project_within, renamed_from, touches_profile};
 ghost use Rattle.judged_changes.specs.Before.{Knows};
 ghost use Rattle.judged_changes.specs.Judged.{project_exceeds, project_forbidden, project_judged, project_uncounts};
 
@@ -81,7 +84,7 @@ fn touches_profile(change: &RowChange) -> bool
 fn is_within(project: &str, change: &RowChange) -> bool
     ensures { result ≡ is_within project.now change.now }
 {
-    project_touched(change) == project && !(touches_profile(change) && project == "default")
+    project_touched(change) == project && !(touches_profile(change) && "default" == project)
 }
 
 fn are_within(project: &str, changes: &[RowChange]) -> bool
@@ -90,9 +93,9 @@ fn are_within(project: &str, changes: &[RowChange]) -> bool
     changes.iter().all(|change| is_within(project, change))
 }
 
-/// The project within which all changes are.
-pub(crate) fn project_within(changes: &[RowChange]) -> Option<&str>
-    ensures { option_copied result ≡ project_within changes.now }
+/// The project whose rows all changes touch.
+fn project_of_all(changes: &[RowChange]) -> Option<&str>
+    ensures { option_copied result ≡ project_of_all changes.now }
 {
     match changes {
         [first, ..] => {
@@ -104,6 +107,98 @@ pub(crate) fn project_within(changes: &[RowChange]) -> Option<&str>
             }
         }
         [] => None,
+    }
+}
+
+// ---- which project gets another name
+
+/// The project whose row a change removes.
+fn project_removed(change: &RowChange) -> Option<&str>
+    ensures { option_copied result ≡ project_removed change.now }
+{
+    match change {
+        RowChange::Remove(ObjectKind::Project, key) => Some(key.view()),
+        _ => None,
+    }
+}
+
+/// The project whose row a change puts.
+fn project_put(change: &RowChange) -> Option<&str>
+    ensures { option_copied result ≡ project_put change.now }
+{
+    match change {
+        RowChange::Put(Row::Project(project)) => Some(project.name.view()),
+        _ => None,
+    }
+}
+
+/// Whether a change touches rows of these two projects alone.
+fn is_between(old: &str, new: &str, change: &RowChange) -> bool
+    ensures { result ≡ is_between old.now new.now change.now }
+{
+    let project = project_touched(change);
+    (project == old || project == new)
+        && !(touches_profile(change) && ("default" == old || "default" == new))
+}
+
+/// Whether a change puts the project of this name.
+fn puts_project(change: &RowChange, name: &str) -> bool
+    ensures { result ≡ option_map_or (λ put. bytes_eq put name.now) (project_put change.now) false }
+{
+    match project_put(change) {
+        Some(project) => project == name,
+        None => false,
+    }
+}
+
+/// Whether a change may follow when the project of the old name is gone.
+fn is_after_rename(old: &str, new: &str, change: &RowChange) -> bool
+    ensures { result ≡ is_after_rename old.now new.now change.now }
+{
+    is_between(old, new, change) && !puts_project(change, old)
+}
+
+fn are_after_rename(old: &str, new: &str, changes: &[RowChange]) -> bool
+    ensures { result ≡ list_all (is_after_rename old.now new.now) changes.now }
+{
+    changes
+        .iter()
+        .all(|change| is_after_rename(old, new, change))
+}
+
+/// The new name of a project whose row under the old one is gone.
+fn renamed_from<'x>(old: &str, changes: &'x [RowChange]) -> Option<&'x str>
+    ensures { option_copied result ≡ renamed_from old.now changes.now }
+{
+    let [first, ..] = changes else {
+        return None;
+    };
+    let new = project_put(first)?;
+    if are_after_rename(old, new, changes) {
+        Some(new)
+    } else {
+        None
+    }
+}
+
+/// The new name of a project that gets one by changes.
+fn project_renamed(changes: &[RowChange]) -> Option<&str>
+    ensures { option_copied result ≡ project_renamed changes.now }
+{
+    let [first, rest @ ..] = changes else {
+        return None;
+    };
+    let old = project_removed(first)?;
+    renamed_from(old, rest)
+}
+
+/// The project within which all changes are, which may get another name by them.
+pub(crate) fn project_within(changes: &[RowChange]) -> Option<&str>
+    ensures { option_copied result ≡ project_within changes.now }
+{
+    match project_of_all(changes) {
+        Some(project) => Some(project),
+        None => project_renamed(changes),
     }
 }
 
