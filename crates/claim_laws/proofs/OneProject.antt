@@ -1,5 +1,5 @@
 -- Changes of the rows of some projects are judged in those alone: all others have and use what they did.
-use Rattle.std.proofs.Common.{◌≡◌, ℕ, Bool, true, false, cond, not, Option, Some, None, List, [], ◌∷◌, ◌⊎◌, filter, length, refl, sym, ◌∙◌, ap, ap₂, subst, inl, inr, arith, true≢false}
+use Rattle.std.proofs.Common.{◌≡◌, ℕ, Bool, true, false, cond, not, Option, Some, None, List, [], ◌∷◌, ◌⊎◌, filter, length, refl, sym, ◌∙◌, ap, ap₂, subst, inl, inr, arith, true≢false, is_some, ◌&&◌}
 use Rattle.std.specs.Prelude.{codes, if◌then◌else◌}
 use Rattle.std.specs.List.{find, list_all, sum_by}
 use Rattle.std.specs.Option.{option_and_then, option_map, option_map_or, option_or}
@@ -9,6 +9,7 @@ use Rattle.machine_laws.specs.plain_lists.specs.Members.{Mem, Each}
 use Rattle.machine_laws.specs.plain_lists.proofs.Elements.{Each-head, Each-tail, Mem-append, Mem-left, Mem-right}
 use Rattle.machine_laws.specs.plain_lists.proofs.FirstLemmas.{none-first_of, first_of-same}
 use Rattle.machine_laws.specs.plain_lists.proofs.Readings.{sum_by-same}
+use Rattle.machine_laws.specs.plain_lists.proofs.Searches.{any-none, find-some}
 use Rattle.machine_laws.specs.config_lists.proofs.Keys.{same}
 use Rattle.machine_laws.specs.size_values.specs.Amounts.{part}
 use Rattle.machine_laws.specs.size_values.specs.declared.amounts.Part.{Part}
@@ -39,7 +40,7 @@ use Rattle.machine_laws.specs.row_machine.specs.machine.Task.{Task}
 use Rattle.machine_laws.specs.row_machine.specs.machine.Usage.{Load, amount_for, used, usage_of, networks_of}
 use Rattle.machine_laws.proofs.Expansions.{home_in, IsAlike, amounts-alike, uncounted-alike, forbids-alike}
 use Rattle.machine_laws.proofs.ExpansionsApart.{fails-by, home-either, profile-so}
-use Rattle.machine_laws.proofs.ExpansionsNamed.{claim-is, row-judged}
+use Rattle.machine_laws.proofs.ExpansionsNamed.{claim-is, judged-home, row-judged}
 use Rattle.machine_laws.proofs.Found.{instance-found}
 use Rattle.machine_laws.proofs.LimitsForbidden.{rule_numbers}
 use Rattle.machine_laws.proofs.NamesSuccess.{Mem-filter}
@@ -51,7 +52,7 @@ use Rattle.limit_rules.specs.row_readings.proofs.Ranges.{filter-filter, sum_by-f
 use Rattle.policy_rules.specs.Within.{policy_broken_in}
 use Rattle.project_usage.specs.Counted.{instance_part, volume_part, claim_part}
 use Rattle.project_usage.proofs.Parts.{part-of_usage, used-parts}
-use Rattle.claim_laws.specs.OneProject.{is_within, in_use, project_of_all, project_touched, projects_of}
+use Rattle.claim_laws.specs.OneProject.{are_profiles_shared, is_within, in_use, project_of_all, project_touched, projects_of}
 use Rattle.claim_laws.specs.OneProject.{IsProjectJudgedAlone}
 use Rattle.claim_laws.proofs.Limits.{unexceeded}
 use Rattle.claim_laws.proofs.Others.{AreBeside, Mem-back, Mem-passes, beside-itself, changes-beside, find-filter, is_other}
@@ -87,7 +88,26 @@ abbrev pub exceeding : State → State → List Project → Option Refusal
 exceeding s t projects = first
     (first_of (λ k. first_of (part_exceeds s t k) projects) parts ∷ first_of (networks_exceed s t) projects ∷ [])
 
-module _ (s t : State) (such : List ℕ → Bool) (h : IsWhole s) (b : AreBeside such s t) where
+-- where no project shares the profiles of `default`, each other one has its own
+own-home : (s : State) (name : List ℕ) → are_profiles_shared s ≡ false → bytes_eq name default_name ≡ false
+    → is_some (project_named s.projects name) ≡ true → home_of s.projects name kind.Profile ≡ name
+unfolding home_of
+own-home s name free other there = at (project_named s.projects name) refl there where
+  on-by : (q : Project) → q.name ≡ name → (not (bytes_eq q.name default_name) && not (is_on q.config (codes "features.profiles"))) ≡ false
+      → is_on q.config (codes "features.profiles") ≡ true
+  on-by q is none = not-other (is_on q.config (codes "features.profiles"))
+      (sym (ap (λ c. not c && not (is_on q.config (codes "features.profiles"))) (ap (λ n. bytes_eq n default_name) is ∙ other)) ∙ none)
+
+  at : (o : Option Project) → project_named s.projects name ≡ o → is_some o ≡ true
+      → (if option_map_or (λ (q : Project). is_on q.config (codes "features.profiles")) o false then name else default_name) ≡ name
+  at None found there = cc
+  at (Some q) found there =
+      let is = find-some (is_project name) s.projects q found in
+      ap (λ c. if c then name else default_name)
+      (on-by q (same q.name name is.1)
+      ((any-none (λ (r : Project). not (bytes_eq r.name default_name) && not (is_on r.config (codes "features.profiles"))) s.projects free).at q is.0))
+
+module _ (s t : State) (shared : Bool) (such : List ℕ → Bool) (h : IsWhole s) (free : shared ≡ false → are_profiles_shared s ≡ false) (b : AreBeside shared such s t) where
   -- ---- what another project looks up
 
   project-alike : (name : List ℕ) → such name ≡ false → project_named t.projects name ≡ project_named s.projects name
@@ -123,28 +143,32 @@ module _ (s t : State) (such : List ℕ → Bool) (h : IsWhole s) (b : AreBeside
         tells : (y : Instance) → is_instance project name y ≡ true → is_other such y.project ≡ true
         tells y is = ap (is_other such) (instance-so project name y is).0 ∙ ap not other
 
-  -- a profile of `default` is the same, whether that is another project or not
-  default-alike : (name : List ℕ) → profile_named t.profiles default_name name ≡ profile_named s.profiles default_name name
-  default-alike name = at (such default_name) refl where
-    at : (c : Bool) → such default_name ≡ c → profile_named t.profiles default_name name ≡ profile_named s.profiles default_name name
-    at true is = ap (λ rows. profile_named rows default_name name) (b.shared is)
-    at false is = profile-alike default_name name is
-
   home-alike : (name : List ℕ) → such name ≡ false → home_of t.projects name kind.Profile ≡ home_of s.projects name kind.Profile
   unfolding home_of
   home-alike name other = ap
       (λ found. if option_map_or (λ (r : Project). is_on r.config (codes "features.profiles")) found false then name else default_name)
       (project-alike name other)
 
+  -- an instance of another project that has profiles of `default` finds the same
+  default-alike : (i : Instance) (name : List ℕ) → Mem i (judged_instances s) → such i.project ≡ false → home_in s i ≡ default_name
+      → profile_named t.profiles default_name name ≡ profile_named s.profiles default_name name
+  default-alike i name m other home = at (such default_name) shared refl refl where
+    at : (c d : Bool) → such default_name ≡ c → shared ≡ d → profile_named t.profiles default_name name ≡ profile_named s.profiles default_name name
+    at false d own is = profile-alike default_name name own
+    at true true own is = ap (λ rows. profile_named rows default_name name) (b.common is own)
+    at true false own is = absurd (true≢false (sym own ∙ ap such (sym home ∙ own-home s i.project (free is) apart (judged-home s i h m)) ∙ other)) where
+      apart : bytes_eq i.project default_name ≡ false
+      apart = fails-by (bytes_eq i.project default_name) (λ one. true≢false (sym own ∙ ap such (sym (same i.project default_name one)) ∙ other))
+
   -- an instance of another project has what it had
-  alike : (i : Instance) → such i.project ≡ false → IsAlike s t i
-  alike i other = record { home = home-alike i.project other; profiles = λ name m. found name (home-either s i.project) } where
+  alike : (i : Instance) → Mem i (judged_instances s) → such i.project ≡ false → IsAlike s t i
+  alike i m other = record { home = home-alike i.project other; profiles = λ name n. found name (home-either s i.project) } where
     found : (name : List ℕ) → (home_in s i ≡ i.project) ⊎ (home_in s i ≡ default_name)
         → profile_named t.profiles (home_in s i) name ≡ profile_named s.profiles (home_in s i) name
     found name (inl is) =
         subst (λ home. profile_named t.profiles home name ≡ profile_named s.profiles home name) (sym is) (profile-alike i.project name other)
     found name (inr is) =
-        subst (λ home. profile_named t.profiles home name ≡ profile_named s.profiles home name) (sym is) (default-alike name)
+        subst (λ home. profile_named t.profiles home name ≡ profile_named s.profiles home name) (sym is) (default-alike i name m other is)
 
   -- ---- what another project has
 
@@ -201,8 +225,8 @@ module _ (s t : State) (such : List ℕ → Bool) (h : IsWhole s) (b : AreBeside
         instances i n =
             let own = Mem-passes own_instance i (judged_instances t) n in
             let away = own-other i.project q.name own other in
-            forbids-alike q number (alike i away)
-            ∙ clean.instances.at i (judged-there i (Mem-filter own_instance i (judged_instances t) n) away) (same i.project q.name own) number
+            let there : Mem i (judged_instances s) = judged-there i (Mem-filter own_instance i (judged_instances t) n) away in
+            forbids-alike q number (alike i there away) ∙ clean.instances.at i there (same i.project q.name own) number
 
   pub policy-within : policy_broken t ≡ policy_broken_in t those
   unfolding policy_broken
@@ -233,7 +257,7 @@ module _ (s t : State) (such : List ℕ → Bool) (h : IsWhole s) (b : AreBeside
 
         counted : (i : Instance) → Mem i (judged_instances s) → i.project ≡ q.name → instance_uncounted t q i ≡ None
         counted i n own =
-            uncounted-alike q (alike i (ap such own ∙ other))
+            uncounted-alike q (alike i n (ap such own ∙ other))
             ∙ within.instances.at i n own
 
         instances : (i : Instance) → Mem i (filter own_instance t.instances) → instance_uncounted t q i ≡ None
@@ -285,12 +309,23 @@ module _ (s t : State) (such : List ℕ → Bool) (h : IsWhole s) (b : AreBeside
       some-none : Some i ≡ None → ⊥
       some-none e = cc
 
+    replaced-there : (i : Instance) → replaced_instance s o.work ≡ Some i → Mem i s.instances
+    replaced-there i is = elim (replaces-or_not s o.work (h.operations.deeds.at o m) (h.links.operations.at o m)) [
+      | inl r ↦ (find-some (is_instance o.work.project o.work.target.name) s.instances i (sym (ap found r.names) ∙ is)).0
+      | inr none ↦ absurd (some-none (sym is ∙ ap found none))
+    ] where
+      found : Option (List ℕ × List ℕ) → Option Instance
+      found names = option_and_then (λ (n : List ℕ × List ℕ). instance_named s.instances n.0 n.1) names
+
+      some-none : Some i ≡ None → ⊥
+      some-none e = cc
+
     same-share : IsShareAlike s t o.work
     same-share = record {
-      claimed = λ i is. amounts-alike (alike i
+      claimed = λ i is. amounts-alike (alike i (claim-judged s o i m is)
           (ap such ((h.links.operations.at o m).claim_project (row.Instance i) (claim-is o.work i is)) ∙ other));
       replaced = replaced-alike;
-      old = λ i is. amounts-alike (alike i (ap such (replaced-own i is) ∙ other));
+      old = λ i is. amounts-alike (alike i (row-judged s i (replaced-there i is)) (ap such (replaced-own i is) ∙ other));
     }
 
   -- ---- usage
@@ -315,7 +350,7 @@ module _ (s t : State) (such : List ℕ → Bool) (h : IsWhole s) (b : AreBeside
 
           counts : (i : Instance) → Mem i (filter test s.instances) → instance_part t q k i ≡ instance_part s q k i
           counts i m = ap (λ a. cond (bytes_eq i.project q) (part k a) 0)
-              (amounts-alike (alike i (other-not (such i.project) (Mem-passes test i s.instances m))))
+              (amounts-alike (alike i (row-judged s i (Mem-filter test i s.instances m)) (other-not (such i.project) (Mem-passes test i s.instances m))))
 
     volumes-add : sum_by (volume_part q k) t.volumes ≡ sum_by (volume_part q k) s.volumes
     volumes-add =
@@ -419,19 +454,19 @@ module _ (s t : State) (p : List ℕ) where
 
 -- ---- changes of one project
 
-all-within : (cs : List RowChange) (p : List ℕ) → project_of_all cs ≡ Some p → list_all (is_within p) cs ≡ true
-all-within [] p is = cc
-all-within (c ∷ cs) p is = at (list_all (is_within (project_touched c)) (c ∷ cs)) refl is where
-  at : (b : Bool) → list_all (is_within (project_touched c)) (c ∷ cs) ≡ b → cond b (Some (project_touched c)) None ≡ Some p
-      → list_all (is_within p) (c ∷ cs) ≡ true
-  at true all found = let own : project_touched c ≡ p = cc in subst (λ name. list_all (is_within name) (c ∷ cs) ≡ true) own all
+all-within : (shared : Bool) (cs : List RowChange) (p : List ℕ) → project_of_all shared cs ≡ Some p → list_all (is_within shared p) cs ≡ true
+all-within shared [] p is = cc
+all-within shared (c ∷ cs) p is = at (list_all (is_within shared (project_touched c)) (c ∷ cs)) refl is where
+  at : (b : Bool) → list_all (is_within shared (project_touched c)) (c ∷ cs) ≡ b → cond b (Some (project_touched c)) None ≡ Some p
+      → list_all (is_within shared p) (c ∷ cs) ≡ true
+  at true all found = let own : project_touched c ≡ p = cc in subst (λ name. list_all (is_within shared name) (c ∷ cs) ≡ true) own all
   at false all found = cc
 
-pub one-alone : (s : State) (cs : List RowChange) (p : List ℕ) → IsWhole s → project_of_all cs ≡ Some p → IsProjectJudgedAlone s (applied s cs) p
+pub one-alone : (s : State) (cs : List RowChange) (p : List ℕ) → IsWhole s → project_of_all (are_profiles_shared s) cs ≡ Some p → IsProjectJudgedAlone s (applied s cs) p
 one-alone s cs p h is = record {
-  policy = policy-within s t own h b;
-  counts = counts-within s t own h b;
-  limits = limits-within s t own h b ∙ exceeding-own s t p;
+  policy = policy-within s t (are_profiles_shared s) own h (λ none. none) b;
+  counts = counts-within s t (are_profiles_shared s) own h (λ none. none) b;
+  limits = limits-within s t (are_profiles_shared s) own h (λ none. none) b ∙ exceeding-own s t p;
 } where
   t : State
   t = applied s cs
@@ -439,5 +474,5 @@ one-alone s cs p h is = record {
   own : List ℕ → Bool
   own name = bytes_eq name p
 
-  b : AreBeside own s t
-  b = changes-beside own s h cs s (all-within cs p is) (beside-itself own s)
+  b : AreBeside (are_profiles_shared s) own s t
+  b = changes-beside (are_profiles_shared s) own s h cs s (all-within (are_profiles_shared s) cs p is) (beside-itself (are_profiles_shared s) own s)

@@ -1,5 +1,5 @@
 -- Changes of the rows of some projects leave those of all others.
-use Rattle.std.proofs.Common.{◌≡◌, ℕ, Bool, true, false, cond, not, Some, List, [], ◌∷◌, filter, refl, sym, ◌∙◌, ap, subst, inl, inr, true≢false}
+use Rattle.std.proofs.Common.{◌≡◌, ℕ, Bool, true, false, cond, not, ◌&&◌, Some, List, [], ◌∷◌, filter, refl, sym, ◌∙◌, ap, ap₂, subst, inl, inr, true≢false}
 use Rattle.std.specs.List.{before_first, find, list_all, list_any}
 use Rattle.std.specs.Str.{bytes_eq}
 use Rattle.machine_laws.specs.plain_lists.specs.Edits.{changed_first, dropped, inserted, replaced}
@@ -121,20 +121,21 @@ module _ {X : Type 0} (of : X → List ℕ) (such : List ℕ → Bool) where
 -- ---- two states
 
 -- all rows of other projects are the same in both, and all operations, and all profiles where `default` is such a project
-pub record AreBeside (such : List ℕ → Bool) (s t : State) : Type 0 where
+-- and others share its profiles
+pub record AreBeside (shared : Bool) (such : List ℕ → Bool) (s t : State) : Type 0 where
   pub projects : SameOthers (λ (r : Project). r.name) such s.projects t.projects
   pub profiles : SameOthers (λ (r : Profile). r.project) such s.profiles t.profiles
-  pub shared : such default_name ≡ true → t.profiles ≡ s.profiles
+  pub common : shared ≡ true → such default_name ≡ true → t.profiles ≡ s.profiles
   pub networks : SameOthers (λ (r : Network). r.project) such s.networks t.networks
   pub volumes : SameOthers (λ (r : Volume). r.project) such s.volumes t.volumes
   pub instances : SameOthers (λ (r : Instance). r.project) such s.instances t.instances
   pub operations : t.operations ≡ s.operations
 
-pub beside-itself : (such : List ℕ → Bool) (s : State) → AreBeside such s s
-beside-itself such s = record {
+pub beside-itself : (shared : Bool) (such : List ℕ → Bool) (s : State) → AreBeside shared such s s
+beside-itself shared such s = record {
   projects = refl;
   profiles = refl;
-  shared = λ is. refl;
+  common = λ share is. refl;
   networks = refl;
   volumes = refl;
   instances = refl;
@@ -147,16 +148,16 @@ key-project : (such : List ℕ → Bool) (front back key : List ℕ) → HasNoSl
 key-project such front back key none own is =
     ap such (sym (before_joined front back none) ∙ ap (before_first is_slash) (same (two_names front back) key is)) ∙ own
 
-module _ (such : List ℕ → Bool) (s : State) (h : IsWhole s) where
+module _ (shared : Bool) (such : List ℕ → Bool) (s : State) (h : IsWhole s) where
   good : EachRow HasGoodKey s
   good = each-row s (Each-left (claims_of s) h.names.good)
 
-  put-beside : (r : Row) (t : State) → touches_such such (change.Put r) ≡ true → AreBeside such s t → AreBeside such s (with_row r t)
+  put-beside : (r : Row) (t : State) → touches_such shared such (change.Put r) ≡ true → AreBeside shared such s t → AreBeside shared such s (with_row r t)
   put-beside (row.Project r) t is b = record {
     projects = put-others (λ (x : Project). x.name) such project_names r t.projects (both_true _ _ is).0
         (λ y names. same y.name r.name names) ∙ b.projects;
     profiles = b.profiles;
-    shared = b.shared;
+    common = b.common;
     networks = b.networks;
     volumes = b.volumes;
     instances = b.instances;
@@ -166,7 +167,7 @@ module _ (such : List ℕ → Bool) (s : State) (h : IsWhole s) where
     projects = b.projects;
     profiles = put-others (λ (x : Profile). x.project) such profile_names r t.profiles (both_true _ _ is).0
         (λ y names. (two_same y.project r.project y.name r.name names).0) ∙ b.profiles;
-    shared = λ shares. absurd (true≢false (sym (both_true _ _ is).1 ∙ ap not shares));
+    common = λ share shares. absurd (true≢false (sym (both_true _ _ is).1 ∙ ap₂ (λ a c. not (a && c)) shares share));
     networks = b.networks;
     volumes = b.volumes;
     instances = b.instances;
@@ -175,7 +176,7 @@ module _ (such : List ℕ → Bool) (s : State) (h : IsWhole s) where
   put-beside (row.Network r) t is b = record {
     projects = b.projects;
     profiles = b.profiles;
-    shared = b.shared;
+    common = b.common;
     networks = put-others (λ (x : Network). x.project) such network_names r t.networks (both_true _ _ is).0
         (λ y names. (two_same y.project r.project y.name r.name names).0) ∙ b.networks;
     volumes = b.volumes;
@@ -185,7 +186,7 @@ module _ (such : List ℕ → Bool) (s : State) (h : IsWhole s) where
   put-beside (row.Volume r) t is b = record {
     projects = b.projects;
     profiles = b.profiles;
-    shared = b.shared;
+    common = b.common;
     networks = b.networks;
     volumes = put-others (λ (x : Volume). x.project) such volume_names r t.volumes (both_true _ _ is).0
         (λ y names. (three_same y.project r.project y.pool r.pool y.name r.name names).0) ∙ b.volumes;
@@ -195,7 +196,7 @@ module _ (such : List ℕ → Bool) (s : State) (h : IsWhole s) where
   put-beside (row.Instance r) t is b = record {
     projects = b.projects;
     profiles = b.profiles;
-    shared = b.shared;
+    common = b.common;
     networks = b.networks;
     volumes = b.volumes;
     instances = put-others (λ (x : Instance). x.project) such instance_names r t.instances (both_true _ _ is).0
@@ -205,7 +206,7 @@ module _ (such : List ℕ → Bool) (s : State) (h : IsWhole s) where
   put-beside (row.Pool r) t is b = record {
     projects = b.projects;
     profiles = b.profiles;
-    shared = b.shared;
+    common = b.common;
     networks = b.networks;
     volumes = b.volumes;
     instances = b.instances;
@@ -214,20 +215,20 @@ module _ (such : List ℕ → Bool) (s : State) (h : IsWhole s) where
   put-beside (row.Snapshot r) t is b = record {
     projects = b.projects;
     profiles = b.profiles;
-    shared = b.shared;
+    common = b.common;
     networks = b.networks;
     volumes = b.volumes;
     instances = b.instances;
     operations = b.operations;
   }
 
-  gone-beside : (of : ObjectKind) (key : List ℕ) (t : State) → touches_such such (change.Remove of key) ≡ true → AreBeside such s t
-      → AreBeside such s (without_row of key t)
+  gone-beside : (of : ObjectKind) (key : List ℕ) (t : State) → touches_such shared such (change.Remove of key) ≡ true → AreBeside shared such s t
+      → AreBeside shared such s (without_row of key t)
   gone-beside kind.Project key t is b = record {
     projects = drop-others (λ (x : Project). x.name) such (λ r. has_key key (row.Project r)) s.projects t.projects b.projects
         (record { at = λ y m hit. ap such (same y.name key hit) ∙ (both_true _ _ is).0 }) ∙ b.projects;
     profiles = b.profiles;
-    shared = b.shared;
+    common = b.common;
     networks = b.networks;
     volumes = b.volumes;
     instances = b.instances;
@@ -238,7 +239,7 @@ module _ (such : List ℕ → Bool) (s : State) (h : IsWhole s) where
     profiles = drop-others (λ (x : Profile). x.project) such (λ r. has_key key (row.Profile r)) s.profiles t.profiles b.profiles
         (Each-map (λ y fine hit. key-project such y.project y.name key (good_no_slash kind.Project y.project fine.0) (both_true _ _ is).0 hit) good.profiles)
         ∙ b.profiles;
-    shared = λ shares. absurd (true≢false (sym (both_true _ _ is).1 ∙ ap not shares));
+    common = λ share shares. absurd (true≢false (sym (both_true _ _ is).1 ∙ ap₂ (λ a c. not (a && c)) shares share));
     networks = b.networks;
     volumes = b.volumes;
     instances = b.instances;
@@ -247,7 +248,7 @@ module _ (such : List ℕ → Bool) (s : State) (h : IsWhole s) where
   gone-beside kind.Network key t is b = record {
     projects = b.projects;
     profiles = b.profiles;
-    shared = b.shared;
+    common = b.common;
     networks = drop-others (λ (x : Network). x.project) such (λ r. has_key key (row.Network r)) s.networks t.networks b.networks
         (Each-map (λ y fine hit. key-project such y.project y.name key (good_no_slash kind.Project y.project fine.0) (both_true _ _ is).0 hit) good.networks)
         ∙ b.networks;
@@ -258,7 +259,7 @@ module _ (such : List ℕ → Bool) (s : State) (h : IsWhole s) where
   gone-beside kind.Volume key t is b = record {
     projects = b.projects;
     profiles = b.profiles;
-    shared = b.shared;
+    common = b.common;
     networks = b.networks;
     volumes = drop-others (λ (x : Volume). x.project) such (λ r. has_key key (row.Volume r)) s.volumes t.volumes b.volumes
         (Each-map (λ y fine hit.
@@ -270,7 +271,7 @@ module _ (such : List ℕ → Bool) (s : State) (h : IsWhole s) where
   gone-beside kind.Instance key t is b = record {
     projects = b.projects;
     profiles = b.profiles;
-    shared = b.shared;
+    common = b.common;
     networks = b.networks;
     volumes = b.volumes;
     instances = drop-others (λ (x : Instance). x.project) such (λ r. has_key key (row.Instance r)) s.instances t.instances b.instances
@@ -281,7 +282,7 @@ module _ (such : List ℕ → Bool) (s : State) (h : IsWhole s) where
   gone-beside kind.Pool key t is b = record {
     projects = b.projects;
     profiles = b.profiles;
-    shared = b.shared;
+    common = b.common;
     networks = b.networks;
     volumes = b.volumes;
     instances = b.instances;
@@ -290,7 +291,7 @@ module _ (such : List ℕ → Bool) (s : State) (h : IsWhole s) where
   gone-beside kind.Snapshot key t is b = record {
     projects = b.projects;
     profiles = b.profiles;
-    shared = b.shared;
+    common = b.common;
     networks = b.networks;
     volumes = b.volumes;
     instances = b.instances;
@@ -298,12 +299,12 @@ module _ (such : List ℕ → Bool) (s : State) (h : IsWhole s) where
   }
   gone-beside kind.Operation key t is b = b
 
-  change-beside : (c : RowChange) (t : State) → touches_such such c ≡ true → AreBeside such s t → AreBeside such s (changed t c)
+  change-beside : (c : RowChange) (t : State) → touches_such shared such c ≡ true → AreBeside shared such s t → AreBeside shared such s (changed t c)
   change-beside (change.Put r) = put-beside r
   change-beside (change.Remove of key) = gone-beside of key
 
-  pub changes-beside : (cs : List RowChange) (t : State) → list_all (touches_such such) cs ≡ true → AreBeside such s t → AreBeside such s (applied t cs)
+  pub changes-beside : (cs : List RowChange) (t : State) → list_all (touches_such shared such) cs ≡ true → AreBeside shared such s t → AreBeside shared such s (applied t cs)
   changes-beside [] t all b = b
   changes-beside (c ∷ cs) t all b =
-      let parts = both_true (touches_such such c) (list_all (touches_such such) cs) all in
+      let parts = both_true (touches_such shared such c) (list_all (touches_such shared such) cs) all in
       changes-beside cs (changed t c) parts.1 (change-beside c t parts.0 b)

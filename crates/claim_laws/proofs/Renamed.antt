@@ -1,5 +1,5 @@
 -- Changes of a project that gets another name are judged in it alone: none is left under the old name.
-use Rattle.std.proofs.Common.{◌≡◌, ◌||◌, ◌&&◌, ℕ, Bool, true, false, cond, Option, Some, None, List, [], ◌∷◌, filter, refl, sym, ◌∙◌, ap, ap₂, subst}
+use Rattle.std.proofs.Common.{◌≡◌, ◌||◌, ◌&&◌, ℕ, Bool, true, false, cond, Option, Some, None, List, [], ◌∷◌, filter, refl, sym, ◌∙◌, ap, ap₂, subst, true≢false}
 use Rattle.std.specs.List.{list_all}
 use Rattle.std.specs.Option.{option_map_or, option_or}
 use Rattle.std.specs.Str.{bytes_eq}
@@ -24,7 +24,7 @@ use Rattle.machine_laws.specs.row_machine.specs.machine.State.{State}
 use Rattle.machine_laws.proofs.DefaultsProjects.{distinct_projects}
 use Rattle.machine_laws.proofs.ExpansionsApart.{fails-by}
 use Rattle.policy_rules.specs.Within.{policy_broken_in}
-use Rattle.claim_laws.specs.OneProject.{is_after_rename, is_between, project_of_all, project_renamed, project_put, projects_of}
+use Rattle.claim_laws.specs.OneProject.{are_profiles_shared, is_after_rename, is_between, project_of_all, project_renamed, project_put, projects_of}
 use Rattle.claim_laws.specs.OneProject.{IsProjectJudgedAlone, ProjectsAreJudgedAlone}
 use Rattle.claim_laws.proofs.Others.{AreBeside, beside-itself, changes-beside, filter-replaced}
 use Rattle.claim_laws.proofs.OneProject.{counts-within, exceeding, exceeding-own, limits-within, one-alone, other-not, policy-within}
@@ -121,9 +121,9 @@ all-between old new (c ∷ cs) all =
 renamed-alone : (s : State) (old new : List ℕ) (cs : List RowChange) → IsWhole s → list_all (is_after_rename old new) cs ≡ true
     → IsProjectJudgedAlone s (applied s (change.Remove kind.Project old ∷ cs)) new
 renamed-alone s old new cs h all = record {
-  policy = policy-within s t either h b ∙ ap (policy_broken_in t) those-are;
-  counts = counts-within s t either h b ∙ ap (first_of (project_uncounted t)) those-are;
-  limits = limits-within s t either h b ∙ ap (exceeding s t) those-are ∙ exceeding-own s t new;
+  policy = policy-within s t true either h always b ∙ ap (policy_broken_in t) those-are;
+  counts = counts-within s t true either h always b ∙ ap (first_of (project_uncounted t)) those-are;
+  limits = limits-within s t true either h always b ∙ ap (exceeding s t) those-are ∙ exceeding-own s t new;
 } where
   changes : List RowChange
   changes = change.Remove kind.Project old ∷ cs
@@ -137,8 +137,12 @@ renamed-alone s old new cs h all = record {
   within : list_all (is_between old new) changes ≡ true
   within = ap₂ (λ a b. ((a || bytes_eq old new) && true) && b) (bytes_eq-itself old) (all-between old new cs all)
 
-  b : AreBeside either s t
-  b = changes-beside either s h changes s within (beside-itself either s)
+  -- as if others shared the profiles of `default`
+  always : true ≡ false → are_profiles_shared s ≡ false
+  always e = absurd (true≢false e)
+
+  b : AreBeside true either s t
+  b = changes-beside true either s h changes s within (beside-itself true either s)
 
   those-are : filter (λ (q : Project). either q.name) t.projects ≡ projects_of t new
   those-are = filter-or (λ (q : Project). bytes_eq q.name old) (λ (q : Project). bytes_eq q.name new) t.projects
@@ -161,7 +165,7 @@ renamed-by s (change.Remove kind.Project old ∷ change.Put (row.Project new) �
 renamed-by s other p h is = cc
 
 pub projects-alone : ProjectsAreJudgedAlone
-projects-alone s cs p h is = at (project_of_all cs) refl is where
-  at : (o : Option (List ℕ)) → project_of_all cs ≡ o → option_or o (project_renamed cs) ≡ Some p → IsProjectJudgedAlone s (applied s cs) p
+projects-alone s cs p h is = at (project_of_all (are_profiles_shared s) cs) refl is where
+  at : (o : Option (List ℕ)) → project_of_all (are_profiles_shared s) cs ≡ o → option_or o (project_renamed cs) ≡ Some p → IsProjectJudgedAlone s (applied s cs) p
   at (Some name) own found = let named : name ≡ p = cc in one-alone s cs p h (own ∙ ap Some named)
   at None own found = renamed-by s cs p h found

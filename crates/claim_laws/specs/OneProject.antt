@@ -1,7 +1,7 @@
 -- Changes of the rows of one project are judged in that project alone.
 use Rattle.std.specs.Prelude.{◌≡◌, ℕ, Bool, true, false, not, ◌&&◌, ◌||◌, List, [], ◌∷◌, filter, Option, Some, None}
-use Rattle.std.specs.Prelude.{if◌then◌else◌}
-use Rattle.std.specs.List.{before_first, list_all}
+use Rattle.std.specs.Prelude.{if◌then◌else◌, codes}
+use Rattle.std.specs.List.{before_first, list_all, list_any}
 use Rattle.std.specs.Option.{option_and_then, option_map_or, option_or}
 use Rattle.std.specs.Str.{bytes_eq}
 use Rattle.machine_laws.specs.plain_lists.specs.Firsts.{first_of}
@@ -15,6 +15,7 @@ use Rattle.machine_laws.specs.row_machine.specs.declared.changes.RowChange.TheVa
 use Rattle.machine_laws.specs.row_machine.specs.facts.Whole.{IsWhole}
 use Rattle.machine_laws.specs.row_machine.specs.machine.Changes.{applied}
 use Rattle.machine_laws.specs.row_machine.specs.machine.Claims.{project_of_row}
+use Rattle.machine_laws.specs.row_machine.specs.machine.Homes.{is_on}
 use Rattle.machine_laws.specs.row_machine.specs.machine.LimitRules.{counts_broken, limits_broken, project_uncounted}
 use Rattle.machine_laws.specs.row_machine.specs.machine.PolicyRules.{policy_broken}
 use Rattle.machine_laws.specs.row_machine.specs.machine.Rows.{default_name}
@@ -41,24 +42,31 @@ touches_profile (change.Put (row.Profile profile)) = true
 touches_profile (change.Remove kind.Profile key) = true
 touches_profile other = false
 
+-- whether another project than `default` has the profiles of `default`
+abbrev pub are_profiles_shared : State → Bool
+are_profiles_shared state = list_any
+    (λ project. not (bytes_eq project.name default_name) && not (is_on project.config (codes "features.profiles")))
+    state.projects
+
 -- Whether a change touches rows of such projects alone, and none that instances of others have: those are only profiles
--- of the project `default`.
-abbrev pub touches_such : (List ℕ → Bool) → RowChange → Bool
-touches_such such one = such (project_touched one) && not (touches_profile one && such default_name)
+-- of the project `default`, where another one shares them.
+abbrev pub touches_such : Bool → (List ℕ → Bool) → RowChange → Bool
+touches_such shared such one =
+    such (project_touched one) && not (touches_profile one && such default_name && shared)
 
 -- it touches rows of this project alone
-abbrev pub is_within : List ℕ → RowChange → Bool
-is_within project = touches_such (λ name. bytes_eq name project)
+abbrev pub is_within : Bool → List ℕ → RowChange → Bool
+is_within shared project = touches_such shared (λ name. bytes_eq name project)
 
 -- it touches rows of these two projects alone
 abbrev pub is_between : List ℕ → List ℕ → RowChange → Bool
-is_between old new = touches_such (λ name. bytes_eq name old || bytes_eq name new)
+is_between old new = touches_such true (λ name. bytes_eq name old || bytes_eq name new)
 
 -- the project whose rows all changes touch
-abbrev pub project_of_all : List RowChange → Option (List ℕ)
-project_of_all [] = None
-project_of_all (one ∷ more) =
-    if list_all (is_within (project_touched one)) (one ∷ more) then Some (project_touched one) else None
+abbrev pub project_of_all : Bool → List RowChange → Option (List ℕ)
+project_of_all shared [] = None
+project_of_all shared (one ∷ more) =
+    if list_all (is_within shared (project_touched one)) (one ∷ more) then Some (project_touched one) else None
 
 -- the project whose row a change removes
 abbrev pub project_removed : RowChange → Option (List ℕ)
@@ -89,8 +97,8 @@ project_renamed [] = None
 project_renamed (one ∷ more) = option_and_then (λ old. renamed_from old more) (project_removed one)
 
 -- the project within which all changes are, which may get another name by them
-abbrev pub project_within : List RowChange → Option (List ℕ)
-project_within changes = option_or (project_of_all changes) (project_renamed changes)
+abbrev pub project_within : State → List RowChange → Option (List ℕ)
+project_within state changes = option_or (project_of_all (are_profiles_shared state) changes) (project_renamed changes)
 
 -- the projects of a name
 abbrev pub projects_of : State → List ℕ → List Project
@@ -111,4 +119,4 @@ pub record IsProjectJudgedAlone (state later : State) (project : List ℕ) : Typ
 
 abbrev pub ProjectsAreJudgedAlone : Type 0
 ProjectsAreJudgedAlone = (state : State) (changes : List RowChange) (project : List ℕ) → IsWhole state
-    → project_within changes ≡ Some project → IsProjectJudgedAlone state (applied state changes) project
+    → project_within state changes ≡ Some project → IsProjectJudgedAlone state (applied state changes) project

@@ -17,8 +17,8 @@ pub fn new_profiles_are_judged_alone()
 {}
 
 /// Where all facts hold, the state after changes of the rows of one project breaks a rule on policy, on what is counted
-/// or on limits exactly where that project breaks it: all others have and use what they did. Profiles of `default` are no
-/// such rows, since instances of other projects have them.
+/// or on limits exactly where that project breaks it: all others have and use what they did. A project that gets another
+/// name is one, and profiles of `default` are such rows where no other project shares them.
 pub fn projects_are_judged_alone()
     ensures { ProjectsAreJudgedAlone }
 {}

@@ -22,7 +22,7 @@ three-same {R} {a} {b} {c} {x} {y} {z} first second third =
     ∙ ap (λ o. option_or x (option_or y (option_or o None))) third
 
 pub judged-within : (s later : State) (cs : List RowChange) (name : List ℕ) (used : InUse) → IsWhole s → later ≡ applied s cs
-    → project_within cs ≡ Some name → Knows name used s later → project_judged name used later ≡ projects_judged s later
+    → project_within s cs ≡ Some name → Knows name used s later → project_judged name used later ≡ projects_judged s later
 unfolding project_forbidden project_uncounts project_exceeds
 judged-within s later cs name used whole made within knows = subst
     (λ t. Knows name used s t → project_judged name used t ≡ projects_judged s t) (sym made) (alike (projects-alone s cs name whole within)) knows where

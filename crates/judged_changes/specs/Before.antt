@@ -20,5 +20,5 @@ Knows project used state later =
 abbrev pub Judges : Before → State → List RowChange → Type 0
 Judges before.NewProfile state changes = puts_new_profile state changes ≡ true
 Judges (before.OneProject of) state changes =
-    (project_within changes ≡ Some of.name) × Knows of.name of.used state (applied state changes)
+    (project_within state changes ≡ Some of.name) × Knows of.name of.used state (applied state changes)
 Judges (before.Counted counts) state changes = Serves counts state (applied state changes)

@@ -122,7 +122,7 @@ fn profile_put_forbidden(
 pub enum Before {
     /// The changes put one new profile. No instance names it, and so it alone can break a rule, in its project.
     NewProfile,
-    /// The changes are of rows of one project, which is judged alone.
+    /// The changes are of rows of one project, which may get another name by them. It is judged alone.
     OneProject(OneProject),
     /// What counted for limits before the changes. They are judged over all projects.
     Counted(Usage),
@@ -143,7 +143,7 @@ fn before_changes(alloc: Global, view: &View<'_>, changes: &[RowChange]) -> Resu
     if puts_new_profile(view, changes) {
         return Ok(Before::NewProfile);
     }
-    match project_within(changes) {
+    match project_within(view, changes) {
         Some(project) => {
             let before = project_before(alloc, view, changes, project)?;
             Ok(Before::OneProject(before))

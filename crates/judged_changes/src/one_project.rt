@@ -1,11 +1,14 @@
 //! Changes of the rows of one project, which are judged in that project alone.
-ghost use Rattle.std.specs.Prelude.{◌≡◌, IfOk, false};
-ghost use Rattle.std.specs.List.{before_first, list_all};
+ghost use Rattle.std.specs.Prelude.{◌≡◌, ◌&&◌, IfOk, codes, false, not};
+ghost use Rattle.std.specs.List.{before_first, list_all, list_any};
 ghost use Rattle.std.specs.Option.{option_copied, option_map_or};
 ghost use Rattle.std.specs.Str.{bytes_eq};
 ghost use Rattle.setting_rules.specs.size_values.specs.Causes.{Says};
 ghost use Rattle.setting_rules.specs.row_machine.specs.row_codec.specs.Reading.{is_slash};
 ghost use Rattle.setting_rules.specs.row_machine.specs.machine.Changes.{applied};
+ghost use Rattle.setting_rules.specs.row_machine.specs.machine.Homes.{is_on};
+ghost use Rattle.setting_rules.specs.row_machine.specs.machine.Rows.{default_name};
+ghost use Rattle.kept_totals.specs.claim_laws.specs.OneProject.{are_profiles_shared};
 ghost use Rattle.kept_totals.specs.claim_laws.specs.OneProject.{in_use, is_after_rename, is_between, is_within};
 ghost use Rattle.kept_totals.specs.claim_laws.specs.OneProject.{project_of_all, project_of_key, project_put};
 ghost use Rattle.kept_totals.specs.claim_laws.specs.OneProject.{project_removed, project_renamed, project_touched};
@@ -18,9 +21,9 @@ use kept_totals::from_limit_rules::{
 };
 use kept_totals::from_policy_rules::policy_broken_in;
 use kept_totals::from_project_usage::usage_of;
-use setting_rules::from_records::{Refusal, Row};
+use setting_rules::from_records::{Project, Refusal, Row};
 use setting_rules::from_row_machine::RowChange;
-use setting_rules::from_row_readings::{View, project_of_row, rows_of};
+use setting_rules::from_row_readings::{View, is_on, project_of_row, rows_of};
 use setting_rules::from_size_values::{Amounts, NoMemory, ObjectKind, Or, Text};
 use std::alloc::Global;
 
@@ -79,28 +82,48 @@ fn touches_profile(change: &RowChange) -> bool
     }
 }
 
-/// Whether a change touches rows of this project alone. A profile of `default` is one that instances of other projects
-/// have.
-fn is_within(project: &str, change: &RowChange) -> bool
-    ensures { result ≡ is_within project.now change.now }
+/// Whether one of these projects has the profiles of `default`, and is another one.
+fn shares_profiles(projects: &[Project]) -> bool
+    ensures { result ≡ list_any (λ p. not (bytes_eq p.name default_name)
+        && not (is_on p.config (codes "features.profiles"))) projects.now }
 {
-    project_touched(change) == project && !(touches_profile(change) && "default" == project)
+    projects.iter().any(|project| {
+        project.name.view() != "default" && !is_on(&project.config, "features.profiles")
+    })
 }
 
-fn are_within(project: &str, changes: &[RowChange]) -> bool
-    ensures { result ≡ list_all (is_within project.now) changes.now }
+/// Whether another project than `default` has the profiles of `default`.
+fn are_profiles_shared(view: &View<'_>) -> bool
+    ensures { result ≡ are_profiles_shared view.now }
 {
-    changes.iter().all(|change| is_within(project, change))
+    shares_profiles(view.projects)
+}
+
+/// Whether a change touches rows of this project alone. A profile of `default` is one that instances of other projects
+/// may have, which is looked for only then.
+fn is_within(view: &View<'_>, project: &str, change: &RowChange) -> bool
+    ensures { result ≡ is_within (are_profiles_shared view.now) project.now change.now }
+{
+    project_touched(change) == project
+        && !(touches_profile(change) && "default" == project && are_profiles_shared(view))
+}
+
+fn are_within(view: &View<'_>, project: &str, changes: &[RowChange]) -> bool
+    ensures { result ≡ list_all (is_within (are_profiles_shared view.now) project.now) changes.now }
+{
+    changes
+        .iter()
+        .all(|change| is_within(view, project, change))
 }
 
 /// The project whose rows all changes touch.
-fn project_of_all(changes: &[RowChange]) -> Option<&str>
-    ensures { option_copied result ≡ project_of_all changes.now }
+fn project_of_all<'x>(view: &View<'_>, changes: &'x [RowChange]) -> Option<&'x str>
+    ensures { option_copied result ≡ project_of_all (are_profiles_shared view.now) changes.now }
 {
     match changes {
         [first, ..] => {
             let project = project_touched(first);
-            if are_within(project, changes) {
+            if are_within(view, project, changes) {
                 Some(project)
             } else {
                 None
@@ -193,10 +216,10 @@ fn project_renamed(changes: &[RowChange]) -> Option<&str>
 }
 
 /// The project within which all changes are, which may get another name by them.
-pub(crate) fn project_within(changes: &[RowChange]) -> Option<&str>
-    ensures { option_copied result ≡ project_within changes.now }
+pub(crate) fn project_within<'x>(view: &View<'_>, changes: &'x [RowChange]) -> Option<&'x str>
+    ensures { option_copied result ≡ project_within view.now changes.now }
 {
-    match project_of_all(changes) {
+    match project_of_all(view, changes) {
         Some(project) => Some(project),
         None => project_renamed(changes),
     }

@@ -30,7 +30,7 @@ pub mod from_row_machine {
 
 /// Of `row_readings`, for the crates above.
 pub mod from_row_readings {
-    pub use row_readings::{View, kept_at, project_of_row, rows_of, share_of};
+    pub use row_readings::{View, is_on, kept_at, project_of_row, rows_of, share_of};
 }
 
 /// Of `rule_refusals`, for the crates above.
