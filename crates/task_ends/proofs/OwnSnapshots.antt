@@ -5,7 +5,7 @@ use Rattle.object_links.specs.records.specs.declared.rows.Snapshot.{Snapshot}
 use Rattle.row_readings.proofs.Ranges.{filter-filter}
 
 -- whether a snapshot is one of the instance of this project and name
-pub is_its : List ℕ → List ℕ → Snapshot → Bool
+abbrev pub is_its : List ℕ → List ℕ → Snapshot → Bool
 is_its project instance r = cond (bytes_eq r.project project) (bytes_eq r.instance instance) false
 
 pub own-snapshots : (project instance : List ℕ) (rows : List Snapshot)

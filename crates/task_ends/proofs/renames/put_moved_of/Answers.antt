@@ -11,7 +11,7 @@ returns c =
     let to = c.args.to.now in
     subst (λ rows. OnOk c.put_moved.result (c.put_moved.new.changes ≡ c.args.changes.now
     ++ map change.Put (row_of.Instance to ∷ map (λ r. row_of.Snapshot (record r { instance = to.name; project = to.project })) rows)))
-    (ap (filter its) c.rows_of.ensures
+    (ap (filter its) c.rows_of-rows.ensures
     ∙ own-snapshots c.args.project.now c.args.instance.now c.view.inside.snapshots.now
     ∙ ap (λ (s : State). filter its s.snapshots) c.view.view_is)
     c.put_moved.ensures
