@@ -21,7 +21,7 @@ use kept_totals::from_limit_rules::{
 };
 use kept_totals::from_policy_rules::policy_broken_in;
 use kept_totals::from_project_usage::usage_of;
-use setting_rules::from_records::{Project, Refusal, Row};
+use setting_rules::from_records::{Refusal, Row};
 use setting_rules::from_row_machine::RowChange;
 use setting_rules::from_row_readings::{View, is_on, project_of_row, rows_of};
 use setting_rules::from_size_values::{Amounts, NoMemory, ObjectKind, Or, Text};
@@ -82,21 +82,13 @@ fn touches_profile(change: &RowChange) -> bool
     }
 }
 
-/// Whether one of these projects has the profiles of `default`, and is another one.
-fn shares_profiles(projects: &[Project]) -> bool
-    ensures { result ≡ list_any (λ p. not (bytes_eq p.name default_name)
-        && not (is_on p.config (codes "features.profiles"))) projects.now }
-{
-    projects.iter().any(|project| {
-        project.name.view() != "default" && !is_on(&project.config, "features.profiles")
-    })
-}
-
 /// Whether another project than `default` has the profiles of `default`.
 fn are_profiles_shared(view: &View<'_>) -> bool
     ensures { result ≡ are_profiles_shared view.now }
 {
-    shares_profiles(view.projects)
+    view.projects.iter().any(|project| {
+        project.name.view() != "default" && !is_on(&project.config, "features.profiles")
+    })
 }
 
 /// Whether a change touches rows of this project alone. A profile of `default` is one that instances of other projects
