@@ -67,6 +67,11 @@ EventsStandAtOnePath =
     (path : List ℕ) → IsText path
     → (option_map (λ line. line.place) (line_of path) ≡ Some place.Events) ↔ (path ≡ codes "/1.0/events")
 
+-- the line of the server, where GET alone is offered
+abbrev pub server_line : Line
+server_line = line_with place.Server
+    (record { get = true; post = false; put = false; patch = false; delete = false })
+
 -- ---- methods
 
 -- the method of a request, if any path offers it

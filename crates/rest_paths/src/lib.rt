@@ -14,7 +14,10 @@ mod query;
 mod refusals;
 mod table;
 
-pub use laws::{events_stand_at_one_path, names_fill_the_braces, paths_do_not_conflict};
+pub use laws::{
+    events_stand_at_one_path, names_fill_the_braces, paths_do_not_conflict,
+    the_server_stands_at_its_path,
+};
 pub use paths::{instance_of, name_of, path_of, pool_of, query_of, split_target};
 pub use places::{Line, Methods, Place, Verb, has_body, verb_offered};
 pub use query::{

@@ -2,33 +2,34 @@
 use Rattle.std.proofs.Common.{◌≡◌, ℕ, Bool, true, false, ◌&&◌, List, [], Result, Ok, refl, ap, ap₂, ◌∙◌, codes}
 use Rattle.std.specs.Str.{bytes_eq}
 use Rattle.std.proofs.lemmas.Slice.Eq.{bytes_eq-Decides}
-use Rattle.form_urlencoded.specs.Form.{raw_pairs}
 use Rattle.rest_replies.specs.http_heads.specs.declared.request.Request.{Request}
 use Rattle.rest_bodies.specs.records.specs.declared.commands.Command.{Command}
+use Rattle.rest_bodies.specs.records.specs.declared.commands.What.TheVariants as what
 use Rattle.rest_bodies.specs.records.specs.declared.refusals.Rule.TheVariants as rule
 use Rattle.rest_bodies.specs.records.specs.declared.refusals.Refusal.{Refusal}
 use Rattle.rest_paths.specs.Answers.{followed}
 use Rattle.rest_paths.specs.Paths.{path_of, query_of}
 use Rattle.rest_paths.specs.Places.{line_of, verb_of, verb_offered}
-use Rattle.rest_paths.specs.Queries.{query_from_text}
-use Rattle.rest_paths.proofs.Server.{server-stands}
+use Rattle.rest_paths.specs.Queries.{project_of}
+use Rattle.rest_paths.proofs.Server.{server-stands, nothing-said}
 use Rattle.rest_routes.specs.Commands.{command_at, command_of, sent_body}
 use Rattle.rest_routes.specs.Known.{is_server_asked, server_asked}
 use Rattle.rest_routes.specs.WithBody.{needed}
 
 -- what a method, a target and a body ask for
-asked-by : List ℕ → List ℕ → List ℕ → ℕ → Result Command Refusal
+abbrev asked-by : List ℕ → List ℕ → List ℕ → ℕ → Result Command Refusal
 asked-by method target body boot =
     followed (needed rule.A1 (line_of (path_of target))) (λ line.
     followed (needed rule.A2 (verb_offered line method)) (λ verb.
     command_at line.place verb (path_of target) (query_of target) (sent_body verb body) boot))
 
 by-get : (body : List ℕ) (boot : ℕ) → asked-by (codes "GET") (codes "/1.0") body boot ≡ Ok server_asked
-unfolding path_of query_of verb_offered verb_of command_at query_from_text raw_pairs
+unfolding path_of query_of verb_offered verb_of command_at
 by-get body boot =
     ap (λ found. followed (needed rule.A1 found) (λ line.
     followed (needed rule.A2 (verb_offered line (codes "GET"))) (λ verb.
     command_at line.place verb (codes "/1.0") [] (sent_body verb body) boot))) server-stands
+    ∙ ap (λ said. followed said (λ query. Ok (record { project = project_of query; what = what.Server }))) nothing-said
 
 both : (a b : Bool) → (a && b) ≡ true → (a ≡ true) × (b ≡ true)
 both true true e = (refl, refl)
