@@ -41,7 +41,7 @@ mod notices;
 mod printing;
 mod refusals;
 
-pub use known::known_reply;
+pub use known::{known_reply, server_text};
 pub use laws::no_memory_is_known;
 pub use notices::print_notice;
 pub use printing::print;
