@@ -66,12 +66,12 @@ pub server-replied : (boot : ℕ) (w w' : Site) (request : Request) (result : An
     → IsTurn w.serial.state w.store (event.Ask server_asked moment) (answer.Reply (reply.One view.Server)) w'.serial.state w'.store
     → w'.serial.hand ≡ w.serial.hand → w'.host ≡ w.host → Reads w.clock (moment ∷ []) w'.clock → moment < moment_limit
     → HasText result (reply.One view.Server) boot false → Answers boot w w' request result
-server-replied boot w w' request result moment asked open turn hand host read early text = record {
+server-replied boot w w' request result moment asked stays turn hand host read early text = record {
   reply = reply.One view.Server;
   reaches =
       subst (λ asks. Reaches w asks (reply.One view.Server) w') (sym asked)
       (replied (reply.One view.Server) (record { turn = turn; hand = hand; host = host; read = read; early = early }) refl);
-  text = subst (λ last. HasText result (reply.One view.Server) boot last) (sym open) text;
+  text = subst (λ last. HasText result (reply.One view.Server) boot last) (sym stays) text;
 }
 
 -- an operation was asked for in the project of a command

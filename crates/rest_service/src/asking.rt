@@ -77,7 +77,7 @@ pub(crate) fn tell_of_server<C: Clock>(
     request: &Request,
 ) -> Answered
     requires asked { (boot : ℕ) → command_of request.now boot ≡ Ok server_asked }
-    requires open { request.now.last ≡ false }
+    requires stays { request.now.last ≡ false }
     ensures { (boot : ℕ) (store : Store) (host : Hosted) → Answers boot
         (site daemon.now store host (C.readings clock.old)) (site daemon.now store host (C.readings clock.new))
         request.now result }
