@@ -8,8 +8,8 @@ ghost use Rattle.http_front.specs.Streams.{Ends};
 ghost use Rattle.http_front.specs.Held.{TakesIn, max_piece, most_held};
 
 use crate::source::{Source, SourceFailed};
-use http_heads::from_size_values::{NoMemory, Or};
-use http_heads::{Head, HeadFault, HeaderSpans, read_head};
+use http_heads::from_size_values::{NoMemory, Or, Text};
+use http_heads::{Head, HeadFault, HeaderSpans, Request, SpareTexts, read_head};
 use std::alloc::Global;
 use std::marker::Model;
 
@@ -31,6 +31,8 @@ pub struct Buffer {
     piece: Vec<u8>,
     /// Where the headers of a head are, while it is read.
     spans: HeaderSpans,
+    /// What a request before left, for the next one.
+    spare: SpareTexts,
 }
 
 impl Model for Buffer {
@@ -56,6 +58,10 @@ impl Buffer {
             start: 0,
             piece,
             spans,
+            spare: SpareTexts {
+                method: Text::new(alloc),
+                target: Text::new(alloc),
+            },
         })
     }
 
@@ -76,7 +82,15 @@ impl Buffer {
         ensures same { self.new ≡ self.old }
     {
         let held = &self.bytes[self.start..];
-        read_head(alloc, &held[..len], &mut self.spans)
+        read_head(alloc, &held[..len], &mut self.spans, &mut self.spare)
+    }
+
+    /// Takes a request that is done with, so that the next one is put into its memory.
+    pub fn reuse(&mut self, request: Request)
+        ensures { self.new ≡ self.old }
+    {
+        let Request { method, target, .. } = request;
+        self.spare = SpareTexts { method, target };
     }
 
     /// Lets go of the first bytes, which a message has used.

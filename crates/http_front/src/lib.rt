@@ -4,7 +4,7 @@
 
 /// Of `http_heads`, for the crates above.
 pub mod from_http_heads {
-    pub use http_heads::{HeaderSpans, Request, read_head};
+    pub use http_heads::{HeaderSpans, Request, SpareTexts, read_head};
 }
 
 /// Of `size_values`, for the crates above.

@@ -16,6 +16,7 @@ use httparse::spans::{EMPTY_HEADER_SPAN, HeaderSpan, RequestSpans, parse_request
 use size_values::{NoMemory, Or, Text};
 use std::alloc::Global;
 use std::marker::Model;
+use std::mem;
 
 /// What a head says: the method, the target, the length of the body, whether the connection ends after it, and the
 /// key of the WebSocket handshake that it asks for.
@@ -46,6 +47,13 @@ impl Model for HeaderSpans {
     ghost invariant = { λ s. vec_len s.spans ≡ max_fields };
 }
 
+/// Texts that are done with, in whose memory those of the next head are put. What they say matters to no reader.
+#[derive(Drop)]
+pub struct SpareTexts {
+    pub method: Text,
+    pub target: Text,
+}
+
 impl HeaderSpans {
     /// A place for the most headers that a head has.
     pub fn new(alloc: Global) -> Result<HeaderSpans, NoMemory> {
@@ -59,6 +67,7 @@ pub fn read_head(
     alloc: Global,
     bytes: &[u8],
     places: &mut HeaderSpans,
+    spare: &mut SpareTexts,
 ) -> Result<Head, Or<HeadFault>>
     ensures ok { IfOk result (Says (after_blank bytes.now)) }
     ensures small { IfOk result (λ head. head.body ≤ max_body) }
@@ -67,7 +76,7 @@ pub fn read_head(
     let text = &bytes[leading_line_bytes(bytes)..];
     let headers = places.spans.as_mut_slice();
     match spans_of(text, headers) {
-        Some(spans) => head_of(alloc, text, &headers[..spans.headers], &spans),
+        Some(spans) => head_of(alloc, text, &headers[..spans.headers], &spans, spare),
         None => Err(Or::Why(HeadFault::H1)),
     }
 }
@@ -98,6 +107,7 @@ fn head_of(
     text: &[u8],
     headers: &[HeaderSpan],
     spans: &RequestSpans,
+    spare: &mut SpareTexts,
 ) -> Result<Head, Or<HeadFault>>
     requires { AreParts text.now headers.now spans.now }
     ensures ok { IfOk result (Says text.now) }
@@ -109,8 +119,8 @@ fn head_of(
         Err(fault) => return Err(Or::Why(fault)),
     };
     let last = spans.version == 0 || some_lists(text, headers, b"connection", b"close");
-    let method = text_of(alloc, spans.method.of(text))?;
-    let target = text_of(alloc, spans.path.of(text))?;
+    let method = text_in(alloc, &mut spare.method, str_of(spans.method.of(text)))?;
+    let target = text_in(alloc, &mut spare.target, str_of(spans.path.of(text)))?;
     let upgrade = upgrade_of(alloc, text, headers, spans)?;
     Ok(Head {
         method,
@@ -134,17 +144,26 @@ fn upgrade_of(
         (map (header_bytes text.now) headers.now)) }
 {
     match key_in(spans.method.of(text), spans.version, text, headers) {
-        Some(key) => Ok(Some(text_of(alloc, key)?)),
+        Some(key) => Ok(Some(Text::from_text(alloc, str_of(key))?)),
         None => Ok(None),
     }
 }
 
-fn text_of(alloc: Global, bytes: &[u8]) -> Result<Text, NoMemory>
+/// The bytes as a `str`.
+fn str_of(bytes: &[u8]) -> &str
     requires { IsUtf8 bytes.now }
-    ensures { IfOk result (λ text. text ≡ bytes.now) }
+    ensures { result.now ≡ bytes.now }
 {
     match std::str::from_utf8(bytes) {
-        Ok(text) => Text::from_text(alloc, text),
+        Ok(text) => text,
         Err(_) => unreachable!(),
     }
+}
+
+/// The text, in the memory of one that is done with.
+fn text_in(alloc: Global, spare: &mut Text, text: &str) -> Result<Text, NoMemory>
+    ensures { IfOk result (λ filled. filled ≡ text.now) }
+{
+    spare.set(text)?;
+    Ok(mem::replace(spare, Text::new(alloc)))
 }

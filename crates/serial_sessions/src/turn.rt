@@ -105,7 +105,7 @@ pub(crate) fn turn<S: Source, K: Sink, R: Keeper, H: Host, C: Clock>(
             let answered = service.answer(alloc, keeper, host, clock, &request, boot);
             let comes = write_answer(sink, &answered, request.last);
             drop(answered);
-            drop(request);
+            buffer.reuse(request);
             go_on(alloc, keeper, host, clock, service, pace, comes);
             comes
         }

@@ -1,4 +1,4 @@
-ghost use Rattle.std.specs.Prelude.{◌≡◌, ◌==◌, [], IfOk, string_bytes, length};
+ghost use Rattle.std.specs.Prelude.{◌≡◌, ◌==◌, [], IfOk, OnOk, OnErr, string_bytes, length};
 ghost use Rattle.std.specs.Ordering.{nat_cmp};
 ghost use Rattle.std.specs.Cmp.Lexicographic.{slice_cmp};
 ghost use Rattle.std.specs.Str.{IsUtf8, bytes_eq};
@@ -52,6 +52,16 @@ impl Text {
         ensures { IfOk result (λ t. t ≡ self.now) }
     {
         Text::from_text(alloc, self.view())
+    }
+
+    /// Becomes this text, in the memory that it has where that is enough. Where memory is refused, it is empty.
+    pub fn set(&mut self, text: &str) -> Result<(), NoMemory>
+        ensures ok { OnOk result (self.new ≡ text.now) }
+        ensures err { OnErr result (self.new ≡ []) }
+    {
+        self.inner.clear();
+        self.inner.push_str(text)?;
+        Ok(())
     }
 
     /// The text as a `str`.

@@ -8,6 +8,6 @@ returns-in-Err-clause-err c =
     HasFault-of_fields c.in-Err.fault
     (record { head = c.requires.head; is = c.requires.is; framed = ap framing (sym c.requires.fields) ∙ sym c.in-Err.ensures.value })
 
-pub text_of-requires : goal.text_of-requires
-text_of-requires c =
+pub str_of-requires : goal.str_of-requires
+str_of-requires c =
     subst IsUtf8 (sym (c.of.ensures ∙ c.requires.method)) (IsUtf8-token c.requires.head.method c.requires.is.reads.0.method)
