@@ -1,5 +1,5 @@
 -- Who asks for the server is told of it.
-use Rattle.std.proofs.Common.{◌≡◌, refl, sym, subst}
+use Rattle.std.proofs.Common.{refl, sym, subst}
 use Rattle.notice_laws.specs.row_machine.specs.machine.Step.{well}
 use Rattle.notice_laws.specs.row_machine.specs.shown.Views.{read}
 use Rattle.core_instances.specs.core_objects.proofs.FirstRules.{unbroken, both-free}

@@ -1,3 +1,4 @@
+pub mod KnownLemmas
 pub mod StreamLemmas
 pub mod ReadLemmas
 pub mod StepLemmas

@@ -1,12 +1,15 @@
-ghost use Rattle.std.specs.Prelude.{◌≡◌, ◌+◌, ◌<◌, ◌≤◌, [], length, drop, vec_len, vec_capacity, IfOk, IfErr, OnErr};
+ghost use Rattle.std.specs.Prelude.{◌≡◌, ◌+◌, ◌<◌, ◌≤◌, [], Some, length, drop, vec_len, vec_capacity, IfOk, IfErr};
+ghost use Rattle.std.specs.Prelude.{IfSome, IfNone, OnErr};
 ghost use Rattle.std.specs.Io.KnownBytes.{IsAtEnd};
 ghost use Rattle.http_heads.specs.size_values.specs.Causes.{HasCauseOrMemory};
-ghost use Rattle.http_heads.specs.Heads.{head_bytes};
+ghost use Rattle.http_heads.specs.Heads.{head_bytes, head_len};
 ghost use Rattle.http_heads.specs.Limits.{max_head, max_body};
+ghost use Rattle.http_heads.specs.Messages.{IsMessage};
 ghost use Rattle.http_heads.specs.Readings.{Says, HasReason};
 ghost use Rattle.http_front.specs.Streams.{Ends};
 ghost use Rattle.http_front.specs.Held.{TakesIn, max_piece, most_held};
 
+use crate::known::KnownHead;
 use crate::source::{Source, SourceFailed};
 use http_heads::from_size_values::{NoMemory, Or, Text};
 use http_heads::{Head, HeadFault, HeaderSpans, Request, SpareTexts, read_head};
@@ -33,6 +36,8 @@ pub struct Buffer {
     spans: HeaderSpans,
     /// What a request before left, for the next one.
     spare: SpareTexts,
+    /// The head that was read last.
+    known: KnownHead,
 }
 
 impl Model for Buffer {
@@ -62,6 +67,7 @@ impl Buffer {
                 method: Text::new(alloc),
                 target: Text::new(alloc),
             },
+            known: KnownHead::new(alloc),
         })
     }
 
@@ -91,6 +97,33 @@ impl Buffer {
     {
         let Request { method, target, .. } = request;
         self.spare = SpareTexts { method, target };
+    }
+
+    /// Notes the head that the first `len` bytes are.
+    pub(crate) fn note(&mut self, len: usize, head: &Head) -> Result<(), NoMemory>
+        requires within { len ≤ length self.old }
+        requires ends { head_len self.old ≡ Some len }
+        requires says { Says (head_bytes len self.old) head.now }
+        ensures same { self.new ≡ self.old }
+        ensures few { length self.new ≤ most_held }
+    {
+        let held = &self.bytes[self.start..];
+        self.known.note(&held[..len], head)
+    }
+
+    /// Takes the first request, where its head is the one that was noted.
+    pub(crate) fn take_known(&mut self, alloc: Global) -> Result<Option<Request>, NoMemory>
+        ensures some { IfOk result (λ found. IfSome found (λ request. IsMessage self.old request self.new)) }
+        ensures none { IfOk result (λ found. IfNone found (self.new ≡ self.old)) }
+        ensures err { OnErr result (self.new ≡ self.old) }
+        ensures few { length self.new ≤ most_held }
+    {
+        let Some(len) = self.known.begins(&self.bytes[self.start..]) else {
+            return Ok(None);
+        };
+        let request = self.known.request(alloc, &mut self.spare)?;
+        self.start += len;
+        Ok(Some(request))
     }
 
     /// Lets go of the first bytes, which a message has used.

@@ -14,6 +14,7 @@ pub mod from_size_values {
 
 mod buffer;
 mod clock;
+mod known;
 mod laws;
 mod read;
 mod reply;

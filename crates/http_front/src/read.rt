@@ -124,6 +124,22 @@ fn next_request<S: Source>(
     ensures later { S.failures source.old ≤ S.failures source.new }
     ensures fault { OnFault result (Rose (S.failures source.old) (S.failures source.new)) }
 {
+    match buffer.take_known(alloc)? {
+        Some(request) => Ok(request),
+        None => read_next(alloc, buffer, source),
+    }
+}
+
+/// The next request, of which no head was noted.
+fn read_next<S: Source>(alloc: Global, buffer: &mut Buffer, source: &mut S) -> Result<Request, Stop>
+    ensures ok { IfOk result (Takes buffer.old buffer.new (S.left source.old) (S.left source.new)) }
+    ensures held { IfErr result (λ stop. TakesIn buffer.old buffer.new (S.left source.old) (S.left source.new)) }
+    ensures err { IfErr result (Stops buffer.new (S.ended source.new) (S.left source.new)) }
+    ensures ahead { (source.new ≡ source.old) ⊎ IsUnfinished buffer.old }
+    ensures few { length buffer.new ≤ most_held }
+    ensures later { S.failures source.old ≤ S.failures source.new }
+    ensures fault { OnFault result (Rose (S.failures source.old) (S.failures source.new)) }
+{
     let len = await_head(buffer, source)?;
     let head = buffer.read_head(alloc, len)?;
     await_body(buffer, source, len + head.body)?;
@@ -144,6 +160,7 @@ fn take_request(
     ensures err { OnErr result (buffer.new ≡ buffer.old) }
     ensures few { length buffer.new ≤ most_held }
 {
+    buffer.note(len, &head)?;
     let held = buffer.view();
     let end = len + head.body;
     let body = Seq::of_bytes(alloc, &held[len..end])?;

@@ -1,9 +1,9 @@
 -- More bytes after a whole head change nothing of it.
-use Rattle.std.proofs.Common.{◌≡◌, ℕ, suc, ◌+◌, ◌-◌, ◌<◌, ◌≤◌, ◌==◌, Bool, true, false, cond, List, [], ◌∷◌, ◌++◌, length, take, drop, Option, Some, None, Result, Ok, Err, IfOk, refl, sym, ap, ◌∙◌, ◌⊎◌, inl, inr, arith, length-take}
+use Rattle.std.proofs.Common.{◌≡◌, ℕ, zero, suc, ◌+◌, ◌-◌, ◌<◌, ◌≤◌, ◌==◌, Bool, true, false, cond, List, [], ◌∷◌, ◌++◌, length, take, drop, Option, Some, None, Result, Ok, Err, IfOk, refl, sym, ap, ◌∙◌, subst, ◌⊎◌, inl, inr, arith, length-take, take-append-drop}
 use Rattle.std.specs.Option.{option_map, option_or}
 use Rattle.std.proofs.lemmas.Option.{same_Some}
 use Rattle.std.proofs.lemmas.Bool.{cases_lt}
-use Rattle.std.proofs.lemmas.List.{take-append-le, take_all, drop_all}
+use Rattle.std.proofs.lemmas.List.{take-append-le, take-take, take_all, drop_all}
 use Rattle.std.proofs.Math.Seq.{take-append-add}
 use Rattle.http_heads.specs.Limits.{max_head}
 use Rattle.http_heads.specs.Heads.{is_line_byte, blank_len, line_end, empty_line_end, head_end, head_len}
@@ -170,3 +170,78 @@ unfolding head_len
 head_len-le bytes n e =
     let few : n ≤ length (take max_head bytes) = head_end-le (take max_head bytes) n e in
     let len = length-take max_head bytes in (omega arith, omega arith)
+
+-- ---- the bytes of a head alone
+
+line_end-front : (bytes : List ℕ) (n : ℕ) → line_end bytes ≡ Some n → line_end (take n bytes) ≡ Some n
+line_end-front [] n e = cc
+line_end-front (b ∷ []) n e = by_test (b == 10) refl e
+  where
+    by_test : (t : Bool) → (b == 10) ≡ t → cond t (Some 1) None ≡ Some n → line_end (take n (b ∷ [])) ≡ Some n
+    by_test true is f = subst (λ k. line_end (take k (b ∷ [])) ≡ Some k) (same_Some 1 n f) (rw is refl)
+    by_test false is f = cc
+line_end-front (b ∷ c ∷ bytes) n e = by_tests (b == 10) (b == 13) (c == 10) refl refl refl e
+  where
+    by_tests : (t u v : Bool) → (b == 10) ≡ t → (b == 13) ≡ u → (c == 10) ≡ v
+        → cond t (Some 1) (cond u (cond v (Some 2) None) None) ≡ Some n → line_end (take n (b ∷ c ∷ bytes)) ≡ Some n
+    by_tests true u v is is_13 is_c f =
+        subst (λ k. line_end (take k (b ∷ c ∷ bytes)) ≡ Some k) (same_Some 1 n f) (rw is refl)
+    by_tests false true true is is_13 is_c f =
+        subst (λ k. line_end (take k (b ∷ c ∷ bytes)) ≡ Some k) (same_Some 2 n f) (rw is (rw is_13 (rw is_c refl)))
+    by_tests false true false is is_13 is_c f = cc
+    by_tests false false v is is_13 is_c f = cc
+
+end_past-front : (b : ℕ) (bytes : List ℕ) (n : ℕ) → end_past b bytes ≡ Some n → end_past b (take n bytes) ≡ Some n
+end_past-front b bytes n e = by_test (b == 10) refl
+  where
+    by_test : (t : Bool) → (b == 10) ≡ t → end_past b (take n bytes) ≡ Some n
+    by_test true is = let f : line_end bytes ≡ Some n = rw is at e in rw is (line_end-front bytes n f)
+    by_test false is = let f : None ≡ Some n = rw is at e in cc
+
+end_past-none : (b : ℕ) (bytes : List ℕ) (n : ℕ) → end_past b bytes ≡ None → end_past b (take n bytes) ≡ None
+end_past-none b bytes n e = by_end (end_past b (take n bytes)) refl
+  where
+    by_end : (o : Option ℕ) → end_past b (take n bytes) ≡ o → end_past b (take n bytes) ≡ None
+    by_end None is = is
+    by_end (Some k) is =
+        let f : end_past b bytes ≡ Some k = subst (λ l. end_past b l ≡ Some k) (take-append-drop n bytes) (end_past-append b (take n bytes) (drop n bytes) k is) in
+        let g : None ≡ Some k = sym e ∙ f in cc
+
+empty_line_end-front : (bytes : List ℕ) (n : ℕ) → empty_line_end bytes ≡ Some n → empty_line_end (take n bytes) ≡ Some n
+empty_line_end-front [] n e = cc
+empty_line_end-front (b ∷ bytes) n e = by_end (end_past b bytes) refl (λ k. empty_line_end-front bytes k)
+  where
+    by_end : (o : Option ℕ) → end_past b bytes ≡ o → ((k : ℕ) → empty_line_end bytes ≡ Some k → empty_line_end (take k bytes) ≡ Some k)
+        → empty_line_end (take n (b ∷ bytes)) ≡ Some n
+    by_end (Some k) is later =
+        let f : suc k ≡ n = same_Some (suc k) n (sym (ap (λ o. end_or o bytes) is) ∙ e) in
+        subst (λ m. empty_line_end (take m (b ∷ bytes)) ≡ Some m) f (ap (λ o. end_or o (take k bytes)) (end_past-front b bytes k is))
+    by_end None is later =
+        let m = mapped suc (empty_line_end bytes) n (sym (ap (λ o. end_or o bytes) is) ∙ e) in
+        subst (λ j. empty_line_end (take j (b ∷ bytes)) ≡ Some j) m.2
+        (ap (λ o. end_or o (take m.0 bytes)) (end_past-none b bytes m.0 is) ∙ ap (option_map suc) (later m.0 m.1))
+
+head_end-front : (bytes : List ℕ) (n : ℕ) → head_end bytes ≡ Some n → head_end (take n bytes) ≡ Some n
+head_end-front [] n e = cc
+head_end-front (b ∷ bytes) n e = by_test (is_line_byte b) refl (λ k. head_end-front bytes k)
+  where
+    begun : (k : ℕ) → is_line_byte b ≡ false → empty_line_end (take k (b ∷ bytes)) ≡ Some k → head_end (take k (b ∷ bytes)) ≡ Some k
+    begun zero is f = cc
+    begun (suc k) is f = head_end-begins b (take k bytes) is ∙ f
+
+    by_test : (t : Bool) → is_line_byte b ≡ t → ((k : ℕ) → head_end bytes ≡ Some k → head_end (take k bytes) ≡ Some k)
+        → head_end (take n (b ∷ bytes)) ≡ Some n
+    by_test true is later =
+        let m = mapped suc (head_end bytes) n (sym (head_end-blank b bytes is) ∙ e) in
+        subst (λ k. head_end (take k (b ∷ bytes)) ≡ Some k) m.2 (head_end-blank b (take m.0 bytes) is ∙ ap (option_map suc) (later m.0 m.1))
+    by_test false is later = begun n is (empty_line_end-front (b ∷ bytes) n (sym (head_end-begins b bytes is) ∙ e))
+
+-- the head that a text begins with is a head by itself
+pub head_len-front : (bytes : List ℕ) (n : ℕ) → head_len bytes ≡ Some n → head_len (take n bytes) ≡ Some n
+unfolding head_len
+head_len-front bytes n e =
+    let few = head_len-le bytes n e in
+    let short : length (take n bytes) ≤ max_head = omega (arith, length-take n bytes, few.0) in
+    ap head_end (take_all max_head (take n bytes) short)
+    ∙ ap head_end (sym (take-take n max_head bytes few.0))
+    ∙ head_end-front (take max_head bytes) n e

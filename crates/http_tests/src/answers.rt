@@ -63,7 +63,10 @@ pub(crate) fn answers_all<S: Source>(alloc: Global, source: &mut S, wants: &[Wan
     for want in wants {
         let got = read_request(alloc, &mut buffer, source);
         all &= is_wanted(&got, *want);
-        drop(got);
+        match got {
+            Got::Request(request) => buffer.reuse(request),
+            other => drop(other),
+        }
     }
     drop(buffer);
     all

@@ -32,6 +32,28 @@ const TEXTS: &[(&[u8], &[Want])] = &[
         b"GET / HTTP/1.1\r\nContent-Length: 0\r\n\r\n",
         &[Next("GET", "/", 0), End],
     ),
+    // The same head again, others that begin as it does, and it once more.
+    (
+        b"GET /a HTTP/1.1\r\nA: b\r\n\r\nGET /a HTTP/1.1\r\nA: b\r\n\r\nGET /a HTTP/1.1\r\nA: c\r\n\r\n\nGET /a HTTP/1.1\r\nA: c\r\n\r\n",
+        &[A, A, A, A, End],
+    ),
+    (
+        b"GET /a HTTP/1.1\n\nGET /b HTTP/1.1\n\nGET /a HTTP/1.1\n\nGET /a HTTP/1.1\r\n\nGET /a HTTP/1.1\nA: b",
+        &[A, B, A, A, Cut(20)],
+    ),
+    (
+        b"POST /a HTTP/1.1\nContent-Length: 1\n\nxPOST /a HTTP/1.1\nContent-Length: 1\n\n\nGET /a HTTP/1.1\n\n",
+        &[Next("POST", "/a", 1), Next("POST", "/a", 1), A, End],
+    ),
+    (
+        b"GET /a HTTP/1.1\n\nGET /a HTTP/1.0\n\nGET /a HTTP/1.0\n\nGET /a HTTP/1.1\n\n",
+        &[A, Last("GET", "/a", 0), Last("GET", "/a", 0), A, End],
+    ),
+    (b"GET /a HTTP/1.1\r\n\r\nGET /a HTTP/1.1\r\n", &[A, Cut(17)]),
+    (
+        b"GET /a HTTP/1.1\n\nGET /a\n\n",
+        &[A, Malformed(HeadFault::H1)],
+    ),
     // What is no head at all: a version, a space, a colon, a folded line, a lone CR, a NUL, bytes past ASCII.
     (b"GET /\r\n\r\n", &[Malformed(HeadFault::H1)]),
     (b"GET / HTTP/1.2\r\n\r\n", &[Malformed(HeadFault::H1)]),

@@ -1,7 +1,8 @@
 //! Heads, and the key of the WebSocket handshake that each of them asks for.
 
 use crate::answers::{Want, is_text, reads_as};
-use http_front::from_http_heads::{HeaderSpans, read_head};
+use http_front::from_http_heads::{HeaderSpans, SpareTexts, read_head};
+use http_front::from_size_values::Text;
 use std::alloc::Global;
 
 /// The key in the example of RFC 6455, section 1.3.
@@ -219,7 +220,11 @@ fn head_tells(alloc: Global, text: &[u8], wanted: Option<&str>) -> bool {
     let Ok(mut places) = HeaderSpans::new(alloc) else {
         return false;
     };
-    let head = read_head(alloc, text, &mut places);
+    let mut spare = SpareTexts {
+        method: Text::new(alloc),
+        target: Text::new(alloc),
+    };
+    let head = read_head(alloc, text, &mut places, &mut spare);
     let tells = match &head {
         Ok(head) => is_text(&head.upgrade, wanted),
         Err(_) => false,

@@ -32,12 +32,21 @@ fn is_copied(alloc: Global, text: &Text, bytes: &str) -> bool {
     is
 }
 
+/// Whether a text that becomes another one has its bytes.
+fn is_set(mut text: Text, bytes: &str) -> bool {
+    let is = text.set(bytes).is_ok() && text.view() == bytes;
+    drop(text);
+    is
+}
+
 /// Whether a text has the bytes that it is made of, so that it is its copy and lies in this order to the other.
 fn is_text(alloc: Global, bytes: &str, other: &str, order: Ordering) -> bool {
     let text = text_of(alloc, bytes);
     let other = of_string(alloc, other);
     let is = text.view() == bytes
         && is_copied(alloc, &text, bytes)
+        && is_set(of_string(alloc, "x"), bytes)
+        && is_set(text_of(alloc, "longer than those"), bytes)
         && text.compare(&other) == order
         && text.is(&other) == (order == Ordering::Equal);
     drop(other);

@@ -3,7 +3,7 @@ ghost use Rattle.std.specs.Prelude.{◌≡◌, ℕ, true, false, IfOk};
 ghost use Rattle.rest_replies.specs.records.specs.declared.replies.Reply.TheVariants as reply;
 ghost use Rattle.rest_replies.specs.records.specs.declared.replies.View.TheVariants as view;
 ghost use Rattle.rest_replies.specs.row_machine.specs.machine.Refusals.{plain_refusal};
-ghost use Rattle.rest_answers.specs.Texts.{HasText, malformed_text, printed, rule_of};
+ghost use Rattle.rest_answers.specs.Texts.{HasText, IsUnprinted, malformed_text, printed, rule_of};
 
 use crate::reply_text::ReplyText;
 use core_turns::from_rule_refusals::nothing_told;
@@ -65,7 +65,8 @@ pub fn answer_for(alloc: Global, reply: &Reply, boot: u64, last: bool) -> Answer
 
 /// What is to be written for who asks for the server, where the connection stays open after it. It takes no memory.
 pub fn server_answer() -> Answered
-    ensures { (boot : ℕ) → HasText result (reply.One view.Server) boot false }
+    ensures text { (boot : ℕ) → HasText result (reply.One view.Server) boot false }
+    ensures printed { ¬ (IsUnprinted result) }
 {
     Answered::Printed(ReplyText::ready(server_text()))
 }

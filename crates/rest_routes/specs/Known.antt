@@ -1,4 +1,4 @@
--- The request whose reply depends on no row.
+-- A request whose reply depends on no row.
 use Rattle.std.specs.Prelude.{Bool, ◌&&◌, codes}
 use Rattle.std.specs.Str.{bytes_eq}
 use Rattle.rest_replies.specs.http_heads.specs.declared.request.Request.{Request}

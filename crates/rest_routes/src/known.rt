@@ -1,4 +1,4 @@
-//! The request whose reply depends on no row.
+//! A request whose reply depends on no row.
 ghost use Rattle.std.specs.Prelude.{◌≡◌, IsTrue, Ok, ℕ};
 ghost use Rattle.rest_routes.specs.Commands.{command_of};
 ghost use Rattle.rest_routes.specs.Known.{is_server_asked, server_asked};

@@ -105,27 +105,17 @@ fn serve_request<G: Gate, K: Sink, C: Clock>(
     gate: &mut G,
     sink: &mut K,
     clock: &mut C,
-    request: Request,
+    request: &Request,
     boot: u64,
 ) -> Turn
-    ensures { Meets boot request result (outlet K.held K.failures sink.old)
+    ensures { Meets boot request.now result (outlet K.held K.failures sink.old)
         (outlet K.held K.failures sink.new) (seen G.told G.turned G.rested gate.old)
         (seen G.told G.turned G.rested gate.new) (C.readings clock.old) (C.readings clock.new) }
 {
-    match subscription_of(alloc, &request) {
-        Ok(Some(subscription)) => {
-            drop(request);
-            Turn::Stop(LinkEnd::Events(subscription))
-        }
-        Ok(None) => {
-            let next = answer_request(alloc, router, gate, sink, clock, &request, boot);
-            drop(request);
-            next
-        }
-        Err(NoMemory) => {
-            drop(request);
-            Turn::Stop(LinkEnd::NoMemory)
-        }
+    match subscription_of(alloc, request) {
+        Ok(Some(subscription)) => Turn::Stop(LinkEnd::Events(subscription)),
+        Ok(None) => answer_request(alloc, router, gate, sink, clock, request, boot),
+        Err(NoMemory) => Turn::Stop(LinkEnd::NoMemory),
     }
 }
 
@@ -149,7 +139,11 @@ fn serve_next<G: Gate, S: Source, K: Sink, C: Clock>(
         (C.readings clock.new)) }
 {
     match read_request(alloc, buffer, source) {
-        Got::Request(request) => serve_request(alloc, router, gate, sink, clock, request, boot),
+        Got::Request(request) => {
+            let next = serve_request(alloc, router, gate, sink, clock, &request, boot);
+            buffer.reuse(request);
+            next
+        }
         Got::End => Turn::Stop(LinkEnd::Ended),
         Got::Cut(_) => Turn::Stop(LinkEnd::Cut),
         Got::Malformed(fault) => { Turn::Stop(end_after(write_refusal(alloc, sink, fault), fault)) }

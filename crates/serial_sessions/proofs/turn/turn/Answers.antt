@@ -6,7 +6,7 @@ use Rattle.serial_sessions.proofs.turn.turn.Goals as goal
 
 pub returns-in-Request : goal.returns-in-Request
 returns-in-Request g c =
-    turn_answers _ _ _ _ _ c.in-Request.request c.answer-answered.result c.write_answer-comes.result (record {
+    rw c.reuse.ensures (turn_answers _ _ _ _ _ c.in-Request.request c.answer-answered.result c.write_answer-comes.result (record {
       next = c.in-Request.ensures.next;
       held = c.in-Request.ensures.held;
       ahead = unread (inlet g.S.Source.left g.S.Source.ended g.S.Source.failures) _ _ _ c.in-Request.ensures.ahead;
@@ -15,7 +15,7 @@ returns-in-Request g c =
       fault = c.in-Request.ensures.fault;
       ended = c.in-Request.ensures.ended;
     })
-    c.answer-answered.ensures c.write_answer-comes.ensures c.go_on.ensures
+    c.answer-answered.ensures c.write_answer-comes.ensures c.go_on.ensures)
 
 pub returns-in-End : goal.returns-in-End
 returns-in-End g c = (

@@ -5,7 +5,7 @@ use Rattle.serve_loop.proofs.Linking.{turn_meets, turn_refuses}
 use Rattle.serve_loop.proofs.link.serve_next.Goals as goal
 
 pub returns-in-Request : goal.returns-in-Request
-returns-in-Request g c = turn_meets _ _ _ c.in-Request.request _ (record {
+returns-in-Request g c = rw c.reuse.ensures (turn_meets _ _ _ c.in-Request.request _ (record {
   next = c.in-Request.ensures.next;
   held = c.in-Request.ensures.held;
   ahead = unread (inlet g.S.Source.left g.S.Source.ended g.S.Source.failures) _ _ _ c.in-Request.ensures.ahead;
@@ -14,7 +14,7 @@ returns-in-Request g c = turn_meets _ _ _ c.in-Request.request _ (record {
   fault = c.in-Request.ensures.fault;
   ended = c.in-Request.ensures.ended;
 })
-    c.serve_request.ensures
+    c.serve_request-next.ensures)
 
 pub returns-in-Malformed : goal.returns-in-Malformed
 returns-in-Malformed g c = rw c.end_after.ensures (

@@ -1,0 +1,39 @@
+-- What a known head says of bytes that begin with it.
+use Rattle.std.proofs.Common.{◌≡◌, ℕ, ◌-◌, ◌≤◌, true, ◌⊎◌, inl, inr, List, [], ◌++◌, length, take, drop, Option, Some, None, refl, sym, ap, subst, ◌∙◌, append-nil, take-append-drop, length-take, arith}
+use Rattle.std.specs.Io.KnownBytes.{Consumes}
+use Rattle.std.specs.Str.{bytes_eq}
+use Rattle.std.proofs.lemmas.Slice.Eq.{bytes_eq-Decides}
+use Rattle.http_heads.specs.Heads.{head_len}
+use Rattle.http_heads.specs.Messages.{IsMessage}
+use Rattle.http_heads.specs.declared.request.Request.{Request}
+use Rattle.http_heads.proofs.LengthLemmas.{head_len-front}
+use Rattle.http_heads.proofs.SearchLemmas.{rest_of_slice}
+use Rattle.http_heads.proofs.MessageLemmas.{IsMessage-append}
+use Rattle.http_front.specs.Held.{Takes}
+use Rattle.http_front.specs.Known.{Known, IsKnown, plain_request}
+
+-- bytes that begin with the head of a plain request begin with this request
+pub known-front : (head bytes : List ℕ) (known : Known) → (head ≡ [] → ⊥) → IsKnown head known → bytes_eq head (take (length head) bytes) ≡ true
+    → IsMessage bytes (plain_request known) (drop (length head) bytes)
+known-front head bytes known some (inl none) begins = absurd (some none)
+known-front head bytes known some (inr is) begins =
+    let front : head ≡ take (length head) bytes = (bytes_eq-Decides head (take (length head) bytes)).0 begins in
+    let whole : head ++ drop (length head) bytes ≡ bytes = ap (λ l. l ++ drop (length head) bytes) front ∙ take-append-drop (length head) bytes in
+    subst (λ b. IsMessage b (plain_request known) (drop (length head) bytes)) whole (IsMessage-append (drop (length head) bytes) is)
+
+-- the first bytes that are held, which are a head, are a head by themselves
+pub head-front : (len start : ℕ) (bytes items held : List ℕ) → bytes ≡ items → drop start items ≡ held → len ≤ length held → head_len held ≡ Some len
+    → let front = take len (take (length bytes - start) (drop start bytes)) in head_len front ≡ Some (length front)
+head-front len start bytes items held same view within ends =
+    let whole : take (length bytes - start) (drop start bytes) ≡ held = rest_of_slice start bytes ∙ ap (drop start) same ∙ view in
+    let count : length (take len held) ≡ len = omega (arith, length-take len held, within) in
+    subst (λ h. head_len (take len h) ≡ Some (length (take len h))) (sym whole) (head_len-front held len ends ∙ ap Some (sym count))
+
+consumes-none : (left : Option (List ℕ)) → Consumes left left []
+consumes-none None = tt
+consumes-none (Some bytes) = refl
+
+-- a request that is taken out of what was held alone
+pub Takes-held : {old new : List ℕ} {request : Request} (left : Option (List ℕ)) → IsMessage old request new → Takes old new left left request
+Takes-held {old} {new} {request} left is =
+    record { more = []; is = subst (λ b. IsMessage b request new) (sym (append-nil old)) is; from = consumes-none left }
