@@ -29,6 +29,12 @@ server_of_agent() {
         printf 'GET /1.0 HTTP/1.1\r\nHost: localhost\r\nUser-Agent: requests.sh/1.0\r\n\r\n'
     done
 }
+server_of_agents() {
+    local made
+    for ((made = 0; made < $1; made++)); do
+        printf 'GET /1.0 HTTP/1.1\r\nHost: localhost\r\nUser-Agent: requests.sh/1.%d\r\n\r\n' $((made % 2))
+    done
+}
 profile_of_many() { stream profiles default 1 16000 && stream get-profiles default 16000 "$1"; }
 new_profile_of_few() { stream profiles default 1 100 && stream profiles default 101 $((100 + $1)); }
 new_profile_of_many() { stream profiles default 1 16000 && stream profiles default 16001 $((16000 + $1)); }
@@ -42,6 +48,7 @@ creation_of_many() { stream tenant lab limits && stream made lab 1 10000 1 && st
 
 count "GET /1.0, with the header Host" 1000 server
 count "GET /1.0, with the headers Host and User-Agent" 1000 server_of_agent
+count "the same, each with another head than the one before" 1000 server_of_agents
 count "GET of a profile, of 16,000" 1000 profile_of_many
 count "POST of a profile, of 100" 50 new_profile_of_few
 count "POST of a profile, of 16,000" 50 new_profile_of_many

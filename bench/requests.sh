@@ -1,7 +1,8 @@
 #!/usr/bin/env bash
 # Reads 900,000 small requests (about 60 MB) from a file through `incus_run run`, beside a small C program that frames the
-# same bytes, without replies and with one that stands ready: seconds, bytes a second, memory, and the ratios. Then the same
-# of a few requests with large bodies. Files are made in bench/out/, which is not committed.
+# same bytes, without replies and with one that stands ready: seconds, bytes a second, memory, and the ratios. The requests are
+# the same, as those of a client that looks whether the server is there; then each has another head than the one before, which
+# is read anew. Then the same of a few requests with large bodies. Files are made in bench/out/, which is not committed.
 set -eu
 cd "$(dirname "$0")"
 mkdir -p out
@@ -11,6 +12,11 @@ import sys
 request = b"GET /1.0 HTTP/1.1\r\nHost: localhost\r\nUser-Agent: requests.sh/1.0\r\n\r\n"
 for _ in range(int(sys.argv[1])):
     sys.stdout.buffer.write(request)
+PY
+python3 - "$count" > out/heads.http <<'PY'
+import sys
+for made in range(int(sys.argv[1])):
+    sys.stdout.buffer.write(b"GET /1.0 HTTP/1.1\r\nHost: localhost\r\nUser-Agent: requests.sh/1.%d\r\n\r\n" % (made % 2))
 PY
 python3 - $((count / 16000 + 1)) > out/bodies.http <<'PY'
 import sys
@@ -45,4 +51,5 @@ compare() {
     }'
 }
 compare requests.http "$count small requests"
+compare heads.http "$count small requests, each with another head than the one before"
 compare bodies.http "requests with bodies of 1 MiB"
