@@ -11,7 +11,7 @@ use std::marker::Model;
 
 /// What a request makes of settings: each key takes its value, and an empty value removes it. Keys rise by
 /// their bytes, and none is empty. Contracts see the list of keys and values.
-#[derive(Debug, Drop)]
+#[derive(Drop)]
 pub struct Changes {
     changes: Sorted<Text>,
 }

@@ -13,7 +13,7 @@ use std::marker::Model;
 
 /// Settings: texts under keys that rise by their bytes, no key and no value empty. Contracts see the list
 /// of keys and values, and read it by `setting`. It keeps the allocator that it was made with.
-#[derive(Debug, Drop)]
+#[derive(Drop)]
 pub struct Config {
     settings: Sorted<Text>,
 }

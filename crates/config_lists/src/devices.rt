@@ -13,7 +13,7 @@ use std::marker::Model;
 
 /// Devices under names that rise by their bytes. Contracts see the list of names and devices, and read it
 /// by `device`. It keeps the allocator that it was made with.
-#[derive(Debug, Drop)]
+#[derive(Drop)]
 pub struct Devices {
     devices: Sorted<Device>,
 }

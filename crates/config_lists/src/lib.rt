@@ -3,15 +3,6 @@
 //! their look-ups, and prints them in the order of their keys.
 #![tactic(auto)]
 
-/// Of `size_values`, for the crates above.
-pub mod from_size_values {
-    pub use size_values::{
-        Action, Amounts, Boxed, Cpu, Deed, Entry, EntryChange, FailingCalls, Kind, MOMENT_LIMIT,
-        Memory, NoMemory, ObjectKind, Or, Power, Rise, Seq, Text, ValueFault, read_address,
-        read_boolean, read_cidr, read_count, read_cpu, read_expiry, read_memory, read_size,
-    };
-}
-
 mod changes;
 mod config;
 mod devices;

@@ -8,7 +8,7 @@ use std::alloc::Global;
 use std::marker::Model;
 
 /// Values under keys, in the order of the keys. Contracts see the list of keys and values.
-#[derive(Debug, Drop)]
+#[derive(Drop)]
 pub struct Sorted<V> {
     entries: Vec<(Text, V)>,
 }

@@ -1,23 +1,23 @@
 -- A PATCH of an instance changes its row at once, and a cancel names its operation.
 use Rattle.std.proofs.Common.{◌≡◌, ◌≢◌, ℕ, true, false, ◌&&◌, List, Option, Some, None}
 use Rattle.std.specs.Option.{is_some, option_map}
-use Rattle.task_plans.specs.size_values.specs.declared.kinds.ObjectKind.{ObjectKind}
-use Rattle.task_plans.specs.size_values.specs.declared.kinds.ObjectKind.TheVariants as kind
-use Rattle.task_plans.specs.records.specs.Forms.{is_change, is_changeable, is_formed, is_request, stands_in}
-use Rattle.task_plans.specs.records.specs.declared.rows.Instance.{Instance}
-use Rattle.task_plans.specs.records.specs.declared.rows.Row.TheVariants as row
-use Rattle.task_plans.specs.records.specs.declared.commands.Body.{Body}
-use Rattle.task_plans.specs.records.specs.declared.commands.Command.{Command}
-use Rattle.task_plans.specs.records.specs.declared.commands.What.{What}
-use Rattle.task_plans.specs.records.specs.declared.commands.What.TheVariants as what
-use Rattle.task_plans.specs.row_machine.specs.machine.State.{State}
-use Rattle.task_plans.specs.row_machine.specs.machine.Rows.{instance_named}
-use Rattle.task_plans.specs.row_machine.specs.machine.NameRules.{is_there}
-use Rattle.task_plans.specs.row_machine.specs.machine.Plans.{if_there, row_of, plan_of, plan_patch}
-use Rattle.task_plans.specs.row_machine.specs.machine.Rules.{names_broken}
-use Rattle.core_objects.specs.machine_laws.proofs.Commands.{command_of, target}
-use Rattle.core_objects.specs.machine_laws.proofs.Speaking.{about-patch}
-use Rattle.core_objects.specs.object_plans.specs.Planning.{changes_in}
+use Rattle.size_values.specs.declared.kinds.ObjectKind.{ObjectKind}
+use Rattle.size_values.specs.declared.kinds.ObjectKind.TheVariants as kind
+use Rattle.records.specs.Forms.{is_change, is_changeable, is_formed, is_request, stands_in}
+use Rattle.records.specs.declared.rows.Instance.{Instance}
+use Rattle.records.specs.declared.rows.Row.TheVariants as row
+use Rattle.records.specs.declared.commands.Body.{Body}
+use Rattle.records.specs.declared.commands.Command.{Command}
+use Rattle.records.specs.declared.commands.What.{What}
+use Rattle.records.specs.declared.commands.What.TheVariants as what
+use Rattle.row_machine.specs.machine.State.{State}
+use Rattle.row_machine.specs.machine.Rows.{instance_named}
+use Rattle.row_machine.specs.machine.NameRules.{is_there}
+use Rattle.row_machine.specs.machine.Plans.{if_there, row_of, plan_of, plan_patch}
+use Rattle.row_machine.specs.machine.Rules.{names_broken}
+use Rattle.machine_laws.proofs.Commands.{command_of, target}
+use Rattle.machine_laws.proofs.Speaking.{about-patch}
+use Rattle.plans_objects.specs.Planning.{changes_in}
 use Rattle.core_objects.specs.Commands.{is_object_command, is_object_kind}
 use Rattle.core_objects.proofs.ObjectChanges.{its-object}
 use Rattle.core_instances.specs.declared.ways.Way.TheVariants as way

@@ -1,25 +1,25 @@
 -- What a creation is made from is there, so it is planned.
 use Rattle.std.proofs.Common.{◌≡◌, ℕ, Bool, true, false, cond, ◌&&◌, ◌==◌, length, Option, Some, None, List, refl}
 use Rattle.std.specs.Option.{is_some}
-use Rattle.task_plans.specs.plain_lists.proofs.FirstLemmas.{none_both, told_unless}
-use Rattle.task_plans.specs.size_values.specs.declared.kinds.ObjectKind.{ObjectKind}
-use Rattle.task_plans.specs.size_values.specs.declared.kinds.ObjectKind.TheVariants as kind
-use Rattle.task_plans.specs.records.specs.Forms.{created_fields, has_forms, has_needed, has_only, is_creation, is_named, is_none_origin, may_come_from, stands_in}
-use Rattle.task_plans.specs.records.specs.declared.commands.Body.{Body}
-use Rattle.task_plans.specs.records.specs.declared.commands.Origin.{Origin}
-use Rattle.task_plans.specs.records.specs.declared.commands.Origin.TheVariants as origin
-use Rattle.task_plans.specs.records.specs.declared.commands.What.TheVariants as what
-use Rattle.task_plans.specs.records.specs.declared.rows.Snapshot.{Snapshot}
-use Rattle.task_plans.specs.row_codec.proofs.Fields.{both_true}
-use Rattle.task_plans.specs.row_machine.specs.machine.Task.{Task}
-use Rattle.task_plans.specs.row_machine.specs.machine.State.{State}
-use Rattle.task_plans.specs.row_machine.specs.machine.Rows.{instance_named, snapshot_named, volume_named}
-use Rattle.task_plans.specs.row_machine.specs.machine.Homes.{home_of}
-use Rattle.task_plans.specs.row_machine.specs.machine.NameRules.{missing_unless, parent_missing, source_missing, volume_source, what_is_missing}
-use Rattle.task_plans.specs.row_machine.specs.machine.Plans.{Plan, starts, if_there, instance_creation, volume_creation, plan_create}
-use Rattle.core_objects.specs.machine_laws.proofs.Commands.{target}
-use Rattle.core_objects.specs.machine_laws.proofs.Told.{object-there}
-use Rattle.task_plans.specs.Begun.{task_in}
+use Rattle.plain_lists.proofs.FirstLemmas.{none_both, told_unless}
+use Rattle.size_values.specs.declared.kinds.ObjectKind.{ObjectKind}
+use Rattle.size_values.specs.declared.kinds.ObjectKind.TheVariants as kind
+use Rattle.records.specs.Forms.{created_fields, has_forms, has_needed, has_only, is_creation, is_named, is_none_origin, may_come_from, stands_in}
+use Rattle.records.specs.declared.commands.Body.{Body}
+use Rattle.records.specs.declared.commands.Origin.{Origin}
+use Rattle.records.specs.declared.commands.Origin.TheVariants as origin
+use Rattle.records.specs.declared.commands.What.TheVariants as what
+use Rattle.records.specs.declared.rows.Snapshot.{Snapshot}
+use Rattle.row_codec.proofs.Fields.{both_true}
+use Rattle.row_machine.specs.machine.Task.{Task}
+use Rattle.row_machine.specs.machine.State.{State}
+use Rattle.row_machine.specs.machine.Rows.{instance_named, snapshot_named, volume_named}
+use Rattle.row_machine.specs.machine.Homes.{home_of}
+use Rattle.row_machine.specs.machine.NameRules.{missing_unless, parent_missing, source_missing, volume_source, what_is_missing}
+use Rattle.row_machine.specs.machine.Plans.{Plan, starts, if_there, instance_creation, volume_creation, plan_create}
+use Rattle.machine_laws.proofs.Commands.{target}
+use Rattle.machine_laws.proofs.Told.{object-there}
+use Rattle.plans_tasks.specs.Begun.{task_in}
 use Rattle.core_objects.specs.Commands.{is_made_at_once, is_object_command}
 
 -- what is there begins an operation

@@ -1,28 +1,28 @@
 -- Each command that begins an operation has a plan that starts a task.
 use Rattle.std.proofs.Common.{◌≡◌, ℕ, true, false, ◌&&◌, List, Option, Some, None}
 use Rattle.std.specs.Option.{is_some, option_map}
-use Rattle.task_plans.specs.plain_lists.proofs.FirstLemmas.{none_both, told_unless}
-use Rattle.task_plans.specs.size_values.specs.declared.kinds.ObjectKind.{ObjectKind}
-use Rattle.task_plans.specs.size_values.specs.declared.kinds.ObjectKind.TheVariants as kind
-use Rattle.task_plans.specs.records.specs.Forms.{is_change, is_changeable, is_formed, is_instance, is_named, is_renamable, is_request, stands_in}
-use Rattle.task_plans.specs.records.specs.declared.rows.Row.{Row}
-use Rattle.task_plans.specs.records.specs.declared.rows.Row.TheVariants as row
-use Rattle.task_plans.specs.records.specs.declared.commands.Body.{Body}
-use Rattle.task_plans.specs.records.specs.declared.commands.Command.{Command}
-use Rattle.task_plans.specs.records.specs.declared.commands.What.{What}
-use Rattle.task_plans.specs.records.specs.declared.commands.What.TheVariants as what
-use Rattle.task_plans.specs.row_machine.specs.machine.Task.{Task}
-use Rattle.task_plans.specs.row_machine.specs.machine.State.{State}
-use Rattle.task_plans.specs.row_machine.specs.machine.Rows.{instance_named, snapshot_named}
-use Rattle.task_plans.specs.row_machine.specs.machine.NameRules.{is_there, object_missing, snapshot_missing, what_is_missing}
-use Rattle.task_plans.specs.row_machine.specs.machine.Plans.{Plan, nothing, changes, starts, if_there, plan_delete, plan_move, plan_of, plan_put, plan_restore, row_of}
-use Rattle.task_plans.specs.row_machine.specs.machine.Tasks.{act_task}
-use Rattle.task_plans.specs.row_machine.specs.machine.Rules.{names_broken}
-use Rattle.task_plans.specs.size_values.specs.declared.kinds.Action.{Action}
-use Rattle.core_objects.specs.machine_laws.proofs.Commands.{command_of, target}
-use Rattle.core_objects.specs.machine_laws.proofs.Speaking.{about-delete, about-move, about-put}
-use Rattle.core_objects.specs.machine_laws.proofs.Told.{names-right, object-there}
-use Rattle.task_plans.specs.Begun.{task_in}
+use Rattle.plain_lists.proofs.FirstLemmas.{none_both, told_unless}
+use Rattle.size_values.specs.declared.kinds.ObjectKind.{ObjectKind}
+use Rattle.size_values.specs.declared.kinds.ObjectKind.TheVariants as kind
+use Rattle.records.specs.Forms.{is_change, is_changeable, is_formed, is_instance, is_named, is_renamable, is_request, stands_in}
+use Rattle.records.specs.declared.rows.Row.{Row}
+use Rattle.records.specs.declared.rows.Row.TheVariants as row
+use Rattle.records.specs.declared.commands.Body.{Body}
+use Rattle.records.specs.declared.commands.Command.{Command}
+use Rattle.records.specs.declared.commands.What.{What}
+use Rattle.records.specs.declared.commands.What.TheVariants as what
+use Rattle.row_machine.specs.machine.Task.{Task}
+use Rattle.row_machine.specs.machine.State.{State}
+use Rattle.row_machine.specs.machine.Rows.{instance_named, snapshot_named}
+use Rattle.row_machine.specs.machine.NameRules.{is_there, object_missing, snapshot_missing, what_is_missing}
+use Rattle.row_machine.specs.machine.Plans.{Plan, nothing, changes, starts, if_there, plan_delete, plan_move, plan_of, plan_put, plan_restore, row_of}
+use Rattle.row_machine.specs.machine.Tasks.{act_task}
+use Rattle.row_machine.specs.machine.Rules.{names_broken}
+use Rattle.size_values.specs.declared.kinds.Action.{Action}
+use Rattle.machine_laws.proofs.Commands.{command_of, target}
+use Rattle.machine_laws.proofs.Speaking.{about-delete, about-move, about-put}
+use Rattle.machine_laws.proofs.Told.{names-right, object-there}
+use Rattle.plans_tasks.specs.Begun.{task_in}
 use Rattle.core_objects.specs.Commands.{is_object_command, is_object_kind}
 use Rattle.core_objects.proofs.ObjectChanges.{its-object}
 use Rattle.core_instances.specs.declared.ways.Way.TheVariants as way

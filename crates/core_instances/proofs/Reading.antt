@@ -1,16 +1,16 @@
 -- A read as one step of the machine.
 use Rattle.std.specs.Prelude.{pos, negsuc}
 use Rattle.std.proofs.Common.{◌≡◌, ℕ, false, cond, List, refl, ap}
-use Rattle.task_plans.specs.records.specs.declared.commands.Command.{Command}
-use Rattle.task_plans.specs.records.specs.declared.commands.What.{What}
-use Rattle.task_plans.specs.records.specs.declared.commands.What.TheVariants as what
-use Rattle.task_plans.specs.row_machine.specs.declared.events.Answer.TheVariants as answer
-use Rattle.task_plans.specs.row_machine.specs.machine.State.{State}
-use Rattle.task_plans.specs.row_machine.specs.machine.Accept.{and_then}
-use Rattle.task_plans.specs.row_machine.specs.machine.Plans.{plan_of}
-use Rattle.task_plans.specs.row_machine.specs.machine.TableRules.{cancel_broken}
-use Rattle.task_plans.specs.row_machine.specs.shown.Views.{read}
-use Rattle.core_objects.specs.machine_laws.proofs.Commands.{command_of}
+use Rattle.records.specs.declared.commands.Command.{Command}
+use Rattle.records.specs.declared.commands.What.{What}
+use Rattle.records.specs.declared.commands.What.TheVariants as what
+use Rattle.row_machine.specs.declared.events.Answer.TheVariants as answer
+use Rattle.row_machine.specs.machine.State.{State}
+use Rattle.row_machine.specs.machine.Accept.{and_then}
+use Rattle.row_machine.specs.machine.Plans.{plan_of}
+use Rattle.row_machine.specs.machine.TableRules.{cancel_broken}
+use Rattle.row_machine.specs.shown.Views.{read}
+use Rattle.machine_laws.proofs.Commands.{command_of}
 use Rattle.core_objects.proofs.ReadSteps.{ReadsOnly}
 use Rattle.core_instances.specs.declared.ways.Way.TheVariants as way
 use Rattle.core_instances.specs.Waits.{is_held}

@@ -1,26 +1,26 @@
 -- An operation that begins changes no row, so the records stay.
 use Rattle.std.proofs.Common.{◌≡◌, ◌<◌, ℕ, true, List, [], ◌∷◌, Option, Some, None, refl, ap, sym, ◌∙◌}
 use Rattle.std.specs.Option.{option_map, option_map_or}
-use Rattle.task_plans.specs.plain_lists.specs.Firsts.{first}
-use Rattle.task_plans.specs.size_values.specs.Moments.{moment_limit}
-use Rattle.task_plans.specs.size_values.specs.declared.entry.Entry.{Entry}
-use Rattle.core_objects.specs.record_keeper.specs.Store.{Store}
-use Rattle.task_plans.specs.records.specs.Forms.{is_formed}
-use Rattle.task_plans.specs.records.specs.declared.commands.Command.{Command}
-use Rattle.task_plans.specs.records.specs.declared.notices.Untold.{Untold}
-use Rattle.task_plans.specs.records.specs.declared.refusals.Refusal.{Refusal}
-use Rattle.task_plans.specs.records.specs.declared.replies.Reply.{Reply}
-use Rattle.task_plans.specs.row_machine.specs.declared.events.Event.TheVariants as event
-use Rattle.task_plans.specs.row_machine.specs.machine.Accept.{After, accepted, begun, carried_out}
-use Rattle.task_plans.specs.row_machine.specs.machine.Plans.{starts, plan_of}
-use Rattle.task_plans.specs.row_machine.specs.machine.Rules.{broken, names_broken, standing_broken}
-use Rattle.task_plans.specs.row_machine.specs.machine.State.{State}
-use Rattle.task_plans.specs.row_machine.specs.machine.Step.{Outcome, well, keeper_failed, no_memory, after_command, step, unavailable}
-use Rattle.task_plans.specs.row_machine.specs.machine.Task.{Task}
-use Rattle.task_plans.specs.row_machine.specs.machine.Work.{entered}
-use Rattle.task_plans.specs.row_machine.specs.opening.Records.{records_of}
-use Rattle.task_plans.specs.row_machine.specs.shown.Notices.{operation_notice, telling}
-use Rattle.core_objects.specs.machine_laws.proofs.BooksSteps.{telling-keeps}
+use Rattle.plain_lists.specs.Firsts.{first}
+use Rattle.size_values.specs.Moments.{moment_limit}
+use Rattle.size_values.specs.declared.entry.Entry.{Entry}
+use Rattle.record_keeper.specs.Store.{Store}
+use Rattle.records.specs.Forms.{is_formed}
+use Rattle.records.specs.declared.commands.Command.{Command}
+use Rattle.records.specs.declared.notices.Untold.{Untold}
+use Rattle.records.specs.declared.refusals.Refusal.{Refusal}
+use Rattle.records.specs.declared.replies.Reply.{Reply}
+use Rattle.row_machine.specs.declared.events.Event.TheVariants as event
+use Rattle.row_machine.specs.machine.Accept.{After, accepted, begun, carried_out}
+use Rattle.row_machine.specs.machine.Plans.{starts, plan_of}
+use Rattle.row_machine.specs.machine.Rules.{broken, names_broken, standing_broken}
+use Rattle.row_machine.specs.machine.State.{State}
+use Rattle.row_machine.specs.machine.Step.{Outcome, well, keeper_failed, no_memory, after_command, step, unavailable}
+use Rattle.row_machine.specs.machine.Task.{Task}
+use Rattle.row_machine.specs.machine.Work.{entered}
+use Rattle.row_machine.specs.opening.Records.{records_of}
+use Rattle.row_machine.specs.shown.Notices.{operation_notice, telling}
+use Rattle.machine_laws.proofs.BooksSteps.{telling-keeps}
 use Rattle.core_objects.specs.core_rows.specs.Asked.{IsAsked}
 use Rattle.core_objects.specs.core_rows.specs.Planned.{Follows, IsToStart}
 use Rattle.core_objects.proofs.FirstRules.{both-free}

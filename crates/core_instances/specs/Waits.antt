@@ -1,9 +1,9 @@
 -- The waits whose answers are held back.
 use Rattle.std.specs.Prelude.{ℤ, pos, negsuc, ◌==◌, Bool, false, not, ◌&&◌, is_some}
-use Rattle.task_plans.specs.operations.specs.Kept.{live_at}
-use Rattle.task_plans.specs.records.specs.declared.commands.What.{What}
-use Rattle.task_plans.specs.records.specs.declared.commands.What.TheVariants as what
-use Rattle.task_plans.specs.row_machine.specs.machine.State.{State}
+use Rattle.operations.specs.Kept.{live_at}
+use Rattle.records.specs.declared.commands.What.{What}
+use Rattle.records.specs.declared.commands.What.TheVariants as what
+use Rattle.row_machine.specs.machine.State.{State}
 
 -- whether a number of seconds is none
 abbrev pub is_zero : ℤ → Bool

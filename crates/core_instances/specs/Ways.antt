@@ -1,6 +1,6 @@
 -- What is done for each command, by what it asks for.
-use Rattle.task_plans.specs.records.specs.declared.commands.What.{What}
-use Rattle.task_plans.specs.records.specs.declared.commands.What.TheVariants as what
+use Rattle.records.specs.declared.commands.What.{What}
+use Rattle.records.specs.declared.commands.What.TheVariants as what
 use Rattle.core_instances.specs.declared.ways.Way.{Way}
 use Rattle.core_instances.specs.declared.ways.Way.TheVariants as way
 

@@ -1,19 +1,19 @@
 //! A command that begins an operation in the background.
 ghost use Rattle.std.specs.Prelude.{◌≡◌, ◌<◌, ◌∷◌, [], true, false, None};
-ghost use Rattle.task_plans.specs.plain_lists.specs.Firsts.{first};
-ghost use Rattle.core_objects.specs.record_keeper.specs.Store.{Store};
-ghost use Rattle.task_plans.specs.records.specs.Forms.{is_formed};
-ghost use Rattle.task_plans.specs.row_machine.specs.machine.Rules.{names_broken, standing_broken};
+ghost use Rattle.plain_lists.specs.Firsts.{first};
+ghost use Rattle.record_keeper.specs.Store.{Store};
+ghost use Rattle.records.specs.Forms.{is_formed};
+ghost use Rattle.row_machine.specs.machine.Rules.{names_broken, standing_broken};
 ghost use Rattle.core_objects.specs.Commands.{is_object_command};
 ghost use Rattle.core_objects.specs.core_rows.specs.Planned.{Follows};
 ghost use Rattle.core_instances.specs.Ways.{way_of};
 ghost use Rattle.core_instances.specs.declared.ways.Way.TheVariants as way;
 
-use core_objects::from_core_rows::Estate;
+use core_objects::Estate;
+use plans_tasks::plan_task;
+use records::{Command, Reply};
+use size_values::MOMENT_LIMIT;
 use std::alloc::Global;
-use task_plans::from_records::{Command, Reply};
-use task_plans::from_size_values::MOMENT_LIMIT;
-use task_plans::plan_task;
 
 /// Begins the operation of a command that breaks no rule on names and on what stands in the way. The store is not
 /// asked.

@@ -1,17 +1,16 @@
 ghost use Rattle.std.specs.Prelude.{◌≡◌, ◌<◌, [], true, false};
-ghost use Rattle.task_plans.specs.records.specs.Forms.{is_formed};
+ghost use Rattle.records.specs.Forms.{is_formed};
 ghost use Rattle.core_objects.specs.Commands.{is_object_command};
 ghost use Rattle.core_objects.specs.core_rows.specs.Planned.{Follows};
 ghost use Rattle.core_instances.specs.Waits.{is_held};
 
 use crate::beginning::begin_task;
 use crate::ways::{Way, way_of};
-use core_objects::from_core_rows::{Estate, refused_reply};
-use core_objects::from_record_keeper::Keeper;
-use core_objects::{answer_read, change_at_once, first_broken};
+use core_objects::{Estate, answer_read, change_at_once, first_broken, refused_reply};
+use record_keeper::Keeper;
+use records::{Command, Reply};
+use size_values::MOMENT_LIMIT;
 use std::alloc::Global;
-use task_plans::from_records::{Command, Reply};
-use task_plans::from_size_values::MOMENT_LIMIT;
 
 /// Carries one command out that is not about objects whose rows are changed at once. A command that
 /// breaks a rule changes nothing, and neither does one whose changes the keeper did not commit. A

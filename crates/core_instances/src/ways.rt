@@ -2,7 +2,7 @@
 ghost use Rattle.std.specs.Prelude.{◌≡◌};
 ghost use Rattle.core_instances.specs.Ways.{way_of};
 
-use task_plans::from_records::What;
+use records::What;
 
 /// What is done for a command that breaks no rule on names and on what stands in the way.
 #[derive(Clone, Copy)]

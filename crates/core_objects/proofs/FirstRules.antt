@@ -1,23 +1,23 @@
 -- A command that breaks a rule on names or on what stands in the way.
 use Rattle.std.proofs.Common.{◌≡◌, ℕ, List, [], ◌∷◌, true, Option, Some, None, refl}
-use Rattle.name_rules.specs.plain_lists.specs.Firsts.{first}
-use Rattle.name_rules.specs.plain_lists.proofs.FirstLemmas.{none_both}
-use Rattle.name_rules.specs.size_values.specs.Causes.{Refuses}
-use Rattle.name_rules.specs.size_values.specs.declared.memory.Or.{Or}
-use Rattle.name_rules.specs.size_values.specs.declared.memory.Or.TheVariants as or
-use Rattle.name_rules.specs.records.specs.declared.commands.Command.{Command}
-use Rattle.name_rules.specs.records.specs.declared.commands.What.{What}
-use Rattle.name_rules.specs.records.specs.declared.commands.What.TheVariants as what
-use Rattle.name_rules.specs.records.specs.declared.refusals.Refusal.{Refusal}
-use Rattle.name_rules.specs.row_machine.specs.machine.State.{State}
-use Rattle.name_rules.specs.row_machine.specs.machine.Plans.{plan_of}
-use Rattle.name_rules.specs.row_machine.specs.machine.Rules.{names_broken}
-use Rattle.name_rules.specs.row_machine.specs.machine.Rules.{standing_broken}
-use Rattle.name_rules.specs.row_machine.specs.machine.Rules.{broken, plan_broken}
-use Rattle.name_rules.specs.row_machine.specs.machine.NameRules.{project_missing, what_is_missing}
-use Rattle.name_rules.specs.row_machine.specs.machine.StandingRules.{instance_busy, wrong_state, object_protected, object_used}
-use Rattle.name_rules.specs.row_machine.specs.machine.StandingRules.{project_occupied, profile_held}
-use Rattle.core_rows.specs.machine_laws.proofs.Commands.{command_of}
+use Rattle.plain_lists.specs.Firsts.{first}
+use Rattle.plain_lists.proofs.FirstLemmas.{none_both}
+use Rattle.size_values.specs.Causes.{Refuses}
+use Rattle.size_values.specs.declared.memory.Or.{Or}
+use Rattle.size_values.specs.declared.memory.Or.TheVariants as or
+use Rattle.records.specs.declared.commands.Command.{Command}
+use Rattle.records.specs.declared.commands.What.{What}
+use Rattle.records.specs.declared.commands.What.TheVariants as what
+use Rattle.records.specs.declared.refusals.Refusal.{Refusal}
+use Rattle.row_machine.specs.machine.State.{State}
+use Rattle.row_machine.specs.machine.Plans.{plan_of}
+use Rattle.row_machine.specs.machine.Rules.{names_broken}
+use Rattle.row_machine.specs.machine.Rules.{standing_broken}
+use Rattle.row_machine.specs.machine.Rules.{broken, plan_broken}
+use Rattle.row_machine.specs.machine.NameRules.{project_missing, what_is_missing}
+use Rattle.row_machine.specs.machine.StandingRules.{instance_busy, wrong_state, object_protected, object_used}
+use Rattle.row_machine.specs.machine.StandingRules.{project_occupied, profile_held}
+use Rattle.machine_laws.proofs.Commands.{command_of}
 use Rattle.core_objects.specs.Answers.{speaks_of_no_row}
 
 -- the first of two is the first of three

@@ -1,33 +1,33 @@
 -- Each command on objects either reads or changes rows at once.
 use Rattle.std.proofs.Common.{◌≡◌, ℕ, Bool, true, false, ◌&&◌, List, Option, Some, None, option_map, refl}
 use Rattle.std.specs.Prelude.{is_some}
-use Rattle.name_rules.specs.size_values.specs.declared.kinds.ObjectKind.{ObjectKind}
-use Rattle.name_rules.specs.size_values.specs.declared.kinds.ObjectKind.TheVariants as kind
-use Rattle.name_rules.specs.records.specs.Forms.{is_request, is_formed, is_renamable}
-use Rattle.name_rules.specs.records.specs.declared.rows.Project.{Project}
-use Rattle.name_rules.specs.records.specs.declared.rows.Profile.{Profile}
-use Rattle.name_rules.specs.records.specs.declared.rows.Network.{Network}
-use Rattle.name_rules.specs.records.specs.declared.rows.Pool.{Pool}
-use Rattle.name_rules.specs.records.specs.declared.rows.Volume.{Volume}
-use Rattle.name_rules.specs.records.specs.declared.rows.Row.{Row}
-use Rattle.name_rules.specs.records.specs.declared.rows.Row.TheVariants as row
-use Rattle.name_rules.specs.records.specs.declared.commands.Body.{Body}
-use Rattle.name_rules.specs.records.specs.declared.commands.Command.{Command}
-use Rattle.name_rules.specs.records.specs.declared.commands.Origin.{Origin}
-use Rattle.name_rules.specs.records.specs.declared.commands.Origin.TheVariants as origin
-use Rattle.name_rules.specs.records.specs.declared.commands.Target.{Target}
-use Rattle.name_rules.specs.records.specs.declared.commands.What.{What}
-use Rattle.name_rules.specs.records.specs.declared.commands.What.TheVariants as what
-use Rattle.name_rules.specs.row_machine.specs.machine.State.{State}
-use Rattle.name_rules.specs.row_machine.specs.machine.Rows.{project_named, profile_named, network_named, pool_named, volume_named}
-use Rattle.name_rules.specs.row_machine.specs.machine.Homes.{home_of}
-use Rattle.name_rules.specs.row_machine.specs.machine.NameRules.{is_there}
-use Rattle.name_rules.specs.row_machine.specs.machine.Plans.{Plan, if_there, row_of, plan_of, plan_put, plan_patch, plan_move, plan_delete, volume_creation}
-use Rattle.name_rules.specs.row_machine.specs.machine.Rules.{names_broken}
-use Rattle.core_rows.specs.machine_laws.proofs.Commands.{command_of, target}
-use Rattle.core_rows.specs.machine_laws.proofs.Speaking.{IsAbout, about-put, about-patch, about-move, about-delete, it-is_there}
-use Rattle.core_rows.specs.machine_laws.proofs.Told.{names-right}
-use Rattle.object_plans.specs.Planning.{changes_in}
+use Rattle.size_values.specs.declared.kinds.ObjectKind.{ObjectKind}
+use Rattle.size_values.specs.declared.kinds.ObjectKind.TheVariants as kind
+use Rattle.records.specs.Forms.{is_request, is_formed, is_renamable}
+use Rattle.records.specs.declared.rows.Project.{Project}
+use Rattle.records.specs.declared.rows.Profile.{Profile}
+use Rattle.records.specs.declared.rows.Network.{Network}
+use Rattle.records.specs.declared.rows.Pool.{Pool}
+use Rattle.records.specs.declared.rows.Volume.{Volume}
+use Rattle.records.specs.declared.rows.Row.{Row}
+use Rattle.records.specs.declared.rows.Row.TheVariants as row
+use Rattle.records.specs.declared.commands.Body.{Body}
+use Rattle.records.specs.declared.commands.Command.{Command}
+use Rattle.records.specs.declared.commands.Origin.{Origin}
+use Rattle.records.specs.declared.commands.Origin.TheVariants as origin
+use Rattle.records.specs.declared.commands.Target.{Target}
+use Rattle.records.specs.declared.commands.What.{What}
+use Rattle.records.specs.declared.commands.What.TheVariants as what
+use Rattle.row_machine.specs.machine.State.{State}
+use Rattle.row_machine.specs.machine.Rows.{project_named, profile_named, network_named, pool_named, volume_named}
+use Rattle.row_machine.specs.machine.Homes.{home_of}
+use Rattle.row_machine.specs.machine.NameRules.{is_there}
+use Rattle.row_machine.specs.machine.Plans.{Plan, if_there, row_of, plan_of, plan_put, plan_patch, plan_move, plan_delete, volume_creation}
+use Rattle.row_machine.specs.machine.Rules.{names_broken}
+use Rattle.machine_laws.proofs.Commands.{command_of, target}
+use Rattle.machine_laws.proofs.Speaking.{IsAbout, about-put, about-patch, about-move, about-delete, it-is_there}
+use Rattle.machine_laws.proofs.Told.{names-right}
+use Rattle.plans_objects.specs.Planning.{changes_in}
 use Rattle.core_objects.specs.Answers.{is_read}
 use Rattle.core_objects.specs.Commands.{is_object_kind, is_made_at_once, is_object_command}
 

@@ -1,30 +1,30 @@
 -- A read as one step of the machine.
 use Rattle.std.proofs.Common.{◌≡◌, ℕ, true, List, [], ◌∷◌, Option, Some, None, refl, ap, sym, subst, ◌∙◌}
-use Rattle.name_rules.specs.size_values.specs.declared.memory.Or.TheVariants as or
-use Rattle.core_rows.specs.record_keeper.specs.Store.{Store}
-use Rattle.name_rules.specs.records.specs.declared.commands.Command.{Command}
-use Rattle.name_rules.specs.records.specs.declared.commands.What.{What}
-use Rattle.name_rules.specs.records.specs.declared.commands.What.TheVariants as what
-use Rattle.name_rules.specs.records.specs.declared.notices.Untold.{Untold}
-use Rattle.name_rules.specs.records.specs.declared.refusals.Refusal.{Refusal}
-use Rattle.name_rules.specs.records.specs.declared.replies.Reply.{Reply}
-use Rattle.name_rules.specs.records.specs.declared.replies.Reply.TheVariants as reply
-use Rattle.name_rules.specs.plain_lists.specs.Firsts.{first}
-use Rattle.name_rules.specs.row_machine.specs.declared.events.Answer.TheVariants as answer
-use Rattle.name_rules.specs.row_machine.specs.declared.events.Event.TheVariants as event
-use Rattle.name_rules.specs.row_machine.specs.machine.State.{State}
-use Rattle.name_rules.specs.row_machine.specs.machine.Accept.{and_then, accepted, carried_out, cancel_or_read}
-use Rattle.name_rules.specs.row_machine.specs.machine.Rules.{names_broken}
-use Rattle.name_rules.specs.row_machine.specs.shown.Notices.{telling}
-use Rattle.name_rules.specs.row_machine.specs.machine.Plans.{nothing, plan_of}
-use Rattle.name_rules.specs.row_machine.specs.machine.Rules.{broken, plan_broken}
-use Rattle.name_rules.specs.row_machine.specs.machine.Rules.{standing_broken}
-use Rattle.name_rules.specs.row_machine.specs.machine.Step.{well, after_command, step}
-use Rattle.name_rules.specs.row_machine.specs.machine.TableRules.{cancel_broken}
-use Rattle.name_rules.specs.row_machine.specs.shown.Views.{read}
+use Rattle.size_values.specs.declared.memory.Or.TheVariants as or
+use Rattle.record_keeper.specs.Store.{Store}
+use Rattle.records.specs.declared.commands.Command.{Command}
+use Rattle.records.specs.declared.commands.What.{What}
+use Rattle.records.specs.declared.commands.What.TheVariants as what
+use Rattle.records.specs.declared.notices.Untold.{Untold}
+use Rattle.records.specs.declared.refusals.Refusal.{Refusal}
+use Rattle.records.specs.declared.replies.Reply.{Reply}
+use Rattle.records.specs.declared.replies.Reply.TheVariants as reply
+use Rattle.plain_lists.specs.Firsts.{first}
+use Rattle.row_machine.specs.declared.events.Answer.TheVariants as answer
+use Rattle.row_machine.specs.declared.events.Event.TheVariants as event
+use Rattle.row_machine.specs.machine.State.{State}
+use Rattle.row_machine.specs.machine.Accept.{and_then, accepted, carried_out, cancel_or_read}
+use Rattle.row_machine.specs.machine.Rules.{names_broken}
+use Rattle.row_machine.specs.shown.Notices.{telling}
+use Rattle.row_machine.specs.machine.Plans.{nothing, plan_of}
+use Rattle.row_machine.specs.machine.Rules.{broken, plan_broken}
+use Rattle.row_machine.specs.machine.Rules.{standing_broken}
+use Rattle.row_machine.specs.machine.Step.{well, after_command, step}
+use Rattle.row_machine.specs.machine.TableRules.{cancel_broken}
+use Rattle.row_machine.specs.shown.Views.{read}
 use Rattle.core_rows.specs.Asked.{answered, changes_of, unless_refused}
 use Rattle.core_rows.specs.Planned.{Follows}
-use Rattle.core_rows.specs.work_reports.specs.Stores.{Stores}
+use Rattle.core_rows.specs.core_reports.specs.Stores.{Stores}
 use Rattle.core_rows.proofs.Following.{follows-why}
 use Rattle.core_objects.specs.Answers.{is_read, IsAnswer}
 

@@ -1,9 +1,9 @@
 -- What a read is answered.
 use Rattle.std.specs.Prelude.{◌≡◌, Bool, true, false}
-use Rattle.name_rules.specs.records.specs.declared.commands.What.{What}
-use Rattle.name_rules.specs.records.specs.declared.commands.What.TheVariants as what
-use Rattle.name_rules.specs.records.specs.declared.replies.Reply.{Reply}
-use Rattle.name_rules.specs.records.specs.declared.replies.Reply.TheVariants as reply
+use Rattle.records.specs.declared.commands.What.{What}
+use Rattle.records.specs.declared.commands.What.TheVariants as what
+use Rattle.records.specs.declared.replies.Reply.{Reply}
+use Rattle.records.specs.declared.replies.Reply.TheVariants as reply
 
 -- whether a command only reads, and is answered at once
 abbrev pub is_read : What → Bool

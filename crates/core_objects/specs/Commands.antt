@@ -1,11 +1,11 @@
 -- The commands on objects whose rows are changed at once.
 use Rattle.std.specs.Prelude.{Bool, true, false, ◌&&◌}
-use Rattle.name_rules.specs.size_values.specs.declared.kinds.ObjectKind.{ObjectKind}
-use Rattle.name_rules.specs.size_values.specs.declared.kinds.ObjectKind.TheVariants as kind
-use Rattle.name_rules.specs.records.specs.declared.commands.Origin.{Origin}
-use Rattle.name_rules.specs.records.specs.declared.commands.Origin.TheVariants as origin
-use Rattle.name_rules.specs.records.specs.declared.commands.What.{What}
-use Rattle.name_rules.specs.records.specs.declared.commands.What.TheVariants as what
+use Rattle.size_values.specs.declared.kinds.ObjectKind.{ObjectKind}
+use Rattle.size_values.specs.declared.kinds.ObjectKind.TheVariants as kind
+use Rattle.records.specs.declared.commands.Origin.{Origin}
+use Rattle.records.specs.declared.commands.Origin.TheVariants as origin
+use Rattle.records.specs.declared.commands.What.{What}
+use Rattle.records.specs.declared.commands.What.TheVariants as what
 
 -- the kinds of these objects
 abbrev pub is_object_kind : ObjectKind → Bool

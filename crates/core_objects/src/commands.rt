@@ -2,8 +2,8 @@
 ghost use Rattle.std.specs.Prelude.{◌≡◌};
 ghost use Rattle.core_objects.specs.Commands.{has_usage, is_made_at_once, is_object_command, is_object_kind};
 
-use name_rules::from_records::{Origin, What};
-use name_rules::from_size_values::ObjectKind;
+use records::{Origin, What};
+use size_values::ObjectKind;
 
 /// The kinds of these objects.
 fn is_object_kind(kind: ObjectKind) -> bool

@@ -1,25 +1,25 @@
 ghost use Rattle.std.specs.Prelude.{◌≡◌, ◌≢◌, ◌<◌, ◌∷◌, [], true, None};
-ghost use Rattle.name_rules.specs.size_values.specs.Causes.{Says};
-ghost use Rattle.name_rules.specs.plain_lists.specs.Firsts.{first};
-ghost use Rattle.name_rules.specs.records.specs.Forms.{is_formed};
-ghost use Rattle.name_rules.specs.row_machine.specs.machine.Rules.{names_broken};
-ghost use Rattle.name_rules.specs.row_machine.specs.machine.Rules.{standing_broken};
-ghost use Rattle.name_rules.specs.row_machine.specs.machine.Plans.{plan_of};
-ghost use Rattle.name_rules.specs.row_machine.specs.shown.Views.{read};
-ghost use Rattle.object_plans.specs.Planning.{changes_in};
+ghost use Rattle.size_values.specs.Causes.{Says};
+ghost use Rattle.plain_lists.specs.Firsts.{first};
+ghost use Rattle.records.specs.Forms.{is_formed};
+ghost use Rattle.row_machine.specs.machine.Rules.{names_broken};
+ghost use Rattle.row_machine.specs.machine.Rules.{standing_broken};
+ghost use Rattle.row_machine.specs.machine.Plans.{plan_of};
+ghost use Rattle.row_machine.specs.shown.Views.{read};
+ghost use Rattle.plans_objects.specs.Planning.{changes_in};
 ghost use Rattle.core_rows.specs.Planned.{Follows};
 ghost use Rattle.core_objects.specs.Answers.{IsAnswer, is_read, speaks_of_no_row};
 ghost use Rattle.core_objects.specs.Commands.{is_object_command};
 
-use core_rows::from_record_keeper::Keeper;
 use core_rows::{Estate, refused_reply};
-use name_rules::from_records::{Command, Refusal, Reply, What};
-use name_rules::from_row_readings::View;
-use name_rules::from_size_values::{MOMENT_LIMIT, NoMemory, Or};
-use name_rules::names_broken;
-use object_plans::plan_change;
 use object_views::read;
-use standing_rules::standing_broken;
+use plans_objects::plan_change;
+use record_keeper::Keeper;
+use records::{Command, Refusal, Reply, What};
+use row_readings::View;
+use rules_conflicts::standing_broken;
+use rules_names::names_broken;
+use size_values::{MOMENT_LIMIT, NoMemory, Or};
 use std::alloc::Global;
 
 /// Whether a command only reads, and is answered at once.

@@ -1,25 +1,25 @@
 -- What a change comes to, from what its parts were called with and answered.
 use Rattle.std.proofs.Common.{◌≡◌, ℕ, List, [], None, Err, sym, ap, subst, ◌∙◌}
-use Rattle.config_lists.specs.size_values.specs.Causes.{Refuses}
-use Rattle.config_lists.specs.size_values.specs.declared.memory.Or.{Or}
-use Rattle.config_lists.specs.size_values.specs.declared.memory.Or.TheVariants as or
-use Rattle.judged_changes.specs.record_keeper.specs.Store.{Store}
-use Rattle.opening_rules.specs.records.specs.declared.commands.Command.{Command}
-use Rattle.opening_rules.specs.records.specs.declared.notices.Untold.{Untold}
-use Rattle.opening_rules.specs.records.specs.declared.refusals.Refusal.{Refusal}
-use Rattle.opening_rules.specs.records.specs.declared.replies.Reply.{Reply}
-use Rattle.opening_rules.specs.row_machine.specs.declared.changes.RowChange.{RowChange}
-use Rattle.opening_rules.specs.row_machine.specs.machine.State.{State}
-use Rattle.opening_rules.specs.row_machine.specs.machine.Changes.{applied, rows_put}
-use Rattle.opening_rules.specs.row_machine.specs.machine.Plans.{changes}
-use Rattle.opening_rules.specs.row_machine.specs.facts.Whole.{IsWhole}
-use Rattle.judged_changes.specs.machine_laws.specs.Entries.{entry_changes}
-use Rattle.judged_changes.specs.machine_laws.proofs.Cases.{IsAccepted}
-use Rattle.judged_changes.specs.declared.changing.Before.{Before}
-use Rattle.judged_changes.specs.Before.{Judges}
-use Rattle.judged_changes.specs.Judged.{changes_judged, reply_for}
+use Rattle.size_values.specs.Causes.{Refuses}
+use Rattle.size_values.specs.declared.memory.Or.{Or}
+use Rattle.size_values.specs.declared.memory.Or.TheVariants as or
+use Rattle.record_keeper.specs.Store.{Store}
+use Rattle.records.specs.declared.commands.Command.{Command}
+use Rattle.records.specs.declared.notices.Untold.{Untold}
+use Rattle.records.specs.declared.refusals.Refusal.{Refusal}
+use Rattle.records.specs.declared.replies.Reply.{Reply}
+use Rattle.row_machine.specs.declared.changes.RowChange.{RowChange}
+use Rattle.row_machine.specs.machine.State.{State}
+use Rattle.row_machine.specs.machine.Changes.{applied, rows_put}
+use Rattle.row_machine.specs.machine.Plans.{changes}
+use Rattle.row_machine.specs.facts.Whole.{IsWhole}
+use Rattle.machine_laws.specs.Entries.{entry_changes}
+use Rattle.machine_laws.proofs.Cases.{IsAccepted}
+use Rattle.core_judging.specs.declared.changing.Before.{Before}
+use Rattle.core_judging.specs.Before.{Judges}
+use Rattle.core_judging.specs.Judged.{changes_judged, reply_for}
 use Rattle.core_rows.specs.Planned.{Follows, IsToDo}
-use Rattle.judged_changes.specs.Commits.{Commits}
+use Rattle.core_judging.specs.Commits.{Commits}
 use Rattle.core_rows.proofs.Following.{follows-why, follows-judged, follows-uncommitted}
 use Rattle.core_rows.proofs.Judging.{accepted-so}
 

@@ -2,10 +2,10 @@
 use Rattle.std.proofs.Common.{◌≡◌, ◌<◌, ◌^◌, ℕ, true, refl, nat_lt}
 use Rattle.std.proofs.lemmas.Bool.{ltb-true}
 use Rattle.std.specs.List.{AllByRecursion}
-use Rattle.opening_rules.specs.estate_rules.specs.Names.{is_instance_name, is_project_name, is_object_name}
-use Rattle.opening_rules.specs.row_machine.specs.opening.Opening.{first_rows}
-use Rattle.opening_rules.specs.row_machine.specs.machine.Plans.{put_all}
-use Rattle.judged_changes.specs.work_reports.specs.Entries.{HasEntry}
+use Rattle.estate_rules.specs.Names.{is_instance_name, is_project_name, is_object_name}
+use Rattle.row_machine.specs.opening.Opening.{first_rows}
+use Rattle.row_machine.specs.machine.Plans.{put_all}
+use Rattle.core_judging.specs.core_reports.specs.Entries.{HasEntry}
 
 -- a length that computes below the bound
 short : (n : ℕ) → nat_lt n (2 ^ 32) ≡ true → n < 2 ^ 32

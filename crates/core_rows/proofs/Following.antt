@@ -1,41 +1,41 @@
 -- What the parts of a change come to, as one step of the machine.
 use Rattle.std.proofs.Common.{◌≡◌, ◌≢◌, ℕ, true, false, Bool, cond, List, [], ◌∷◌, Option, Some, None, option_map, Err, refl, ap, sym, ◌∙◌, subst, inr}
 use Rattle.std.specs.Prelude.{codes}
-use Rattle.config_lists.specs.size_values.specs.Causes.{Refuses}
-use Rattle.config_lists.specs.size_values.specs.declared.memory.Or.{Or}
-use Rattle.config_lists.specs.size_values.specs.declared.memory.Or.TheVariants as or
-use Rattle.config_lists.specs.size_values.specs.declared.entry.Entry.{Entry}
-use Rattle.config_lists.specs.size_values.specs.declared.rise.Rise.{Rise}
-use Rattle.judged_changes.specs.record_keeper.specs.Entries.{after_changes}
-use Rattle.judged_changes.specs.record_keeper.specs.Store.{Store, FailsAtCall, IsAfterUpTo, after_commit}
-use Rattle.opening_rules.specs.records.specs.declared.commands.Command.{Command}
-use Rattle.opening_rules.specs.records.specs.declared.notices.Untold.{Untold}
-use Rattle.opening_rules.specs.records.specs.declared.refusals.Refusal.{Refusal}
-use Rattle.opening_rules.specs.records.specs.declared.replies.Reply.TheVariants as reply
-use Rattle.opening_rules.specs.records.specs.declared.rows.Project.{Project}
-use Rattle.opening_rules.specs.records.specs.declared.rows.Row.TheVariants as row
-use Rattle.opening_rules.specs.row_machine.specs.declared.changes.RowChange.{RowChange}
-use Rattle.opening_rules.specs.row_machine.specs.declared.events.Answer.TheVariants as answer
-use Rattle.opening_rules.specs.row_machine.specs.machine.State.{State}
-use Rattle.opening_rules.specs.row_machine.specs.machine.Homes.{is_on}
-use Rattle.opening_rules.specs.row_machine.specs.machine.Changes.{applied, rows_put}
-use Rattle.opening_rules.specs.row_machine.specs.machine.NewRows.{default_profile}
-use Rattle.opening_rules.specs.row_machine.specs.machine.Plans.{plan_of, changes, put_all}
-use Rattle.opening_rules.specs.row_machine.specs.opening.Records.{records_of}
-use Rattle.opening_rules.specs.row_machine.specs.machine.Rules.{broken}
-use Rattle.opening_rules.specs.row_machine.specs.shown.Notices.{telling, change_notices}
-use Rattle.opening_rules.specs.row_machine.specs.machine.Accept.{and_then}
-use Rattle.opening_rules.specs.row_machine.specs.machine.Step.{well, keeper_failed, no_memory}
-use Rattle.judged_changes.specs.machine_laws.specs.Entries.{entry_changes}
-use Rattle.judged_changes.specs.machine_laws.proofs.Cases.{IsAccepted, AtOnce}
-use Rattle.judged_changes.specs.machine_laws.proofs.AtOnceCases.{at_once}
-use Rattle.judged_changes.specs.machine_laws.proofs.RecordsKept.{records-follow}
+use Rattle.size_values.specs.Causes.{Refuses}
+use Rattle.size_values.specs.declared.memory.Or.{Or}
+use Rattle.size_values.specs.declared.memory.Or.TheVariants as or
+use Rattle.size_values.specs.declared.entry.Entry.{Entry}
+use Rattle.size_values.specs.declared.rise.Rise.{Rise}
+use Rattle.record_keeper.specs.Entries.{after_changes}
+use Rattle.record_keeper.specs.Store.{Store, FailsAtCall, IsAfterUpTo, after_commit}
+use Rattle.records.specs.declared.commands.Command.{Command}
+use Rattle.records.specs.declared.notices.Untold.{Untold}
+use Rattle.records.specs.declared.refusals.Refusal.{Refusal}
+use Rattle.records.specs.declared.replies.Reply.TheVariants as reply
+use Rattle.records.specs.declared.rows.Project.{Project}
+use Rattle.records.specs.declared.rows.Row.TheVariants as row
+use Rattle.row_machine.specs.declared.changes.RowChange.{RowChange}
+use Rattle.row_machine.specs.declared.events.Answer.TheVariants as answer
+use Rattle.row_machine.specs.machine.State.{State}
+use Rattle.row_machine.specs.machine.Homes.{is_on}
+use Rattle.row_machine.specs.machine.Changes.{applied, rows_put}
+use Rattle.row_machine.specs.machine.NewRows.{default_profile}
+use Rattle.row_machine.specs.machine.Plans.{plan_of, changes, put_all}
+use Rattle.row_machine.specs.opening.Records.{records_of}
+use Rattle.row_machine.specs.machine.Rules.{broken}
+use Rattle.row_machine.specs.shown.Notices.{telling, change_notices}
+use Rattle.row_machine.specs.machine.Accept.{and_then}
+use Rattle.row_machine.specs.machine.Step.{well, keeper_failed, no_memory}
+use Rattle.machine_laws.specs.Entries.{entry_changes}
+use Rattle.machine_laws.proofs.Cases.{IsAccepted, AtOnce}
+use Rattle.machine_laws.proofs.AtOnceCases.{at_once}
+use Rattle.machine_laws.proofs.RecordsKept.{records-follow}
 use Rattle.core_rows.specs.Asked.{IsAsked, changes_at_once, changes_of, unless_refused}
-use Rattle.judged_changes.specs.Judged.{changes_judged, reply_for}
+use Rattle.core_judging.specs.Judged.{changes_judged, reply_for}
 use Rattle.core_rows.specs.Planned.{Follows, IsToDo}
-use Rattle.judged_changes.specs.work_reports.specs.Stores.{Stores}
-use Rattle.judged_changes.specs.work_reports.proofs.Stores.{failures-same, told-same}
-use Rattle.judged_changes.specs.Commits.{Commits}
+use Rattle.core_judging.specs.core_reports.specs.Stores.{Stores}
+use Rattle.core_judging.specs.core_reports.proofs.Stores.{failures-same, told-same}
+use Rattle.core_judging.specs.Commits.{Commits}
 use Rattle.core_rows.proofs.Judging.{left-broken}
 use Rattle.core_rows.proofs.Stepping.{changes-step, refused-step, failed-step, no_memory-step}
 

@@ -1,37 +1,37 @@
 -- The rules that changes at once break, once names and what stands in the way break none; and an accepted command whose changes can be committed.
 use Rattle.std.proofs.Common.{◌≡◌, ℕ, List, [], ◌∷◌, Option, Some, None, refl, ap, ◌∙◌}
 use Rattle.std.specs.List.{AllByRecursion}
-use Rattle.opening_rules.specs.plain_lists.specs.Firsts.{first}
-use Rattle.config_lists.specs.size_values.specs.declared.kinds.ObjectKind.{ObjectKind}
-use Rattle.config_lists.specs.size_values.specs.declared.kinds.ObjectKind.TheVariants as kind
-use Rattle.opening_rules.specs.records.specs.declared.notices.Untold.{Untold}
-use Rattle.opening_rules.specs.records.specs.declared.commands.Body.{Body}
-use Rattle.opening_rules.specs.records.specs.declared.commands.Command.{Command}
-use Rattle.opening_rules.specs.records.specs.declared.commands.What.{What}
-use Rattle.opening_rules.specs.records.specs.declared.commands.What.TheVariants as what
-use Rattle.opening_rules.specs.row_sizes.proofs.ShortParts.{short-parts}
-use Rattle.opening_rules.specs.row_machine.specs.declared.changes.RowChange.{RowChange}
-use Rattle.opening_rules.specs.row_machine.specs.machine.State.{State}
-use Rattle.opening_rules.specs.row_machine.specs.machine.Task.{Task}
-use Rattle.opening_rules.specs.row_machine.specs.machine.Rows.{instance_named}
-use Rattle.opening_rules.specs.row_machine.specs.machine.Changes.{applied, rows_put}
-use Rattle.opening_rules.specs.row_machine.specs.machine.Asked.{with_name}
-use Rattle.opening_rules.specs.row_machine.specs.machine.Plans.{changes, starts, if_there, plan_of}
-use Rattle.opening_rules.specs.row_machine.specs.machine.Tasks.{snapshot_creation}
-use Rattle.opening_rules.specs.row_machine.specs.machine.Rules.{standing_broken}
-use Rattle.opening_rules.specs.row_machine.specs.machine.SettingRules.{settings_broken}
-use Rattle.opening_rules.specs.row_machine.specs.machine.PolicyRules.{policy_broken, snapshot_blocked}
-use Rattle.opening_rules.specs.row_machine.specs.machine.LimitRules.{counts_broken, limits_broken}
-use Rattle.opening_rules.specs.row_machine.specs.machine.TableRules.{tables_broken}
-use Rattle.opening_rules.specs.row_machine.specs.machine.Rules.{broken, plan_broken}
-use Rattle.opening_rules.specs.row_machine.specs.facts.Whole.{IsWhole}
-use Rattle.judged_changes.specs.machine_laws.proofs.Cases.{IsAccepted}
-use Rattle.judged_changes.specs.machine_laws.proofs.Judged.{judged}
-use Rattle.judged_changes.specs.machine_laws.proofs.NamesKept.{puts-named}
-use Rattle.judged_changes.specs.machine_laws.proofs.SizesTables.{tables-judged}
-use Rattle.judged_changes.specs.work_reports.specs.Entries.{HasEntry}
-use Rattle.judged_changes.specs.work_reports.proofs.Writable.{entries-of}
-use Rattle.judged_changes.specs.Judged.{changes_judged}
+use Rattle.plain_lists.specs.Firsts.{first}
+use Rattle.size_values.specs.declared.kinds.ObjectKind.{ObjectKind}
+use Rattle.size_values.specs.declared.kinds.ObjectKind.TheVariants as kind
+use Rattle.records.specs.declared.notices.Untold.{Untold}
+use Rattle.records.specs.declared.commands.Body.{Body}
+use Rattle.records.specs.declared.commands.Command.{Command}
+use Rattle.records.specs.declared.commands.What.{What}
+use Rattle.records.specs.declared.commands.What.TheVariants as what
+use Rattle.row_codec.proofs.ShortParts.{short-parts}
+use Rattle.row_machine.specs.declared.changes.RowChange.{RowChange}
+use Rattle.row_machine.specs.machine.State.{State}
+use Rattle.row_machine.specs.machine.Task.{Task}
+use Rattle.row_machine.specs.machine.Rows.{instance_named}
+use Rattle.row_machine.specs.machine.Changes.{applied, rows_put}
+use Rattle.row_machine.specs.machine.Asked.{with_name}
+use Rattle.row_machine.specs.machine.Plans.{changes, starts, if_there, plan_of}
+use Rattle.row_machine.specs.machine.Tasks.{snapshot_creation}
+use Rattle.row_machine.specs.machine.Rules.{standing_broken}
+use Rattle.row_machine.specs.machine.SettingRules.{settings_broken}
+use Rattle.row_machine.specs.machine.PolicyRules.{policy_broken, snapshot_blocked}
+use Rattle.row_machine.specs.machine.LimitRules.{counts_broken, limits_broken}
+use Rattle.row_machine.specs.machine.TableRules.{tables_broken}
+use Rattle.row_machine.specs.machine.Rules.{broken, plan_broken}
+use Rattle.row_machine.specs.facts.Whole.{IsWhole}
+use Rattle.machine_laws.proofs.Cases.{IsAccepted}
+use Rattle.machine_laws.proofs.Judged.{judged}
+use Rattle.machine_laws.proofs.NamesKept.{puts-named}
+use Rattle.machine_laws.proofs.SizesTables.{tables-judged}
+use Rattle.core_judging.specs.core_reports.specs.Entries.{HasEntry}
+use Rattle.core_judging.specs.core_reports.proofs.Writable.{entries-of}
+use Rattle.core_judging.specs.Judged.{changes_judged}
 use Rattle.core_rows.specs.Planned.{IsToDo}
 
 -- ---- a policy blocks snapshots alone, which begin an operation

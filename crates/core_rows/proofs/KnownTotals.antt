@@ -2,40 +2,40 @@
 use Rattle.std.proofs.Common.{◌≡◌, ℕ, ◌+◌, ◌<◌, ◌^◌, Bool, true, false, cond, Option, Some, None, List, refl, sym, ap, subst, arith}
 use Rattle.std.specs.Prelude.{IfSome}
 use Rattle.std.specs.Option.{option_map_or}
-use Rattle.config_lists.specs.size_values.specs.Amounts.{part}
-use Rattle.config_lists.specs.size_values.specs.declared.amounts.Part.{Part}
-use Rattle.config_lists.specs.size_values.specs.declared.amounts.Amounts.{Amounts}
-use Rattle.opening_rules.specs.host_model.specs.declared.call.HostCall.{HostCall}
-use Rattle.opening_rules.specs.host_model.specs.declared.report.Report.{Report}
-use Rattle.opening_rules.specs.operations.specs.declared.operation.Operation.{Operation}
-use Rattle.opening_rules.specs.operations.specs.declared.status.Status.TheVariants as status
-use Rattle.opening_rules.specs.operations.specs.Kept.{live_at, kept_at}
-use Rattle.opening_rules.specs.operations.specs.Statuses.{is_pending}
-use Rattle.judged_changes.specs.record_keeper.specs.Store.{Store}
-use Rattle.opening_rules.specs.records.specs.declared.notices.Untold.{Untold}
-use Rattle.opening_rules.specs.row_machine.specs.declared.events.Answer.TheVariants as answer
-use Rattle.opening_rules.specs.row_machine.specs.machine.State.{State}
-use Rattle.opening_rules.specs.row_machine.specs.machine.Task.{Task}
-use Rattle.opening_rules.specs.row_machine.specs.machine.Work.{held_share, handing_out, entered, project_of_task}
-use Rattle.opening_rules.specs.row_machine.specs.machine.Claims.{share_of}
-use Rattle.opening_rules.specs.row_machine.specs.shown.Notices.{telling}
-use Rattle.opening_rules.specs.row_machine.specs.facts.Whole.{IsWhole}
-use Rattle.judged_changes.specs.machine_laws.proofs.Base.{first-live}
-use Rattle.judged_changes.specs.machine_laws.proofs.SharesCores.{cores-moved, cores-taken}
-use Rattle.judged_changes.specs.work_reports.specs.Jobs.{IsReported, answer_of}
-use Rattle.judged_changes.specs.work_reports.specs.Turns.{IsBegun}
-use Rattle.judged_changes.specs.work_reports.specs.declared.jobs.Turned.{Turned}
-use Rattle.judged_changes.specs.work_reports.specs.declared.jobs.Turned.TheVariants as turned
-use Rattle.judged_changes.specs.kept_totals.specs.declared.ends.Counted.{Counted}
-use Rattle.judged_changes.specs.kept_totals.specs.declared.totals.Total.{Total}
-use Rattle.opening_rules.specs.row_machine.specs.machine.Usage.{usage_of}
-use Rattle.judged_changes.specs.kept_totals.specs.Totals.{AreTotals, known, grown}
-use Rattle.judged_changes.specs.kept_totals.proofs.Few.{few-used}
-use Rattle.judged_changes.specs.kept_totals.specs.Ends.{given_back, IsCounted}
-use Rattle.judged_changes.specs.kept_totals.proofs.Usage.{usage-cores, usage-closed, cancelled-loses}
-use Rattle.judged_changes.specs.kept_totals.proofs.Told.{totals-same}
-use Rattle.judged_changes.specs.kept_totals.proofs.Shares.{share-held, totals-given_back, totals-entered}
-use Rattle.judged_changes.specs.kept_totals.proofs.Turns.{Comes, step-comes, still-totals, ended-totals}
+use Rattle.size_values.specs.Amounts.{part}
+use Rattle.size_values.specs.declared.amounts.Part.{Part}
+use Rattle.size_values.specs.declared.amounts.Amounts.{Amounts}
+use Rattle.host_model.specs.declared.call.HostCall.{HostCall}
+use Rattle.host_model.specs.declared.report.Report.{Report}
+use Rattle.operations.specs.declared.operation.Operation.{Operation}
+use Rattle.operations.specs.declared.status.Status.TheVariants as status
+use Rattle.operations.specs.Kept.{live_at, kept_at}
+use Rattle.operations.specs.Statuses.{is_pending}
+use Rattle.record_keeper.specs.Store.{Store}
+use Rattle.records.specs.declared.notices.Untold.{Untold}
+use Rattle.row_machine.specs.declared.events.Answer.TheVariants as answer
+use Rattle.row_machine.specs.machine.State.{State}
+use Rattle.row_machine.specs.machine.Task.{Task}
+use Rattle.row_machine.specs.machine.Work.{held_share, handing_out, entered, project_of_task}
+use Rattle.row_machine.specs.machine.Claims.{share_of}
+use Rattle.row_machine.specs.shown.Notices.{telling}
+use Rattle.row_machine.specs.facts.Whole.{IsWhole}
+use Rattle.machine_laws.proofs.Base.{first-live}
+use Rattle.machine_laws.proofs.SharesCores.{cores-moved, cores-taken}
+use Rattle.core_judging.specs.core_reports.specs.Jobs.{IsReported, answer_of}
+use Rattle.core_judging.specs.core_reports.specs.Turns.{IsBegun}
+use Rattle.core_judging.specs.core_reports.specs.declared.jobs.Turned.{Turned}
+use Rattle.core_judging.specs.core_reports.specs.declared.jobs.Turned.TheVariants as turned
+use Rattle.core_judging.specs.core_totals.specs.declared.ends.Counted.{Counted}
+use Rattle.core_judging.specs.core_totals.specs.declared.totals.Total.{Total}
+use Rattle.row_machine.specs.machine.Usage.{usage_of}
+use Rattle.core_judging.specs.core_totals.specs.Totals.{AreTotals, known, grown}
+use Rattle.core_judging.specs.core_totals.proofs.Few.{few-used}
+use Rattle.core_judging.specs.core_totals.specs.Ends.{given_back, IsCounted}
+use Rattle.core_judging.specs.core_totals.proofs.Usage.{usage-cores, usage-closed, cancelled-loses}
+use Rattle.core_judging.specs.core_totals.proofs.Told.{totals-same}
+use Rattle.core_judging.specs.core_totals.proofs.Shares.{share-held, totals-given_back, totals-entered}
+use Rattle.core_judging.specs.core_totals.proofs.Turns.{Comes, step-comes, still-totals, ended-totals}
 use Rattle.core_rows.specs.Cancels.{stopped, waits}
 use Rattle.core_rows.specs.Counted.{after_turn, counted_out}
 

@@ -1,16 +1,16 @@
 -- What is true of a state that entries open to, and the steps of opening them.
 use Rattle.std.proofs.Common.{◌≡◌, ◌≢◌, ◌<◌, ℕ, zero, suc, List, [], ◌∷◌, Ok, refl, ap, ◌∙◌}
-use Rattle.opening_rules.specs.plain_lists.specs.Members.{Each}
-use Rattle.opening_rules.specs.plain_lists.proofs.Elements.{Each-none, Each-cons}
-use Rattle.config_lists.specs.size_values.specs.declared.entry.Entry.{Entry}
-use Rattle.opening_rules.specs.operations.specs.Kept.{no_operations}
-use Rattle.opening_rules.specs.records.specs.declared.rows.Row.{Row}
-use Rattle.opening_rules.specs.row_codec.proofs.Fields.{IsBytes}
-use Rattle.opening_rules.specs.row_machine.specs.machine.State.{State, empty_state}
-use Rattle.opening_rules.specs.row_machine.specs.opening.Opening.{opened, opening_of, opening_by, opening_with, rows_in, with_rows, first_rows}
-use Rattle.judged_changes.specs.machine_laws.proofs.OpeningKept.{IsOpening, anew, again, is-opening}
-use Rattle.judged_changes.specs.machine_laws.proofs.OpeningRows.{rows_alone, with_all, with_rows-is, opened-alone}
-use Rattle.judged_changes.specs.work_reports.specs.Waiting.{IsSilent}
+use Rattle.plain_lists.specs.Members.{Each}
+use Rattle.plain_lists.proofs.Elements.{Each-none, Each-cons}
+use Rattle.size_values.specs.declared.entry.Entry.{Entry}
+use Rattle.operations.specs.Kept.{no_operations}
+use Rattle.records.specs.declared.rows.Row.{Row}
+use Rattle.row_codec.proofs.Fields.{IsBytes}
+use Rattle.row_machine.specs.machine.State.{State, empty_state}
+use Rattle.row_machine.specs.opening.Opening.{opened, opening_of, opening_by, opening_with, rows_in, with_rows, first_rows}
+use Rattle.machine_laws.proofs.OpeningKept.{IsOpening, anew, again, is-opening}
+use Rattle.machine_laws.proofs.OpeningRows.{rows_alone, with_all, with_rows-is, opened-alone}
+use Rattle.core_judging.specs.core_reports.specs.Waiting.{IsSilent}
 
 -- ---- a state that entries open to
 

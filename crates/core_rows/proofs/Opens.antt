@@ -1,15 +1,15 @@
 -- An opening, from how its load and what follows it ended.
 use Rattle.std.proofs.Common.{◌≡◌, ◌≢◌, ℕ, List, [], ◌∷◌, Option, Some, None, IfSome, option_map, Result, Ok, Err, refl, ap, sym, subst, ◌∙◌, inl, inr, arith}
-use Rattle.config_lists.specs.size_values.specs.CallCounts.{called}
-use Rattle.config_lists.specs.size_values.specs.declared.entry.Entry.{Entry}
-use Rattle.judged_changes.specs.record_keeper.specs.Entries.{after_changes, put_entry}
-use Rattle.judged_changes.specs.record_keeper.specs.Store.{Store, FailsAtCall, IsAfterUpTo, after_calls, after_commit}
-use Rattle.opening_rules.specs.row_machine.specs.opening.Opening.{first_rows, with_rows, opened, opening_of}
-use Rattle.opening_rules.specs.row_machine.specs.opening.Records.{records_of}
-use Rattle.opening_rules.specs.row_machine.specs.machine.Plans.{put_all}
-use Rattle.opening_rules.specs.row_machine.specs.machine.State.{State}
-use Rattle.judged_changes.specs.machine_laws.specs.Entries.{entry_changes}
-use Rattle.judged_changes.specs.machine_laws.proofs.OpeningKept.{opening-entries}
+use Rattle.size_values.specs.CallCounts.{called}
+use Rattle.size_values.specs.declared.entry.Entry.{Entry}
+use Rattle.record_keeper.specs.Entries.{after_changes, put_entry}
+use Rattle.record_keeper.specs.Store.{Store, FailsAtCall, IsAfterUpTo, after_calls, after_commit}
+use Rattle.row_machine.specs.opening.Opening.{first_rows, with_rows, opened, opening_of}
+use Rattle.row_machine.specs.opening.Records.{records_of}
+use Rattle.row_machine.specs.machine.Plans.{put_all}
+use Rattle.row_machine.specs.machine.State.{State}
+use Rattle.machine_laws.specs.Entries.{entry_changes}
+use Rattle.machine_laws.proofs.OpeningKept.{opening-entries}
 use Rattle.core_rows.specs.Kept.{Kept}
 use Rattle.core_rows.specs.Opening.{Opens, Refuses, Loads, GoesOn, AreTold, first_state, opened_store}
 use Rattle.core_rows.specs.declared.opening.OpenFault.{OpenFault}

@@ -1,7 +1,7 @@
 -- Where no notices wait, and none was told.
 use Rattle.std.proofs.Common.{◌≡◌, true, List, [], ◌∷◌, ◌++◌, map, refl, ap}
-use Rattle.opening_rules.specs.row_machine.specs.machine.State.{State}
-use Rattle.judged_changes.specs.work_reports.specs.Waiting.{IsSilent}
+use Rattle.row_machine.specs.machine.State.{State}
+use Rattle.core_judging.specs.core_reports.specs.Waiting.{IsSilent}
 
 -- where no notices wait, none do as read over other operations
 pub still-quiet : {X Y : Type 0} (f g : X → Y) (xs : List X) → map f xs ≡ [] → map g xs ≡ []

@@ -4,57 +4,57 @@ use Rattle.std.specs.Prelude.{option_and_then}
 use Rattle.std.specs.Option.{option_map_or, option_or, option_to_list}
 use Rattle.std.proofs.lemmas.Bool.{eq-eqb, ne_eqb}
 use Rattle.std.proofs.lemmas.List.Folds.{find-append}
-use Rattle.opening_rules.specs.plain_lists.specs.Firsts.{first}
-use Rattle.opening_rules.specs.plain_lists.proofs.Elements.{Each-left, Each-map}
-use Rattle.opening_rules.specs.plain_lists.proofs.Searches.{none-find}
-use Rattle.config_lists.specs.size_values.specs.Causes.{Refuses}
-use Rattle.config_lists.specs.size_values.specs.declared.kinds.ObjectKind.{ObjectKind}
-use Rattle.config_lists.specs.size_values.specs.declared.kinds.ObjectKind.TheVariants as kind
-use Rattle.config_lists.specs.size_values.specs.declared.memory.Or.{Or}
-use Rattle.opening_rules.specs.operations.specs.Facts.{AreKept}
-use Rattle.opening_rules.specs.operations.specs.Kept.{has_number, kept_at, enter_fault}
-use Rattle.opening_rules.specs.operations.specs.declared.faults.EnterFault.{EnterFault}
-use Rattle.opening_rules.specs.operations.specs.declared.operation.Operation.{Operation}
-use Rattle.judged_changes.specs.record_keeper.specs.Store.{Store}
-use Rattle.opening_rules.specs.records.specs.declared.commands.Body.{Body}
-use Rattle.opening_rules.specs.records.specs.declared.commands.Command.{Command}
-use Rattle.opening_rules.specs.records.specs.declared.commands.What.{What}
-use Rattle.opening_rules.specs.records.specs.declared.commands.What.TheVariants as what
-use Rattle.opening_rules.specs.records.specs.declared.notices.Told.TheVariants as told
-use Rattle.opening_rules.specs.records.specs.declared.notices.Untold.{Untold}
-use Rattle.opening_rules.specs.records.specs.declared.refusals.Refusal.{Refusal}
-use Rattle.opening_rules.specs.records.specs.declared.replies.Reply.{Reply}
-use Rattle.opening_rules.specs.records.specs.declared.replies.Reply.TheVariants as reply
-use Rattle.judged_changes.specs.row_drafts.specs.Background.{pending_of, holding}
-use Rattle.judged_changes.specs.row_drafts.proofs.Entering.{claim-held}
-use Rattle.config_lists.specs.size_values.specs.declared.amounts.Amounts.{Amounts}
-use Rattle.opening_rules.specs.row_machine.specs.declared.events.Answer.TheVariants as answer
-use Rattle.opening_rules.specs.row_machine.specs.declared.events.Event.TheVariants as event
-use Rattle.opening_rules.specs.row_machine.specs.facts.Whole.{IsWhole}
-use Rattle.opening_rules.specs.row_machine.specs.machine.Accept.{After, and_then, accepted, carried_out, begun}
-use Rattle.opening_rules.specs.row_machine.specs.machine.LimitRules.{counts_broken, limits_broken, instance_uncounted}
-use Rattle.opening_rules.specs.row_machine.specs.machine.Plans.{starts, plan_of}
-use Rattle.opening_rules.specs.row_machine.specs.machine.PolicyRules.{policy_broken, snapshot_blocked, forbids_instance}
-use Rattle.opening_rules.specs.row_machine.specs.machine.Rules.{broken, plan_broken, standing_broken}
-use Rattle.opening_rules.specs.row_machine.specs.machine.SettingRules.{settings_broken}
-use Rattle.opening_rules.specs.row_machine.specs.machine.State.{State}
-use Rattle.opening_rules.specs.row_machine.specs.machine.Step.{well, after_command, step}
-use Rattle.opening_rules.specs.row_machine.specs.machine.TableRules.{enter_refusal, entry_broken, tables_broken}
-use Rattle.opening_rules.specs.row_machine.specs.machine.Task.{Task}
-use Rattle.opening_rules.specs.row_machine.specs.machine.Claims.{share_of}
-use Rattle.opening_rules.specs.row_machine.specs.machine.Work.{claiming, entered, project_of_task}
-use Rattle.opening_rules.specs.row_machine.specs.shown.Notices.{telling, view_of}
-use Rattle.opening_rules.specs.row_machine.specs.machine.Usage.{usage_of}
-use Rattle.judged_changes.specs.machine_laws.proofs.Cases.{IsAccepted}
-use Rattle.opening_rules.specs.limit_rules.specs.Alone.{claim_uncounts, share_broken}
-use Rattle.judged_changes.specs.policy_rules.specs.Alone.{claim_forbidden}
-use Rattle.judged_changes.specs.claim_laws.specs.Alone.{IsJudgedAlone}
-use Rattle.judged_changes.specs.claim_laws.proofs.Alone.{judged-alone}
+use Rattle.plain_lists.specs.Firsts.{first}
+use Rattle.plain_lists.proofs.Elements.{Each-left, Each-map}
+use Rattle.plain_lists.proofs.Searches.{none-find}
+use Rattle.size_values.specs.Causes.{Refuses}
+use Rattle.size_values.specs.declared.kinds.ObjectKind.{ObjectKind}
+use Rattle.size_values.specs.declared.kinds.ObjectKind.TheVariants as kind
+use Rattle.size_values.specs.declared.memory.Or.{Or}
+use Rattle.operations.specs.Facts.{AreKept}
+use Rattle.operations.specs.Kept.{has_number, kept_at, enter_fault}
+use Rattle.operations.specs.declared.faults.EnterFault.{EnterFault}
+use Rattle.operations.specs.declared.operation.Operation.{Operation}
+use Rattle.record_keeper.specs.Store.{Store}
+use Rattle.records.specs.declared.commands.Body.{Body}
+use Rattle.records.specs.declared.commands.Command.{Command}
+use Rattle.records.specs.declared.commands.What.{What}
+use Rattle.records.specs.declared.commands.What.TheVariants as what
+use Rattle.records.specs.declared.notices.Told.TheVariants as told
+use Rattle.records.specs.declared.notices.Untold.{Untold}
+use Rattle.records.specs.declared.refusals.Refusal.{Refusal}
+use Rattle.records.specs.declared.replies.Reply.{Reply}
+use Rattle.records.specs.declared.replies.Reply.TheVariants as reply
+use Rattle.core_drafts.specs.Background.{pending_of, holding}
+use Rattle.core_drafts.proofs.Entering.{claim-held}
+use Rattle.size_values.specs.declared.amounts.Amounts.{Amounts}
+use Rattle.row_machine.specs.declared.events.Answer.TheVariants as answer
+use Rattle.row_machine.specs.declared.events.Event.TheVariants as event
+use Rattle.row_machine.specs.facts.Whole.{IsWhole}
+use Rattle.row_machine.specs.machine.Accept.{After, and_then, accepted, carried_out, begun}
+use Rattle.row_machine.specs.machine.LimitRules.{counts_broken, limits_broken, instance_uncounted}
+use Rattle.row_machine.specs.machine.Plans.{starts, plan_of}
+use Rattle.row_machine.specs.machine.PolicyRules.{policy_broken, snapshot_blocked, forbids_instance}
+use Rattle.row_machine.specs.machine.Rules.{broken, plan_broken, standing_broken}
+use Rattle.row_machine.specs.machine.SettingRules.{settings_broken}
+use Rattle.row_machine.specs.machine.State.{State}
+use Rattle.row_machine.specs.machine.Step.{well, after_command, step}
+use Rattle.row_machine.specs.machine.TableRules.{enter_refusal, entry_broken, tables_broken}
+use Rattle.row_machine.specs.machine.Task.{Task}
+use Rattle.row_machine.specs.machine.Claims.{share_of}
+use Rattle.row_machine.specs.machine.Work.{claiming, entered, project_of_task}
+use Rattle.row_machine.specs.shown.Notices.{telling, view_of}
+use Rattle.row_machine.specs.machine.Usage.{usage_of}
+use Rattle.machine_laws.proofs.Cases.{IsAccepted}
+use Rattle.rules_limits.specs.Alone.{claim_uncounts, share_broken}
+use Rattle.rules_policy.specs.Alone.{claim_forbidden}
+use Rattle.core_judging.specs.core_totals.specs.Alone.{IsJudgedAlone}
+use Rattle.core_judging.specs.core_totals.proofs.Alone.{judged-alone}
 use Rattle.core_rows.specs.Asked.{IsAsked, answered, changes_at_once, changes_of, unless_refused}
-use Rattle.judged_changes.specs.work_reports.specs.Waiting.{IsSilent}
-use Rattle.judged_changes.specs.Judged.{claim_judged, reply_for}
+use Rattle.core_judging.specs.core_reports.specs.Waiting.{IsSilent}
+use Rattle.core_judging.specs.Judged.{claim_judged, reply_for}
 use Rattle.core_rows.specs.Planned.{IsToStart}
-use Rattle.judged_changes.specs.work_reports.specs.Stores.{Stores}
+use Rattle.core_judging.specs.core_reports.specs.Stores.{Stores}
 use Rattle.core_rows.proofs.Following.{follows-why}
 
 -- ---- the operation that was entered last

@@ -1,21 +1,21 @@
 -- The step of a request that makes changes at once, of one that is refused, and of one without memory.
 use Rattle.std.proofs.Common.{◌≡◌, ℕ, Option, Some, None, List, refl, ◌∙◌, ap}
-use Rattle.config_lists.specs.size_values.specs.declared.rise.Rise.{Rise}
-use Rattle.opening_rules.specs.records.specs.declared.refusals.Rule.TheVariants as rule
-use Rattle.opening_rules.specs.records.specs.declared.refusals.Refusal.{Refusal}
-use Rattle.opening_rules.specs.records.specs.declared.replies.Reply.TheVariants as reply
-use Rattle.opening_rules.specs.records.specs.declared.commands.Command.{Command}
-use Rattle.opening_rules.specs.row_machine.specs.declared.changes.RowChange.{RowChange}
-use Rattle.opening_rules.specs.row_machine.specs.declared.events.Event.TheVariants as event
-use Rattle.opening_rules.specs.row_machine.specs.declared.events.Answer.TheVariants as answer
-use Rattle.opening_rules.specs.row_machine.specs.machine.State.{State}
-use Rattle.opening_rules.specs.row_machine.specs.machine.Changes.{applied}
-use Rattle.opening_rules.specs.row_machine.specs.machine.Refusals.{plain_refusal}
-use Rattle.opening_rules.specs.row_machine.specs.machine.Plans.{changes, plan_of}
-use Rattle.opening_rules.specs.row_machine.specs.machine.Rules.{broken}
-use Rattle.opening_rules.specs.row_machine.specs.shown.Notices.{telling, change_notices}
-use Rattle.opening_rules.specs.row_machine.specs.machine.Accept.{and_then, accepted, carried_out}
-use Rattle.opening_rules.specs.row_machine.specs.machine.Step.{well, keeper_failed, no_memory, after_command, unavailable, step}
+use Rattle.size_values.specs.declared.rise.Rise.{Rise}
+use Rattle.records.specs.declared.refusals.Rule.TheVariants as rule
+use Rattle.records.specs.declared.refusals.Refusal.{Refusal}
+use Rattle.records.specs.declared.replies.Reply.TheVariants as reply
+use Rattle.records.specs.declared.commands.Command.{Command}
+use Rattle.row_machine.specs.declared.changes.RowChange.{RowChange}
+use Rattle.row_machine.specs.declared.events.Event.TheVariants as event
+use Rattle.row_machine.specs.declared.events.Answer.TheVariants as answer
+use Rattle.row_machine.specs.machine.State.{State}
+use Rattle.row_machine.specs.machine.Changes.{applied}
+use Rattle.row_machine.specs.machine.Refusals.{plain_refusal}
+use Rattle.row_machine.specs.machine.Plans.{changes, plan_of}
+use Rattle.row_machine.specs.machine.Rules.{broken}
+use Rattle.row_machine.specs.shown.Notices.{telling, change_notices}
+use Rattle.row_machine.specs.machine.Accept.{and_then, accepted, carried_out}
+use Rattle.row_machine.specs.machine.Step.{well, keeper_failed, no_memory, after_command, unavailable, step}
 
 -- a request that breaks no rule and makes changes at once
 pub changes-step : (s : State) (c : Command) (moment : ℕ) (cs : List RowChange) → plan_of s c moment ≡ changes cs → broken s c moment ≡ None

@@ -4,59 +4,59 @@ use Rattle.std.proofs.Common.{refl, ap, sym, subst, ◌∙◌}
 use Rattle.std.specs.Fmt.{decimal}
 use Rattle.std.specs.Option.{option_and_then, option_map, option_map_or, is_some}
 use Rattle.std.specs.Result.{result_err}
-use Rattle.opening_rules.specs.plain_lists.specs.Firsts.{first}
-use Rattle.config_lists.specs.size_values.specs.Causes.{Refuses}
-use Rattle.config_lists.specs.size_values.specs.Moments.{moment_limit}
-use Rattle.config_lists.specs.size_values.specs.declared.kinds.ObjectKind.TheVariants as kind
-use Rattle.config_lists.specs.size_values.specs.declared.memory.Or.{Or}
-use Rattle.opening_rules.specs.operations.specs.Kept.{live_at, kept_at, cancel_answer}
-use Rattle.opening_rules.specs.operations.specs.Statuses.{is_live, is_pending, cancel_of}
-use Rattle.opening_rules.specs.operations.specs.declared.operation.Operation.{Operation}
-use Rattle.opening_rules.specs.operations.specs.declared.operation.OpFault.TheVariants as fault
-use Rattle.opening_rules.specs.operations.specs.declared.status.Status.{Status}
-use Rattle.opening_rules.specs.operations.specs.declared.status.Status.TheVariants as status
-use Rattle.opening_rules.specs.operations.proofs.KeptLemmas.{live-from_kept}
-use Rattle.judged_changes.specs.record_keeper.specs.Store.{Store}
-use Rattle.opening_rules.specs.records.specs.declared.commands.Command.{Command}
-use Rattle.opening_rules.specs.records.specs.declared.commands.What.TheVariants as what
-use Rattle.opening_rules.specs.records.specs.declared.notices.Untold.{Untold}
-use Rattle.opening_rules.specs.records.specs.declared.refusals.Refusal.{Refusal}
-use Rattle.opening_rules.specs.records.specs.declared.replies.Reply.{Reply}
-use Rattle.opening_rules.specs.records.specs.declared.replies.Reply.TheVariants as reply
-use Rattle.opening_rules.specs.row_machine.specs.declared.events.Answer.TheVariants as answer
-use Rattle.opening_rules.specs.row_machine.specs.declared.events.Event.TheVariants as event
-use Rattle.opening_rules.specs.row_machine.specs.facts.Whole.{IsWhole}
-use Rattle.opening_rules.specs.row_machine.specs.machine.Accept.{and_then, accepted, after_cancel, cancel, cancel_or_read, carried_out, with_operation_notice}
-use Rattle.opening_rules.specs.row_machine.specs.machine.NameRules.{missing_unless, what_is_missing}
-use Rattle.opening_rules.specs.row_machine.specs.machine.Plans.{nothing, plan_of}
-use Rattle.opening_rules.specs.row_machine.specs.machine.Rules.{broken, names_broken, plan_broken, standing_broken}
-use Rattle.opening_rules.specs.row_machine.specs.machine.State.{State}
-use Rattle.opening_rules.specs.row_machine.specs.machine.Step.{after_command, step, well}
-use Rattle.opening_rules.specs.row_machine.specs.machine.TableRules.{cancel_broken, cancel_refusal}
-use Rattle.opening_rules.specs.row_machine.specs.machine.Task.{Task}
-use Rattle.opening_rules.specs.row_machine.specs.machine.Work.{cancelled, moved}
-use Rattle.opening_rules.specs.row_machine.specs.opening.Records.{records_of}
-use Rattle.opening_rules.specs.row_machine.specs.shown.Notices.{telling}
-use Rattle.judged_changes.specs.machine_laws.proofs.Base.{live-number}
-use Rattle.judged_changes.specs.machine_laws.proofs.CancelsBegin.{live-kept}
-use Rattle.judged_changes.specs.machine_laws.proofs.ChangeKinds.{cancels-keep, cancelled-keeps}
-use Rattle.judged_changes.specs.machine_laws.proofs.Commands.{command_of}
-use Rattle.judged_changes.specs.machine_laws.proofs.Told.{names-right}
+use Rattle.plain_lists.specs.Firsts.{first}
+use Rattle.size_values.specs.Causes.{Refuses}
+use Rattle.size_values.specs.Moments.{moment_limit}
+use Rattle.size_values.specs.declared.kinds.ObjectKind.TheVariants as kind
+use Rattle.size_values.specs.declared.memory.Or.{Or}
+use Rattle.operations.specs.Kept.{live_at, kept_at, cancel_answer}
+use Rattle.operations.specs.Statuses.{is_live, is_pending, cancel_of}
+use Rattle.operations.specs.declared.operation.Operation.{Operation}
+use Rattle.operations.specs.declared.operation.OpFault.TheVariants as fault
+use Rattle.operations.specs.declared.status.Status.{Status}
+use Rattle.operations.specs.declared.status.Status.TheVariants as status
+use Rattle.operations.proofs.KeptLemmas.{live-from_kept}
+use Rattle.record_keeper.specs.Store.{Store}
+use Rattle.records.specs.declared.commands.Command.{Command}
+use Rattle.records.specs.declared.commands.What.TheVariants as what
+use Rattle.records.specs.declared.notices.Untold.{Untold}
+use Rattle.records.specs.declared.refusals.Refusal.{Refusal}
+use Rattle.records.specs.declared.replies.Reply.{Reply}
+use Rattle.records.specs.declared.replies.Reply.TheVariants as reply
+use Rattle.row_machine.specs.declared.events.Answer.TheVariants as answer
+use Rattle.row_machine.specs.declared.events.Event.TheVariants as event
+use Rattle.row_machine.specs.facts.Whole.{IsWhole}
+use Rattle.row_machine.specs.machine.Accept.{and_then, accepted, after_cancel, cancel, cancel_or_read, carried_out, with_operation_notice}
+use Rattle.row_machine.specs.machine.NameRules.{missing_unless, what_is_missing}
+use Rattle.row_machine.specs.machine.Plans.{nothing, plan_of}
+use Rattle.row_machine.specs.machine.Rules.{broken, names_broken, plan_broken, standing_broken}
+use Rattle.row_machine.specs.machine.State.{State}
+use Rattle.row_machine.specs.machine.Step.{after_command, step, well}
+use Rattle.row_machine.specs.machine.TableRules.{cancel_broken, cancel_refusal}
+use Rattle.row_machine.specs.machine.Task.{Task}
+use Rattle.row_machine.specs.machine.Work.{cancelled, moved}
+use Rattle.row_machine.specs.opening.Records.{records_of}
+use Rattle.row_machine.specs.shown.Notices.{telling}
+use Rattle.machine_laws.proofs.Base.{live-number}
+use Rattle.machine_laws.proofs.CancelsBegin.{live-kept}
+use Rattle.machine_laws.proofs.ChangeKinds.{cancels-keep, cancelled-keeps}
+use Rattle.machine_laws.proofs.Commands.{command_of}
+use Rattle.machine_laws.proofs.Told.{names-right}
 use Rattle.core_rows.specs.Asked.{changes_at_once, changes_of, unless_refused}
 use Rattle.core_rows.specs.Cancels.{stopped, waits}
-use Rattle.judged_changes.specs.work_reports.specs.Waiting.{IsSilent}
-use Rattle.judged_changes.specs.Judged.{reply_for}
+use Rattle.core_judging.specs.core_reports.specs.Waiting.{IsSilent}
+use Rattle.core_judging.specs.Judged.{reply_for}
 use Rattle.core_rows.specs.Planned.{Follows}
-use Rattle.judged_changes.specs.work_reports.specs.Stores.{Stores}
-use Rattle.judged_changes.specs.work_reports.specs.Turns.{shown_at}
-use Rattle.judged_changes.specs.work_reports.specs.Waiting.{told_by}
-use Rattle.judged_changes.specs.work_reports.specs.declared.waiting.Waiting.{Waiting}
-use Rattle.judged_changes.specs.work_reports.proofs.Begun.{shown-told}
-use Rattle.judged_changes.specs.work_reports.proofs.Comings.{cancelled-silent, cancelled-next}
+use Rattle.core_judging.specs.core_reports.specs.Stores.{Stores}
+use Rattle.core_judging.specs.core_reports.specs.Turns.{shown_at}
+use Rattle.core_judging.specs.core_reports.specs.Waiting.{told_by}
+use Rattle.core_judging.specs.core_reports.specs.declared.waiting.Waiting.{Waiting}
+use Rattle.core_judging.specs.core_reports.proofs.Begun.{shown-told}
+use Rattle.core_judging.specs.core_reports.proofs.Comings.{cancelled-silent, cancelled-next}
 use Rattle.core_rows.proofs.Following.{follows-why}
-use Rattle.judged_changes.specs.work_reports.proofs.Handing.{told-kept, moved-live}
-use Rattle.judged_changes.specs.work_reports.proofs.Reporting.{as_ended, cancelled-kept}
-use Rattle.judged_changes.specs.work_reports.proofs.Turning.{IsLive, is-live}
+use Rattle.core_judging.specs.core_reports.proofs.Handing.{told-kept, moved-live}
+use Rattle.core_judging.specs.core_reports.proofs.Reporting.{as_ended, cancelled-kept}
+use Rattle.core_judging.specs.core_reports.proofs.Turning.{IsLive, is-live}
 
 -- ---- which operations can be cancelled
 

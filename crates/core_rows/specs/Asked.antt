@@ -1,22 +1,22 @@
 -- A command that was carried out is one step of the machine, and its changes went to the store.
 use Rattle.std.specs.Prelude.{◌≡◌, ℕ, List, [], Option, Some, None}
-use Rattle.judged_changes.specs.record_keeper.specs.Store.{Store}
-use Rattle.opening_rules.specs.records.specs.declared.commands.Command.{Command}
-use Rattle.opening_rules.specs.records.specs.declared.notices.Untold.{Untold}
-use Rattle.opening_rules.specs.records.specs.declared.refusals.Refusal.{Refusal}
-use Rattle.opening_rules.specs.records.specs.declared.replies.Reply.{Reply}
-use Rattle.opening_rules.specs.records.specs.declared.replies.Reply.TheVariants as reply
-use Rattle.opening_rules.specs.row_machine.specs.declared.changes.RowChange.{RowChange}
-use Rattle.opening_rules.specs.row_machine.specs.declared.events.Answer.{Answer}
-use Rattle.opening_rules.specs.row_machine.specs.declared.events.Answer.TheVariants as answer
-use Rattle.opening_rules.specs.row_machine.specs.declared.events.Event.TheVariants as event
-use Rattle.opening_rules.specs.row_machine.specs.machine.State.{State}
-use Rattle.opening_rules.specs.row_machine.specs.shown.Notices.{telling}
-use Rattle.opening_rules.specs.row_machine.specs.machine.Plans.{Plan, nothing, changes, starts, plan_of}
-use Rattle.opening_rules.specs.row_machine.specs.machine.Rules.{broken}
-use Rattle.opening_rules.specs.row_machine.specs.machine.Accept.{and_then}
-use Rattle.opening_rules.specs.row_machine.specs.machine.Step.{Outcome, step}
-use Rattle.judged_changes.specs.work_reports.specs.Stores.{IsCaused, Stores}
+use Rattle.record_keeper.specs.Store.{Store}
+use Rattle.records.specs.declared.commands.Command.{Command}
+use Rattle.records.specs.declared.notices.Untold.{Untold}
+use Rattle.records.specs.declared.refusals.Refusal.{Refusal}
+use Rattle.records.specs.declared.replies.Reply.{Reply}
+use Rattle.records.specs.declared.replies.Reply.TheVariants as reply
+use Rattle.row_machine.specs.declared.changes.RowChange.{RowChange}
+use Rattle.row_machine.specs.declared.events.Answer.{Answer}
+use Rattle.row_machine.specs.declared.events.Answer.TheVariants as answer
+use Rattle.row_machine.specs.declared.events.Event.TheVariants as event
+use Rattle.row_machine.specs.machine.State.{State}
+use Rattle.row_machine.specs.shown.Notices.{telling}
+use Rattle.row_machine.specs.machine.Plans.{Plan, nothing, changes, starts, plan_of}
+use Rattle.row_machine.specs.machine.Rules.{broken}
+use Rattle.row_machine.specs.machine.Accept.{and_then}
+use Rattle.row_machine.specs.machine.Step.{Outcome, step}
+use Rattle.core_judging.specs.core_reports.specs.Stores.{IsCaused, Stores}
 
 -- the answer that a reply is: out of memory is an answer of its own
 abbrev pub answered : Reply → Answer

@@ -1,17 +1,17 @@
 -- What reports and cancels make of what projects are known to use.
 use Rattle.std.specs.Prelude.{ℕ, List, Option, if◌then◌else◌}
 use Rattle.std.specs.Option.{option_map_or}
-use Rattle.opening_rules.specs.operations.specs.declared.operation.Operation.{Operation}
-use Rattle.opening_rules.specs.operations.specs.Kept.{live_at}
-use Rattle.opening_rules.specs.operations.specs.Statuses.{is_pending}
-use Rattle.opening_rules.specs.row_machine.specs.machine.State.{State}
-use Rattle.opening_rules.specs.row_machine.specs.machine.Task.{Task}
-use Rattle.opening_rules.specs.row_machine.specs.machine.Work.{held_share}
-use Rattle.judged_changes.specs.work_reports.specs.declared.jobs.Turned.{Turned}
-use Rattle.judged_changes.specs.work_reports.specs.declared.jobs.Turned.TheVariants as turned
-use Rattle.judged_changes.specs.kept_totals.specs.declared.ends.Counted.{Counted}
-use Rattle.judged_changes.specs.kept_totals.specs.declared.totals.Total.{Total}
-use Rattle.judged_changes.specs.kept_totals.specs.Ends.{given_back, after_end}
+use Rattle.operations.specs.declared.operation.Operation.{Operation}
+use Rattle.operations.specs.Kept.{live_at}
+use Rattle.operations.specs.Statuses.{is_pending}
+use Rattle.row_machine.specs.machine.State.{State}
+use Rattle.row_machine.specs.machine.Task.{Task}
+use Rattle.row_machine.specs.machine.Work.{held_share}
+use Rattle.core_judging.specs.core_reports.specs.declared.jobs.Turned.{Turned}
+use Rattle.core_judging.specs.core_reports.specs.declared.jobs.Turned.TheVariants as turned
+use Rattle.core_judging.specs.core_totals.specs.declared.ends.Counted.{Counted}
+use Rattle.core_judging.specs.core_totals.specs.declared.totals.Total.{Total}
+use Rattle.core_judging.specs.core_totals.specs.Ends.{given_back, after_end}
 
 -- after a report of an operation that counted for this, and is kept so
 abbrev pub after_turn : Turned → Option (Operation Task) → Counted → List Total → List Total

@@ -1,21 +1,21 @@
 -- How the rows are opened.
 use Rattle.std.specs.Prelude.{◌≡◌, ◌⊎◌, ℕ, List, [], ◌∷◌, IfSome, option_map, Bool, true, false, Result, Ok, Err}
-use Rattle.opening_rules.specs.plain_lists.specs.Members.{Each}
-use Rattle.config_lists.specs.size_values.specs.CallCounts.{called}
-use Rattle.config_lists.specs.size_values.specs.declared.entry.Entry.{Entry}
-use Rattle.config_lists.specs.size_values.specs.declared.entry.EntryChange.{EntryChange}
-use Rattle.judged_changes.specs.record_keeper.specs.Entries.{IsOrderedEntries}
-use Rattle.judged_changes.specs.record_keeper.specs.Store.{Store, FailsAtCall, IsAfterUpTo, after_calls, after_commit}
-use Rattle.opening_rules.specs.row_machine.specs.machine.Plans.{put_all}
-use Rattle.judged_changes.specs.machine_laws.specs.Entries.{entry_changes}
-use Rattle.judged_changes.specs.machine_laws.specs.Openings.{HasBytes}
-use Rattle.opening_rules.specs.records.specs.declared.rows.Row.{Row}
-use Rattle.judged_changes.specs.row_drafts.specs.Drafted.{Drafted}
-use Rattle.opening_rules.specs.row_machine.specs.machine.State.{State}
-use Rattle.opening_rules.specs.row_machine.specs.opening.Opening.{Opening, opened, damaged, broken}
-use Rattle.opening_rules.specs.row_machine.specs.opening.Opening.{first_rows, with_rows, rows_in}
-use Rattle.opening_rules.specs.row_machine.specs.opening.Opening.{opening_by, opening_of}
-use Rattle.opening_rules.specs.row_machine.specs.opening.Records.{records_of}
+use Rattle.plain_lists.specs.Members.{Each}
+use Rattle.size_values.specs.CallCounts.{called}
+use Rattle.size_values.specs.declared.entry.Entry.{Entry}
+use Rattle.size_values.specs.declared.entry.EntryChange.{EntryChange}
+use Rattle.record_keeper.specs.Entries.{IsOrderedEntries}
+use Rattle.record_keeper.specs.Store.{Store, FailsAtCall, IsAfterUpTo, after_calls, after_commit}
+use Rattle.row_machine.specs.machine.Plans.{put_all}
+use Rattle.machine_laws.specs.Entries.{entry_changes}
+use Rattle.machine_laws.specs.Openings.{HasBytes}
+use Rattle.records.specs.declared.rows.Row.{Row}
+use Rattle.core_drafts.specs.Drafted.{Drafted}
+use Rattle.row_machine.specs.machine.State.{State}
+use Rattle.row_machine.specs.opening.Opening.{Opening, opened, damaged, broken}
+use Rattle.row_machine.specs.opening.Opening.{first_rows, with_rows, rows_in}
+use Rattle.row_machine.specs.opening.Opening.{opening_by, opening_of}
+use Rattle.row_machine.specs.opening.Records.{records_of}
 use Rattle.core_rows.specs.Kept.{Kept}
 use Rattle.core_rows.specs.declared.opening.OpenFault.{OpenFault}
 use Rattle.core_rows.specs.declared.opening.OpenFault.TheVariants as fault

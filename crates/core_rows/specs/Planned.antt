@@ -1,20 +1,20 @@
 -- What a command is to do, and that it was carried out.
 use Rattle.std.specs.Prelude.{◌≡◌, ℕ, ◌<◌, true, [], ◌∷◌, List, None}
-use Rattle.opening_rules.specs.row_machine.specs.machine.Task.{Task}
-use Rattle.config_lists.specs.size_values.specs.Moments.{moment_limit}
-use Rattle.judged_changes.specs.record_keeper.specs.Store.{Store}
-use Rattle.opening_rules.specs.records.specs.Forms.{is_formed}
-use Rattle.opening_rules.specs.records.specs.declared.commands.Command.{Command}
-use Rattle.opening_rules.specs.records.specs.declared.notices.Untold.{Untold}
-use Rattle.opening_rules.specs.records.specs.declared.replies.Reply.{Reply}
-use Rattle.opening_rules.specs.row_machine.specs.declared.changes.RowChange.{RowChange}
-use Rattle.opening_rules.specs.row_machine.specs.machine.State.{State}
-use Rattle.opening_rules.specs.row_machine.specs.machine.Plans.{changes, starts, plan_of}
-use Rattle.opening_rules.specs.row_machine.specs.shown.Notices.{change_notices}
-use Rattle.opening_rules.specs.row_machine.specs.machine.Rules.{names_broken}
-use Rattle.opening_rules.specs.row_machine.specs.machine.Rules.{standing_broken}
+use Rattle.row_machine.specs.machine.Task.{Task}
+use Rattle.size_values.specs.Moments.{moment_limit}
+use Rattle.record_keeper.specs.Store.{Store}
+use Rattle.records.specs.Forms.{is_formed}
+use Rattle.records.specs.declared.commands.Command.{Command}
+use Rattle.records.specs.declared.notices.Untold.{Untold}
+use Rattle.records.specs.declared.replies.Reply.{Reply}
+use Rattle.row_machine.specs.declared.changes.RowChange.{RowChange}
+use Rattle.row_machine.specs.machine.State.{State}
+use Rattle.row_machine.specs.machine.Plans.{changes, starts, plan_of}
+use Rattle.row_machine.specs.shown.Notices.{change_notices}
+use Rattle.row_machine.specs.machine.Rules.{names_broken}
+use Rattle.row_machine.specs.machine.Rules.{standing_broken}
 use Rattle.core_rows.specs.Asked.{IsAsked}
-use Rattle.judged_changes.specs.work_reports.specs.Stores.{KeepsRecords}
+use Rattle.core_judging.specs.core_reports.specs.Stores.{KeepsRecords}
 
 -- A command that a client can give, before the year 10000, which breaks no rule on names and on what stands in the
 -- way, with the changes that it is to make at once and the notice of them.

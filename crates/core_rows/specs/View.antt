@@ -1,11 +1,11 @@
 -- What contracts see of the rows of the server, and what is true of the fields.
 use Rattle.std.specs.Prelude.{◌≡◌, ◌<◌, ◌≤◌, [], map, vec_capacity}
-use Rattle.opening_rules.specs.row_machine.specs.facts.Whole.{IsWhole}
+use Rattle.row_machine.specs.facts.Whole.{IsWhole}
 use Rattle.core_rows.specs.declared.estate.Estate.TheInside.{Inside}
-use Rattle.judged_changes.specs.work_reports.specs.Waiting.{IsSilent, untold_limit}
-use Rattle.judged_changes.specs.kept_totals.specs.Totals.{AreTotals}
+use Rattle.core_judging.specs.core_reports.specs.Waiting.{IsSilent, untold_limit}
+use Rattle.core_judging.specs.core_totals.specs.Totals.{AreTotals}
 use Rattle.core_rows.specs.Kept.{Kept}
-use Rattle.judged_changes.specs.work_reports.specs.Waiting.{told_by}
+use Rattle.core_judging.specs.core_reports.specs.Waiting.{told_by}
 
 -- the state, and the notices that wait
 abbrev pub kept : Inside → Kept

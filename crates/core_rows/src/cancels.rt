@@ -1,16 +1,15 @@
 //! Cancels of live operations. None of it takes memory.
 ghost use Rattle.std.specs.Prelude.{◌≡◌, ◌<◌, ◌≤◌, ◌++◌, [], IsSome, find, vec_len, vec_capacity};
-ghost use Rattle.opening_rules.specs.operations.specs.Kept.{live_at};
-ghost use Rattle.opening_rules.specs.row_machine.specs.machine.Work.{is_held_by};
+ghost use Rattle.operations.specs.Kept.{live_at};
+ghost use Rattle.row_machine.specs.machine.Work.{is_held_by};
 ghost use Rattle.core_rows.specs.Cancels.{waits, stopped};
 ghost use Rattle.core_rows.specs.Counted.{counted_out};
-ghost use Rattle.judged_changes.specs.work_reports.specs.Turns.{shown_at};
+ghost use Rattle.core_judging.specs.core_reports.specs.Turns.{shown_at};
 
-use judged_changes::from_kept_totals::{Totals, give_back, held_share};
-use judged_changes::from_row_drafts::Draft;
-use judged_changes::from_work_reports::{Waiting, cancel, is_pending, live_at, tell};
-use opening_rules::from_operations::Status;
-use opening_rules::from_row_readings::View;
+use core_drafts::Draft;
+use core_judging::{Totals, Waiting, cancel, give_back, held_share, is_pending, live_at, tell};
+use operations::Status;
+use row_readings::View;
 
 /// Whether the live operation of a number waits for its first call.
 fn waits(view: &View<'_>, number: u64) -> bool

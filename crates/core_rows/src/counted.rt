@@ -1,11 +1,10 @@
 //! What a report makes of what projects are known to use.
 ghost use Rattle.std.specs.Prelude.{◌≡◌};
-ghost use Rattle.opening_rules.specs.operations.specs.Kept.{kept_at};
+ghost use Rattle.operations.specs.Kept.{kept_at};
 ghost use Rattle.core_rows.specs.Counted.{after_turn};
 
-use judged_changes::from_kept_totals::{Counted, Totals, follow_end};
-use judged_changes::from_work_reports::Turned;
-use opening_rules::from_row_readings::View;
+use core_judging::{Counted, Totals, Turned, follow_end};
+use row_readings::View;
 
 /// The report of a call of an operation that counted for this came to this. Where the operation ended, what its
 /// project uses has changed. It takes no memory.

@@ -1,33 +1,29 @@
 ghost use Rattle.std.specs.Prelude.{◌≡◌, ◌<◌, ◌∷◌, [], None, true, IfOk, IfSome, IfNone, OnErr};
-ghost use Rattle.opening_rules.specs.row_machine.specs.facts.Whole.{IsWhole};
-ghost use Rattle.opening_rules.specs.row_machine.specs.machine.Rules.{names_broken, standing_broken};
-ghost use Rattle.opening_rules.specs.records.specs.declared.commands.What.TheVariants as what;
-ghost use Rattle.config_lists.specs.size_values.specs.Moments.{moment_limit};
-ghost use Rattle.judged_changes.specs.work_reports.specs.Jobs.{IsReported, IsTaken};
-ghost use Rattle.judged_changes.specs.work_reports.specs.Waiting.{IsSilent, told_by};
+ghost use Rattle.row_machine.specs.facts.Whole.{IsWhole};
+ghost use Rattle.row_machine.specs.machine.Rules.{names_broken, standing_broken};
+ghost use Rattle.records.specs.declared.commands.What.TheVariants as what;
+ghost use Rattle.size_values.specs.Moments.{moment_limit};
+ghost use Rattle.core_judging.specs.core_reports.specs.Jobs.{IsReported, IsTaken};
+ghost use Rattle.core_judging.specs.core_reports.specs.Waiting.{IsSilent, told_by};
 ghost use Rattle.core_rows.specs.Planned.{Follows, IsToDo, IsToStart};
 ghost use Rattle.core_rows.specs.Asked.{IsAsked};
-ghost use Rattle.judged_changes.specs.record_keeper.specs.Store.{Store};
+ghost use Rattle.record_keeper.specs.Store.{Store};
 
 use crate::cancels::{count_out, stop};
 use crate::counted::follow_report;
-use config_lists::from_size_values::{NoMemory, Seq};
-use judged_changes::from_kept_totals::{Totals, count};
-use judged_changes::from_record_keeper::Keeper;
-use judged_changes::from_row_drafts::Draft;
-use judged_changes::from_work_reports::{
-    Turned, Waiting, begin, first_pending, take_report, tell, told_by,
+use core_drafts::Draft;
+use core_judging::{
+    Totals, Turned, Waiting, begin, commit, commit_start, count, first_pending, judge, judge_claim,
+    prepare, prepare_start, refused_reply, roll_back, take_report, tell, told_by,
 };
-use judged_changes::{
-    commit, give_up, judge, judge_claim, make_beginning, make_ready, refused_reply,
-    settle_beginning,
-};
-use opening_rules::from_host_model::{HostCall, Report};
-use opening_rules::from_plain_lists::push_reserved;
-use opening_rules::from_records::{Command, Reply, Untold};
-use opening_rules::from_row_machine::{RowChange, Work};
-use opening_rules::from_row_readings::View;
-use opening_rules::from_table_rules::cancel_broken;
+use host_model::{HostCall, Report};
+use plain_lists::push_reserved;
+use record_keeper::Keeper;
+use records::{Command, Reply, Untold};
+use row_machine::{RowChange, Work};
+use row_readings::View;
+use rules_tables::cancel_broken;
+use size_values::{NoMemory, Seq};
 use std::alloc::Global;
 use std::marker::Model;
 
@@ -95,7 +91,7 @@ impl Estate {
         ensures { Follows self.old.state command.now moment self.new.state self.new.untold result (R.store keeper.old)
             (R.store keeper.new) }
     {
-        let Ok(ready) = make_ready(alloc, &mut self.draft, &changes) else {
+        let Ok(ready) = prepare(alloc, &mut self.draft, &changes) else {
             drop(changes);
             drop(notice);
             return Reply::NoMemory;
@@ -110,13 +106,13 @@ impl Estate {
         if let Err(why) = judged {
             drop(ready);
             drop(notice);
-            return give_up(&mut self.draft, why);
+            return roll_back(&mut self.draft, why);
         }
         let committed = commit(alloc, keeper, &ready.changes);
         drop(ready);
         if let Err(why) = committed {
             drop(notice);
-            return give_up(&mut self.draft, why);
+            return roll_back(&mut self.draft, why);
         }
         self.draft.settle();
         self.totals.forget();
@@ -195,7 +191,7 @@ impl Estate {
         ensures { (store : Store)
             → IsAsked self.old.state command.now moment self.new.state self.new.untold result store store }
     {
-        let Ok(beginning) = make_beginning(alloc, &mut self.draft, &mut self.totals, &work, moment)
+        let Ok(beginning) = prepare_start(alloc, &mut self.draft, &mut self.totals, &work, moment)
         else {
             drop(work);
             return Reply::NoMemory;
@@ -204,10 +200,10 @@ impl Estate {
         let judged = judge_claim(alloc, &beginning, &self.draft.view(), command, number);
         if let Err(why) = judged {
             drop(beginning);
-            return give_up(&mut self.draft, why);
+            return roll_back(&mut self.draft, why);
         }
         self.totals.grow(beginning.project.view(), &beginning.share);
-        settle_beginning(&mut self.draft, &mut self.untold, beginning)
+        commit_start(&mut self.draft, &mut self.untold, beginning)
     }
 
     /// Cancels the operation of a number, as a command asks that breaks no rule on names and on what stands in the way:

@@ -1,17 +1,17 @@
 //! What kept entries open to: their rows are read, put in a draft, and judged there.
 ghost use Rattle.std.specs.Prelude.{◌≢◌, ◌<◌, [], unwrap_or};
-ghost use Rattle.opening_rules.specs.plain_lists.specs.Members.{Each};
-ghost use Rattle.judged_changes.specs.machine_laws.specs.Openings.{HasBytes};
-ghost use Rattle.opening_rules.specs.row_machine.specs.opening.Opening.{damaged, opened};
-ghost use Rattle.opening_rules.specs.row_machine.specs.opening.Opening.{opening_of, opening_with, rows_break};
+ghost use Rattle.plain_lists.specs.Members.{Each};
+ghost use Rattle.machine_laws.specs.Openings.{HasBytes};
+ghost use Rattle.row_machine.specs.opening.Opening.{damaged, opened};
+ghost use Rattle.row_machine.specs.opening.Opening.{opening_of, opening_with, rows_break};
 ghost use Rattle.core_rows.specs.Opening.{Gives, GivesDraft, GivesRows, Judges, Tells};
 
 use crate::estate::Estate;
 use crate::opening::OpenFault;
-use config_lists::from_size_values::{Entry, NoMemory, Or, Seq};
-use judged_changes::from_row_drafts::Draft;
-use opening_rules::from_records::Row;
-use opening_rules::{rows_break, rows_in};
+use core_drafts::Draft;
+use records::Row;
+use rules_opening::{rows_break, rows_in};
+use size_values::{Entry, NoMemory, Or, Seq};
 use std::alloc::Global;
 
 // ---- the rows of entries

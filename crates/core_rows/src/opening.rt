@@ -1,20 +1,20 @@
 ghost use Rattle.std.specs.Prelude.{◌≡◌, [], IfOk};
-ghost use Rattle.opening_rules.specs.row_machine.specs.opening.Opening.{first_rows, default_project};
-ghost use Rattle.opening_rules.specs.row_machine.specs.machine.Plans.{put_all};
-ghost use Rattle.judged_changes.specs.machine_laws.specs.Entries.{entry_changes};
-ghost use Rattle.opening_rules.specs.plain_lists.specs.Members.{Each};
-ghost use Rattle.judged_changes.specs.machine_laws.specs.Openings.{HasBytes};
+ghost use Rattle.row_machine.specs.opening.Opening.{first_rows, default_project};
+ghost use Rattle.row_machine.specs.machine.Plans.{put_all};
+ghost use Rattle.machine_laws.specs.Entries.{entry_changes};
+ghost use Rattle.plain_lists.specs.Members.{Each};
+ghost use Rattle.machine_laws.specs.Openings.{HasBytes};
 ghost use Rattle.core_rows.specs.Opening.{Opens, Begins, Commits, GoesOn, Loads, first_state};
 
 use crate::estate::Estate;
 use crate::kept_rows::{have_bytes, open_entries};
 use config_lists::Config;
-use config_lists::from_size_values::{Boxed, Entry, EntryChange, NoMemory, Or, Seq, Text};
-use judged_changes::from_record_keeper::Keeper;
-use judged_changes::from_row_drafts::Draft;
-use judged_changes::from_work_reports::{default_profile, entry_changes};
-use opening_rules::from_records::{Project, Row, Rule};
-use opening_rules::from_row_machine::RowChange;
+use core_drafts::Draft;
+use core_judging::{default_profile, entry_changes};
+use record_keeper::Keeper;
+use records::{Project, Row, Rule};
+use row_machine::RowChange;
+use size_values::{Boxed, Entry, EntryChange, NoMemory, Or, Seq, Text};
 use std::alloc::Global;
 
 /// Why the rows could not be opened. A row is told by the number of its kind and its key, as its entry has them.

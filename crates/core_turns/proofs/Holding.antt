@@ -2,31 +2,31 @@
 use Rattle.std.specs.Prelude.{ℤ, pos, negsuc}
 use Rattle.std.proofs.Common.{◌≡◌, ℕ, Bool, true, false, ◌&&◌, not, cond, List, [], ◌∷◌, Option, Some, None, refl, ap, subst, ◌∙◌}
 use Rattle.std.specs.Option.{is_some, option_or}
-use Rattle.notice_laws.specs.size_values.specs.declared.kinds.ObjectKind.TheVariants as kind
-use Rattle.notice_laws.specs.operations.specs.Kept.{live_at}
-use Rattle.notice_laws.specs.operations.specs.declared.operation.Operation.{Operation}
-use Rattle.notice_laws.specs.record_keeper.specs.Store.{Store}
-use Rattle.notice_laws.specs.records.specs.declared.commands.Command.{Command}
-use Rattle.notice_laws.specs.records.specs.declared.commands.What.{What}
-use Rattle.notice_laws.specs.records.specs.declared.commands.What.TheVariants as what
-use Rattle.notice_laws.specs.records.specs.declared.notices.Untold.{Untold}
-use Rattle.notice_laws.specs.records.specs.declared.refusals.Refusal.{Refusal}
-use Rattle.notice_laws.specs.plain_lists.specs.Firsts.{first}
-use Rattle.notice_laws.specs.row_machine.specs.Words.{decimal}
-use Rattle.notice_laws.specs.row_machine.specs.declared.events.Answer.TheVariants as answer
-use Rattle.notice_laws.specs.row_machine.specs.declared.events.Event.TheVariants as event
-use Rattle.notice_laws.specs.row_machine.specs.machine.Accept.{and_then, accepted, cancel_or_read, carried_out}
-use Rattle.notice_laws.specs.row_machine.specs.machine.NameRules.{missing_unless, project_missing, what_is_missing}
-use Rattle.notice_laws.specs.row_machine.specs.machine.Plans.{nothing, plan_of}
-use Rattle.notice_laws.specs.row_machine.specs.machine.Rules.{broken, names_broken, plan_broken, standing_broken}
-use Rattle.notice_laws.specs.row_machine.specs.machine.StandingRules.{instance_busy, wrong_state, object_protected, object_used, project_occupied, profile_held}
-use Rattle.notice_laws.specs.row_machine.specs.machine.State.{State}
-use Rattle.notice_laws.specs.row_machine.specs.machine.Step.{well, after_command, step}
-use Rattle.notice_laws.specs.row_machine.specs.machine.TableRules.{cancel_broken}
-use Rattle.notice_laws.specs.row_machine.specs.machine.Task.{Task}
-use Rattle.notice_laws.specs.row_machine.specs.shown.Views.{read}
-use Rattle.notice_laws.specs.machine_laws.proofs.CancelsBegin.{live-kept}
-use Rattle.notice_laws.specs.machine_laws.proofs.Commands.{command_of}
+use Rattle.size_values.specs.declared.kinds.ObjectKind.TheVariants as kind
+use Rattle.operations.specs.Kept.{live_at}
+use Rattle.operations.specs.declared.operation.Operation.{Operation}
+use Rattle.record_keeper.specs.Store.{Store}
+use Rattle.records.specs.declared.commands.Command.{Command}
+use Rattle.records.specs.declared.commands.What.{What}
+use Rattle.records.specs.declared.commands.What.TheVariants as what
+use Rattle.records.specs.declared.notices.Untold.{Untold}
+use Rattle.records.specs.declared.refusals.Refusal.{Refusal}
+use Rattle.plain_lists.specs.Firsts.{first}
+use Rattle.row_machine.specs.Words.{decimal}
+use Rattle.row_machine.specs.declared.events.Answer.TheVariants as answer
+use Rattle.row_machine.specs.declared.events.Event.TheVariants as event
+use Rattle.row_machine.specs.machine.Accept.{and_then, accepted, cancel_or_read, carried_out}
+use Rattle.row_machine.specs.machine.NameRules.{missing_unless, project_missing, what_is_missing}
+use Rattle.row_machine.specs.machine.Plans.{nothing, plan_of}
+use Rattle.row_machine.specs.machine.Rules.{broken, names_broken, plan_broken, standing_broken}
+use Rattle.row_machine.specs.machine.StandingRules.{instance_busy, wrong_state, object_protected, object_used, project_occupied, profile_held}
+use Rattle.row_machine.specs.machine.State.{State}
+use Rattle.row_machine.specs.machine.Step.{well, after_command, step}
+use Rattle.row_machine.specs.machine.TableRules.{cancel_broken}
+use Rattle.row_machine.specs.machine.Task.{Task}
+use Rattle.row_machine.specs.shown.Views.{read}
+use Rattle.machine_laws.proofs.CancelsBegin.{live-kept}
+use Rattle.machine_laws.proofs.Commands.{command_of}
 use Rattle.core_instances.specs.core_rows.specs.Asked.{changes_of, unless_refused}
 use Rattle.core_instances.specs.Waits.{is_held, is_zero}
 use Rattle.core_turns.specs.Commands.{held_for}

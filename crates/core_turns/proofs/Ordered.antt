@@ -3,18 +3,18 @@ use Rattle.std.proofs.Common.{◌≡◌, ◌<◌, ◌≤◌, ℕ, ◌+◌, List,
 use Rattle.std.specs.Prelude.{IfSome}
 use Rattle.std.specs.List.{filter_map}
 use Rattle.std.proofs.lemmas.List.{take_all, take_more}
-use Rattle.notice_laws.specs.plain_lists.specs.Members.{Each}
-use Rattle.notice_laws.specs.plain_lists.proofs.Elements.{Each-none, Each-cons, Each-head, Each-tail, Each-append, Each-push}
-use Rattle.notice_laws.specs.plain_lists.proofs.Readings.{Mem-from_read}
-use Rattle.notice_laws.specs.operations.specs.declared.operation.Operation.{Operation}
-use Rattle.notice_laws.specs.records.specs.declared.rows.Instance.{Instance}
-use Rattle.notice_laws.specs.records.specs.declared.rows.Profile.{Profile}
-use Rattle.notice_laws.specs.records.specs.declared.rows.Row.{Row}
-use Rattle.notice_laws.specs.records.specs.declared.rows.Row.TheVariants as row
-use Rattle.notice_laws.specs.records.specs.declared.rows.Snapshot.{Snapshot}
-use Rattle.notice_laws.specs.row_machine.specs.machine.State.{State}
-use Rattle.notice_laws.specs.row_machine.specs.machine.Task.{Task}
-use Rattle.notice_laws.specs.machine_laws.specs.Sorted.{AreSortedRows, IsSortedRow}
+use Rattle.plain_lists.specs.Members.{Each}
+use Rattle.plain_lists.proofs.Elements.{Each-none, Each-cons, Each-head, Each-tail, Each-append, Each-push}
+use Rattle.plain_lists.proofs.Readings.{Mem-from_read}
+use Rattle.operations.specs.declared.operation.Operation.{Operation}
+use Rattle.records.specs.declared.rows.Instance.{Instance}
+use Rattle.records.specs.declared.rows.Profile.{Profile}
+use Rattle.records.specs.declared.rows.Row.{Row}
+use Rattle.records.specs.declared.rows.Row.TheVariants as row
+use Rattle.records.specs.declared.rows.Snapshot.{Snapshot}
+use Rattle.row_machine.specs.machine.State.{State}
+use Rattle.row_machine.specs.machine.Task.{Task}
+use Rattle.machine_laws.specs.Sorted.{AreSortedRows, IsSortedRow}
 
 -- one more element
 pub each-next : {X : Type 0} (P : X → Type 0) (xs : List X) (i : ℕ) (x : X) → i < length xs → x ≡ get_or xs i x → P x → Each P (take i xs)

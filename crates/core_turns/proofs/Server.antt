@@ -1,10 +1,10 @@
 -- Who asks for the server is told of it.
 use Rattle.std.proofs.Common.{refl, sym, subst}
-use Rattle.notice_laws.specs.row_machine.specs.machine.Step.{well}
-use Rattle.notice_laws.specs.row_machine.specs.shown.Views.{read}
+use Rattle.row_machine.specs.machine.Step.{well}
+use Rattle.row_machine.specs.shown.Views.{read}
 use Rattle.core_instances.specs.core_objects.proofs.FirstRules.{unbroken, both-free}
 use Rattle.core_instances.specs.core_objects.proofs.ReadSteps.{reads, changes_of-read, read-free, read-step}
-use Rattle.core_instances.specs.work_reports.specs.Stores.{Stores}
+use Rattle.core_instances.specs.core_reports.specs.Stores.{Stores}
 use Rattle.core_turns.specs.Server.{ServerIsTold, server_in}
 
 pub server-told : ServerIsTold

@@ -1,40 +1,40 @@
 -- A step of the machine is a turn, once what it tells is in the hub.
 use Rattle.std.proofs.Common.{◌≡◌, ℕ, List, [], Option, Some, None, refl, ap, sym, subst, ◌∙◌}
 use Rattle.std.specs.Option.{option_map}
-use Rattle.notice_laws.specs.size_values.specs.declared.entry.Entry.{Entry}
-use Rattle.notice_laws.specs.record_keeper.specs.Store.{Store}
-use Rattle.notice_laws.specs.records.specs.declared.commands.Command.{Command}
-use Rattle.notice_laws.specs.records.specs.declared.notices.Filter.{Filter}
-use Rattle.notice_laws.specs.records.specs.declared.notices.Untold.{Untold}
-use Rattle.notice_laws.specs.records.specs.declared.replies.Reply.{Reply}
-use Rattle.notice_laws.specs.row_machine.specs.declared.events.Answer.{Answer}
-use Rattle.notice_laws.specs.row_machine.specs.declared.events.Answer.TheVariants as answer
-use Rattle.notice_laws.specs.row_machine.specs.declared.events.Event.{Event}
-use Rattle.notice_laws.specs.row_machine.specs.declared.events.Event.TheVariants as event
-use Rattle.notice_laws.specs.row_machine.specs.declared.events.Fetched.{Fetched}
-use Rattle.notice_laws.specs.row_machine.specs.machine.State.{State, empty_state}
-use Rattle.notice_laws.specs.row_machine.specs.machine.Accept.{and_then}
-use Rattle.notice_laws.specs.row_machine.specs.machine.Step.{well, no_memory, step}
-use Rattle.notice_laws.specs.row_machine.specs.facts.Whole.{IsWhole}
-use Rattle.notice_laws.specs.row_machine.specs.opening.Records.{records_of}
-use Rattle.notice_laws.specs.row_machine.specs.shown.Notices.{since, telling}
-use Rattle.notice_laws.specs.machine_laws.specs.Possible.{IsPossible}
-use Rattle.notice_laws.specs.machine_laws.proofs.StepKept.{step-keeps}
-use Rattle.notice_laws.specs.event_hub.specs.Recent.{Recent, all_pushed, as_state, nothing_told, with_recent}
-use Rattle.notice_laws.specs.event_hub.proofs.Machines.{since-recent}
-use Rattle.notice_laws.specs.Asides.{IsNoFetch, IsUntold}
-use Rattle.notice_laws.specs.ShortTasks.{AreShort}
-use Rattle.notice_laws.proofs.After.{short-after, tells-after}
-use Rattle.notice_laws.proofs.Aside.{broken-aside, plan-aside}
-use Rattle.notice_laws.proofs.Shortness.{of-kept}
-use Rattle.notice_laws.specs.plain_lists.proofs.Elements.{Each-none}
+use Rattle.size_values.specs.declared.entry.Entry.{Entry}
+use Rattle.record_keeper.specs.Store.{Store}
+use Rattle.records.specs.declared.commands.Command.{Command}
+use Rattle.records.specs.declared.notices.Filter.{Filter}
+use Rattle.records.specs.declared.notices.Untold.{Untold}
+use Rattle.records.specs.declared.replies.Reply.{Reply}
+use Rattle.row_machine.specs.declared.events.Answer.{Answer}
+use Rattle.row_machine.specs.declared.events.Answer.TheVariants as answer
+use Rattle.row_machine.specs.declared.events.Event.{Event}
+use Rattle.row_machine.specs.declared.events.Event.TheVariants as event
+use Rattle.row_machine.specs.declared.events.Fetched.{Fetched}
+use Rattle.row_machine.specs.machine.State.{State, empty_state}
+use Rattle.row_machine.specs.machine.Accept.{and_then}
+use Rattle.row_machine.specs.machine.Step.{well, no_memory, step}
+use Rattle.row_machine.specs.facts.Whole.{IsWhole}
+use Rattle.row_machine.specs.opening.Records.{records_of}
+use Rattle.row_machine.specs.shown.Notices.{since, telling}
+use Rattle.machine_laws.specs.Possible.{IsPossible}
+use Rattle.machine_laws.proofs.StepKept.{step-keeps}
+use Rattle.event_hub.specs.Recent.{Recent, all_pushed, as_state, nothing_told, with_recent}
+use Rattle.event_hub.proofs.Machines.{since-recent}
+use Rattle.core_turns.specs.Asides.{IsNoFetch, IsUntold}
+use Rattle.core_turns.specs.ShortTasks.{AreShort}
+use Rattle.core_turns.proofs.After.{short-after, tells-after}
+use Rattle.core_turns.proofs.Aside.{broken-aside, plan-aside}
+use Rattle.core_turns.proofs.Shortness.{of-kept}
+use Rattle.plain_lists.proofs.Elements.{Each-none}
 use Rattle.core_instances.specs.core_rows.specs.Opening.{OpensTo}
 use Rattle.core_instances.specs.core_rows.proofs.Opened.{opened-idle, opened-silent}
 use Rattle.core_instances.specs.core_rows.specs.Asked.{answered, changes_of, unless_refused}
 use Rattle.core_instances.specs.core_rows.specs.Planned.{Follows}
-use Rattle.core_instances.specs.work_reports.specs.Jobs.{changes_reported}
-use Rattle.core_instances.specs.work_reports.specs.Stores.{KeepsRecords, Stores}
-use Rattle.core_instances.specs.work_reports.specs.Waiting.{IsSilent}
+use Rattle.core_instances.specs.core_reports.specs.Jobs.{changes_reported}
+use Rattle.core_instances.specs.core_reports.specs.Stores.{KeepsRecords, Stores}
+use Rattle.core_instances.specs.core_reports.specs.Waiting.{IsSilent}
 use Rattle.core_turns.specs.Turns.{Comes, IsTurn, changes_by}
 
 -- none was told so far

@@ -1,26 +1,26 @@
 -- Looks, the work of a worker, and the close, as steps of the machine.
 use Rattle.std.proofs.Common.{◌≡◌, ℕ, Bool, true, cond, List, [], ◌∷◌, Option, Some, None, refl, ap, sym, subst, ◌∙◌}
 use Rattle.std.specs.Option.{is_some, option_map}
-use Rattle.notice_laws.specs.host_model.specs.declared.call.HostCall.{HostCall}
-use Rattle.notice_laws.specs.host_model.specs.declared.report.Report.{Report}
-use Rattle.notice_laws.specs.operations.specs.declared.operation.Operation.{Operation}
-use Rattle.notice_laws.specs.operations.specs.declared.status.Status.TheVariants.{Running}
-use Rattle.notice_laws.specs.operations.specs.Kept.{live_at}
-use Rattle.notice_laws.specs.size_values.specs.declared.entry.Entry.{Entry}
-use Rattle.notice_laws.specs.record_keeper.specs.Store.{Store}
-use Rattle.notice_laws.specs.records.specs.declared.notices.Untold.{Untold}
-use Rattle.notice_laws.specs.row_machine.specs.declared.events.Answer.TheVariants as answer
-use Rattle.notice_laws.specs.row_machine.specs.declared.events.Event.TheVariants as event
-use Rattle.notice_laws.specs.row_machine.specs.machine.Accept.{After, and_then}
-use Rattle.notice_laws.specs.row_machine.specs.machine.State.{State}
-use Rattle.notice_laws.specs.row_machine.specs.machine.Step.{well, step, first_pending, handed_out, taken}
-use Rattle.notice_laws.specs.row_machine.specs.machine.Task.{Task}
-use Rattle.notice_laws.specs.row_machine.specs.machine.Work.{handing_out, moved, with_task}
-use Rattle.notice_laws.specs.row_machine.specs.opening.Records.{records_of}
-use Rattle.notice_laws.specs.row_machine.specs.shown.Notices.{operation_notice, telling}
-use Rattle.notice_laws.specs.machine_laws.proofs.BooksSteps.{telling-keeps}
-use Rattle.core_instances.specs.work_reports.specs.Jobs.{IsReported, IsTaken, answer_of}
-use Rattle.core_instances.specs.work_reports.specs.declared.jobs.Turned.{Turned}
+use Rattle.host_model.specs.declared.call.HostCall.{HostCall}
+use Rattle.host_model.specs.declared.report.Report.{Report}
+use Rattle.operations.specs.declared.operation.Operation.{Operation}
+use Rattle.operations.specs.declared.status.Status.TheVariants.{Running}
+use Rattle.operations.specs.Kept.{live_at}
+use Rattle.size_values.specs.declared.entry.Entry.{Entry}
+use Rattle.record_keeper.specs.Store.{Store}
+use Rattle.records.specs.declared.notices.Untold.{Untold}
+use Rattle.row_machine.specs.declared.events.Answer.TheVariants as answer
+use Rattle.row_machine.specs.declared.events.Event.TheVariants as event
+use Rattle.row_machine.specs.machine.Accept.{After, and_then}
+use Rattle.row_machine.specs.machine.State.{State}
+use Rattle.row_machine.specs.machine.Step.{well, step, first_pending, handed_out, taken}
+use Rattle.row_machine.specs.machine.Task.{Task}
+use Rattle.row_machine.specs.machine.Work.{handing_out, moved, with_task}
+use Rattle.row_machine.specs.opening.Records.{records_of}
+use Rattle.row_machine.specs.shown.Notices.{operation_notice, telling}
+use Rattle.machine_laws.proofs.BooksSteps.{telling-keeps}
+use Rattle.core_instances.specs.core_reports.specs.Jobs.{IsReported, IsTaken, answer_of}
+use Rattle.core_instances.specs.core_reports.specs.declared.jobs.Turned.{Turned}
 use Rattle.core_turns.specs.Turns.{Comes}
 use Rattle.core_turns.proofs.Turning.{still-comes}
 

@@ -1,8 +1,8 @@
 -- Which commands wait for a live operation.
 use Rattle.std.specs.Prelude.{ℕ, Option, Some, None, if◌then◌else◌}
-use Rattle.notice_laws.specs.records.specs.declared.commands.What.{What}
-use Rattle.notice_laws.specs.records.specs.declared.commands.What.TheVariants as what
-use Rattle.notice_laws.specs.row_machine.specs.machine.State.{State}
+use Rattle.records.specs.declared.commands.What.{What}
+use Rattle.records.specs.declared.commands.What.TheVariants as what
+use Rattle.row_machine.specs.machine.State.{State}
 use Rattle.core_instances.specs.Waits.{is_held}
 
 -- the live operation for which a command is to wait

@@ -1,12 +1,12 @@
 -- What the hub is told of operations.
 use Rattle.std.specs.Prelude.{◌≡◌, Option}
-use Rattle.notice_laws.specs.operations.specs.declared.operation.Operation.{Operation}
-use Rattle.notice_laws.specs.row_machine.specs.machine.Task.{Task}
-use Rattle.notice_laws.specs.event_hub.specs.Telling.{IsShort, object_in}
-use Rattle.notice_laws.specs.event_hub.specs.declared.progress.About.{About}
-use Rattle.notice_laws.specs.event_hub.specs.declared.progress.Progress.{Progress}
-use Rattle.core_instances.specs.work_reports.specs.Waiting.{project_shown, target_shown}
-use Rattle.core_instances.specs.work_reports.specs.declared.waiting.Shown.{Shown}
+use Rattle.operations.specs.declared.operation.Operation.{Operation}
+use Rattle.row_machine.specs.machine.Task.{Task}
+use Rattle.event_hub.specs.Telling.{IsShort, object_in}
+use Rattle.event_hub.specs.declared.progress.About.{About}
+use Rattle.event_hub.specs.declared.progress.Progress.{Progress}
+use Rattle.core_instances.specs.core_reports.specs.Waiting.{project_shown, target_shown}
+use Rattle.core_instances.specs.core_reports.specs.declared.waiting.Shown.{Shown}
 
 -- the project and the object of an operation, in short texts; where it is not kept there are none
 pub record IsAbout (kept : Option (Operation Task)) (about : About) : Type 0 where

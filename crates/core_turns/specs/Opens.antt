@@ -1,7 +1,7 @@
 -- How the server opens.
 use Rattle.std.specs.Prelude.{Result, Ok, Err}
-use Rattle.notice_laws.specs.record_keeper.specs.Store.{Store}
-use Rattle.notice_laws.specs.row_machine.specs.machine.State.{State}
+use Rattle.record_keeper.specs.Store.{Store}
+use Rattle.row_machine.specs.machine.State.{State}
 use Rattle.core_instances.specs.core_rows.specs.Opening.{OpensTo, Refuses}
 use Rattle.core_instances.specs.core_rows.specs.declared.opening.OpenFault.{OpenFault}
 

@@ -1,13 +1,13 @@
 -- What who asks for the server is told.
 use Rattle.std.specs.Prelude.{ℕ, List}
-use Rattle.notice_laws.specs.record_keeper.specs.Store.{Store}
-use Rattle.notice_laws.specs.records.specs.declared.commands.Command.{Command}
-use Rattle.notice_laws.specs.records.specs.declared.commands.What.TheVariants as what
-use Rattle.notice_laws.specs.records.specs.declared.replies.Reply.TheVariants as reply
-use Rattle.notice_laws.specs.records.specs.declared.replies.View.TheVariants as view
-use Rattle.notice_laws.specs.row_machine.specs.declared.events.Answer.TheVariants as answer
-use Rattle.notice_laws.specs.row_machine.specs.declared.events.Event.TheVariants as event
-use Rattle.notice_laws.specs.row_machine.specs.machine.State.{State}
+use Rattle.record_keeper.specs.Store.{Store}
+use Rattle.records.specs.declared.commands.Command.{Command}
+use Rattle.records.specs.declared.commands.What.TheVariants as what
+use Rattle.records.specs.declared.replies.Reply.TheVariants as reply
+use Rattle.records.specs.declared.replies.View.TheVariants as view
+use Rattle.row_machine.specs.declared.events.Answer.TheVariants as answer
+use Rattle.row_machine.specs.declared.events.Event.TheVariants as event
+use Rattle.row_machine.specs.machine.State.{State}
 use Rattle.core_turns.specs.Turns.{IsTurn}
 
 -- the command that asks for the server

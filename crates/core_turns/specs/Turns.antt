@@ -1,19 +1,19 @@
 -- Turns of the server: each is one step of the machine.
 use Rattle.std.specs.Prelude.{◌≡◌, List, [], Some}
-use Rattle.notice_laws.specs.record_keeper.specs.Store.{Store}
-use Rattle.notice_laws.specs.records.specs.declared.notices.Untold.{Untold}
-use Rattle.notice_laws.specs.row_machine.specs.declared.changes.RowChange.{RowChange}
-use Rattle.notice_laws.specs.row_machine.specs.declared.events.Answer.{Answer}
-use Rattle.notice_laws.specs.row_machine.specs.declared.events.Event.{Event}
-use Rattle.notice_laws.specs.row_machine.specs.declared.events.Event.TheVariants as event
-use Rattle.notice_laws.specs.row_machine.specs.machine.State.{State}
-use Rattle.notice_laws.specs.row_machine.specs.machine.Accept.{and_then}
-use Rattle.notice_laws.specs.row_machine.specs.machine.Step.{Outcome, step}
-use Rattle.notice_laws.specs.row_machine.specs.shown.Notices.{telling}
-use Rattle.notice_laws.specs.machine_laws.specs.Possible.{IsPossible}
+use Rattle.record_keeper.specs.Store.{Store}
+use Rattle.records.specs.declared.notices.Untold.{Untold}
+use Rattle.row_machine.specs.declared.changes.RowChange.{RowChange}
+use Rattle.row_machine.specs.declared.events.Answer.{Answer}
+use Rattle.row_machine.specs.declared.events.Event.{Event}
+use Rattle.row_machine.specs.declared.events.Event.TheVariants as event
+use Rattle.row_machine.specs.machine.State.{State}
+use Rattle.row_machine.specs.machine.Accept.{and_then}
+use Rattle.row_machine.specs.machine.Step.{Outcome, step}
+use Rattle.row_machine.specs.shown.Notices.{telling}
+use Rattle.machine_laws.specs.Possible.{IsPossible}
 use Rattle.core_instances.specs.core_rows.specs.Asked.{changes_of}
-use Rattle.core_instances.specs.work_reports.specs.Jobs.{changes_reported}
-use Rattle.core_instances.specs.work_reports.specs.Stores.{IsCaused, KeepsRecords, Stores}
+use Rattle.core_instances.specs.core_reports.specs.Jobs.{changes_reported}
+use Rattle.core_instances.specs.core_reports.specs.Stores.{IsCaused, KeepsRecords, Stores}
 
 -- the events that can come are served, with whatever outcome
 abbrev pub IsServed : Event → Type 0

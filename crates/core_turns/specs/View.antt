@@ -1,10 +1,10 @@
 -- What contracts see of the server, and what is true of its fields.
 use Rattle.std.specs.Prelude.{◌≡◌, []}
-use Rattle.notice_laws.specs.row_machine.specs.facts.Whole.{IsWhole}
-use Rattle.notice_laws.specs.row_machine.specs.machine.State.{State}
-use Rattle.notice_laws.specs.event_hub.specs.Recent.{with_recent}
-use Rattle.notice_laws.specs.ShortTasks.{AreShort}
-use Rattle.core_instances.specs.work_reports.specs.Waiting.{IsSilent}
+use Rattle.row_machine.specs.facts.Whole.{IsWhole}
+use Rattle.row_machine.specs.machine.State.{State}
+use Rattle.event_hub.specs.Recent.{with_recent}
+use Rattle.core_turns.specs.ShortTasks.{AreShort}
+use Rattle.core_instances.specs.core_reports.specs.Waiting.{IsSilent}
 use Rattle.core_turns.specs.declared.daemon.Daemon.TheInside.{Inside}
 
 -- the state of the machine that its rows are, with the notices that the hub keeps

@@ -1,23 +1,21 @@
 //! The turn of a client: a command, or a look at an operation.
 ghost use Rattle.std.specs.Prelude.{◌≡◌, ◌&&◌, [], false, not, is_some};
 ghost use Rattle.std.specs.Option.{option_copied};
-ghost use Rattle.notice_laws.specs.operations.specs.Kept.{live_at};
-ghost use Rattle.notice_laws.specs.record_keeper.specs.Store.{Store};
-ghost use Rattle.notice_laws.specs.row_machine.specs.declared.events.Event.TheVariants as event_of;
+ghost use Rattle.operations.specs.Kept.{live_at};
+ghost use Rattle.record_keeper.specs.Store.{Store};
+ghost use Rattle.row_machine.specs.declared.events.Event.TheVariants as event_of;
 ghost use Rattle.core_instances.specs.Waits.{is_held, is_zero};
 ghost use Rattle.core_instances.specs.core_rows.specs.Asked.{answered};
 ghost use Rattle.core_instances.specs.core_rows.specs.Planned.{Follows};
 ghost use Rattle.core_turns.specs.Commands.{held_for};
 ghost use Rattle.core_turns.specs.Turns.{Comes, IsServed};
 
-use core_instances::do_instance;
-use core_instances::from_core_objects::{do_object, is_object_command};
-use core_instances::from_core_rows::Estate;
-use core_instances::from_row_readings::View;
-use notice_laws::from_operations::Operation;
-use notice_laws::from_record_keeper::Keeper;
-use notice_laws::from_records::{Command, Reply, What};
-use notice_laws::from_row_machine::{Answer, Work};
+use core_instances::{Estate, do_instance, do_object, is_object_command};
+use operations::Operation;
+use record_keeper::Keeper;
+use records::{Command, Reply, What};
+use row_machine::{Answer, Work};
+use row_readings::View;
 use std::alloc::Global;
 
 /// The live operation of a number.

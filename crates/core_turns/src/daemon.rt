@@ -1,21 +1,21 @@
 ghost use Rattle.std.specs.Prelude.{◌≡◌, ◌<◌, is_some};
-ghost use Rattle.notice_laws.specs.operations.specs.Kept.{live_at};
-ghost use Rattle.notice_laws.specs.record_keeper.specs.Store.{Store};
-ghost use Rattle.notice_laws.specs.row_machine.specs.declared.events.Event.TheVariants as event_of;
-ghost use Rattle.notice_laws.specs.row_machine.specs.facts.Whole.{IsWhole};
-ghost use Rattle.notice_laws.specs.size_values.specs.Moments.{moment_limit};
+ghost use Rattle.operations.specs.Kept.{live_at};
+ghost use Rattle.record_keeper.specs.Store.{Store};
+ghost use Rattle.row_machine.specs.declared.events.Event.TheVariants as event_of;
+ghost use Rattle.row_machine.specs.facts.Whole.{IsWhole};
+ghost use Rattle.size_values.specs.Moments.{moment_limit};
 ghost use Rattle.core_turns.specs.Opens.{Opens};
 ghost use Rattle.core_turns.specs.Turns.{IsServed, IsTurn, without_notices};
 
 use crate::hearing::hear;
 use crate::{asking, working};
-use core_instances::from_core_rows::{Estate, OpenFault, load_rows};
-use core_instances::from_row_readings::View;
-use notice_laws::from_event_hub::Hub;
-use notice_laws::from_host_model::Report;
-use notice_laws::from_record_keeper::Keeper;
-use notice_laws::from_records::{Command, Filter};
-use notice_laws::from_row_machine::{Answer, Event};
+use core_instances::{Estate, OpenFault, load_rows};
+use event_hub::Hub;
+use host_model::Report;
+use record_keeper::Keeper;
+use records::{Command, Filter};
+use row_machine::{Answer, Event};
+use row_readings::View;
 use std::alloc::Global;
 use std::marker::Model;
 
@@ -30,7 +30,7 @@ pub struct Daemon {
 }
 
 impl Model for Daemon {
-    ghost use Rattle.notice_laws.specs.row_machine.specs.machine.State.{State};
+    ghost use Rattle.row_machine.specs.machine.State.{State};
 
     ghost Value = { State };
 

@@ -1,19 +1,18 @@
 //! What is told of the rows goes to the hub of notices. It takes no memory.
 ghost use Rattle.std.specs.Prelude.{◌≡◌, []};
 ghost use Rattle.std.specs.Option.{option_copied};
-ghost use Rattle.notice_laws.specs.event_hub.specs.Recent.{all_pushed, pushed};
-ghost use Rattle.notice_laws.specs.event_hub.specs.Telling.{IsShort, object_in};
-ghost use Rattle.notice_laws.specs.ShortTasks.{AreShort, IsShortTask};
-ghost use Rattle.notice_laws.specs.operations.specs.Kept.{kept_at};
-ghost use Rattle.core_instances.specs.work_reports.specs.Waiting.{IsSilent, project_shown, target_shown, told_by};
+ghost use Rattle.event_hub.specs.Recent.{all_pushed, pushed};
+ghost use Rattle.event_hub.specs.Telling.{IsShort, object_in};
+ghost use Rattle.core_turns.specs.ShortTasks.{AreShort, IsShortTask};
+ghost use Rattle.operations.specs.Kept.{kept_at};
+ghost use Rattle.core_instances.specs.core_reports.specs.Waiting.{IsSilent, project_shown, target_shown, told_by};
 ghost use Rattle.core_turns.specs.Hearing.{IsAbout, progress_of};
 
-use core_instances::from_core_rows::Estate;
-use core_instances::from_row_readings::{View, kept_at};
-use core_instances::from_work_reports::{Shown, Waiting};
-use notice_laws::from_event_hub::{About, Hub, Progress};
-use notice_laws::from_row_machine::Work;
-use notice_laws::from_size_values::ObjectKind;
+use core_instances::{Estate, Shown, Waiting};
+use event_hub::{About, Hub, Progress};
+use row_machine::Work;
+use row_readings::{View, kept_at};
+use size_values::ObjectKind;
 
 /// What an operation is about.
 fn about_work(work: &Work) -> About<'_>

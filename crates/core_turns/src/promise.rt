@@ -1,24 +1,24 @@
 //! The promise of the server, as it stands at every moment: functions that change nothing, whose
 //! contracts say it.
 ghost use Rattle.std.specs.Prelude.{◌≡◌, Some, IfSome};
-ghost use Rattle.notice_laws.specs.expansion.specs.Layers.{IsLayer};
-ghost use Rattle.notice_laws.specs.machine_laws.specs.Headline.{StandsAsPromised};
-ghost use Rattle.notice_laws.specs.machine_laws.specs.Sorted.{AreSortedRows, IsSortedRow};
-ghost use Rattle.notice_laws.specs.operations.specs.declared.operation.Operation.{Operation as OperationValue};
-ghost use Rattle.notice_laws.specs.plain_lists.specs.Members.{Each};
-ghost use Rattle.notice_laws.specs.records.specs.declared.rows.Instance.{Instance as InstanceValue};
-ghost use Rattle.notice_laws.specs.records.specs.declared.rows.Profile.{Profile as ProfileValue};
-ghost use Rattle.notice_laws.specs.records.specs.declared.rows.Row.TheVariants as row_of;
-ghost use Rattle.notice_laws.specs.records.specs.declared.rows.Snapshot.{Snapshot as SnapshotValue};
-ghost use Rattle.notice_laws.specs.row_machine.specs.machine.Task.{Task};
+ghost use Rattle.expansion.specs.Layers.{IsLayer};
+ghost use Rattle.machine_laws.specs.Headline.{StandsAsPromised};
+ghost use Rattle.machine_laws.specs.Sorted.{AreSortedRows, IsSortedRow};
+ghost use Rattle.operations.specs.declared.operation.Operation.{Operation as OperationValue};
+ghost use Rattle.plain_lists.specs.Members.{Each};
+ghost use Rattle.records.specs.declared.rows.Instance.{Instance as InstanceValue};
+ghost use Rattle.records.specs.declared.rows.Profile.{Profile as ProfileValue};
+ghost use Rattle.records.specs.declared.rows.Row.TheVariants as row_of;
+ghost use Rattle.records.specs.declared.rows.Snapshot.{Snapshot as SnapshotValue};
+ghost use Rattle.row_machine.specs.machine.Task.{Task};
 
 use crate::daemon::Daemon;
-use core_instances::from_row_readings::View;
-use notice_laws::from_config_lists::{Config, Devices};
-use notice_laws::from_operations::Operation;
-use notice_laws::from_records::{Instance, Profile, Row, Snapshot};
-use notice_laws::from_row_machine::Work;
-use notice_laws::from_size_values::Boxed;
+use config_lists::{Config, Devices};
+use operations::Operation;
+use records::{Instance, Profile, Row, Snapshot};
+use row_machine::Work;
+use row_readings::View;
+use size_values::Boxed;
 
 /// Settings and devices stand in the order of their keys.
 fn layer_is_ordered(config: &Config, devices: &Devices)

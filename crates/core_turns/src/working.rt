@@ -1,17 +1,16 @@
 //! The turns of a worker: it asks for a call to make on the host, and reports of one.
 ghost use Rattle.std.specs.Prelude.{◌≡◌, ◌<◌, [], if◌then◌else◌};
-ghost use Rattle.notice_laws.specs.record_keeper.specs.Store.{Store};
-ghost use Rattle.notice_laws.specs.row_machine.specs.declared.events.Answer.TheVariants as answer;
-ghost use Rattle.notice_laws.specs.row_machine.specs.declared.events.Event.TheVariants as event_of;
-ghost use Rattle.notice_laws.specs.size_values.specs.Moments.{moment_limit};
-ghost use Rattle.core_instances.specs.work_reports.specs.Jobs.{answer_of};
+ghost use Rattle.record_keeper.specs.Store.{Store};
+ghost use Rattle.row_machine.specs.declared.events.Answer.TheVariants as answer;
+ghost use Rattle.row_machine.specs.declared.events.Event.TheVariants as event_of;
+ghost use Rattle.size_values.specs.Moments.{moment_limit};
+ghost use Rattle.core_instances.specs.core_reports.specs.Jobs.{answer_of};
 ghost use Rattle.core_turns.specs.Turns.{Comes};
 
-use core_instances::from_core_rows::Estate;
-use core_instances::from_work_reports::Turned;
-use notice_laws::from_host_model::Report;
-use notice_laws::from_record_keeper::Keeper;
-use notice_laws::from_row_machine::Answer;
+use core_instances::{Estate, Turned};
+use host_model::Report;
+use record_keeper::Keeper;
+use row_machine::Answer;
 use std::alloc::Global;
 
 /// What a worker gets where nothing waits.

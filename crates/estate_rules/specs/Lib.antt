@@ -1,5 +1,2 @@
--- The libraries whose words crates above name through this one.
-pub use Rattle.config_lists as config_lists
-pub use Rattle.config_lists.specs.size_values as size_values
 pub mod Names
 pub mod Uses

@@ -2,10 +2,10 @@ use Rattle.std.specs.Prelude.{ℕ, ◌-◌, ◌==◌, ◌&&◌, ◌||◌, nat_le
 use Rattle.std.specs.Char.{is_ascii_alphanumeric, is_ascii_alphabetic}
 use Rattle.std.specs.List.{list_all}
 use Rattle.std.specs.Option.{option_map_or}
-use Rattle.config_lists.specs.size_values.specs.declared.kinds.ObjectKind.{ObjectKind}
-use Rattle.config_lists.specs.size_values.specs.declared.kinds.ObjectKind.TheVariants.{Project, Profile}
-use Rattle.config_lists.specs.size_values.specs.declared.kinds.ObjectKind.TheVariants.{Network, Pool, Volume, Instance}
-use Rattle.config_lists.specs.size_values.specs.declared.kinds.ObjectKind.TheVariants.{Snapshot, Operation}
+use Rattle.size_values.specs.declared.kinds.ObjectKind.{ObjectKind}
+use Rattle.size_values.specs.declared.kinds.ObjectKind.TheVariants.{Project, Profile}
+use Rattle.size_values.specs.declared.kinds.ObjectKind.TheVariants.{Network, Pool, Volume, Instance}
+use Rattle.size_values.specs.declared.kinds.ObjectKind.TheVariants.{Snapshot, Operation}
 
 -- letters, digits and '-'
 abbrev pub is_instance_byte : ℕ → Bool

@@ -5,7 +5,7 @@ ghost use Rattle.estate_rules.specs.Names.{ends_by};
 ghost use Rattle.std.specs.Char.{is_ascii_alphanumeric, is_ascii_alphabetic};
 ghost use Rattle.std.specs.List.{list_all};
 
-use config_lists::from_size_values::ObjectKind;
+use size_values::ObjectKind;
 
 /// Whether an object of this kind may get this name. An instance's name has 1 to 63 letters, digits and dashes,
 /// begins with a letter and does not end with a dash, as the page on instances says of host names. A project's

@@ -1,9 +1,9 @@
 -- What the hub makes of its notices is what the machine makes of those of its state.
 use Rattle.std.proofs.Common.{◌≡◌, ◌≢◌, ℕ, ◌+◌, ◌-◌, ◌<◌, ◌≤◌, ◌^◌, ◌==◌, nat_lt, Bool, true, false, cond, [], filter, refl, ◌∙◌, arith}
 use Rattle.std.proofs.lemmas.Bool.{eqb-true, eqb-false, ltb-true, ltb-false}
-use Rattle.row_machine.specs.plain_lists.specs.Rings.{ring_push}
-use Rattle.row_machine.specs.records.specs.declared.notices.Filter.{Filter}
-use Rattle.row_machine.specs.records.specs.declared.notices.Untold.{Untold}
+use Rattle.plain_lists.specs.Rings.{ring_push}
+use Rattle.records.specs.declared.notices.Filter.{Filter}
+use Rattle.records.specs.declared.notices.Untold.{Untold}
 use Rattle.row_machine.specs.machine.State.{State}
 use Rattle.row_machine.specs.shown.Notices.{kept_notices, push_notice, since}
 use Rattle.row_machine.specs.declared.events.Fetched.{Fetched}

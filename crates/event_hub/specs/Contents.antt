@@ -1,5 +1,5 @@
 -- What a kept notice tells.
-use Rattle.row_machine.specs.records.specs.declared.notices.Untold.{Untold}
+use Rattle.records.specs.declared.notices.Untold.{Untold}
 use Rattle.event_hub.specs.declared.slot.Content.{Content}
 use Rattle.event_hub.specs.declared.slot.Content.TheVariants as content
 use Rattle.event_hub.specs.Telling.{told_by}

@@ -1,9 +1,9 @@
 -- The last notices, and what a push and a listener make of them.
 use Rattle.std.specs.Prelude.{ℕ, ◌+◌, ◌-◌, ◌^◌, ◌==◌, Bool, ◌&&◌, nat_le, List, [], ◌∷◌, if◌then◌else◌}
-use Rattle.row_machine.specs.plain_lists.specs.Rings.{ring_push}
-use Rattle.row_machine.specs.records.specs.declared.notices.Filter.{Filter}
-use Rattle.row_machine.specs.records.specs.declared.notices.Notice.{Notice}
-use Rattle.row_machine.specs.records.specs.declared.notices.Untold.{Untold}
+use Rattle.plain_lists.specs.Rings.{ring_push}
+use Rattle.records.specs.declared.notices.Filter.{Filter}
+use Rattle.records.specs.declared.notices.Notice.{Notice}
+use Rattle.records.specs.declared.notices.Untold.{Untold}
 use Rattle.row_machine.specs.machine.State.{State, empty_state}
 use Rattle.row_machine.specs.shown.Notices.{kept_notices, takes}
 

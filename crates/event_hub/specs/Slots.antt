@@ -1,5 +1,5 @@
 -- What a kept notice is seen as.
-use Rattle.row_machine.specs.records.specs.declared.notices.Notice.{Notice}
+use Rattle.records.specs.declared.notices.Notice.{Notice}
 use Rattle.event_hub.specs.declared.slot.Slot.TheInside.{Inside}
 use Rattle.event_hub.specs.Contents.{content_of}
 use Rattle.event_hub.specs.Recent.{numbered}

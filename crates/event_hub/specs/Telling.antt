@@ -1,9 +1,9 @@
 -- What is told of an operation as it was at a moment.
 use Rattle.std.specs.Prelude.{ℕ, ◌≤◌, List, length}
-use Rattle.row_machine.specs.records.specs.declared.commands.Target.{Target}
-use Rattle.row_machine.specs.records.specs.declared.notices.Told.TheVariants as told
-use Rattle.row_machine.specs.records.specs.declared.notices.Untold.{Untold}
-use Rattle.row_machine.specs.records.specs.declared.replies.OpView.{OpView}
+use Rattle.records.specs.declared.commands.Target.{Target}
+use Rattle.records.specs.declared.notices.Told.TheVariants as told
+use Rattle.records.specs.declared.notices.Untold.{Untold}
+use Rattle.records.specs.declared.replies.OpView.{OpView}
 use Rattle.event_hub.specs.declared.progress.About.{About}
 use Rattle.event_hub.specs.declared.progress.Progress.{Progress}
 use Rattle.event_hub.specs.Short.{most_bytes}

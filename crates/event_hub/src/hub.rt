@@ -9,9 +9,9 @@ use crate::short_target::ShortTarget;
 use crate::short_text::ShortText;
 use crate::slot::{Content, Slot};
 use circular_buffer::HeapCircularBuffer;
+use records::{Filter, Notice, Untold};
 use row_machine::Fetched;
-use row_machine::from_records::{Filter, Notice, Untold};
-use row_machine::from_size_values::{NoMemory, Seq};
+use size_values::{NoMemory, Seq};
 use std::alloc::Global;
 use std::marker::Model;
 

@@ -1,8 +1,8 @@
 //! Laws of the hub: functions that do nothing, whose contracts are the laws.
 ghost use Rattle.std.specs.Prelude.{◌≡◌, ℕ};
 ghost use Rattle.event_hub.specs.Recent.{as_state, pushed, recent_of, with_recent};
-ghost use Rattle.row_machine.specs.records.specs.declared.notices.Filter.{Filter};
-ghost use Rattle.row_machine.specs.records.specs.declared.notices.Untold.{Untold};
+ghost use Rattle.records.specs.declared.notices.Filter.{Filter};
+ghost use Rattle.records.specs.declared.notices.Untold.{Untold};
 ghost use Rattle.row_machine.specs.machine.State.{State};
 ghost use Rattle.row_machine.specs.shown.Notices.{push_notice, since};
 

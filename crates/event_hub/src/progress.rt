@@ -1,5 +1,5 @@
-use row_machine::from_operations::{OpFault, Status};
-use row_machine::from_size_values::ObjectKind;
+use operations::{OpFault, Status};
+use size_values::ObjectKind;
 
 /// An operation as it was at a moment. What it is about is told beside it, as that never changes.
 #[derive(Clone, Copy)]

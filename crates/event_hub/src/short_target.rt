@@ -3,8 +3,8 @@ ghost use Rattle.event_hub.specs.Telling.{IsShort, object_in};
 
 use crate::progress::About;
 use crate::short_text::ShortText;
-use row_machine::from_records::Target;
-use row_machine::from_size_values::{NoMemory, ObjectKind};
+use records::Target;
+use size_values::{NoMemory, ObjectKind};
 use std::alloc::Global;
 use std::marker::Model;
 
@@ -18,7 +18,7 @@ pub(crate) struct ShortTarget {
 }
 
 impl Model for ShortTarget {
-    ghost use Rattle.row_machine.specs.records.specs.declared.commands.Target.{Target};
+    ghost use Rattle.records.specs.declared.commands.Target.{Target};
 
     ghost Value = { Target };
 

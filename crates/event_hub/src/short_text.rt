@@ -2,7 +2,7 @@ ghost use Rattle.std.specs.Prelude.{◌≡◌, ◌≤◌, length, IfOk};
 ghost use Rattle.std.specs.Str.{IsUtf8, bytes_eq};
 ghost use Rattle.event_hub.specs.Short.{most_bytes};
 
-use row_machine::from_size_values::{NoMemory, Text};
+use size_values::{NoMemory, Text};
 use std::alloc::Global;
 use std::marker::Model;
 

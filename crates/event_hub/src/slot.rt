@@ -8,8 +8,8 @@ ghost use Rattle.row_machine.specs.shown.Notices.{takes_told};
 use crate::progress::Progress;
 use crate::short_target::ShortTarget;
 use crate::short_text::ShortText;
-use row_machine::from_records::{Filter, Notice, OpView, Told, Untold};
-use row_machine::from_size_values::NoMemory;
+use records::{Filter, Notice, OpView, Told, Untold};
+use size_values::NoMemory;
 use std::alloc::Global;
 use std::marker::Model;
 
@@ -28,7 +28,7 @@ pub(crate) struct Slot {
 }
 
 impl Model for Slot {
-    ghost use Rattle.row_machine.specs.records.specs.declared.notices.Notice.{Notice};
+    ghost use Rattle.records.specs.declared.notices.Notice.{Notice};
 
     ghost Value = { Notice };
 

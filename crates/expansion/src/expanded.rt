@@ -1,8 +1,8 @@
 ghost use Rattle.std.specs.Prelude.{◌≡◌, IfOk, OnOk, OnErr};
 ghost use Rattle.config_lists.specs.Entries.{replaced};
 
-use config_lists::from_size_values::NoMemory;
 use config_lists::{Config, Devices};
+use size_values::NoMemory;
 use std::alloc::Global;
 
 /// Layers of settings and devices, laid one over the other. A device of type `none` stays, and stands for no

@@ -2,16 +2,6 @@
 //! its own. Everything that speaks of what an instance has reads it here.
 #![tactic(auto)]
 
-/// Of `config_lists`, for the crates above.
-pub mod from_config_lists {
-    pub use config_lists::{Changes, Config, Device, Devices, Root, is_root_disk};
-}
-
-/// Of `size_values`, for the crates above.
-pub mod from_size_values {
-    pub use config_lists::from_size_values::NoMemory;
-}
-
 mod expanded;
 mod laws;
 

@@ -1,12 +1,12 @@
 -- A step of the worker is a rest.
 use Rattle.std.proofs.Common.{◌≡◌, Some, refl, [], ◌∷◌, ap}
-use Rattle.gate_trails.specs.record_keeper.specs.Store.{Store}
-use Rattle.gate_trails.specs.row_machine.specs.declared.events.Event.TheVariants as event
-use Rattle.gate_trails.specs.row_machine.specs.machine.Step.{well}
-use Rattle.gate_trails.specs.serial_steps.specs.Steps.{Site, Step, Steps, took, reported}
-use Rattle.gate_trails.specs.Chains.{Chain, none, more}
-use Rattle.gate_trails.specs.Trails.{EventBy, RestsTold}
-use Rattle.gate_trails.proofs.Trailing.{chain-one}
+use Rattle.record_keeper.specs.Store.{Store}
+use Rattle.row_machine.specs.declared.events.Event.TheVariants as event
+use Rattle.row_machine.specs.machine.Step.{well}
+use Rattle.serial_steps.specs.Steps.{Site, Step, Steps, took, reported}
+use Rattle.gates.specs.Chains.{Chain, none, more}
+use Rattle.gates.specs.Trails.{EventBy, RestsTold}
+use Rattle.gates.proofs.Trailing.{chain-one}
 use Rattle.gates.specs.Alone.{told_at}
 
 pub step-rests : (w w' : Site) (s : Step) → Steps w s w' → RestsTold (Some (told_at w)) (Some (told_at w'))

@@ -1,10 +1,10 @@
 -- A gate that owns its server, and all that the server works on.
 use Rattle.std.specs.Prelude.{ℕ, List, Option}
-use Rattle.gate_trails.specs.http_front.specs.Clocks.{Readings}
-use Rattle.gate_trails.specs.host_model.specs.declared.root.HostRoot.{HostRoot}
-use Rattle.gate_trails.specs.record_keeper.specs.Store.{Store}
-use Rattle.gate_trails.specs.serial_steps.specs.Steps.{Site, hosted, serial, site}
-use Rattle.gate_trails.specs.Trails.{Told, told_as}
+use Rattle.http_front.specs.Clocks.{Readings}
+use Rattle.host_model.specs.declared.root.HostRoot.{HostRoot}
+use Rattle.record_keeper.specs.Store.{Store}
+use Rattle.serial_steps.specs.Steps.{Site, hosted, serial, site}
+use Rattle.gates.specs.Trails.{Told, told_as}
 use Rattle.gates.specs.declared.alone.AloneGate.{AloneGate}
 
 -- the server of a gate with the call in its worker's hand, its store, its host and its clock at one moment, by what

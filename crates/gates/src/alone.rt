@@ -1,16 +1,15 @@
 ghost use Rattle.std.specs.Prelude.{◌≡◌, ◌+◌, None, Some};
-ghost use Rattle.gate_trails.specs.core_turns.specs.Turns.{IsServed};
-ghost use Rattle.gate_trails.specs.Trails.{RestsTold, capped};
-ghost use Rattle.gate_trails.specs.serial_steps.specs.Steps.{Step, Steps, hosted, serial, site};
+ghost use Rattle.serial_steps.specs.core_turns.specs.Turns.{IsServed};
+ghost use Rattle.gates.specs.Trails.{RestsTold, capped};
+ghost use Rattle.serial_steps.specs.Steps.{Step, Steps, hosted, serial, site};
 ghost use Rattle.gates.specs.Alone.{site_of, told_at};
 
-use gate_trails::Gate;
-use gate_trails::from_core_turns::Daemon;
-use gate_trails::from_host_model::{Host, HostCall};
-use gate_trails::from_http_front::Clock;
-use gate_trails::from_record_keeper::Keeper;
-use gate_trails::from_row_machine::{Answer, Event};
-use gate_trails::from_serial_steps::{facts_hold, go_on};
+use crate::gate::Gate;
+use host_model::{Host, HostCall};
+use http_front::Clock;
+use record_keeper::Keeper;
+use row_machine::{Answer, Event};
+use serial_steps::{Daemon, facts_hold, go_on};
 use std::alloc::Global;
 use std::mem;
 

@@ -1,10 +1,9 @@
-ghost use Rattle.gate_trails.specs.core_turns.specs.Turns.{IsServed};
-ghost use Rattle.gate_trails.specs.Trails.{MayAnswer};
+ghost use Rattle.serial_steps.specs.core_turns.specs.Turns.{IsServed};
+ghost use Rattle.gates.specs.Trails.{MayAnswer};
 
-use gate_trails::from_core_turns::Daemon;
-use gate_trails::from_record_keeper::Keeper;
-use gate_trails::from_row_machine::{Answer, Event};
-use gate_trails::from_serial_steps::facts_hold;
+use record_keeper::Keeper;
+use row_machine::{Answer, Event};
+use serial_steps::{Daemon, facts_hold};
 use std::alloc::Global;
 use turnstile::Machine;
 

@@ -1,6 +1,6 @@
 use Rattle.std.specs.Prelude.{ℕ, List, [], ◌∷◌, ◌++◌, unwrap_or}
-use Rattle.config_lists.specs.size_values.specs.declared.kinds.Power.{Power}
-use Rattle.config_lists.specs.size_values.specs.declared.kinds.Power.TheVariants.{Stopped, Running, Frozen}
+use Rattle.size_values.specs.declared.kinds.Power.{Power}
+use Rattle.size_values.specs.declared.kinds.Power.TheVariants.{Stopped, Running, Frozen}
 use Rattle.host_model.specs.declared.place.Place.{Place}
 use Rattle.host_model.specs.declared.root.Spec.{Spec}
 use Rattle.host_model.specs.declared.root.HostRoot.{HostRoot}

@@ -1,5 +1,3 @@
--- The libraries whose words crates above name through this one.
-pub use Rattle.config_lists.specs.size_values as size_values
 pub mod Roots
 pub mod Effects
 pub mod Reports

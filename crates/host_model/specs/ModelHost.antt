@@ -1,5 +1,5 @@
 use Rattle.std.specs.Prelude.{List}
-use Rattle.config_lists.specs.size_values.specs.Calls.{Calls}
+use Rattle.size_values.specs.Calls.{Calls}
 use Rattle.host_model.specs.declared.root.HostRoot.{HostRoot}
 
 -- what the modelled host holds: its roots, and its calls so far

@@ -3,7 +3,7 @@ use Rattle.std.specs.Prelude.{if◌then◌else◌}
 use Rattle.std.specs.Option.{option_map}
 use Rattle.std.specs.Str.{bytes_eq}
 use Rattle.plain_lists.specs.Edits.{replaced, dropped}
-use Rattle.config_lists.specs.size_values.specs.declared.kinds.Power.TheVariants.{Stopped}
+use Rattle.size_values.specs.declared.kinds.Power.TheVariants.{Stopped}
 use Rattle.host_model.specs.declared.place.Place.{Place}
 use Rattle.host_model.specs.declared.root.Spec.{Spec}
 use Rattle.host_model.specs.declared.root.HostRoot.{HostRoot}

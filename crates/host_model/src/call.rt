@@ -1,6 +1,6 @@
 use crate::place::Place;
 use crate::root::Spec;
-use config_lists::from_size_values::Text;
+use size_values::Text;
 
 /// One call of a host, with all that it needs. A `CopyRoot` with an empty snapshot copies the root itself.
 #[derive(Drop)]

@@ -1,15 +1,15 @@
 ghost use Rattle.std.specs.Prelude.{◌≡◌, ◌<◌, ◌≤◌, ◌-◌, IfOk, OnOk, OnErr, vec_len, vec_capacity};
 ghost use Rattle.std.specs.List.{find, position};
 ghost use Rattle.std.specs.Option.{option_copied};
-ghost use Rattle.config_lists.specs.size_values.specs.declared.kinds.Power.TheVariants as power_of;
+ghost use Rattle.size_values.specs.declared.kinds.Power.TheVariants as power_of;
 ghost use Rattle.host_model.specs.Roots.{is_at, root_at, with_root, without_root, new_root, content_of};
 ghost use Rattle.host_model.specs.Effects.{effect_of, with_power, with_spec, renamed, snapped, unsnapped, restored};
 
 use crate::call::HostCall;
 use crate::place::Place;
 use crate::root::{HostRoot, Spec};
-use config_lists::from_size_values::{NoMemory, Power, Text};
 use plain_lists::push_reserved;
+use size_values::{NoMemory, Power, Text};
 use std::alloc::Global;
 
 /// Makes of the roots what a call makes of them. Where memory is refused, they are as before: each call works

@@ -1,10 +1,10 @@
 ghost use Rattle.std.specs.Prelude.{◌≡◌, ℕ, List, Option, option_map, OnOk, OnErr};
-ghost use Rattle.config_lists.specs.size_values.specs.Causes.{HasCauseOrMemory};
+ghost use Rattle.size_values.specs.Causes.{HasCauseOrMemory};
 ghost use Rattle.host_model.specs.declared.root.HostRoot.{HostRoot as HostRootValue};
 ghost use Rattle.host_model.specs.Effects.{effect_of};
 
 use crate::call::HostCall;
-use config_lists::from_size_values::Or;
+use size_values::Or;
 use thiserror::Error;
 
 /// A call of a host failed.

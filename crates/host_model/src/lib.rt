@@ -2,11 +2,6 @@
 //! modelled host in memory whose listed calls fail.
 #![tactic(auto)]
 
-/// Of `size_values`, for the crates above.
-pub mod from_size_values {
-    pub use config_lists::from_size_values::{Action, Deed, NoMemory, Or, Power, Seq, Text};
-}
-
 mod call;
 mod effects;
 mod host;

@@ -1,13 +1,13 @@
 ghost use Rattle.std.specs.Prelude.{◌≡◌, [], Some, is_ok, if◌then◌else◌};
-ghost use Rattle.config_lists.specs.size_values.specs.Causes.{HasCauseOrMemory};
-ghost use Rattle.config_lists.specs.size_values.specs.Calls.{no_calls, after_call, is_next_failing, has_failed};
+ghost use Rattle.size_values.specs.Causes.{HasCauseOrMemory};
+ghost use Rattle.size_values.specs.Calls.{no_calls, after_call, is_next_failing, has_failed};
 ghost use Rattle.host_model.specs.Effects.{effect_of};
 
 use crate::call::HostCall;
 use crate::effects;
 use crate::host::{Host, HostFailed};
 use crate::root::HostRoot;
-use config_lists::from_size_values::{FailingCalls, Or, Seq};
+use size_values::{FailingCalls, Or, Seq};
 use std::alloc::Global;
 use std::marker::Model;
 

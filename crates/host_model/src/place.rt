@@ -1,6 +1,6 @@
 ghost use Rattle.std.specs.Prelude.{◌≡◌, IfOk};
 
-use config_lists::from_size_values::{NoMemory, Text};
+use size_values::{NoMemory, Text};
 use std::alloc::Global;
 
 /// Where a root stands: an instance's by its project and name, with an empty pool, a volume's by its project,

@@ -3,10 +3,10 @@ ghost use Rattle.host_model.specs.Reports.{roots_after, CarriesCounts};
 
 use crate::call::HostCall;
 use crate::host::Host;
-use config_lists::from_size_values::{Or, Rise};
+use size_values::{Or, Rise};
 
 /// What became of a host's call. A failed one carries the host's counts of faults before and after it.
-#[derive(Clone, Copy, Debug, PartialEq, Eq)]
+#[derive(Clone, Copy, PartialEq, Eq)]
 pub enum Report {
     Done,
     Failed(Rise),

@@ -3,8 +3,8 @@ ghost use Rattle.std.specs.Option.{option_copied};
 ghost use Rattle.host_model.specs.Roots.{no_spec, new_root, others, snapshot_of, content_in};
 
 use crate::place::Place;
-use config_lists::from_size_values::{NoMemory, Power, Seq, Text};
 use config_lists::{Config, Devices};
+use size_values::{NoMemory, Power, Seq, Text};
 use std::alloc::Global;
 
 /// What an instance is started with: its expanded settings and devices.

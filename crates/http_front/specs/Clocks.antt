@@ -1,6 +1,6 @@
 -- What a clock tells of the moments that it will give.
 use Rattle.std.specs.Prelude.{◌≡◌, ℕ, ◌+◌, ◌-◌, min, List, [], ◌∷◌, Option, Some, None, IfSome, option_map}
-use Rattle.http_heads.specs.size_values.specs.Moments.{moment_limit}
+use Rattle.size_values.specs.Moments.{moment_limit}
 
 -- The readings to come, by their numbers from 0 on, where a clock tells them.
 abbrev pub Readings : Type 0

@@ -2,8 +2,8 @@
 use Rattle.std.specs.Prelude.{◌≡◌, ℕ, ◌+◌, ◌<◌, ◌≤◌, Bool, true, List, ◌++◌, length, Option, None, Result, Ok, Err}
 use Rattle.std.specs.Io.KnownBytes.{Consumes, IsAtEnd}
 use Rattle.http_heads.specs.Limits.{max_head, max_body}
-use Rattle.http_heads.specs.size_values.specs.declared.memory.Or.{Or}
-use Rattle.http_heads.specs.size_values.specs.declared.memory.Or.TheVariants as or
+use Rattle.size_values.specs.declared.memory.Or.{Or}
+use Rattle.size_values.specs.declared.memory.Or.TheVariants as or
 use Rattle.http_heads.specs.declared.request.Request.{Request}
 use Rattle.http_heads.specs.declared.request.HeadFault.{HeadFault}
 use Rattle.http_front.specs.declared.source.SourceFailed.{SourceFailed}

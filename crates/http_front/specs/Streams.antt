@@ -2,7 +2,7 @@
 use Rattle.std.specs.Prelude.{◌≡◌, ℕ, ◌+◌, ◌<◌, ◌≤◌, ◌==◌, ◌⊎◌, Bool, true, false, ◌||◌, List, ◌++◌, length, take, min}
 use Rattle.std.specs.Prelude.{Option, Result, Ok, Err}
 use Rattle.std.specs.Io.KnownBytes.{Appends, Consumes, Keeps}
-use Rattle.http_heads.specs.size_values.specs.Calls.{Calls, is_next_failing, after_call, last_number}
+use Rattle.size_values.specs.Calls.{Calls, is_next_failing, after_call, last_number}
 
 -- A read gave the first of the bytes that the source had left, and those are gone; a read that failed took none.
 abbrev pub Delivers : {E : Type 0} → Option (List ℕ) → Option (List ℕ) → Result ℕ E → List ℕ → Type 0

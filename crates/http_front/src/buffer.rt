@@ -1,7 +1,7 @@
 ghost use Rattle.std.specs.Prelude.{◌≡◌, ◌+◌, ◌<◌, ◌≤◌, [], Some, length, drop, vec_len, vec_capacity, IfOk, IfErr};
 ghost use Rattle.std.specs.Prelude.{IfSome, IfNone, OnErr};
 ghost use Rattle.std.specs.Io.KnownBytes.{IsAtEnd};
-ghost use Rattle.http_heads.specs.size_values.specs.Causes.{HasCauseOrMemory};
+ghost use Rattle.size_values.specs.Causes.{HasCauseOrMemory};
 ghost use Rattle.http_heads.specs.Heads.{head_bytes, head_len};
 ghost use Rattle.http_heads.specs.Limits.{max_head, max_body};
 ghost use Rattle.http_heads.specs.Messages.{IsMessage};
@@ -11,8 +11,8 @@ ghost use Rattle.http_front.specs.Held.{TakesIn, max_piece, most_held};
 
 use crate::known::KnownHead;
 use crate::source::{Source, SourceFailed};
-use http_heads::from_size_values::{NoMemory, Or, Text};
 use http_heads::{Head, HeadFault, HeaderSpans, Request, SpareTexts, read_head};
+use size_values::{NoMemory, Or, Text};
 use std::alloc::Global;
 use std::marker::Model;
 

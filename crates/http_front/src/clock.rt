@@ -1,8 +1,8 @@
 ghost use Rattle.std.specs.Prelude.{◌≡◌, ◌<◌, ℕ, [], ◌∷◌, Option};
-ghost use Rattle.http_heads.specs.size_values.specs.Moments.{moment_limit};
+ghost use Rattle.size_values.specs.Moments.{moment_limit};
 ghost use Rattle.http_front.specs.Clocks.{Reads, Readings, moment_of, standing_still};
 
-use http_heads::from_size_values::MOMENT_LIMIT;
+use size_values::MOMENT_LIMIT;
 use std::marker::Model;
 use std::time;
 use std::time::{SystemTime, UNIX_EPOCH};
@@ -30,7 +30,7 @@ pub struct StillClock {
 
 impl Model for StillClock {
     ghost use Rattle.std.specs.Prelude.{ℕ, ◌<◌};
-    ghost use Rattle.http_heads.specs.size_values.specs.Moments.{moment_limit};
+    ghost use Rattle.size_values.specs.Moments.{moment_limit};
 
     ghost Value = { ℕ };
 
@@ -72,7 +72,7 @@ pub struct SystemClock<T: time::Clock + Copy> {
 
 impl<T: time::Clock + Copy> Model for SystemClock<T> {
     ghost use Rattle.std.specs.Prelude.{ℕ, ◌<◌};
-    ghost use Rattle.http_heads.specs.size_values.specs.Moments.{moment_limit};
+    ghost use Rattle.size_values.specs.Moments.{moment_limit};
 
     ghost Value = { ℕ };
 

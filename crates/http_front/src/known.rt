@@ -5,8 +5,8 @@ ghost use Rattle.http_heads.specs.Messages.{IsMessage};
 ghost use Rattle.http_heads.specs.Readings.{Says};
 ghost use Rattle.http_front.specs.Known.{plain_request};
 
-use http_heads::from_size_values::{NoMemory, Seq, Text};
 use http_heads::{Head, Request, SpareTexts};
+use size_values::{NoMemory, Seq, Text};
 use std::alloc::Global;
 use std::marker::Model;
 use std::mem;

@@ -2,16 +2,6 @@
 //! outside, `Source`, `Sink` and `Clock`, with an object in memory and one over std or the system for each.
 #![tactic(auto)]
 
-/// Of `http_heads`, for the crates above.
-pub mod from_http_heads {
-    pub use http_heads::{HeaderSpans, Request, SpareTexts, read_head};
-}
-
-/// Of `size_values`, for the crates above.
-pub mod from_size_values {
-    pub use http_heads::from_size_values::{FailingCalls, MOMENT_LIMIT, NoMemory, Seq, Text};
-}
-
 mod buffer;
 mod clock;
 mod known;

@@ -1,7 +1,7 @@
 ghost use Rattle.std.specs.Prelude.{◌≡◌, ℕ, ◌+◌, ◌<◌, ◌≤◌, ◌⊎◌, Some, None, true, false, length, take, IfOk, IfErr};
 ghost use Rattle.std.specs.Prelude.{OnOk, OnErr, IfSome};
 ghost use Rattle.std.specs.Io.KnownBytes.{prepend_known};
-ghost use Rattle.http_heads.specs.size_values.specs.Causes.{Rose};
+ghost use Rattle.size_values.specs.Causes.{Rose};
 ghost use Rattle.http_heads.specs.Heads.{head_len, head_bytes};
 ghost use Rattle.http_heads.specs.Limits.{max_head, max_body};
 ghost use Rattle.http_heads.specs.Messages.{IsMessage};
@@ -13,8 +13,8 @@ ghost use Rattle.http_front.specs.Held.{IsReadStop, read_stop, head_stop, got_of
 
 use crate::buffer::Buffer;
 use crate::source::{Source, SourceFailed};
-use http_heads::from_size_values::{NoMemory, Or, Seq};
 use http_heads::{Head, HeadFault, MAX_HEAD, Request, Search, end_of_head, leading_line_bytes};
+use size_values::{NoMemory, Or, Seq};
 use std::alloc::Global;
 
 /// What one call of `read_request` found at the front of the bytes.

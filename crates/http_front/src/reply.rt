@@ -4,7 +4,7 @@ ghost use Rattle.http_front.specs.Replies.{is_reply_code, phrase_of, status_line
 ghost use Rattle.http_front.specs.Replies.{last_line, head_text, reply_text, no_memory_body, line};
 
 use http::StatusCode;
-use http_heads::from_size_values::{NoMemory, Seq, Text};
+use size_values::{NoMemory, Seq, Text};
 use std::alloc::Global;
 
 /// A reply: its status code, its JSON body, the text of a Location header or none where it is empty, and whether

@@ -1,10 +1,10 @@
 ghost use Rattle.std.specs.Prelude.{◌≡◌, ℕ, ◌≤◌, List, [], length, take, Option, IfOk, OnErr};
 ghost use Rattle.std.specs.Io.KnownBytes.{Appends, Keeps};
-ghost use Rattle.http_heads.specs.size_values.specs.Causes.{HasCause};
-ghost use Rattle.http_heads.specs.size_values.specs.Calls.{no_calls};
+ghost use Rattle.size_values.specs.Causes.{HasCause};
+ghost use Rattle.size_values.specs.Calls.{no_calls};
 ghost use Rattle.http_front.specs.Streams.{Writes, WritesToPaper};
 
-use http_heads::from_size_values::{FailingCalls, Seq};
+use size_values::{FailingCalls, Seq};
 use std::alloc::Global;
 use std::io::{ErrorKind, Write};
 use std::marker::Model;

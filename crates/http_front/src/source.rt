@@ -1,11 +1,11 @@
 ghost use Rattle.std.specs.Prelude.{◌≡◌, ℕ, ◌<◌, ◌≤◌, ◌-◌, Bool, false, List, ◌++◌, length, take, drop, min, Option};
 ghost use Rattle.std.specs.Prelude.{IfOk, is_ok, not};
 ghost use Rattle.std.specs.Io.KnownBytes.{IsAtEnd};
-ghost use Rattle.http_heads.specs.size_values.specs.Causes.{HasCause};
-ghost use Rattle.http_heads.specs.size_values.specs.Calls.{is_next_failing, after_call, no_calls};
+ghost use Rattle.size_values.specs.Causes.{HasCause};
+ghost use Rattle.size_values.specs.Calls.{is_next_failing, after_call, no_calls};
 ghost use Rattle.http_front.specs.Streams.{Delivers, Ends};
 
-use http_heads::from_size_values::{FailingCalls, Seq};
+use size_values::{FailingCalls, Seq};
 use std::io::{ErrorKind, Read};
 use std::marker::Model;
 use thiserror::Error;

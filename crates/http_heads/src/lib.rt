@@ -2,11 +2,6 @@
 //! whole text has. The readers take slices, and nothing here reads from outside.
 #![tactic(auto)]
 
-/// Of `size_values`, for the crates above.
-pub mod from_size_values {
-    pub use size_values::{FailingCalls, MOMENT_LIMIT, NoMemory, Or, Seq, Text};
-}
-
 mod fields;
 mod head;
 mod laws;

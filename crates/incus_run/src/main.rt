@@ -1,18 +1,26 @@
 //! `incus_run`: answers the requests on standard input on standard output, over a modelled host, and over rows in
-//! memory or in a file, by the clock of the system; or writes, drills or checks (`run_words::usage`).
+//! memory or in a file, by the clock of the system; or writes, drills or checks (`command_words::run_help`).
 #![tactic(auto)]
 
-use drill_progress::{Progress, WatchedClock, WatchedHost, drill_requests};
-use file_telling::from_host_model::ModelHost;
-use file_telling::from_http_front::{Clock, ReaderSource, SystemClock, WriterSink};
-use file_telling::from_record_keeper::{Keeper, MapKeeper};
-use file_telling::from_size_values::Seq;
-use file_telling::from_sqlite_keeper::SqliteKeeper;
-use file_telling::from_start_telling::{fault_of, tell, words_of};
-use file_telling::tell_why;
-use serial_run::from_run_words::{Setup, setup_of, usage};
-use serial_run::from_start_faults::StartFault;
+mod clock;
+mod counts;
+mod host;
+mod laws;
+mod progress;
+mod requests;
+
+use crate::clock::WatchedClock;
+use crate::host::WatchedHost;
+use crate::progress::Progress;
+use crate::requests::drill_requests;
+use command_words::{Setup, run_help, setup_of};
+use host_model::ModelHost;
+use http_front::{Clock, ReaderSource, SystemClock, WriterSink};
+use program_start::{StartFault, fault_of, tell, tell_why, words_of};
+use record_keeper::{Keeper, MapKeeper};
 use serial_run::run_main;
+use size_values::Seq;
+use sqlite_keeper::SqliteKeeper;
 use std::io::IsTerminal;
 use std::process::ExitCode;
 
@@ -90,7 +98,7 @@ fn main(rt: HostRuntime) -> ExitCode {
         Err(error) => fault_of(&error).status(),
     };
     if status == StartFault::Words.status() {
-        tell(rt, usage());
+        tell(rt, run_help());
     }
     ExitCode::from(status)
 }

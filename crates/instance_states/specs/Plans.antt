@@ -1,9 +1,9 @@
 use Rattle.std.specs.Prelude.{Bool, true, false, Option, Some, None, List, [], ◌∷◌}
 use Rattle.std.specs.Option.{option_to_list}
-use Rattle.host_model.specs.size_values.specs.declared.kinds.Action.{Action}
-use Rattle.host_model.specs.size_values.specs.declared.kinds.Action.TheVariants as action
-use Rattle.host_model.specs.size_values.specs.declared.kinds.Deed.{Deed}
-use Rattle.host_model.specs.size_values.specs.declared.kinds.Deed.TheVariants as deed
+use Rattle.size_values.specs.declared.kinds.Action.{Action}
+use Rattle.size_values.specs.declared.kinds.Action.TheVariants as action
+use Rattle.size_values.specs.declared.kinds.Deed.{Deed}
+use Rattle.size_values.specs.declared.kinds.Deed.TheVariants as deed
 use Rattle.instance_states.specs.declared.plan.CallName.{CallName}
 use Rattle.instance_states.specs.declared.plan.CallName.TheVariants.{Clear, MakeRoot, CopyRoot, Start, Stop, Freeze}
 use Rattle.instance_states.specs.declared.plan.CallName.TheVariants.{Thaw, Apply, Rename, Snap, Unsnap, Restore}

@@ -1,10 +1,10 @@
 use Rattle.std.specs.Prelude.{Bool, true, false, Result, Ok, Err, is_ok}
-use Rattle.host_model.specs.size_values.specs.declared.kinds.Power.{Power}
-use Rattle.host_model.specs.size_values.specs.declared.kinds.Power.TheVariants.{Stopped, Running, Frozen, Error}
-use Rattle.host_model.specs.size_values.specs.declared.kinds.Action.{Action}
-use Rattle.host_model.specs.size_values.specs.declared.kinds.Action.TheVariants.{Start, Stop, Restart, Freeze, Unfreeze}
-use Rattle.host_model.specs.size_values.specs.declared.kinds.Deed.{Deed}
-use Rattle.host_model.specs.size_values.specs.declared.kinds.Deed.TheVariants as deed
+use Rattle.size_values.specs.declared.kinds.Power.{Power}
+use Rattle.size_values.specs.declared.kinds.Power.TheVariants.{Stopped, Running, Frozen, Error}
+use Rattle.size_values.specs.declared.kinds.Action.{Action}
+use Rattle.size_values.specs.declared.kinds.Action.TheVariants.{Start, Stop, Restart, Freeze, Unfreeze}
+use Rattle.size_values.specs.declared.kinds.Deed.{Deed}
+use Rattle.size_values.specs.declared.kinds.Deed.TheVariants as deed
 use Rattle.instance_states.specs.declared.states.WrongState.{WrongState}
 
 -- the status that an action leads to, from each status that allows it

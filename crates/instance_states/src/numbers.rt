@@ -6,7 +6,7 @@ ghost use Rattle.std.specs.Str.Parse.{digits_value};
 ghost use Rattle.instance_states.specs.Numbers.{unseen, is_number, number_of, text_between, greater_number, seen};
 ghost use Rattle.instance_states.specs.Numbers.{next_name};
 
-use host_model::from_size_values::{NoMemory, Text};
+use size_values::{NoMemory, Text};
 use std::alloc::Global;
 use std::marker::Model;
 

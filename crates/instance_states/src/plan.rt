@@ -1,7 +1,7 @@
 ghost use Rattle.std.specs.Prelude.{◌≡◌, is_some};
 ghost use Rattle.instance_states.specs.Plans.{calls_in, calls_of, calls_of_action, undo_of};
 
-use host_model::from_size_values::{Action, Deed};
+use size_values::{Action, Deed};
 
 /// The names of a host's calls.
 #[derive(Clone, Copy, PartialEq, Eq)]

@@ -1,7 +1,7 @@
 ghost use Rattle.std.specs.Prelude.{◌≡◌};
 ghost use Rattle.instance_states.specs.States.{after_of, is_allowed};
 
-use host_model::from_size_values::{Action, Deed, Power};
+use size_values::{Action, Deed, Power};
 
 /// An action or a deed that the status of the instance does not allow.
 #[derive(Clone, Copy, PartialEq, Eq)]

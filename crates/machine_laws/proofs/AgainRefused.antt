@@ -2,21 +2,21 @@
 use Rattle.std.proofs.Common.{◌≡◌, ◌≢◌, ◌⊎◌, inl, inr, ℕ, ◌==◌, Bool, true, false, cond, Option, Some, None, List, [], ◌∷◌, length, refl, sym, ap, subst, ◌∙◌, arith}
 use Rattle.std.specs.Option.{option_map, option_map_or, option_or, option_and_then, is_some}
 use Rattle.std.proofs.lemmas.Bool.{eqb-true}
-use Rattle.record_keeper.specs.size_values.specs.declared.kinds.ObjectKind.{ObjectKind}
-use Rattle.record_keeper.specs.size_values.specs.declared.kinds.ObjectKind.TheVariants as kind
-use Rattle.row_machine.specs.estate_rules.specs.Names.{good_name_of}
-use Rattle.row_machine.specs.records.specs.declared.commands.Target.{Target}
-use Rattle.row_machine.specs.records.specs.declared.commands.Body.{Body}
-use Rattle.row_machine.specs.records.specs.declared.commands.Command.{Command}
-use Rattle.row_machine.specs.records.specs.declared.commands.What.TheVariants as what
-use Rattle.row_machine.specs.records.specs.declared.refusals.Refusal.{Refusal}
-use Rattle.row_machine.specs.records.specs.declared.refusals.Rule.TheVariants as rule
-use Rattle.row_machine.specs.records.specs.declared.replies.Reply.TheVariants as reply
-use Rattle.row_machine.specs.operations.specs.declared.operation.Operation.{Operation}
+use Rattle.size_values.specs.declared.kinds.ObjectKind.{ObjectKind}
+use Rattle.size_values.specs.declared.kinds.ObjectKind.TheVariants as kind
+use Rattle.estate_rules.specs.Names.{good_name_of}
+use Rattle.records.specs.declared.commands.Target.{Target}
+use Rattle.records.specs.declared.commands.Body.{Body}
+use Rattle.records.specs.declared.commands.Command.{Command}
+use Rattle.records.specs.declared.commands.What.TheVariants as what
+use Rattle.records.specs.declared.refusals.Refusal.{Refusal}
+use Rattle.records.specs.declared.refusals.Rule.TheVariants as rule
+use Rattle.records.specs.declared.replies.Reply.TheVariants as reply
+use Rattle.operations.specs.declared.operation.Operation.{Operation}
 use Rattle.row_machine.specs.declared.events.Answer.TheVariants as answer
 use Rattle.row_machine.specs.machine.Task.{Task}
 use Rattle.row_machine.specs.machine.State.{State}
-use Rattle.row_machine.specs.machine.Asked.{named_anew, with_name, next_snapshot}
+use Rattle.row_machine.specs.machine.Asked.{new_name_of, with_name, next_snapshot}
 use Rattle.row_machine.specs.machine.Rows.{instance_named}
 use Rattle.row_machine.specs.machine.Refusals.{on_object, on_held}
 use Rattle.row_machine.specs.machine.NameRules.{project_missing, what_is_missing, name_broken, name_malformed, name_taken, name_held, is_there}
@@ -54,7 +54,7 @@ keeps-name s project of named = by (length of.name == 0) refl where
   by false e = ap (λ b. cond b (option_map_or (λ i. record of { name = next_snapshot s i }) (instance_named s.instances project of.instance) of) of) e
 
 anew : (s : State) (project : List ℕ) (k : ObjectKind) (of : Target) (body : Body) → (k ≡ kind.Snapshot → of.name ≢ [])
-    → named_anew s project (what.Create (record of { kind = k }) body) ≡ Some (record of { kind = k })
+    → new_name_of s project (what.Create (record of { kind = k }) body) ≡ Some (record of { kind = k })
 anew s project kind.Project of body named = refl
 anew s project kind.Profile of body named = refl
 anew s project kind.Network of body named = refl
@@ -101,12 +101,12 @@ refused s c moment None is some = cc
 refused s c moment (Some refusal) is some = (refusal, (is, ap (after_command s c moment well) is))
 
 -- the rules on names, where those before the name are not broken
-by-name : (s : State) (c : Command) (of : Target) (x : Refusal) → named_anew s c.project c.what ≡ Some of → name_broken s c.project of ≡ Some x
+by-name : (s : State) (c : Command) (of : Target) (x : Refusal) → new_name_of s c.project c.what ≡ Some of → name_broken s c.project of ≡ Some x
     → project_missing s c ≡ None → what_is_missing s c.project c.what ≡ None → names_broken s c ≡ Some x
 unfolding names_broken
 by-name s c of x anew is project objects =
-    ap (λ p. option_or p (option_or (what_is_missing s c.project c.what) (option_or (option_and_then (name_broken s c.project) (named_anew s c.project c.what)) None))) project
-    ∙ ap (λ o. option_or o (option_or (option_and_then (name_broken s c.project) (named_anew s c.project c.what)) None)) objects
+    ap (λ p. option_or p (option_or (what_is_missing s c.project c.what) (option_or (option_and_then (name_broken s c.project) (new_name_of s c.project c.what)) None))) project
+    ∙ ap (λ o. option_or o (option_or (option_and_then (name_broken s c.project) (new_name_of s c.project c.what)) None)) objects
     ∙ ap (λ t. option_or (option_and_then (name_broken s c.project) t) None) anew
     ∙ ap (λ n. option_or n None) is
 
@@ -118,18 +118,18 @@ broken-first : (s : State) (c : Command) (moment : ℕ) (x : Refusal) → names_
 unfolding broken
 broken-first s c moment x e = ap (λ n. option_or n (option_or (standing_broken s c) (option_or (plan_broken s c (plan_of s c moment) moment) None))) e
 
-name-broken : (s : State) (c : Command) (of : Target) → named_anew s c.project c.what ≡ Some of → is_some (name_broken s c.project of) ≡ true → is_some (names_broken s c) ≡ true
+name-broken : (s : State) (c : Command) (of : Target) → new_name_of s c.project c.what ≡ Some of → is_some (name_broken s c.project of) ≡ true → is_some (names_broken s c) ≡ true
 unfolding names_broken
 name-broken s c of anew e =
     over (project_missing s c) _ (over (what_is_missing s c.project c.what) _
-    (front (option_and_then (name_broken s c.project) (named_anew s c.project c.what)) None
+    (front (option_and_then (name_broken s c.project) (new_name_of s c.project c.what)) None
     (ap (λ t. is_some (option_and_then (name_broken s c.project) t)) anew ∙ e)))
 
 pub sent-again : SentAgain
 unfolding step
 sent-again s c moment of body is named stands = record { refusal = answered.0; answer = answered.1.1; rule = its } where
-  given : named_anew s c.project c.what ≡ Some of
-  given = ap (named_anew s c.project) is ∙ anew s c.project of.kind of body named
+  given : new_name_of s c.project c.what ≡ Some of
+  given = ap (new_name_of s c.project) is ∙ anew s c.project of.kind of body named
 
   some : is_some (name_broken s c.project of) ≡ true
   some = stands-broken s c.project of stands

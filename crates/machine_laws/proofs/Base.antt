@@ -5,21 +5,21 @@ use Rattle.std.specs.List.{find, filter_map, cons_option}
 use Rattle.std.specs.Option.{option_to_list}
 use Rattle.std.proofs.lemmas.List.Elements.{filter_map-append}
 use Rattle.std.proofs.lemmas.Bool.{eqb-true, eq-eqb}
-use Rattle.row_machine.specs.plain_lists.specs.Members.{Mem, Each}
-use Rattle.row_machine.specs.plain_lists.specs.Puts.{Puts}
-use Rattle.row_machine.specs.plain_lists.specs.Edits.{changed_first, dropped}
-use Rattle.row_machine.specs.plain_lists.proofs.Elements.{Each-cons, Each-head, Each-tail}
-use Rattle.row_machine.specs.plain_lists.proofs.Keys.{Distinct-left}
-use Rattle.row_machine.specs.plain_lists.proofs.Searches.{find-some, find-mem}
-use Rattle.row_machine.specs.plain_lists.proofs.EditLemmas.{dropped-Puts}
-use Rattle.row_machine.specs.plain_lists.proofs.Readings.{read-Puts, read-same}
-use Rattle.row_machine.specs.operations.specs.declared.operation.Operation.{Operation}
-use Rattle.row_machine.specs.operations.specs.declared.operation.OpFault.{OpFault}
-use Rattle.row_machine.specs.operations.specs.declared.status.Status.{Status}
-use Rattle.row_machine.specs.operations.specs.declared.status.Status.TheVariants as status
-use Rattle.row_machine.specs.operations.specs.Statuses.{is_pending}
-use Rattle.row_machine.specs.operations.specs.Kept.{has_number, live_at}
-use Rattle.row_machine.specs.host_model.specs.declared.call.HostCall.{HostCall}
+use Rattle.plain_lists.specs.Members.{Mem, Each}
+use Rattle.plain_lists.specs.Puts.{Puts}
+use Rattle.plain_lists.specs.Edits.{changed_first, dropped}
+use Rattle.plain_lists.proofs.Elements.{Each-cons, Each-head, Each-tail}
+use Rattle.plain_lists.proofs.Keys.{Distinct-left}
+use Rattle.plain_lists.proofs.Searches.{find-some, find-mem}
+use Rattle.plain_lists.proofs.EditLemmas.{dropped-Puts}
+use Rattle.plain_lists.proofs.Readings.{read-Puts, read-same}
+use Rattle.operations.specs.declared.operation.Operation.{Operation}
+use Rattle.operations.specs.declared.operation.OpFault.{OpFault}
+use Rattle.operations.specs.declared.status.Status.{Status}
+use Rattle.operations.specs.declared.status.Status.TheVariants as status
+use Rattle.operations.specs.Statuses.{is_pending}
+use Rattle.operations.specs.Kept.{has_number, live_at}
+use Rattle.host_model.specs.declared.call.HostCall.{HostCall}
 use Rattle.row_machine.specs.machine.Task.{Task}
 use Rattle.row_machine.specs.machine.State.{State}
 use Rattle.row_machine.specs.machine.Claims.{of_live}

@@ -1,15 +1,15 @@
 -- The forms that an operation has when it begins, with what the rules on names and on what stands in the way establish.
 use Rattle.std.proofs.Common.{◌≡◌, ℕ, true, false, Option, Some, None, List, refl, sym, ◌∙◌}
 use Rattle.std.specs.Option.{option_map}
-use Rattle.record_keeper.specs.size_values.specs.declared.kinds.ObjectKind.{ObjectKind}
-use Rattle.record_keeper.specs.size_values.specs.declared.kinds.ObjectKind.TheVariants as kind
-use Rattle.record_keeper.specs.size_values.specs.declared.kinds.Action.{Action}
-use Rattle.row_machine.specs.records.specs.declared.commands.Body.{Body}
-use Rattle.row_machine.specs.records.specs.declared.commands.Command.{Command}
-use Rattle.row_machine.specs.records.specs.declared.commands.What.{What}
-use Rattle.row_machine.specs.records.specs.declared.commands.What.TheVariants as what
-use Rattle.row_machine.specs.records.specs.declared.rows.Row.{Row}
-use Rattle.row_machine.specs.records.specs.declared.rows.Row.TheVariants as row
+use Rattle.size_values.specs.declared.kinds.ObjectKind.{ObjectKind}
+use Rattle.size_values.specs.declared.kinds.ObjectKind.TheVariants as kind
+use Rattle.size_values.specs.declared.kinds.Action.{Action}
+use Rattle.records.specs.declared.commands.Body.{Body}
+use Rattle.records.specs.declared.commands.Command.{Command}
+use Rattle.records.specs.declared.commands.What.{What}
+use Rattle.records.specs.declared.commands.What.TheVariants as what
+use Rattle.records.specs.declared.rows.Row.{Row}
+use Rattle.records.specs.declared.rows.Row.TheVariants as row
 use Rattle.row_machine.specs.machine.Task.{Task}
 use Rattle.row_machine.specs.machine.State.{State}
 use Rattle.row_machine.specs.machine.Rows.{project_named, profile_named, network_named, pool_named, volume_named, instance_named, snapshot_named}

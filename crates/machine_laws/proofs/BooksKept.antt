@@ -2,27 +2,27 @@
 use Rattle.std.proofs.Common.{◌≡◌, ℕ, ◌+◌, true, Option, Some, None, List, [], ◌∷◌, refl, sym, ◌∙◌, ap, arith}
 use Rattle.std.specs.List.{find, sum_by}
 use Rattle.std.specs.Option.{option_map_or}
-use Rattle.row_machine.specs.plain_lists.specs.Edits.{dropped}
-use Rattle.row_machine.specs.plain_lists.proofs.PutsLemmas.{sum_by-Puts, Puts-push}
-use Rattle.row_machine.specs.plain_lists.proofs.EditLemmas.{dropped-Puts, dropped-none}
-use Rattle.row_machine.specs.plain_lists.proofs.Searches.{none-any, find-none}
-use Rattle.record_keeper.specs.size_values.specs.Amounts.{part, nothing}
-use Rattle.record_keeper.specs.size_values.specs.declared.amounts.Part.{Part}
-use Rattle.record_keeper.specs.size_values.specs.declared.amounts.Part.TheVariants.{Instances, Containers, Machines, Cpu, Memory, Processes, Disk}
-use Rattle.record_keeper.specs.size_values.proofs.AmountParts.{part-plus}
-use Rattle.row_machine.specs.reservations.specs.declared.books.Books.{Books}
-use Rattle.row_machine.specs.host_model.specs.declared.call.HostCall.{HostCall}
-use Rattle.row_machine.specs.operations.specs.declared.operation.Operation.{Operation}
-use Rattle.row_machine.specs.operations.specs.declared.operation.OpFault.{OpFault}
-use Rattle.row_machine.specs.operations.specs.declared.operation.OpFault.TheVariants as fault
-use Rattle.row_machine.specs.operations.specs.declared.status.Status.TheVariants as status
-use Rattle.row_machine.specs.operations.specs.declared.status.Status.TheVariants.{Running, Cancelling}
-use Rattle.row_machine.specs.operations.specs.Kept.{live_at}
-use Rattle.row_machine.specs.records.specs.declared.commands.Command.{Command}
-use Rattle.row_machine.specs.records.specs.declared.notices.Untold.{Untold}
+use Rattle.plain_lists.specs.Edits.{dropped}
+use Rattle.plain_lists.proofs.PutsLemmas.{sum_by-Puts, Puts-push}
+use Rattle.plain_lists.proofs.EditLemmas.{dropped-Puts, dropped-none}
+use Rattle.plain_lists.proofs.Searches.{none-any, find-none}
+use Rattle.size_values.specs.Amounts.{part, nothing}
+use Rattle.size_values.specs.declared.amounts.Part.{Part}
+use Rattle.size_values.specs.declared.amounts.Part.TheVariants.{Instances, Containers, Machines, Cpu, Memory, Processes, Disk}
+use Rattle.size_values.proofs.AmountParts.{part-plus}
+use Rattle.reservations.specs.declared.books.Books.{Books}
+use Rattle.host_model.specs.declared.call.HostCall.{HostCall}
+use Rattle.operations.specs.declared.operation.Operation.{Operation}
+use Rattle.operations.specs.declared.operation.OpFault.{OpFault}
+use Rattle.operations.specs.declared.operation.OpFault.TheVariants as fault
+use Rattle.operations.specs.declared.status.Status.TheVariants as status
+use Rattle.operations.specs.declared.status.Status.TheVariants.{Running, Cancelling}
+use Rattle.operations.specs.Kept.{live_at}
+use Rattle.records.specs.declared.commands.Command.{Command}
+use Rattle.records.specs.declared.notices.Untold.{Untold}
 use Rattle.row_machine.specs.declared.changes.RowChange.{RowChange}
 use Rattle.row_machine.specs.machine.Task.{Task}
-use Rattle.row_machine.specs.reservations.specs.declared.books.Hold.{Hold}
+use Rattle.reservations.specs.declared.books.Hold.{Hold}
 use Rattle.row_machine.specs.machine.State.{State}
 use Rattle.row_machine.specs.machine.Changes.{applied}
 use Rattle.row_machine.specs.machine.Claims.{share_of}

@@ -1,18 +1,18 @@
 -- What changes of rows, statuses and notices leave: operations, held shares and books.
 use Rattle.std.proofs.Common.{◌≡◌, ℕ, Bool, true, false, cond, Option, Some, None, List, [], ◌∷◌, refl, ◌∙◌, ap}
-use Rattle.record_keeper.specs.size_values.specs.declared.kinds.ObjectKind.{ObjectKind}
-use Rattle.record_keeper.specs.size_values.specs.declared.kinds.ObjectKind.TheVariants as kind
-use Rattle.record_keeper.specs.size_values.specs.declared.kinds.Power.{Power}
-use Rattle.row_machine.specs.operations.specs.Kept.{Kept}
-use Rattle.row_machine.specs.reservations.specs.declared.books.Books.{Books}
-use Rattle.row_machine.specs.records.specs.declared.notices.Untold.{Untold}
-use Rattle.row_machine.specs.records.specs.declared.notices.Notice.{Notice}
-use Rattle.row_machine.specs.records.specs.declared.rows.Row.{Row}
-use Rattle.row_machine.specs.records.specs.declared.rows.Row.TheVariants as row
+use Rattle.size_values.specs.declared.kinds.ObjectKind.{ObjectKind}
+use Rattle.size_values.specs.declared.kinds.ObjectKind.TheVariants as kind
+use Rattle.size_values.specs.declared.kinds.Power.{Power}
+use Rattle.operations.specs.Kept.{Kept}
+use Rattle.reservations.specs.declared.books.Books.{Books}
+use Rattle.records.specs.declared.notices.Untold.{Untold}
+use Rattle.records.specs.declared.notices.Notice.{Notice}
+use Rattle.records.specs.declared.rows.Row.{Row}
+use Rattle.records.specs.declared.rows.Row.TheVariants as row
 use Rattle.row_machine.specs.declared.changes.RowChange.{RowChange}
 use Rattle.row_machine.specs.declared.changes.RowChange.TheVariants as change
 use Rattle.row_machine.specs.machine.Task.{Task}
-use Rattle.row_machine.specs.reservations.specs.declared.books.Hold.{Hold}
+use Rattle.reservations.specs.declared.books.Hold.{Hold}
 use Rattle.row_machine.specs.machine.State.{State}
 use Rattle.row_machine.specs.machine.Changes.{with_row, without_row, applied}
 use Rattle.row_machine.specs.shown.Notices.{telling, push_notice}

@@ -7,17 +7,17 @@ use Rattle.std.specs.Option.{option_map, option_or, option_and_then, is_some}
 use Rattle.std.specs.Result.{result_err}
 use Rattle.std.proofs.lemmas.Bool.{eq-eqb}
 use Rattle.std.proofs.lemmas.List.Folds.{find-append}
-use Rattle.row_machine.specs.plain_lists.proofs.EditLemmas.{find-changed}
-use Rattle.record_keeper.specs.size_values.specs.declared.kinds.ObjectKind.TheVariants as kind
-use Rattle.row_machine.specs.host_model.specs.declared.call.HostCall.{HostCall}
-use Rattle.row_machine.specs.instance_states.specs.Plans.{name_of}
-use Rattle.row_machine.specs.operations.specs.declared.operation.Operation.{Operation}
-use Rattle.row_machine.specs.operations.specs.declared.status.Status.TheVariants as status
-use Rattle.row_machine.specs.operations.specs.Statuses.{cancel_of}
-use Rattle.row_machine.specs.operations.specs.Kept.{has_number, live_at, kept_at, cancel_answer}
-use Rattle.row_machine.specs.records.specs.declared.commands.What.TheVariants as what
-use Rattle.row_machine.specs.records.specs.declared.replies.Reply.TheVariants as reply
-use Rattle.row_machine.specs.records.specs.declared.notices.Untold.{Untold}
+use Rattle.plain_lists.proofs.EditLemmas.{find-changed}
+use Rattle.size_values.specs.declared.kinds.ObjectKind.TheVariants as kind
+use Rattle.host_model.specs.declared.call.HostCall.{HostCall}
+use Rattle.instance_states.specs.Plans.{name_of}
+use Rattle.operations.specs.declared.operation.Operation.{Operation}
+use Rattle.operations.specs.declared.status.Status.TheVariants as status
+use Rattle.operations.specs.Statuses.{cancel_of}
+use Rattle.operations.specs.Kept.{has_number, live_at, kept_at, cancel_answer}
+use Rattle.records.specs.declared.commands.What.TheVariants as what
+use Rattle.records.specs.declared.replies.Reply.TheVariants as reply
+use Rattle.records.specs.declared.notices.Untold.{Untold}
 use Rattle.row_machine.specs.declared.events.Event.TheVariants as event
 use Rattle.row_machine.specs.declared.events.Answer.TheVariants as answer
 use Rattle.row_machine.specs.machine.Task.{Task}

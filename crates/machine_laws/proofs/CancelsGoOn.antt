@@ -5,17 +5,17 @@ use Rattle.std.specs.Option.{option_map, option_or}
 use Rattle.std.proofs.lemmas.Bool.{eq-eqb, eqb-true, ne_eqb}
 use Rattle.std.proofs.lemmas.Bool.Decides.{eqb_tells}
 use Rattle.std.proofs.lemmas.List.Folds.{find-append}
-use Rattle.row_machine.specs.plain_lists.specs.Edits.{changed_first}
-use Rattle.row_machine.specs.plain_lists.proofs.EditLemmas.{find-changed, find-changed_other, find-gone}
-use Rattle.row_machine.specs.plain_lists.proofs.Keys.{Distinct-left}
-use Rattle.row_machine.specs.host_model.specs.declared.report.Report.{Report}
-use Rattle.row_machine.specs.operations.specs.declared.operation.Operation.{Operation}
-use Rattle.row_machine.specs.operations.specs.declared.status.Status.{Status}
-use Rattle.row_machine.specs.operations.specs.declared.status.Status.TheVariants as status
-use Rattle.row_machine.specs.operations.specs.declared.status.Status.TheVariants.{Running, Cancelling}
-use Rattle.row_machine.specs.operations.specs.declared.operation.OpFault.TheVariants as fault
-use Rattle.row_machine.specs.operations.specs.Kept.{Kept, has_number, live_at, kept_at}
-use Rattle.row_machine.specs.records.specs.declared.notices.Untold.{Untold}
+use Rattle.plain_lists.specs.Edits.{changed_first}
+use Rattle.plain_lists.proofs.EditLemmas.{find-changed, find-changed_other, find-gone}
+use Rattle.plain_lists.proofs.Keys.{Distinct-left}
+use Rattle.host_model.specs.declared.report.Report.{Report}
+use Rattle.operations.specs.declared.operation.Operation.{Operation}
+use Rattle.operations.specs.declared.status.Status.{Status}
+use Rattle.operations.specs.declared.status.Status.TheVariants as status
+use Rattle.operations.specs.declared.status.Status.TheVariants.{Running, Cancelling}
+use Rattle.operations.specs.declared.operation.OpFault.TheVariants as fault
+use Rattle.operations.specs.Kept.{Kept, has_number, live_at, kept_at}
+use Rattle.records.specs.declared.notices.Untold.{Untold}
 use Rattle.row_machine.specs.declared.events.Event.TheVariants as event
 use Rattle.row_machine.specs.declared.events.Answer.TheVariants as answer
 use Rattle.row_machine.specs.machine.Task.{Task}

@@ -1,5 +1,5 @@
 -- The laws by kind of change, in the words of their public functions.
-use Rattle.record_keeper.specs.size_values.specs.declared.kinds.ObjectKind.{ObjectKind}
+use Rattle.size_values.specs.declared.kinds.ObjectKind.{ObjectKind}
 use Rattle.machine_laws.specs.KindsOfChange.{RowsKeep, EntriesKeep, FirstCallsKeep, NextCallsKeep, CancelsKeep, UndoCallsKeep, CancelledKeeps, FailureKeeps, SuccessKeeps, NoticesKeep, ClosingKeeps}
 use Rattle.machine_laws.proofs.WholeKept.{whole-changes, whole-entered, whole-taken, whole-next, whole-undone, whole-cancelling, whole-cancelled, whole-failed, whole-succeeded, whole-telling, whole-closed}
 

@@ -2,16 +2,16 @@
 use Rattle.std.proofs.Common.{◌≡◌, ℕ, true, ◌&&◌, Option, Some, None, List, [], sym, ap, subst, ◌∙◌}
 use Rattle.std.specs.Prelude.{unwrap_or}
 use Rattle.std.specs.Option.{option_map_or, is_some}
-use Rattle.row_machine.specs.plain_lists.proofs.Elements.{Mem-left}
-use Rattle.row_machine.specs.plain_lists.proofs.Searches.{find-some}
-use Rattle.row_machine.specs.records.specs.Forms.{is_empty, are_profiles, has_forms, is_creation, is_change, are_settings, are_devices, has_only, may_come_from, has_needed, created_fields, changed_fields, is_none_origin}
-use Rattle.record_keeper.specs.size_values.specs.declared.kinds.ObjectKind.{ObjectKind}
-use Rattle.row_machine.specs.records.specs.declared.commands.Body.{Body}
-use Rattle.row_machine.specs.records.specs.declared.commands.Command.{Command}
-use Rattle.row_machine.specs.records.specs.declared.commands.What.{What}
-use Rattle.row_machine.specs.records.specs.declared.commands.Target.{Target}
-use Rattle.row_machine.specs.records.specs.declared.rows.Instance.{Instance}
-use Rattle.row_machine.specs.row_codec.proofs.Fields.{both_true}
+use Rattle.plain_lists.proofs.Elements.{Mem-left}
+use Rattle.plain_lists.proofs.Searches.{find-some}
+use Rattle.records.specs.Forms.{is_empty, are_profiles, has_forms, is_creation, is_change, are_settings, are_devices, has_only, may_come_from, has_needed, created_fields, changed_fields, is_none_origin}
+use Rattle.size_values.specs.declared.kinds.ObjectKind.{ObjectKind}
+use Rattle.records.specs.declared.commands.Body.{Body}
+use Rattle.records.specs.declared.commands.Command.{Command}
+use Rattle.records.specs.declared.commands.What.{What}
+use Rattle.records.specs.declared.commands.Target.{Target}
+use Rattle.records.specs.declared.rows.Instance.{Instance}
+use Rattle.row_codec.proofs.Fields.{both_true}
 use Rattle.row_machine.specs.declared.changes.RowChange.{RowChange}
 use Rattle.row_machine.specs.machine.Task.{Task}
 use Rattle.row_machine.specs.machine.State.{State}

@@ -1,21 +1,21 @@
 -- Creations at once: a project, profile, network, pool or volume under a new name.
 use Rattle.std.proofs.Common.{◌≡◌, ℕ, Bool, true, false, cond, ◌&&◌, ◌==◌, length, Option, Some, None, List, [], ◌∷◌, refl, subst}
 use Rattle.std.specs.Option.{is_some}
-use Rattle.row_machine.specs.plain_lists.proofs.FirstLemmas.{none_both, told_unless}
-use Rattle.record_keeper.specs.size_values.specs.declared.kinds.ObjectKind.{ObjectKind}
-use Rattle.record_keeper.specs.size_values.specs.declared.kinds.ObjectKind.TheVariants as kind
-use Rattle.row_machine.specs.records.specs.Forms.{is_empty, is_creation}
-use Rattle.row_machine.specs.records.specs.declared.commands.Body.{Body}
-use Rattle.row_machine.specs.records.specs.declared.commands.Origin.{Origin}
-use Rattle.row_machine.specs.records.specs.declared.commands.Origin.TheVariants as origin
-use Rattle.row_machine.specs.records.specs.declared.commands.What.TheVariants as what
-use Rattle.row_machine.specs.records.specs.declared.rows.Volume.{Volume}
-use Rattle.row_machine.specs.records.specs.declared.rows.Instance.{Instance}
-use Rattle.row_machine.specs.records.specs.declared.rows.Snapshot.{Snapshot}
-use Rattle.row_machine.specs.records.specs.declared.rows.Row.TheVariants as row
-use Rattle.row_machine.specs.row_codec.proofs.Fields.{both_true}
+use Rattle.plain_lists.proofs.FirstLemmas.{none_both, told_unless}
+use Rattle.size_values.specs.declared.kinds.ObjectKind.{ObjectKind}
+use Rattle.size_values.specs.declared.kinds.ObjectKind.TheVariants as kind
+use Rattle.records.specs.Forms.{is_empty, is_creation}
+use Rattle.records.specs.declared.commands.Body.{Body}
+use Rattle.records.specs.declared.commands.Origin.{Origin}
+use Rattle.records.specs.declared.commands.Origin.TheVariants as origin
+use Rattle.records.specs.declared.commands.What.TheVariants as what
+use Rattle.records.specs.declared.rows.Volume.{Volume}
+use Rattle.records.specs.declared.rows.Instance.{Instance}
+use Rattle.records.specs.declared.rows.Snapshot.{Snapshot}
+use Rattle.records.specs.declared.rows.Row.TheVariants as row
+use Rattle.row_codec.proofs.Fields.{both_true}
 use Rattle.row_machine.specs.declared.changes.RowChange.{RowChange}
-use Rattle.row_machine.specs.records.specs.declared.commands.Target.{Target}
+use Rattle.records.specs.declared.commands.Target.{Target}
 use Rattle.row_machine.specs.machine.Task.{Task}
 use Rattle.row_machine.specs.machine.State.{State}
 use Rattle.row_machine.specs.machine.Rows.{pool_named, instance_named, snapshot_named}

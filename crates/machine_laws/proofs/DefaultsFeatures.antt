@@ -6,26 +6,26 @@ use Rattle.std.specs.Map.{lookup}
 use Rattle.std.specs.Option.{option_map, option_map_or}
 use Rattle.std.specs.Result.{result_ok, result_err}
 use Rattle.std.specs.Str.{bytes_eq}
-use Rattle.row_machine.specs.plain_lists.specs.Members.{Mem, Each}
-use Rattle.row_machine.specs.plain_lists.proofs.Elements.{Each-none, Each-cons}
-use Rattle.row_machine.specs.plain_lists.specs.Firsts.{first_of}
-use Rattle.row_machine.specs.plain_lists.proofs.FirstLemmas.{none_both, not_mapped}
-use Rattle.row_machine.specs.plain_lists.proofs.Searches.{any-none}
-use Rattle.record_keeper.specs.size_values.specs.Boolean.{boolean_of}
-use Rattle.record_keeper.specs.size_values.specs.declared.fault.ValueFault.{ValueFault}
-use Rattle.row_machine.specs.config_lists.proofs.Keys.{same}
-use Rattle.row_machine.specs.config_lists.specs.Entries.{value_of}
-use Rattle.row_machine.specs.config_lists.specs.Settings.{Settings, setting}
-use Rattle.row_machine.specs.option_tables.specs.Checks.{fault_at, keys_fault, project_fault}
-use Rattle.row_machine.specs.option_tables.specs.Faults.{setting_fault}
-use Rattle.row_machine.specs.option_tables.specs.Forms.{value_fault}
-use Rattle.row_machine.specs.option_tables.specs.Tables.{form_of, listed_form, project_lines}
-use Rattle.row_machine.specs.option_tables.specs.declared.faults.KeyFault.{KeyFault}
-use Rattle.row_machine.specs.option_tables.specs.declared.faults.KeyFault.TheVariants as bad
-use Rattle.row_machine.specs.option_tables.specs.declared.form.Form.TheVariants as form
-use Rattle.row_machine.specs.option_tables.specs.declared.tables.Table.TheVariants as table
-use Rattle.row_machine.specs.restrictions.specs.Words.{is_true, read_true}
-use Rattle.row_machine.specs.records.specs.declared.rows.Project.{Project}
+use Rattle.plain_lists.specs.Members.{Mem, Each}
+use Rattle.plain_lists.proofs.Elements.{Each-none, Each-cons}
+use Rattle.plain_lists.specs.Firsts.{first_of}
+use Rattle.plain_lists.proofs.FirstLemmas.{none_both, not_mapped}
+use Rattle.plain_lists.proofs.Searches.{any-none}
+use Rattle.size_values.specs.Boolean.{boolean_of}
+use Rattle.size_values.specs.declared.fault.ValueFault.{ValueFault}
+use Rattle.config_lists.proofs.Keys.{same}
+use Rattle.config_lists.specs.Entries.{value_of}
+use Rattle.config_lists.specs.Settings.{Settings, setting}
+use Rattle.option_tables.specs.Checks.{fault_at, keys_fault, project_fault}
+use Rattle.option_tables.specs.Faults.{setting_fault}
+use Rattle.option_tables.specs.Forms.{value_fault}
+use Rattle.option_tables.specs.Tables.{form_of, listed_form, project_lines}
+use Rattle.option_tables.specs.declared.faults.KeyFault.{KeyFault}
+use Rattle.option_tables.specs.declared.faults.KeyFault.TheVariants as bad
+use Rattle.option_tables.specs.declared.form.Form.TheVariants as form
+use Rattle.option_tables.specs.declared.tables.Table.TheVariants as table
+use Rattle.restrictions.specs.Words.{is_true, read_true}
+use Rattle.records.specs.declared.rows.Project.{Project}
 use Rattle.row_machine.specs.machine.Homes.{is_on}
 use Rattle.row_machine.specs.machine.SettingRules.{tables_break}
 use Rattle.row_machine.specs.machine.StandingRules.{feature_keys, feature_changes, changes_features}

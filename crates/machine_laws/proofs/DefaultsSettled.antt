@@ -1,10 +1,10 @@
 -- What the rules on settings say of the first row that changes put.
 use Rattle.std.proofs.Common.{◌≡◌, None, List, [], ◌∷◌}
-use Rattle.row_machine.specs.plain_lists.proofs.FirstLemmas.{none_both}
-use Rattle.row_machine.specs.option_tables.specs.Checks.{project_fault}
-use Rattle.row_machine.specs.records.specs.declared.rows.Project.{Project}
-use Rattle.row_machine.specs.records.specs.declared.rows.Row.{Row}
-use Rattle.row_machine.specs.records.specs.declared.rows.Row.TheVariants as row
+use Rattle.plain_lists.proofs.FirstLemmas.{none_both}
+use Rattle.option_tables.specs.Checks.{project_fault}
+use Rattle.records.specs.declared.rows.Project.{Project}
+use Rattle.records.specs.declared.rows.Row.{Row}
+use Rattle.records.specs.declared.rows.Row.TheVariants as row
 use Rattle.row_machine.specs.machine.State.{State}
 use Rattle.row_machine.specs.machine.SettingRules.{settings_broken, row_settings, tables_break}
 

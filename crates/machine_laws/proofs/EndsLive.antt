@@ -4,20 +4,20 @@ use Rattle.std.specs.List.{find}
 use Rattle.std.specs.Option.{option_map, option_map_or, option_or, is_some}
 use Rattle.std.proofs.lemmas.Bool.{eqb-true, eq-eqb, ne_eqb}
 use Rattle.std.proofs.lemmas.List.Folds.{find-append}
-use Rattle.row_machine.specs.plain_lists.specs.Members.{Each}
-use Rattle.row_machine.specs.plain_lists.specs.Edits.{changed_first, dropped}
-use Rattle.row_machine.specs.plain_lists.specs.Rings.{ring_push, keep_last}
-use Rattle.row_machine.specs.plain_lists.proofs.Elements.{Each-drop, Each-map}
-use Rattle.row_machine.specs.plain_lists.proofs.Keys.{Distinct-left, Distinct-apart}
-use Rattle.row_machine.specs.plain_lists.proofs.Searches.{find-some, none-find}
-use Rattle.row_machine.specs.plain_lists.proofs.EditLemmas.{find-gone, find-dropped}
-use Rattle.row_machine.specs.plain_lists.proofs.RingLemmas.{ring-place}
-use Rattle.row_machine.specs.operations.specs.Limits.{most_ended}
-use Rattle.row_machine.specs.operations.specs.declared.operation.Operation.{Operation}
-use Rattle.row_machine.specs.operations.specs.declared.operation.OpFault.{OpFault}
-use Rattle.row_machine.specs.operations.specs.declared.status.Status.{Status}
-use Rattle.row_machine.specs.operations.specs.Kept.{Kept, has_number, live_at, kept_at, ends}
-use Rattle.row_machine.specs.operations.specs.Facts.{AreKept}
+use Rattle.plain_lists.specs.Members.{Each}
+use Rattle.plain_lists.specs.Edits.{changed_first, dropped}
+use Rattle.plain_lists.specs.Rings.{ring_push, keep_last}
+use Rattle.plain_lists.proofs.Elements.{Each-drop, Each-map}
+use Rattle.plain_lists.proofs.Keys.{Distinct-left, Distinct-apart}
+use Rattle.plain_lists.proofs.Searches.{find-some, none-find}
+use Rattle.plain_lists.proofs.EditLemmas.{find-gone, find-dropped}
+use Rattle.plain_lists.proofs.RingLemmas.{ring-place}
+use Rattle.operations.specs.Limits.{most_ended}
+use Rattle.operations.specs.declared.operation.Operation.{Operation}
+use Rattle.operations.specs.declared.operation.OpFault.{OpFault}
+use Rattle.operations.specs.declared.status.Status.{Status}
+use Rattle.operations.specs.Kept.{Kept, has_number, live_at, kept_at, ends}
+use Rattle.operations.specs.Facts.{AreKept}
 
 -- ---- lists
 

@@ -4,22 +4,22 @@ use Rattle.std.specs.List.{find}
 use Rattle.std.specs.Option.{option_map, option_map_or, option_or, is_some}
 use Rattle.std.proofs.lemmas.Bool.Decides.{eqb_tells}
 use Rattle.std.proofs.lemmas.List.Folds.{find-append}
-use Rattle.row_machine.specs.plain_lists.specs.Edits.{dropped}
-use Rattle.record_keeper.specs.size_values.specs.Amounts.{part, nothing, plus_of}
-use Rattle.record_keeper.specs.size_values.specs.declared.amounts.Amounts.{Amounts}
-use Rattle.record_keeper.specs.size_values.specs.declared.amounts.Part.{Part}
-use Rattle.record_keeper.specs.size_values.proofs.AmountParts.{part-plus}
-use Rattle.row_machine.specs.reservations.specs.declared.books.Books.{Books}
-use Rattle.row_machine.specs.operations.specs.declared.operation.Operation.{Operation}
-use Rattle.row_machine.specs.operations.specs.declared.operation.OpFault.{OpFault}
-use Rattle.row_machine.specs.operations.specs.declared.operation.OpFault.TheVariants as fault
-use Rattle.row_machine.specs.operations.specs.declared.status.Status.{Status}
-use Rattle.row_machine.specs.operations.specs.declared.status.Status.TheVariants as status
-use Rattle.row_machine.specs.operations.specs.declared.status.Status.TheVariants.{Running, Cancelling}
-use Rattle.row_machine.specs.operations.specs.Kept.{Kept, has_number, live_at, kept_at, ends}
-use Rattle.row_machine.specs.records.specs.declared.notices.Untold.{Untold}
+use Rattle.plain_lists.specs.Edits.{dropped}
+use Rattle.size_values.specs.Amounts.{part, nothing, plus_of}
+use Rattle.size_values.specs.declared.amounts.Amounts.{Amounts}
+use Rattle.size_values.specs.declared.amounts.Part.{Part}
+use Rattle.size_values.proofs.AmountParts.{part-plus}
+use Rattle.reservations.specs.declared.books.Books.{Books}
+use Rattle.operations.specs.declared.operation.Operation.{Operation}
+use Rattle.operations.specs.declared.operation.OpFault.{OpFault}
+use Rattle.operations.specs.declared.operation.OpFault.TheVariants as fault
+use Rattle.operations.specs.declared.status.Status.{Status}
+use Rattle.operations.specs.declared.status.Status.TheVariants as status
+use Rattle.operations.specs.declared.status.Status.TheVariants.{Running, Cancelling}
+use Rattle.operations.specs.Kept.{Kept, has_number, live_at, kept_at, ends}
+use Rattle.records.specs.declared.notices.Untold.{Untold}
 use Rattle.row_machine.specs.machine.Task.{Task}
-use Rattle.row_machine.specs.reservations.specs.declared.books.Hold.{Hold}
+use Rattle.reservations.specs.declared.books.Hold.{Hold}
 use Rattle.row_machine.specs.machine.State.{State}
 use Rattle.row_machine.specs.machine.Changes.{applied}
 use Rattle.row_machine.specs.machine.Claims.{share_of}

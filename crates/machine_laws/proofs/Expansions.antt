@@ -1,13 +1,13 @@
 -- What an instance has stays where its home and the profiles that it names stay.
 use Rattle.std.proofs.Common.{◌≡◌, ℕ, Option, Some, None, List, [], ◌∷◌, ◌++◌, refl, ◌∙◌, ap, inl, inr}
 use Rattle.std.specs.Prelude.{map, if◌then◌else◌}
-use Rattle.row_machine.specs.plain_lists.specs.Members.{Mem}
-use Rattle.record_keeper.specs.size_values.specs.declared.kinds.ObjectKind.TheVariants as kind
-use Rattle.row_machine.specs.expansion.specs.declared.expanded.Expanded.{Expanded}
-use Rattle.row_machine.specs.expansion.specs.Layers.{expanded}
-use Rattle.row_machine.specs.records.specs.declared.rows.Project.{Project}
-use Rattle.row_machine.specs.records.specs.declared.rows.Profile.{Profile}
-use Rattle.row_machine.specs.records.specs.declared.rows.Instance.{Instance}
+use Rattle.plain_lists.specs.Members.{Mem}
+use Rattle.size_values.specs.declared.kinds.ObjectKind.TheVariants as kind
+use Rattle.expansion.specs.declared.expanded.Expanded.{Expanded}
+use Rattle.expansion.specs.Layers.{expanded}
+use Rattle.records.specs.declared.rows.Project.{Project}
+use Rattle.records.specs.declared.rows.Profile.{Profile}
+use Rattle.records.specs.declared.rows.Instance.{Instance}
 use Rattle.row_machine.specs.machine.State.{State}
 use Rattle.row_machine.specs.machine.Rows.{profile_named}
 use Rattle.row_machine.specs.machine.Homes.{home_of}
@@ -15,12 +15,12 @@ use Rattle.row_machine.specs.machine.Expansions.{layer_of, own_layer, layers_by,
 use Rattle.row_machine.specs.machine.Claims.{amounts_of_instance}
 use Rattle.row_machine.specs.machine.SettingRules.{root_missing, is_one}
 use Rattle.row_machine.specs.machine.LimitRules.{instance_uncounted, object_uncounted}
-use Rattle.row_machine.specs.project_limits.specs.Instance.{instance_amounts}
-use Rattle.row_machine.specs.project_limits.specs.Limits.{limits_of}
-use Rattle.row_machine.specs.project_limits.specs.Countable.{first_uncounted}
-use Rattle.row_machine.specs.config_lists.specs.Devices.{root_of}
+use Rattle.project_limits.specs.Instance.{instance_amounts}
+use Rattle.project_limits.specs.Limits.{limits_of}
+use Rattle.project_limits.specs.Countable.{first_uncounted}
+use Rattle.config_lists.specs.Devices.{root_of}
 use Rattle.row_machine.specs.machine.Refusals.{on_name}
-use Rattle.row_machine.specs.records.specs.declared.refusals.Rule.TheVariants as rule
+use Rattle.records.specs.declared.refusals.Rule.TheVariants as rule
 use Rattle.row_machine.specs.machine.PolicyRules.{forbids_instance, forbids, subject_of}
 
 -- ---- one instance

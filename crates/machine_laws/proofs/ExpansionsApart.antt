@@ -5,21 +5,21 @@ use Rattle.std.specs.List.{find, list_any}
 use Rattle.std.specs.Option.{option_map_or}
 use Rattle.std.specs.Str.{bytes_eq}
 use Rattle.std.proofs.lemmas.Bool.{false≢true}
-use Rattle.row_machine.specs.plain_lists.specs.Members.{Mem, Each}
-use Rattle.row_machine.specs.plain_lists.specs.Edits.{dropped}
-use Rattle.row_machine.specs.plain_lists.proofs.Elements.{Each-head, Each-tail}
-use Rattle.row_machine.specs.plain_lists.proofs.EditLemmas.{find-replaced}
-use Rattle.row_machine.specs.plain_lists.proofs.Searches.{any-mem}
-use Rattle.row_machine.specs.config_lists.proofs.Keys.{same, bytes_eq-itself}
-use Rattle.record_keeper.specs.size_values.specs.declared.kinds.ObjectKind.TheVariants as kind
-use Rattle.row_machine.specs.records.specs.declared.rows.Project.{Project}
-use Rattle.row_machine.specs.records.specs.declared.rows.Profile.{Profile}
-use Rattle.row_machine.specs.records.specs.declared.rows.Instance.{Instance}
-use Rattle.row_machine.specs.records.specs.declared.rows.Row.TheVariants as row
-use Rattle.row_machine.specs.row_codec.specs.Rows.{HasGoodKey}
-use Rattle.row_machine.specs.row_codec.specs.Spelling.{key_of, two_names}
-use Rattle.row_machine.specs.row_codec.proofs.Fields.{both_true}
-use Rattle.row_machine.specs.row_codec.proofs.Names.{two_again}
+use Rattle.plain_lists.specs.Members.{Mem, Each}
+use Rattle.plain_lists.specs.Edits.{dropped}
+use Rattle.plain_lists.proofs.Elements.{Each-head, Each-tail}
+use Rattle.plain_lists.proofs.EditLemmas.{find-replaced}
+use Rattle.plain_lists.proofs.Searches.{any-mem}
+use Rattle.config_lists.proofs.Keys.{same, bytes_eq-itself}
+use Rattle.size_values.specs.declared.kinds.ObjectKind.TheVariants as kind
+use Rattle.records.specs.declared.rows.Project.{Project}
+use Rattle.records.specs.declared.rows.Profile.{Profile}
+use Rattle.records.specs.declared.rows.Instance.{Instance}
+use Rattle.records.specs.declared.rows.Row.TheVariants as row
+use Rattle.row_codec.specs.Rows.{HasGoodKey}
+use Rattle.row_codec.specs.Spelling.{key_of, two_names}
+use Rattle.row_codec.proofs.Fields.{both_true}
+use Rattle.row_codec.proofs.Names.{two_again}
 use Rattle.row_machine.specs.machine.State.{State}
 use Rattle.row_machine.specs.machine.Rows.{default_name, is_project, is_profile, project_named, profile_named, project_names, profile_names, texts_before}
 use Rattle.row_machine.specs.machine.Homes.{home_of, has_feature, is_on}

@@ -3,19 +3,19 @@ use Rattle.std.proofs.Common.{◌≡◌, ℕ, Bool, true, false, cond, Option, S
 use Rattle.std.specs.Prelude.{map, codes, if◌then◌else◌}
 use Rattle.std.specs.Option.{option_map_or, option_to_list}
 use Rattle.std.specs.Str.{bytes_eq}
-use Rattle.row_machine.specs.plain_lists.specs.Members.{Mem, Each}
-use Rattle.row_machine.specs.plain_lists.proofs.Searches.{find-some}
-use Rattle.row_machine.specs.plain_lists.proofs.EditLemmas.{find-put, find-replaced}
-use Rattle.row_machine.specs.config_lists.proofs.Keys.{same, bytes_eq-itself}
-use Rattle.record_keeper.specs.size_values.specs.declared.kinds.ObjectKind.TheVariants as kind
-use Rattle.row_machine.specs.records.specs.declared.rows.Project.{Project}
-use Rattle.row_machine.specs.records.specs.declared.rows.Profile.{Profile}
-use Rattle.row_machine.specs.records.specs.declared.rows.Instance.{Instance}
-use Rattle.row_machine.specs.records.specs.declared.rows.Row.TheVariants as row
-use Rattle.row_machine.specs.row_codec.specs.Rows.{HasGoodKey, IsGood}
-use Rattle.row_machine.specs.estate_rules.specs.Names.{is_object_name}
-use Rattle.row_machine.specs.plain_lists.proofs.Elements.{Each-left}
-use Rattle.row_machine.specs.row_codec.specs.Spelling.{two_names}
+use Rattle.plain_lists.specs.Members.{Mem, Each}
+use Rattle.plain_lists.proofs.Searches.{find-some}
+use Rattle.plain_lists.proofs.EditLemmas.{find-put, find-replaced}
+use Rattle.config_lists.proofs.Keys.{same, bytes_eq-itself}
+use Rattle.size_values.specs.declared.kinds.ObjectKind.TheVariants as kind
+use Rattle.records.specs.declared.rows.Project.{Project}
+use Rattle.records.specs.declared.rows.Profile.{Profile}
+use Rattle.records.specs.declared.rows.Instance.{Instance}
+use Rattle.records.specs.declared.rows.Row.TheVariants as row
+use Rattle.row_codec.specs.Rows.{HasGoodKey, IsGood}
+use Rattle.estate_rules.specs.Names.{is_object_name}
+use Rattle.plain_lists.proofs.Elements.{Each-left}
+use Rattle.row_codec.specs.Spelling.{two_names}
 use Rattle.row_machine.specs.declared.changes.RowChange.{RowChange}
 use Rattle.row_machine.specs.machine.State.{State}
 use Rattle.row_machine.specs.machine.Rows.{default_name, is_project, is_profile, project_named, project_names, texts_before, with_project}

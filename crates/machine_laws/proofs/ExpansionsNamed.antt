@@ -5,22 +5,22 @@ use Rattle.std.specs.List.{list_any}
 use Rattle.std.specs.Option.{option_map, option_to_list}
 use Rattle.std.specs.Str.{bytes_eq}
 use Rattle.std.proofs.lemmas.Bool.{false≢true}
-use Rattle.row_machine.specs.plain_lists.specs.Members.{Mem}
-use Rattle.row_machine.specs.plain_lists.proofs.Elements.{Mem-left, Mem-append}
-use Rattle.row_machine.specs.plain_lists.proofs.FirstLemmas.{told_if, not_mapped, first_of-none}
-use Rattle.row_machine.specs.plain_lists.proofs.Readings.{Mem-from_read}
-use Rattle.row_machine.specs.plain_lists.proofs.Searches.{find-none, any-none, any-some}
-use Rattle.row_machine.specs.config_lists.proofs.Keys.{same, bytes_eq-itself}
-use Rattle.row_machine.specs.operations.specs.declared.operation.Operation.{Operation}
-use Rattle.row_machine.specs.records.specs.declared.refusals.Rule.TheVariants as rule
-use Rattle.row_machine.specs.records.specs.declared.rows.Project.{Project}
-use Rattle.row_machine.specs.records.specs.declared.rows.Profile.{Profile}
-use Rattle.row_machine.specs.records.specs.declared.rows.Network.{Network}
-use Rattle.row_machine.specs.records.specs.declared.rows.Volume.{Volume}
-use Rattle.row_machine.specs.records.specs.declared.rows.Instance.{Instance}
-use Rattle.row_machine.specs.records.specs.declared.rows.Row.{Row}
-use Rattle.row_machine.specs.records.specs.declared.rows.Row.TheVariants as row
-use Rattle.row_machine.specs.row_codec.proofs.Fields.{both_true}
+use Rattle.plain_lists.specs.Members.{Mem}
+use Rattle.plain_lists.proofs.Elements.{Mem-left, Mem-append}
+use Rattle.plain_lists.proofs.FirstLemmas.{told_if, not_mapped, first_of-none}
+use Rattle.plain_lists.proofs.Readings.{Mem-from_read}
+use Rattle.plain_lists.proofs.Searches.{find-none, any-none, any-some}
+use Rattle.config_lists.proofs.Keys.{same, bytes_eq-itself}
+use Rattle.operations.specs.declared.operation.Operation.{Operation}
+use Rattle.records.specs.declared.refusals.Rule.TheVariants as rule
+use Rattle.records.specs.declared.rows.Project.{Project}
+use Rattle.records.specs.declared.rows.Profile.{Profile}
+use Rattle.records.specs.declared.rows.Network.{Network}
+use Rattle.records.specs.declared.rows.Volume.{Volume}
+use Rattle.records.specs.declared.rows.Instance.{Instance}
+use Rattle.records.specs.declared.rows.Row.{Row}
+use Rattle.records.specs.declared.rows.Row.TheVariants as row
+use Rattle.row_codec.proofs.Fields.{both_true}
 use Rattle.row_machine.specs.machine.Task.{Task}
 use Rattle.row_machine.specs.machine.State.{State}
 use Rattle.row_machine.specs.machine.Rows.{default_name, project_named, profile_named}

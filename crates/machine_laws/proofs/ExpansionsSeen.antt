@@ -2,17 +2,17 @@
 use Rattle.std.proofs.Common.{◌≡◌, ℕ, Bool, true, false, Some, None, List, [], ◌∷◌, ◌⊎◌, refl, sym, ◌∙◌, ap, inl, inr}
 use Rattle.std.specs.Prelude.{is_some, codes}
 use Rattle.std.proofs.lemmas.Bool.{false≢true}
-use Rattle.row_machine.specs.plain_lists.specs.Members.{Mem}
-use Rattle.row_machine.specs.plain_lists.proofs.Searches.{find-some}
-use Rattle.row_machine.specs.plain_lists.proofs.Elements.{Each-head}
-use Rattle.row_machine.specs.plain_lists.proofs.FirstLemmas.{first_of-none, none_both}
-use Rattle.row_machine.specs.operations.specs.declared.operation.Operation.{Operation}
-use Rattle.row_machine.specs.records.specs.declared.rows.Project.{Project}
-use Rattle.row_machine.specs.records.specs.declared.rows.Profile.{Profile}
-use Rattle.row_machine.specs.records.specs.declared.rows.Instance.{Instance}
-use Rattle.row_machine.specs.records.specs.declared.rows.Row.{Row}
-use Rattle.row_machine.specs.records.specs.declared.rows.Row.TheVariants as row
-use Rattle.row_machine.specs.option_tables.specs.Checks.{project_fault}
+use Rattle.plain_lists.specs.Members.{Mem}
+use Rattle.plain_lists.proofs.Searches.{find-some}
+use Rattle.plain_lists.proofs.Elements.{Each-head}
+use Rattle.plain_lists.proofs.FirstLemmas.{first_of-none, none_both}
+use Rattle.operations.specs.declared.operation.Operation.{Operation}
+use Rattle.records.specs.declared.rows.Project.{Project}
+use Rattle.records.specs.declared.rows.Profile.{Profile}
+use Rattle.records.specs.declared.rows.Instance.{Instance}
+use Rattle.records.specs.declared.rows.Row.{Row}
+use Rattle.records.specs.declared.rows.Row.TheVariants as row
+use Rattle.option_tables.specs.Checks.{project_fault}
 use Rattle.row_machine.specs.declared.changes.RowChange.{RowChange}
 use Rattle.row_machine.specs.machine.State.{State}
 use Rattle.row_machine.specs.machine.Rows.{default_name, is_profile, project_named, profile_named}

@@ -1,6 +1,6 @@
 -- The promise holds over every list of events.
 use Rattle.std.proofs.Common.{List, [], ◌∷◌}
-use Rattle.row_machine.specs.plain_lists.proofs.Elements.{Each-head, Each-tail}
+use Rattle.plain_lists.proofs.Elements.{Each-head, Each-tail}
 use Rattle.row_machine.specs.facts.Whole.{IsWhole}
 use Rattle.row_machine.specs.declared.events.Event.{Event}
 use Rattle.row_machine.specs.machine.State.{State}

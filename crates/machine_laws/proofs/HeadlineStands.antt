@@ -3,29 +3,29 @@ use Rattle.std.proofs.Common.{◌≡◌, ℕ, ◌≤◌, ◌==◌, Bool, true, f
 use Rattle.std.specs.Prelude.{IfSome}
 use Rattle.std.specs.Option.{option_and_then}
 use Rattle.std.proofs.lemmas.Bool.{eq-eqb}
-use Rattle.row_machine.specs.plain_lists.proofs.Elements.{Each-map}
-use Rattle.record_keeper.specs.size_values.specs.Amounts.{part}
-use Rattle.record_keeper.specs.size_values.specs.declared.amounts.Part.{Part}
-use Rattle.record_keeper.specs.size_values.specs.declared.amounts.Part.TheVariants as part_of
-use Rattle.row_machine.specs.config_lists.specs.Entries.{value_of}
-use Rattle.row_machine.specs.config_lists.specs.Settings.{Settings}
-use Rattle.row_machine.specs.config_lists.specs.Devices.{NamedDevices}
-use Rattle.row_machine.specs.config_lists.proofs.Lookups.{value_of-below}
-use Rattle.row_machine.specs.expansion.specs.Layers.{IsLayer, expanded_setting, expanded_device}
-use Rattle.row_machine.specs.expansion.proofs.Searches.{read-expanded, setting-laid, device-laid}
-use Rattle.row_machine.specs.restrictions.specs.declared.rows.Subject.{Subject}
-use Rattle.row_machine.specs.restrictions.specs.declared.rows.Subject.TheVariants as subject
-use Rattle.row_machine.specs.restrictions.specs.declared.forbidden.Forbidden.{Forbidden}
-use Rattle.row_machine.specs.restrictions.specs.Policies.{policy_of}
-use Rattle.row_machine.specs.restrictions.specs.Forbids.{first_forbidden}
-use Rattle.row_machine.specs.project_limits.specs.Admission.{limit_on}
-use Rattle.row_machine.specs.project_limits.specs.declared.sums.SumKey.{SumKey}
-use Rattle.row_machine.specs.project_limits.specs.Limits.{limits_of}
-use Rattle.row_machine.specs.plain_lists.proofs.FirstLemmas.{not_mapped}
-use Rattle.row_machine.specs.records.specs.declared.refusals.Rule.TheVariants as rule
+use Rattle.plain_lists.proofs.Elements.{Each-map}
+use Rattle.size_values.specs.Amounts.{part}
+use Rattle.size_values.specs.declared.amounts.Part.{Part}
+use Rattle.size_values.specs.declared.amounts.Part.TheVariants as part_of
+use Rattle.config_lists.specs.Entries.{value_of}
+use Rattle.config_lists.specs.Settings.{Settings}
+use Rattle.config_lists.specs.Devices.{NamedDevices}
+use Rattle.config_lists.proofs.Lookups.{value_of-below}
+use Rattle.expansion.specs.Layers.{IsLayer, expanded_setting, expanded_device}
+use Rattle.expansion.proofs.Searches.{read-expanded, setting-laid, device-laid}
+use Rattle.restrictions.specs.declared.rows.Subject.{Subject}
+use Rattle.restrictions.specs.declared.rows.Subject.TheVariants as subject
+use Rattle.restrictions.specs.declared.forbidden.Forbidden.{Forbidden}
+use Rattle.restrictions.specs.Policies.{policy_of}
+use Rattle.restrictions.specs.Forbids.{first_forbidden}
+use Rattle.project_limits.specs.Admission.{limit_on}
+use Rattle.project_limits.specs.declared.sums.SumKey.{SumKey}
+use Rattle.project_limits.specs.Limits.{limits_of}
+use Rattle.plain_lists.proofs.FirstLemmas.{not_mapped}
+use Rattle.records.specs.declared.refusals.Rule.TheVariants as rule
 use Rattle.row_machine.specs.machine.LimitRules.{object_uncounted, sum_text, instance_uncounted, volume_uncounts}
-use Rattle.row_machine.specs.records.specs.declared.rows.Project.{Project}
-use Rattle.row_machine.specs.records.specs.declared.rows.Instance.{Instance}
+use Rattle.records.specs.declared.rows.Project.{Project}
+use Rattle.records.specs.declared.rows.Instance.{Instance}
 use Rattle.row_machine.specs.machine.State.{State}
 use Rattle.row_machine.specs.machine.Expansions.{expanded_of}
 use Rattle.row_machine.specs.machine.Usage.{used, usage_of}

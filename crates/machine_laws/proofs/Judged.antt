@@ -1,8 +1,8 @@
 -- What an accepted command's rules say, group by group.
 use Rattle.std.proofs.Common.{◌≡◌, ℕ, List, None, subst}
 use Rattle.std.specs.Option.{option_to_list}
-use Rattle.row_machine.specs.plain_lists.proofs.FirstLemmas.{none_both}
-use Rattle.row_machine.specs.records.specs.declared.commands.Command.{Command}
+use Rattle.plain_lists.proofs.FirstLemmas.{none_both}
+use Rattle.records.specs.declared.commands.Command.{Command}
 use Rattle.row_machine.specs.declared.changes.RowChange.{RowChange}
 use Rattle.row_machine.specs.machine.Task.{Task}
 use Rattle.row_machine.specs.machine.State.{State}

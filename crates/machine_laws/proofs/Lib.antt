@@ -131,3 +131,12 @@ pub mod DefaultsProjects
 pub mod DefaultsSettled
 pub mod DefaultsSwitched
 pub mod LinksFeatures
+pub mod Rising
+pub mod Sorting
+pub mod Sections
+pub mod Reading
+pub mod Standings
+pub mod Reopened
+pub mod Unbroken
+pub mod Accepted
+pub mod Opening

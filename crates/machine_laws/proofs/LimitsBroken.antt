@@ -5,25 +5,25 @@ use Rattle.std.specs.Option.{option_to_list}
 use Rattle.std.specs.Str.{bytes_eq}
 use Rattle.std.proofs.lemmas.Bool.Decides.{nat_tests}
 use Rattle.std.proofs.lemmas.Bool.{false≢true}
-use Rattle.row_machine.specs.plain_lists.specs.Members.{Mem, Each}
-use Rattle.row_machine.specs.plain_lists.specs.Firsts.{first_of}
-use Rattle.row_machine.specs.plain_lists.proofs.Elements.{Mem-append}
-use Rattle.row_machine.specs.plain_lists.proofs.FirstLemmas.{none_both, not_mapped, first_of-none}
-use Rattle.row_machine.specs.plain_lists.proofs.Readings.{Mem-from_read}
-use Rattle.row_machine.specs.config_lists.proofs.Keys.{bytes_eq-itself}
-use Rattle.record_keeper.specs.size_values.specs.Amounts.{amount_above}
-use Rattle.record_keeper.specs.size_values.specs.declared.amounts.Part.{Part}
-use Rattle.record_keeper.specs.size_values.specs.declared.amounts.Part.TheVariants.{Instances, Containers, Machines, Cpu, Memory, Processes, Disk}
-use Rattle.row_machine.specs.project_limits.specs.declared.admission.LimitKey.{LimitKey}
-use Rattle.row_machine.specs.project_limits.specs.declared.admission.LimitKey.TheVariants as limit_key
-use Rattle.row_machine.specs.project_limits.specs.declared.admission.Over.{Over}
-use Rattle.row_machine.specs.project_limits.specs.Admission.{exceeded, limit_on, key_of, parts}
-use Rattle.row_machine.specs.project_limits.specs.Limits.{limits_of}
-use Rattle.row_machine.specs.operations.specs.declared.operation.Operation.{Operation}
-use Rattle.row_machine.specs.records.specs.declared.rows.Project.{Project}
-use Rattle.row_machine.specs.records.specs.declared.rows.Profile.{Profile}
-use Rattle.row_machine.specs.records.specs.declared.rows.Volume.{Volume}
-use Rattle.row_machine.specs.records.specs.declared.rows.Instance.{Instance}
+use Rattle.plain_lists.specs.Members.{Mem, Each}
+use Rattle.plain_lists.specs.Firsts.{first_of}
+use Rattle.plain_lists.proofs.Elements.{Mem-append}
+use Rattle.plain_lists.proofs.FirstLemmas.{none_both, not_mapped, first_of-none}
+use Rattle.plain_lists.proofs.Readings.{Mem-from_read}
+use Rattle.config_lists.proofs.Keys.{bytes_eq-itself}
+use Rattle.size_values.specs.Amounts.{amount_above}
+use Rattle.size_values.specs.declared.amounts.Part.{Part}
+use Rattle.size_values.specs.declared.amounts.Part.TheVariants.{Instances, Containers, Machines, Cpu, Memory, Processes, Disk}
+use Rattle.project_limits.specs.declared.admission.LimitKey.{LimitKey}
+use Rattle.project_limits.specs.declared.admission.LimitKey.TheVariants as limit_key
+use Rattle.project_limits.specs.declared.admission.Over.{Over}
+use Rattle.project_limits.specs.Admission.{exceeded, limit_on, key_of, parts}
+use Rattle.project_limits.specs.Limits.{limits_of}
+use Rattle.operations.specs.declared.operation.Operation.{Operation}
+use Rattle.records.specs.declared.rows.Project.{Project}
+use Rattle.records.specs.declared.rows.Profile.{Profile}
+use Rattle.records.specs.declared.rows.Volume.{Volume}
+use Rattle.records.specs.declared.rows.Instance.{Instance}
 use Rattle.row_machine.specs.machine.Task.{Task}
 use Rattle.row_machine.specs.machine.State.{State}
 use Rattle.row_machine.specs.machine.Claims.{of_live, claimed_instance, claimed_volume, judged_instances, judged_volumes}

@@ -4,28 +4,28 @@ use Rattle.std.specs.Prelude.{IfSome}
 use Rattle.std.specs.List.{find, sum_by}
 use Rattle.std.specs.Option.{option_map, option_map_or, option_and_then}
 use Rattle.std.specs.Str.{bytes_eq}
-use Rattle.row_machine.specs.plain_lists.specs.Members.{Mem, Each}
-use Rattle.row_machine.specs.plain_lists.specs.Edits.{dropped, replaced}
-use Rattle.row_machine.specs.plain_lists.proofs.PutsLemmas.{sum_by-Puts}
-use Rattle.row_machine.specs.plain_lists.proofs.EditLemmas.{dropped-Puts}
-use Rattle.row_machine.specs.plain_lists.proofs.Readings.{sum_by-same}
-use Rattle.row_machine.specs.plain_lists.proofs.Searches.{find-some}
-use Rattle.row_machine.specs.config_lists.proofs.Keys.{same, bytes_eq-itself}
-use Rattle.record_keeper.specs.size_values.specs.Amounts.{part, nothing, excess_of}
-use Rattle.record_keeper.specs.size_values.specs.declared.amounts.Amounts.{Amounts}
-use Rattle.record_keeper.specs.size_values.specs.declared.amounts.Part.{Part}
-use Rattle.record_keeper.specs.size_values.proofs.AmountParts.{part-excess}
-use Rattle.record_keeper.specs.size_values.specs.declared.kinds.Deed.{Deed}
-use Rattle.record_keeper.specs.size_values.specs.declared.kinds.Deed.TheVariants as deed
-use Rattle.record_keeper.specs.size_values.specs.declared.kinds.ObjectKind.TheVariants as kind
-use Rattle.row_machine.specs.operations.specs.declared.operation.Operation.{Operation}
-use Rattle.row_machine.specs.operations.specs.Kept.{has_number, live_at}
-use Rattle.row_machine.specs.records.specs.declared.commands.Target.{Target}
-use Rattle.row_machine.specs.records.specs.declared.rows.Volume.{Volume}
-use Rattle.row_machine.specs.records.specs.declared.rows.Instance.{Instance}
-use Rattle.row_machine.specs.records.specs.declared.rows.Row.{Row}
-use Rattle.row_machine.specs.records.specs.declared.rows.Row.TheVariants as row
-use Rattle.row_machine.specs.row_codec.specs.Spelling.{two_names}
+use Rattle.plain_lists.specs.Members.{Mem, Each}
+use Rattle.plain_lists.specs.Edits.{dropped, replaced}
+use Rattle.plain_lists.proofs.PutsLemmas.{sum_by-Puts}
+use Rattle.plain_lists.proofs.EditLemmas.{dropped-Puts}
+use Rattle.plain_lists.proofs.Readings.{sum_by-same}
+use Rattle.plain_lists.proofs.Searches.{find-some}
+use Rattle.config_lists.proofs.Keys.{same, bytes_eq-itself}
+use Rattle.size_values.specs.Amounts.{part, nothing, excess_of}
+use Rattle.size_values.specs.declared.amounts.Amounts.{Amounts}
+use Rattle.size_values.specs.declared.amounts.Part.{Part}
+use Rattle.size_values.proofs.AmountParts.{part-excess}
+use Rattle.size_values.specs.declared.kinds.Deed.{Deed}
+use Rattle.size_values.specs.declared.kinds.Deed.TheVariants as deed
+use Rattle.size_values.specs.declared.kinds.ObjectKind.TheVariants as kind
+use Rattle.operations.specs.declared.operation.Operation.{Operation}
+use Rattle.operations.specs.Kept.{has_number, live_at}
+use Rattle.records.specs.declared.commands.Target.{Target}
+use Rattle.records.specs.declared.rows.Volume.{Volume}
+use Rattle.records.specs.declared.rows.Instance.{Instance}
+use Rattle.records.specs.declared.rows.Row.{Row}
+use Rattle.records.specs.declared.rows.Row.TheVariants as row
+use Rattle.row_codec.specs.Spelling.{two_names}
 use Rattle.row_machine.specs.machine.Task.{Task}
 use Rattle.row_machine.specs.machine.State.{State}
 use Rattle.row_machine.specs.machine.Rows.{is_instance, is_volume, instance_named, instance_names, volume_names, with_instance, with_volume, texts_before}
@@ -43,7 +43,7 @@ use Rattle.machine_laws.proofs.SharesApart.{instance-key, instance-row, instance
 use Rattle.machine_laws.proofs.SharesSuccess.{amounts-tables, done-projects}
 use Rattle.machine_laws.proofs.ExpansionsApart.{fails-by}
 use Rattle.std.proofs.lemmas.Bool.{false≢true}
-use Rattle.row_machine.specs.plain_lists.proofs.Elements.{Each-head, Each-tail, Each-map}
+use Rattle.plain_lists.proofs.Elements.{Each-head, Each-tail, Each-map}
 
 -- ---- what an operation holds of a project
 

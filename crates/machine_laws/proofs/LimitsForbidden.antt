@@ -5,20 +5,20 @@ use Rattle.std.specs.List.{list_any, list_all, find, enumerate_from}
 use Rattle.std.specs.Map.{values_of}
 use Rattle.std.specs.Option.{option_map, option_or, option_and_then}
 use Rattle.std.proofs.lemmas.Bool.{false≢true, eqb-true}
-use Rattle.row_machine.specs.plain_lists.specs.Members.{Mem, Each}
-use Rattle.row_machine.specs.plain_lists.proofs.Elements.{Each-none, Each-cons, Each-head, Each-tail, Each-append}
-use Rattle.row_machine.specs.plain_lists.proofs.Searches.{find-some, any-some}
-use Rattle.row_machine.specs.config_lists.specs.Settings.{Settings}
-use Rattle.row_machine.specs.config_lists.specs.Devices.{NamedDevices}
-use Rattle.row_machine.specs.restrictions.specs.declared.forbidden.Forbidden.{Forbidden}
-use Rattle.row_machine.specs.restrictions.specs.declared.rows.Subject.{Subject}
-use Rattle.row_machine.specs.restrictions.specs.Policies.{Restrictions, policy_of}
-use Rattle.row_machine.specs.restrictions.specs.Forbids.{SettingLine, DeviceLine, setting_lines, device_lines, missing_rule_in, device_rule_in, network_rule, device_rule, setting_rule, lowest, earlier, broken_settings, missing_setting, broken_devices, first_forbidden}
-use Rattle.row_machine.specs.restrictions.specs.Forbids.{forbidden_at as place_at}
-use Rattle.row_machine.specs.records.specs.declared.rows.Project.{Project}
+use Rattle.plain_lists.specs.Members.{Mem, Each}
+use Rattle.plain_lists.proofs.Elements.{Each-none, Each-cons, Each-head, Each-tail, Each-append}
+use Rattle.plain_lists.proofs.Searches.{find-some, any-some}
+use Rattle.config_lists.specs.Settings.{Settings}
+use Rattle.config_lists.specs.Devices.{NamedDevices}
+use Rattle.restrictions.specs.declared.forbidden.Forbidden.{Forbidden}
+use Rattle.restrictions.specs.declared.rows.Subject.{Subject}
+use Rattle.restrictions.specs.Policies.{Restrictions, policy_of}
+use Rattle.restrictions.specs.Forbids.{SettingLine, DeviceLine, setting_lines, device_lines, missing_rule_in, device_rule_in, network_rule, device_rule, setting_rule, lowest, earlier, broken_settings, missing_setting, broken_devices, first_forbidden}
+use Rattle.restrictions.specs.Forbids.{forbidden_at as place_at}
+use Rattle.records.specs.declared.rows.Project.{Project}
 use Rattle.row_machine.specs.machine.PolicyRules.{forbids, policy_rule, forbidden_key}
 use Rattle.row_machine.specs.machine.Refusals.{on_key_of}
-use Rattle.row_machine.specs.row_codec.proofs.Fields.{both_true}
+use Rattle.row_codec.proofs.Fields.{both_true}
 
 -- the numbers of the rules
 abbrev pub rule_numbers : List ℕ

@@ -1,18 +1,18 @@
 -- What is judged after an operation ended was judged before.
 use Rattle.std.proofs.Common.{◌≡◌, ℕ, Option, Some, List, ◌++◌, ◌⊎◌, sym, ◌∙◌, ap, subst, inl, inr}
 use Rattle.std.specs.List.{filter_map}
-use Rattle.row_machine.specs.plain_lists.specs.Members.{Mem}
-use Rattle.row_machine.specs.plain_lists.specs.Edits.{dropped}
-use Rattle.row_machine.specs.plain_lists.proofs.Elements.{Mem-left, Mem-right, Mem-append}
-use Rattle.row_machine.specs.plain_lists.proofs.Readings.{Mem-read, Mem-from_read}
-use Rattle.row_machine.specs.plain_lists.proofs.EditLemmas.{Mem-dropped}
-use Rattle.row_machine.specs.plain_lists.proofs.Searches.{find-some}
-use Rattle.row_machine.specs.operations.specs.declared.operation.Operation.{Operation}
-use Rattle.row_machine.specs.operations.specs.Kept.{has_number, live_at}
-use Rattle.row_machine.specs.records.specs.declared.rows.Volume.{Volume}
-use Rattle.row_machine.specs.records.specs.declared.rows.Instance.{Instance}
-use Rattle.row_machine.specs.records.specs.declared.rows.Row.TheVariants as row
-use Rattle.row_machine.specs.row_codec.specs.Spelling.{two_names}
+use Rattle.plain_lists.specs.Members.{Mem}
+use Rattle.plain_lists.specs.Edits.{dropped}
+use Rattle.plain_lists.proofs.Elements.{Mem-left, Mem-right, Mem-append}
+use Rattle.plain_lists.proofs.Readings.{Mem-read, Mem-from_read}
+use Rattle.plain_lists.proofs.EditLemmas.{Mem-dropped}
+use Rattle.plain_lists.proofs.Searches.{find-some}
+use Rattle.operations.specs.declared.operation.Operation.{Operation}
+use Rattle.operations.specs.Kept.{has_number, live_at}
+use Rattle.records.specs.declared.rows.Volume.{Volume}
+use Rattle.records.specs.declared.rows.Instance.{Instance}
+use Rattle.records.specs.declared.rows.Row.TheVariants as row
+use Rattle.row_codec.specs.Spelling.{two_names}
 use Rattle.row_machine.specs.machine.Task.{Task}
 use Rattle.row_machine.specs.machine.State.{State}
 use Rattle.row_machine.specs.machine.Rows.{is_instance, is_volume, instance_names, volume_names, texts_before}

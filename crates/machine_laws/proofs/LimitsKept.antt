@@ -1,18 +1,18 @@
 -- Each project stands within its limits and its policy, after every change of a state.
 use Rattle.std.proofs.Common.{◌≡◌, ℕ, true, Some, List, [], ◌∷◌, refl, ◌∙◌, ap, arith}
-use Rattle.row_machine.specs.plain_lists.specs.Edits.{dropped}
-use Rattle.row_machine.specs.plain_lists.proofs.Searches.{find-some}
-use Rattle.row_machine.specs.host_model.specs.declared.call.HostCall.{HostCall}
-use Rattle.row_machine.specs.operations.specs.declared.operation.Operation.{Operation}
-use Rattle.row_machine.specs.operations.specs.declared.operation.OpFault.{OpFault}
-use Rattle.row_machine.specs.operations.specs.declared.operation.OpFault.TheVariants as fault
-use Rattle.row_machine.specs.operations.specs.declared.status.Status.{Status}
-use Rattle.row_machine.specs.operations.specs.declared.status.Status.TheVariants as status
-use Rattle.row_machine.specs.operations.specs.declared.status.Status.TheVariants.{Running, Cancelling}
-use Rattle.row_machine.specs.operations.specs.Kept.{Kept, has_number, live_at}
-use Rattle.row_machine.specs.operations.specs.Kept as kept
-use Rattle.row_machine.specs.records.specs.declared.commands.Command.{Command}
-use Rattle.row_machine.specs.records.specs.declared.notices.Untold.{Untold}
+use Rattle.plain_lists.specs.Edits.{dropped}
+use Rattle.plain_lists.proofs.Searches.{find-some}
+use Rattle.host_model.specs.declared.call.HostCall.{HostCall}
+use Rattle.operations.specs.declared.operation.Operation.{Operation}
+use Rattle.operations.specs.declared.operation.OpFault.{OpFault}
+use Rattle.operations.specs.declared.operation.OpFault.TheVariants as fault
+use Rattle.operations.specs.declared.status.Status.{Status}
+use Rattle.operations.specs.declared.status.Status.TheVariants as status
+use Rattle.operations.specs.declared.status.Status.TheVariants.{Running, Cancelling}
+use Rattle.operations.specs.Kept.{Kept, has_number, live_at}
+use Rattle.operations.specs.Kept as kept
+use Rattle.records.specs.declared.commands.Command.{Command}
+use Rattle.records.specs.declared.notices.Untold.{Untold}
 use Rattle.row_machine.specs.declared.changes.RowChange.{RowChange}
 use Rattle.row_machine.specs.machine.Task.{Task}
 use Rattle.row_machine.specs.machine.State.{State}

@@ -2,12 +2,12 @@
 use Rattle.std.proofs.Common.{◌≡◌, ℕ, Some, List, ◌++◌, refl, ap, subst, arith}
 use Rattle.std.specs.Prelude.{map}
 use Rattle.std.specs.List.{sum_by}
-use Rattle.row_machine.specs.plain_lists.specs.Members.{Mem}
-use Rattle.row_machine.specs.plain_lists.specs.Edits.{dropped}
-use Rattle.row_machine.specs.operations.specs.declared.operation.Operation.{Operation}
-use Rattle.row_machine.specs.operations.specs.Kept.{Kept, has_number, live_at}
+use Rattle.plain_lists.specs.Members.{Mem}
+use Rattle.plain_lists.specs.Edits.{dropped}
+use Rattle.operations.specs.declared.operation.Operation.{Operation}
+use Rattle.operations.specs.Kept.{Kept, has_number, live_at}
 use Rattle.row_machine.specs.machine.Task.{Task}
-use Rattle.row_machine.specs.records.specs.declared.notices.Notice.{Notice}
+use Rattle.records.specs.declared.notices.Notice.{Notice}
 use Rattle.row_machine.specs.machine.State.{State, Standing}
 use Rattle.row_machine.specs.machine.Claims.{claimed_instance, claimed_volume, judged_instances, judged_volumes, share_of, amounts_of_instance}
 use Rattle.row_machine.specs.machine.Usage.{Load, loads, used, claim_load, amount_for, instance_load, volume_load}

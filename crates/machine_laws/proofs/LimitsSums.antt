@@ -4,15 +4,15 @@ use Rattle.std.specs.Prelude.{map}
 use Rattle.std.specs.List.{find, sum_by}
 use Rattle.std.specs.Option.{option_map_or}
 use Rattle.std.proofs.lemmas.List.Sums.{sum_by-append, sum_by-cons}
-use Rattle.row_machine.specs.plain_lists.specs.Edits.{dropped, replaced, changed_first, inserted}
-use Rattle.row_machine.specs.plain_lists.proofs.PutsLemmas.{sum_by-Puts}
-use Rattle.row_machine.specs.plain_lists.proofs.EditLemmas.{changed-Puts, inserted-Puts, dropped-Puts, dropped-none}
-use Rattle.row_machine.specs.plain_lists.proofs.Readings.{sum_by-read}
-use Rattle.row_machine.specs.plain_lists.proofs.Searches.{none-any, find-none, find-any}
-use Rattle.record_keeper.specs.size_values.specs.declared.amounts.Part.{Part}
-use Rattle.row_machine.specs.operations.specs.declared.operation.Operation.{Operation}
-use Rattle.row_machine.specs.records.specs.declared.rows.Volume.{Volume}
-use Rattle.row_machine.specs.records.specs.declared.rows.Instance.{Instance}
+use Rattle.plain_lists.specs.Edits.{dropped, replaced, changed_first, inserted}
+use Rattle.plain_lists.proofs.PutsLemmas.{sum_by-Puts}
+use Rattle.plain_lists.proofs.EditLemmas.{changed-Puts, inserted-Puts, dropped-Puts, dropped-none}
+use Rattle.plain_lists.proofs.Readings.{sum_by-read}
+use Rattle.plain_lists.proofs.Searches.{none-any, find-none, find-any}
+use Rattle.size_values.specs.declared.amounts.Part.{Part}
+use Rattle.operations.specs.declared.operation.Operation.{Operation}
+use Rattle.records.specs.declared.rows.Volume.{Volume}
+use Rattle.records.specs.declared.rows.Instance.{Instance}
 use Rattle.row_machine.specs.machine.Task.{Task}
 use Rattle.row_machine.specs.machine.State.{State}
 use Rattle.row_machine.specs.machine.Claims.{of_live}

@@ -2,16 +2,16 @@
 use Rattle.std.proofs.Common.{◌≡◌, ℕ, ◌≤◌, ◌+◌, false, Option, Some, None, refl, arith}
 use Rattle.std.specs.Prelude.{IfSome, nat_lt}
 use Rattle.std.proofs.lemmas.Bool.Decides.{nat_tests}
-use Rattle.row_machine.specs.plain_lists.specs.Firsts.{first_of}
-use Rattle.row_machine.specs.plain_lists.proofs.Elements.{Each-none, Each-cons, Each-map}
-use Rattle.row_machine.specs.plain_lists.proofs.FirstLemmas.{none-first_of}
-use Rattle.record_keeper.specs.size_values.specs.Amounts.{amount_above}
-use Rattle.row_machine.specs.project_limits.specs.Admission.{limit_on, key_of, parts}
-use Rattle.row_machine.specs.project_limits.specs.declared.admission.LimitKey.{LimitKey}
-use Rattle.row_machine.specs.project_limits.specs.declared.admission.LimitKey.TheVariants as limit_key
-use Rattle.row_machine.specs.project_limits.specs.Limits.{limits_of}
-use Rattle.row_machine.specs.records.specs.declared.refusals.Refusal.{Refusal}
-use Rattle.row_machine.specs.records.specs.declared.rows.Project.{Project}
+use Rattle.plain_lists.specs.Firsts.{first_of}
+use Rattle.plain_lists.proofs.Elements.{Each-none, Each-cons, Each-map}
+use Rattle.plain_lists.proofs.FirstLemmas.{none-first_of}
+use Rattle.size_values.specs.Amounts.{amount_above}
+use Rattle.project_limits.specs.Admission.{limit_on, key_of, parts}
+use Rattle.project_limits.specs.declared.admission.LimitKey.{LimitKey}
+use Rattle.project_limits.specs.declared.admission.LimitKey.TheVariants as limit_key
+use Rattle.project_limits.specs.Limits.{limits_of}
+use Rattle.records.specs.declared.refusals.Refusal.{Refusal}
+use Rattle.records.specs.declared.rows.Project.{Project}
 use Rattle.row_machine.specs.machine.State.{State}
 use Rattle.row_machine.specs.machine.Usage.{used, networks_of}
 use Rattle.row_machine.specs.machine.LimitRules.{limit_exceeded, part_exceeds, networks_exceed, limits_broken}

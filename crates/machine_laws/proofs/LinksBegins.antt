@@ -1,16 +1,16 @@
 -- Each operation that begins stands where it should: its project, its target, its source and its claim.
 use Rattle.std.proofs.Common.{◌≡◌, ℕ, true, Option, Some, None, List, [], ◌∷◌, refl, sym, ap, subst, ◌∙◌}
 use Rattle.std.specs.Option.{option_map_or, unwrap_or, is_some}
-use Rattle.row_machine.specs.plain_lists.specs.Members.{Mem}
-use Rattle.row_machine.specs.plain_lists.proofs.Elements.{Each-left}
-use Rattle.row_machine.specs.plain_lists.proofs.Searches.{find-some}
-use Rattle.record_keeper.specs.size_values.specs.declared.kinds.ObjectKind.TheVariants as kind
-use Rattle.row_machine.specs.records.specs.Forms.{are_profiles}
-use Rattle.row_machine.specs.records.specs.declared.rows.Instance.{Instance}
-use Rattle.row_machine.specs.records.specs.declared.rows.Snapshot.{Snapshot}
-use Rattle.row_machine.specs.records.specs.declared.rows.Row.{Row}
-use Rattle.row_machine.specs.records.specs.declared.rows.Row.TheVariants as row
-use Rattle.row_machine.specs.records.specs.declared.commands.Target.{Target}
+use Rattle.plain_lists.specs.Members.{Mem}
+use Rattle.plain_lists.proofs.Elements.{Each-left}
+use Rattle.plain_lists.proofs.Searches.{find-some}
+use Rattle.size_values.specs.declared.kinds.ObjectKind.TheVariants as kind
+use Rattle.records.specs.Forms.{are_profiles}
+use Rattle.records.specs.declared.rows.Instance.{Instance}
+use Rattle.records.specs.declared.rows.Snapshot.{Snapshot}
+use Rattle.records.specs.declared.rows.Row.{Row}
+use Rattle.records.specs.declared.rows.Row.TheVariants as row
+use Rattle.records.specs.declared.commands.Target.{Target}
 use Rattle.row_machine.specs.machine.Task.{Task}
 use Rattle.row_machine.specs.machine.State.{State}
 use Rattle.row_machine.specs.machine.Rows.{default_name, is_instance, is_snapshot, project_named, pool_named, volume_named, snapshot_named}
@@ -20,7 +20,7 @@ use Rattle.row_machine.specs.shown.Links.{target_of}
 use Rattle.row_machine.specs.machine.NewRows.{copied_volume}
 use Rattle.row_machine.specs.machine.NameRules.{is_there}
 use Rattle.row_machine.specs.opening.Opening.{home_missing}
-use Rattle.row_machine.specs.facts.Whole.{IsPlaced, IsRenamed, AreLinked, instance_there}
+use Rattle.row_machine.specs.facts.Whole.{IsPlaced, IsRenamed, ReferencesExist, instance_there}
 use Rattle.row_machine.specs.machine.Deeds.{has_target}
 use Rattle.machine_laws.proofs.Cases.{Begins, IsIdle, volume_target}
 use Rattle.machine_laws.proofs.Cases.Begins.{creates, copies_instance, copies_snapshot, copies_volume, updates, restores, renames, deletes, acts, snaps, unsnaps}
@@ -102,7 +102,7 @@ one_source s project from of there e = subst (λ x. is_there s project x ≡ tru
 
 -- ---- by deed
 
-pub begins-placed : {s : State} {task : Task} → AreLinked s → Begins s task → IsPlaced s task
+pub begins-placed : {s : State} {task : Task} → ReferencesExist s → Begins s task → IsPlaced s task
 begins-placed {s} h (creates project name body moment there new few early) =
     placed_by s _ _ refl there (λ has. absurd (cc)) (no_source s project) (fits_instance s project _ there refl) tt
 begins-placed {s} h (copies_instance name body moment i idle new few early) =
@@ -151,7 +151,7 @@ few_given : (given : Option (List (List ℕ))) (own : List (List ℕ)) → optio
 few_given None own some_few own_few = own_few
 few_given (Some ps) own some_few own_few = some_few
 
-snapshot_few : {s : State} {r : Snapshot} (project instance : List ℕ) → AreLinked s
+snapshot_few : {s : State} {r : Snapshot} (project instance : List ℕ) → ReferencesExist s
     → snapshot_named s.snapshots project instance r.name ≡ Some r → are_profiles r.profiles ≡ true
 snapshot_few {s} {r} project instance h found =
     (Each-left (of_live claimed_snapshot s) h.snapshot_profiles).at r
@@ -161,7 +161,7 @@ snapshot_few {s} {r} project instance h found =
 claim_few : {x y : Instance} → Some x ≡ Some y → are_profiles x.profiles ≡ true → are_profiles y.profiles ≡ true
 claim_few e few = subst (λ (i : Instance). are_profiles i.profiles ≡ true) (some-is e) few
 
-pub begins-few : {s : State} {task : Task} → AreLinked s → Begins s task → (i : Instance)
+pub begins-few : {s : State} {task : Task} → ReferencesExist s → Begins s task → (i : Instance)
     → claimed_instance task ≡ Some i → are_profiles i.profiles ≡ true
 begins-few {s} h (creates project name body moment there new few early) i is =
     claim_few is (few_given body.profiles (default_name ∷ []) few refl)
@@ -178,7 +178,7 @@ begins-few {s} h (acts action x idle allowed) i is = cc
 begins-few {s} h (snaps name moment x idle allowed new early) i is = cc
 begins-few {s} h (unsnaps x r idle found) i is = cc
 
-pub begins-snapshot : {s : State} {task : Task} → AreLinked s → Begins s task → (r : Snapshot)
+pub begins-snapshot : {s : State} {task : Task} → ReferencesExist s → Begins s task → (r : Snapshot)
     → claimed_snapshot task ≡ Some r → are_profiles r.profiles ≡ true
 begins-snapshot {s} h (snaps name moment x idle allowed new early) r is =
     subst (λ (y : Snapshot). are_profiles y.profiles ≡ true) (some-is is) ((rows-linked s h).at x (idle_row idle)).few

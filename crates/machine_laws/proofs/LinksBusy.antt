@@ -1,13 +1,13 @@
 -- An instance that one live operation keeps busy, no other does.
 use Rattle.std.proofs.Common.{◌≡◌, ℕ, ◌+◌, ◌≤◌, Bool, true, false, cond, Some, List, [], ◌∷◌, length, ap, ◌∙◌, arith}
 use Rattle.std.specs.List.{filter}
-use Rattle.row_machine.specs.plain_lists.specs.Members.{Mem, Each}
-use Rattle.row_machine.specs.plain_lists.specs.Puts.{Puts}
-use Rattle.row_machine.specs.plain_lists.specs.Puts.Puts.{here, later}
-use Rattle.row_machine.specs.plain_lists.specs.Edits.{dropped}
-use Rattle.row_machine.specs.plain_lists.proofs.EditLemmas.{dropped-Puts}
-use Rattle.row_machine.specs.operations.specs.declared.operation.Operation.{Operation}
-use Rattle.row_machine.specs.operations.specs.Kept.{has_number, live_at}
+use Rattle.plain_lists.specs.Members.{Mem, Each}
+use Rattle.plain_lists.specs.Puts.{Puts}
+use Rattle.plain_lists.specs.Puts.Puts.{here, later}
+use Rattle.plain_lists.specs.Edits.{dropped}
+use Rattle.plain_lists.proofs.EditLemmas.{dropped-Puts}
+use Rattle.operations.specs.declared.operation.Operation.{Operation}
+use Rattle.operations.specs.Kept.{has_number, live_at}
 use Rattle.row_machine.specs.machine.Task.{Task}
 use Rattle.row_machine.specs.machine.State.{State}
 use Rattle.row_machine.specs.machine.Holders.{keeps_busy}

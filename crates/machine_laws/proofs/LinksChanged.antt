@@ -1,14 +1,14 @@
 -- Changes of rows at once keep the links.
 use Rattle.std.proofs.Common.{List, [], refl, ap, ◌∙◌}
 use Rattle.std.specs.Option.{is_some}
-use Rattle.row_machine.specs.plain_lists.proofs.Searches.{find-some}
-use Rattle.row_machine.specs.records.specs.declared.rows.Row.TheVariants as row
-use Rattle.row_machine.specs.records.specs.declared.commands.Command.{Command}
+use Rattle.plain_lists.proofs.Searches.{find-some}
+use Rattle.records.specs.declared.rows.Row.TheVariants as row
+use Rattle.records.specs.declared.commands.Command.{Command}
 use Rattle.row_machine.specs.declared.changes.RowChange.{RowChange}
 use Rattle.row_machine.specs.machine.State.{State}
 use Rattle.row_machine.specs.machine.Rows.{is_volume, pool_named}
 use Rattle.row_machine.specs.machine.Changes.{applied}
-use Rattle.row_machine.specs.facts.Whole.{IsWhole, AreLinked}
+use Rattle.row_machine.specs.facts.Whole.{IsWhole, ReferencesExist}
 use Rattle.machine_laws.proofs.Cases.{AtOnce, IsJudged}
 use Rattle.machine_laws.proofs.Cases.AtOnce.{makes_project, changes_project, renames_project, deletes_project, makes_profile, changes_profile, renames_profile, deletes_profile, makes_network, changes_network, renames_network, deletes_network, makes_pool, changes_pool, deletes_pool, makes_volume, changes_volume, renames_volume, deletes_volume, changes_instance}
 use Rattle.machine_laws.proofs.DefaultsSettled.{first-settled}
@@ -21,7 +21,7 @@ use Rattle.machine_laws.proofs.LinksVolumes.{volume-home, volume-put_links, volu
 use Rattle.machine_laws.proofs.LinksGuests.{instance-patched_links}
 
 pub changed-links : {s : State} {c : Command} {cs : List RowChange} → IsWhole s → AtOnce s cs → IsJudged s c cs
-    → AreLinked (applied s cs)
+    → ReferencesExist (applied s cs)
 changed-links {s} h (makes_project r good fresh) judged = project-made_links s r h fresh
 changed-links {s} h (changes_project old r found name free) judged =
     project-changed_links s old r h found name free judged.settings

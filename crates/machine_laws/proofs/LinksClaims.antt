@@ -1,12 +1,12 @@
 -- Which row an operation claims, by what is read of the claim.
 use Rattle.std.proofs.Common.{◌≡◌, Option, Some, None, refl, ap, ◌∙◌}
 use Rattle.std.specs.Option.{option_map}
-use Rattle.record_keeper.specs.size_values.specs.declared.kinds.ObjectKind.TheVariants as kind
-use Rattle.row_machine.specs.records.specs.declared.rows.Volume.{Volume}
-use Rattle.row_machine.specs.records.specs.declared.rows.Instance.{Instance}
-use Rattle.row_machine.specs.records.specs.declared.rows.Snapshot.{Snapshot}
-use Rattle.row_machine.specs.records.specs.declared.rows.Row.{Row}
-use Rattle.row_machine.specs.records.specs.declared.rows.Row.TheVariants as row
+use Rattle.size_values.specs.declared.kinds.ObjectKind.TheVariants as kind
+use Rattle.records.specs.declared.rows.Volume.{Volume}
+use Rattle.records.specs.declared.rows.Instance.{Instance}
+use Rattle.records.specs.declared.rows.Snapshot.{Snapshot}
+use Rattle.records.specs.declared.rows.Row.{Row}
+use Rattle.records.specs.declared.rows.Row.TheVariants as row
 use Rattle.row_machine.specs.machine.Task.{Task}
 use Rattle.row_machine.specs.shown.Links.{target_of}
 use Rattle.row_machine.specs.machine.Claims.{claimed_instance, claimed_volume, claimed_snapshot}

@@ -1,17 +1,17 @@
 -- What the links of a state are read from: its rows, and what its live operations are about.
 use Rattle.std.proofs.Common.{◌≡◌, Option, List, [], refl, sym, ◌∙◌, ap, subst}
 use Rattle.std.specs.List.{filter_map}
-use Rattle.row_machine.specs.plain_lists.specs.Members.{Mem, Each}
-use Rattle.row_machine.specs.plain_lists.proofs.Elements.{Each-map, Each-append, Each-left, Each-right}
-use Rattle.row_machine.specs.plain_lists.proofs.Readings.{Mem-read, Mem-from_read}
-use Rattle.row_machine.specs.operations.specs.declared.operation.Operation.{Operation}
-use Rattle.row_machine.specs.operations.specs.Kept.{no_operations}
-use Rattle.row_machine.specs.records.specs.declared.rows.Instance.{Instance}
+use Rattle.plain_lists.specs.Members.{Mem, Each}
+use Rattle.plain_lists.proofs.Elements.{Each-map, Each-append, Each-left, Each-right}
+use Rattle.plain_lists.proofs.Readings.{Mem-read, Mem-from_read}
+use Rattle.operations.specs.declared.operation.Operation.{Operation}
+use Rattle.operations.specs.Kept.{no_operations}
+use Rattle.records.specs.declared.rows.Instance.{Instance}
 use Rattle.row_machine.specs.machine.Task.{Task}
 use Rattle.row_machine.specs.machine.State.{State, empty_state}
 use Rattle.row_machine.specs.machine.Claims.{of_live, claimed_instance, claimed_snapshot, judged_instances}
 use Rattle.row_machine.specs.machine.SettingRules.{profile_missing, devices_miss}
-use Rattle.row_machine.specs.facts.Whole.{IsLinked, IsPlaced, AreLinked}
+use Rattle.row_machine.specs.facts.Whole.{IsLinked, IsPlaced, ReferencesExist}
 
 -- ---- rows and live operations alone
 
@@ -125,8 +125,8 @@ claims-of {X} read keeps {P} {live} {later} of e = record {
 -- ---- the links of a state
 
 -- with fewer live operations
-fewer-links : {s : State} {live : List (Operation Task)} → AreOf s.operations.live live → AreLinked s
-    → AreLinked (bare s live)
+fewer-links : {s : State} {live : List (Operation Task)} → AreOf s.operations.live live → ReferencesExist s
+    → ReferencesExist (bare s live)
 unfolding judged_instances devices_miss
 fewer-links {s} {live} of h = record {
   homes = h.homes;
@@ -146,7 +146,7 @@ fewer-links {s} {live} of h = record {
   };
 }
 
-core-links : {t : State} → AreLinked (core t) → AreLinked t
+core-links : {t : State} → ReferencesExist (core t) → ReferencesExist t
 unfolding judged_instances devices_miss
 core-links {t} h = record {
   homes = h.homes;
@@ -159,12 +159,12 @@ core-links {t} h = record {
 }
 
 -- Links stay where the rows stay and the live operations are some of those that were there.
-pub links-fewer : (s t : State) → bare t [] ≡ bare s [] → AreOf s.operations.live t.operations.live → AreLinked s
-    → AreLinked t
+pub links-fewer : (s t : State) → bare t [] ≡ bare s [] → AreOf s.operations.live t.operations.live → ReferencesExist s
+    → ReferencesExist t
 links-fewer s t same of h =
-    core-links (subst AreLinked (ap (λ x. bare x t.operations.live) (sym same)) (fewer-links of h))
+    core-links (subst ReferencesExist (ap (λ x. bare x t.operations.live) (sym same)) (fewer-links of h))
 
 -- Links are read from rows and live operations alone.
-pub links-core : (s t : State) → core t ≡ core s → AreLinked s → AreLinked t
+pub links-core : (s t : State) → core t ≡ core s → ReferencesExist s → ReferencesExist t
 links-core s t same = links-fewer s t (ap (λ x. bare x []) same)
     (subst (AreOf s.operations.live) (sym (ap (λ (x : State). x.operations.live) same)) AreOf-itself)

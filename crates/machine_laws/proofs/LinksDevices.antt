@@ -4,21 +4,21 @@ use Rattle.std.specs.Prelude.{codes}
 use Rattle.std.specs.List.{find}
 use Rattle.std.specs.Map.{values_of}
 use Rattle.std.specs.Option.{option_map, option_map_or, option_and_then, is_some, is_none}
-use Rattle.row_machine.specs.expansion.specs.declared.expanded.Expanded.{Expanded}
+use Rattle.expansion.specs.declared.expanded.Expanded.{Expanded}
 use Rattle.std.specs.Str.{bytes_eq}
 use Rattle.std.proofs.lemmas.Bool.{and_from}
-use Rattle.row_machine.specs.plain_lists.specs.Members.{Mem, Each}
-use Rattle.row_machine.specs.plain_lists.specs.Firsts.{first}
-use Rattle.row_machine.specs.plain_lists.proofs.FirstLemmas.{told_if, none_both, not_mapped, first_of-none, none-first_of}
-use Rattle.row_machine.specs.plain_lists.proofs.Searches.{any-mem, find-none, none-find}
-use Rattle.row_machine.specs.config_lists.proofs.Keys.{bytes_eq-itself}
-use Rattle.row_machine.specs.config_lists.specs.Devices.{NamedDevices}
-use Rattle.row_machine.specs.config_lists.specs.Settings.{Settings, setting, has_setting}
-use Rattle.row_machine.specs.estate_rules.specs.Uses.{is_nic_on, is_disk_in, is_volume_of, names_network, names_pool, names_volume}
-use Rattle.record_keeper.specs.size_values.specs.declared.kinds.ObjectKind.TheVariants as kind
-use Rattle.row_machine.specs.records.specs.declared.rows.Instance.{Instance}
-use Rattle.row_machine.specs.records.specs.declared.refusals.Refusal.{Refusal}
-use Rattle.row_machine.specs.records.specs.declared.refusals.Rule.TheVariants as rule
+use Rattle.plain_lists.specs.Members.{Mem, Each}
+use Rattle.plain_lists.specs.Firsts.{first}
+use Rattle.plain_lists.proofs.FirstLemmas.{told_if, none_both, not_mapped, first_of-none, none-first_of}
+use Rattle.plain_lists.proofs.Searches.{any-mem, find-none, none-find}
+use Rattle.config_lists.proofs.Keys.{bytes_eq-itself}
+use Rattle.config_lists.specs.Devices.{NamedDevices}
+use Rattle.config_lists.specs.Settings.{Settings, setting, has_setting}
+use Rattle.estate_rules.specs.Uses.{is_nic_on, is_disk_in, is_volume_of, names_network, names_pool, names_volume}
+use Rattle.size_values.specs.declared.kinds.ObjectKind.TheVariants as kind
+use Rattle.records.specs.declared.rows.Instance.{Instance}
+use Rattle.records.specs.declared.refusals.Refusal.{Refusal}
+use Rattle.records.specs.declared.refusals.Rule.TheVariants as rule
 use Rattle.row_machine.specs.machine.Refusals.{on_object}
 use Rattle.row_machine.specs.machine.State.{State}
 use Rattle.row_machine.specs.machine.Rows.{network_named, pool_named, volume_named, profile_named}

@@ -3,20 +3,20 @@ use Rattle.std.proofs.Common.{◌≡◌, ◌≢◌, ℕ, Bool, true, false, not,
 use Rattle.std.specs.List.{list_any}
 use Rattle.std.specs.Option.{is_some}
 use Rattle.std.specs.Str.{bytes_eq}
-use Rattle.row_machine.specs.plain_lists.specs.Members.{Mem, Each}
-use Rattle.row_machine.specs.plain_lists.proofs.Elements.{Each-map, Each-append, Mem-left}
-use Rattle.row_machine.specs.plain_lists.proofs.Readings.{Mem-from_read}
-use Rattle.row_machine.specs.plain_lists.proofs.Searches.{any-none, find-some}
-use Rattle.row_machine.specs.config_lists.proofs.Keys.{same, bytes_eq-itself}
-use Rattle.record_keeper.specs.size_values.specs.declared.kinds.ObjectKind.TheVariants as kind
-use Rattle.row_machine.specs.operations.specs.declared.operation.Operation.{Operation}
-use Rattle.row_machine.specs.records.specs.declared.rows.Project.{Project}
-use Rattle.row_machine.specs.records.specs.declared.rows.Profile.{Profile}
-use Rattle.row_machine.specs.records.specs.declared.rows.Network.{Network}
-use Rattle.row_machine.specs.records.specs.declared.rows.Volume.{Volume}
-use Rattle.row_machine.specs.records.specs.declared.rows.Instance.{Instance}
-use Rattle.row_machine.specs.records.specs.declared.rows.Snapshot.{Snapshot}
-use Rattle.row_machine.specs.records.specs.declared.rows.Row.TheVariants as row
+use Rattle.plain_lists.specs.Members.{Mem, Each}
+use Rattle.plain_lists.proofs.Elements.{Each-map, Each-append, Mem-left}
+use Rattle.plain_lists.proofs.Readings.{Mem-from_read}
+use Rattle.plain_lists.proofs.Searches.{any-none, find-some}
+use Rattle.config_lists.proofs.Keys.{same, bytes_eq-itself}
+use Rattle.size_values.specs.declared.kinds.ObjectKind.TheVariants as kind
+use Rattle.operations.specs.declared.operation.Operation.{Operation}
+use Rattle.records.specs.declared.rows.Project.{Project}
+use Rattle.records.specs.declared.rows.Profile.{Profile}
+use Rattle.records.specs.declared.rows.Network.{Network}
+use Rattle.records.specs.declared.rows.Volume.{Volume}
+use Rattle.records.specs.declared.rows.Instance.{Instance}
+use Rattle.records.specs.declared.rows.Snapshot.{Snapshot}
+use Rattle.records.specs.declared.rows.Row.TheVariants as row
 use Rattle.row_machine.specs.machine.Task.{Task}
 use Rattle.row_machine.specs.machine.State.{State}
 use Rattle.row_machine.specs.machine.Rows.{default_name, is_instance, volume_named, instance_named}
@@ -25,7 +25,7 @@ use Rattle.row_machine.specs.machine.Claims.{claimed_instance, judged_instances}
 use Rattle.row_machine.specs.machine.SettingRules.{devices_miss}
 use Rattle.row_machine.specs.machine.StandingRules.{is_occupied}
 use Rattle.row_machine.specs.opening.Opening.{home_missing}
-use Rattle.row_machine.specs.facts.Whole.{IsWhole, IsLinked, AreLinked}
+use Rattle.row_machine.specs.facts.Whole.{IsWhole, IsLinked, ReferencesExist}
 use Rattle.machine_laws.proofs.Found.{there-is, instance-found}
 use Rattle.machine_laws.proofs.Expansions.{IsAlike}
 use Rattle.machine_laws.proofs.ExpansionsApart.{AreApart, apart-elsewhere}
@@ -52,7 +52,7 @@ pub record EstateServes (s : State) (ps : List Project) (rs : List Profile) : Ty
   pub profiles : Each (λ r. (home_missing (with_estate s ps rs) (row.Profile r) ≡ None) × (devices_miss (with_estate s ps rs) r.project r.devices ≡ None)) rs
 
 pub estate-links : (s : State) (ps : List Project) (rs : List Profile) → IsWhole s → EstateServes s ps rs
-    → AreLinked (with_estate s ps rs)
+    → ReferencesExist (with_estate s ps rs)
 unfolding judged_instances
 estate-links s ps rs h serve = record {
   homes = rows-each t (record {
@@ -122,7 +122,7 @@ pub elsewhere-links : (Q : List ℕ → Type 0) (s : State) (ps : List Project) 
     → ((r : Profile) → Mem r rs → (Mem r s.profiles × (Q r.project → ⊥))
     ⊎
     ((home_missing (with_estate s ps rs) (row.Profile r) ≡ None) × (devices_miss (with_estate s ps rs) r.project r.devices ≡ None)))
-    → AreLinked (with_estate s ps rs)
+    → ReferencesExist (with_estate s ps rs)
 unfolding judged_instances
 elsewhere-links Q s ps rs h away apart profiles = estate-links s ps rs h (record {
   networks = Each-map (λ r never. stays r.project never) away.networks;

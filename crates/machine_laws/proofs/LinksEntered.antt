@@ -2,23 +2,23 @@
 use Rattle.std.proofs.Common.{◌≡◌, ℕ, true, Option, Some, None, List, [], ◌∷◌, ◌++◌, refl, sym, ap, subst, ◌∙◌, inl, inr}
 use Rattle.std.specs.List.{filter_map}
 use Rattle.std.specs.Option.{is_some, option_to_list}
-use Rattle.row_machine.specs.plain_lists.specs.Members.{Mem, Each}
-use Rattle.row_machine.specs.plain_lists.proofs.Elements.{Each-map, Each-append, Each-left, Each-right, Each-push, Mem-append}
-use Rattle.row_machine.specs.plain_lists.proofs.Readings.{Mem-read, Mem-from_read}
-use Rattle.row_machine.specs.instance_states.specs.Plans.{undo_of}
-use Rattle.row_machine.specs.operations.specs.declared.operation.Operation.{Operation}
-use Rattle.row_machine.specs.operations.specs.declared.operation.OpFault.TheVariants as fault
-use Rattle.row_machine.specs.operations.specs.declared.status.Status.TheVariants as status
-use Rattle.row_machine.specs.records.specs.Forms.{are_profiles}
-use Rattle.row_machine.specs.records.specs.declared.rows.Instance.{Instance}
-use Rattle.row_machine.specs.records.specs.declared.rows.Snapshot.{Snapshot}
-use Rattle.row_machine.specs.records.specs.declared.rows.Row.TheVariants as row
+use Rattle.plain_lists.specs.Members.{Mem, Each}
+use Rattle.plain_lists.proofs.Elements.{Each-map, Each-append, Each-left, Each-right, Each-push, Mem-append}
+use Rattle.plain_lists.proofs.Readings.{Mem-read, Mem-from_read}
+use Rattle.instance_states.specs.Plans.{undo_of}
+use Rattle.operations.specs.declared.operation.Operation.{Operation}
+use Rattle.operations.specs.declared.operation.OpFault.TheVariants as fault
+use Rattle.operations.specs.declared.status.Status.TheVariants as status
+use Rattle.records.specs.Forms.{are_profiles}
+use Rattle.records.specs.declared.rows.Instance.{Instance}
+use Rattle.records.specs.declared.rows.Snapshot.{Snapshot}
+use Rattle.records.specs.declared.rows.Row.TheVariants as row
 use Rattle.row_machine.specs.machine.Task.{Task}
 use Rattle.row_machine.specs.machine.State.{State}
 use Rattle.row_machine.specs.machine.Claims.{of_live, claimed_instance, claimed_snapshot, judged_instances}
 use Rattle.row_machine.specs.machine.SettingRules.{devices_miss, settings_broken}
 use Rattle.row_machine.specs.machine.Work.{entered, claiming}
-use Rattle.row_machine.specs.facts.Whole.{IsLinked, IsPlaced, AreLinked}
+use Rattle.row_machine.specs.facts.Whole.{IsLinked, IsPlaced, ReferencesExist}
 use Rattle.machine_laws.proofs.DefaultsSettled.{first-settled}
 use Rattle.machine_laws.proofs.LinksClaims.{claim-instance}
 use Rattle.machine_laws.proofs.LinksGuests.{instance-row_accepted}
@@ -40,10 +40,10 @@ read_more {X} read {P} live o before new = record { at = λ x m. at x (Mem-from_
   ]
 
 -- An operation is entered whose task stands where it should, and whose claimed instance has all that it names.
-pub entered-links : (s : State) (task : Task) (moment : ℕ) → AreLinked s → IsPlaced s task
+pub entered-links : (s : State) (task : Task) (moment : ℕ) → ReferencesExist s → IsPlaced s task
     → ((i : Instance) → claimed_instance task ≡ Some i → IsLinked s i)
     → ((r : Snapshot) → claimed_snapshot task ≡ Some r → are_profiles r.profiles ≡ true)
-    → AreLinked (entered s task moment)
+    → ReferencesExist (entered s task moment)
 unfolding entered judged_instances devices_miss
 entered-links s task moment h placed linked snapshot = record {
   homes = h.homes;

@@ -3,18 +3,18 @@ use Rattle.std.proofs.Common.{◌≡◌, ◌≢◌, ℕ, Bool, true, false, ◌�
 use Rattle.std.specs.Prelude.{codes}
 use Rattle.std.specs.Option.{option_or, option_and_then}
 use Rattle.std.specs.Str.{bytes_eq}
-use Rattle.row_machine.specs.plain_lists.specs.Members.{Mem, Each}
-use Rattle.row_machine.specs.plain_lists.specs.Edits.{dropped}
-use Rattle.row_machine.specs.plain_lists.proofs.FirstLemmas.{none_both}
-use Rattle.row_machine.specs.plain_lists.proofs.Searches.{find-some, find-mem}
-use Rattle.row_machine.specs.plain_lists.proofs.EditLemmas.{Mem-dropped}
-use Rattle.row_machine.specs.config_lists.proofs.Keys.{same, bytes_eq-itself}
-use Rattle.record_keeper.specs.size_values.specs.declared.kinds.ObjectKind.TheVariants as kind
-use Rattle.row_machine.specs.option_tables.specs.Checks.{project_fault}
-use Rattle.row_machine.specs.records.specs.declared.rows.Project.{Project}
-use Rattle.row_machine.specs.records.specs.declared.rows.Profile.{Profile}
-use Rattle.row_machine.specs.records.specs.declared.rows.Row.TheVariants as row
-use Rattle.row_machine.specs.row_codec.specs.Spelling.{key_of}
+use Rattle.plain_lists.specs.Members.{Mem, Each}
+use Rattle.plain_lists.specs.Edits.{dropped}
+use Rattle.plain_lists.proofs.FirstLemmas.{none_both}
+use Rattle.plain_lists.proofs.Searches.{find-some, find-mem}
+use Rattle.plain_lists.proofs.EditLemmas.{Mem-dropped}
+use Rattle.config_lists.proofs.Keys.{same, bytes_eq-itself}
+use Rattle.size_values.specs.declared.kinds.ObjectKind.TheVariants as kind
+use Rattle.option_tables.specs.Checks.{project_fault}
+use Rattle.records.specs.declared.rows.Project.{Project}
+use Rattle.records.specs.declared.rows.Profile.{Profile}
+use Rattle.records.specs.declared.rows.Row.TheVariants as row
+use Rattle.row_codec.specs.Spelling.{key_of}
 use Rattle.row_machine.specs.declared.changes.RowChange.{RowChange}
 use Rattle.row_machine.specs.declared.changes.RowChange.TheVariants as change
 use Rattle.row_machine.specs.machine.State.{State}
@@ -25,7 +25,7 @@ use Rattle.row_machine.specs.machine.NewRows.{default_profile}
 use Rattle.row_machine.specs.machine.SettingRules.{settings_broken, row_settings, tables_break, own_default, devices_miss}
 use Rattle.row_machine.specs.machine.StandingRules.{feature_keys, changes_features, is_occupied}
 use Rattle.row_machine.specs.machine.Plans.{project_change}
-use Rattle.row_machine.specs.facts.Whole.{IsWhole, AreLinked}
+use Rattle.row_machine.specs.facts.Whole.{IsWhole, ReferencesExist}
 use Rattle.machine_laws.proofs.ExpansionsApart.{AreApart, apart-both, apart-project, apart-profile, apart-no_profile}
 use Rattle.machine_laws.proofs.NamesLists.{Mem-replaced}
 use Rattle.machine_laws.proofs.NamesRows.{each-row}
@@ -44,7 +44,7 @@ use Rattle.machine_laws.proofs.LinksProjects.{IsPlacedProfile, distinct_profiles
 same_features : (s : State) (old r : Project) → IsWhole s → project_named s.projects old.name ≡ Some old
     → r.name ≡ old.name
     → Each (λ key. is_on r.config key ≡ is_on old.config key) feature_keys
-    → AreLinked (with_estate s (with_project r s.projects) s.profiles)
+    → ReferencesExist (with_estate s (with_project r s.projects) s.profiles)
 same_features s old r h found names features = estate-links s ps s.profiles h (record {
   networks = record { at = λ x m. stays x.project };
   volumes = record { at = λ x m. stays x.project };
@@ -90,7 +90,7 @@ other_features : (s : State) (old r : Project) → IsWhole s → project_named s
     → is_occupied s old.name ≡ false → old.name ≢ default_name → (was is_so : Bool) → has_profiles old ≡ was
     → has_profiles r ≡ is_so
     → row_settings (applied s (changed_by r was is_so)) (row.Project r) ≡ None
-    → AreLinked (applied s (changed_by r was is_so))
+    → ReferencesExist (applied s (changed_by r was is_so))
 other_features s old r h found names free differs = at where
   Q : List ℕ → Type 0
   Q name = name ≡ r.name
@@ -143,7 +143,7 @@ other_features s old r h found names free differs = at where
 
   at : (was is_so : Bool) → has_profiles old ≡ was → has_profiles r ≡ is_so
       → row_settings (applied s (changed_by r was is_so)) (row.Project r) ≡ None
-      → AreLinked (applied s (changed_by r was is_so))
+      → ReferencesExist (applied s (changed_by r was is_so))
   at true false on off settled =
       elsewhere-links Q s ps (dropped (λ y. has_key (key_of (row.Profile own)) (row.Profile y)) s.profiles) h away
       (apart-both put (apart-no_profile (with_row (row.Project r) s) (key_of (row.Profile own))
@@ -171,7 +171,7 @@ pub project-changed_links : (s : State) (old r : Project) → IsWhole s → proj
     → r.name ≡ old.name
     → (changes_features old r ≡ true → (is_occupied s old.name ≡ false) × (old.name ≢ default_name))
     → settings_broken (applied s (project_change old r)) (rows_put (project_change old r)) ≡ None
-    → AreLinked (applied s (project_change old r))
+    → ReferencesExist (applied s (project_change old r))
 project-changed_links s old r h found names free settled = at (changes_features old r) refl where
   accepted : row_settings (applied s (changed_by r (has_profiles old) (has_profiles r))) (row.Project r) ≡ None
   accepted =
@@ -179,14 +179,14 @@ project-changed_links s old r h found names free settled = at (changes_features 
       (rows_put (profile_change r (has_profiles old) (has_profiles r))) settled
 
   plain : (features : Each (λ key. is_on r.config key ≡ is_on old.config key) feature_keys) (was is_so : Bool)
-      → is_so ≡ was → AreLinked (applied s (changed_by r was is_so))
+      → is_so ≡ was → ReferencesExist (applied s (changed_by r was is_so))
   plain features true true e = same_features s old r h found names features
   plain features false false e = same_features s old r h found names features
   plain features true false e = cc
   plain features false true e = cc
 
   at : (b : Bool) → changes_features old r ≡ b
-      → AreLinked (applied s (changed_by r (has_profiles old) (has_profiles r)))
+      → ReferencesExist (applied s (changed_by r (has_profiles old) (has_profiles r)))
   at true changes =
       let none = free changes in
       other_features s old r h found names none.0 none.1 (has_profiles old) (has_profiles r) refl refl accepted

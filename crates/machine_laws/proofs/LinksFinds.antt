@@ -2,12 +2,12 @@
 use Rattle.std.proofs.Common.{◌≡◌, ◌≢◌, ℕ, Bool, true, false, Option, Some, None, List, ◌⊎◌, refl, sym, ap, subst, ◌∙◌, inl, inr, true≢false}
 use Rattle.std.specs.List.{find}
 use Rattle.std.specs.Option.{is_some}
-use Rattle.row_machine.specs.plain_lists.specs.Members.{Mem, Each, Distinct}
-use Rattle.row_machine.specs.plain_lists.specs.Edits.{dropped, replaced, Replaces}
-use Rattle.row_machine.specs.plain_lists.specs.Edits.Replaces.{new, instead}
-use Rattle.row_machine.specs.plain_lists.proofs.PutsLemmas.{Mem-Puts, Mem-puts, Mem-unputs, Distinct-unputs}
-use Rattle.row_machine.specs.plain_lists.proofs.Searches.{any-mem, any-find, find-some, find-none, none-any}
-use Rattle.row_machine.specs.plain_lists.proofs.EditLemmas.{replaced-is, find-replaced, dropped-Puts, dropped-none}
+use Rattle.plain_lists.specs.Members.{Mem, Each, Distinct}
+use Rattle.plain_lists.specs.Edits.{dropped, replaced, Replaces}
+use Rattle.plain_lists.specs.Edits.Replaces.{new, instead}
+use Rattle.plain_lists.proofs.PutsLemmas.{Mem-Puts, Mem-puts, Mem-unputs, Distinct-unputs}
+use Rattle.plain_lists.proofs.Searches.{any-mem, any-find, find-some, find-none, none-any}
+use Rattle.plain_lists.proofs.EditLemmas.{replaced-is, find-replaced, dropped-Puts, dropped-none}
 use Rattle.machine_laws.proofs.ExpansionsApart.{fails-by, find-dropped_each}
 use Rattle.machine_laws.proofs.Found.{there-is}
 

@@ -1,15 +1,15 @@
 -- Links where instances and snapshots alone change.
 use Rattle.std.proofs.Common.{◌≡◌, ℕ, true, false, None, List, [], ◌∷◌, refl, sym, ap, subst, ◌∙◌, true≢false}
 use Rattle.std.specs.Option.{is_some}
-use Rattle.row_machine.specs.plain_lists.specs.Members.{Mem, Each}
-use Rattle.row_machine.specs.plain_lists.proofs.Elements.{Each-map, Each-append, Each-left, Each-right}
-use Rattle.row_machine.specs.plain_lists.proofs.Searches.{find-some, find-none}
-use Rattle.record_keeper.specs.size_values.specs.declared.kinds.ObjectKind.TheVariants as kind
-use Rattle.row_machine.specs.operations.specs.declared.operation.Operation.{Operation}
-use Rattle.row_machine.specs.records.specs.Forms.{are_profiles}
-use Rattle.row_machine.specs.records.specs.declared.rows.Instance.{Instance}
-use Rattle.row_machine.specs.records.specs.declared.rows.Snapshot.{Snapshot}
-use Rattle.row_machine.specs.records.specs.declared.rows.Row.TheVariants as row
+use Rattle.plain_lists.specs.Members.{Mem, Each}
+use Rattle.plain_lists.proofs.Elements.{Each-map, Each-append, Each-left, Each-right}
+use Rattle.plain_lists.proofs.Searches.{find-some, find-none}
+use Rattle.size_values.specs.declared.kinds.ObjectKind.TheVariants as kind
+use Rattle.operations.specs.declared.operation.Operation.{Operation}
+use Rattle.records.specs.Forms.{are_profiles}
+use Rattle.records.specs.declared.rows.Instance.{Instance}
+use Rattle.records.specs.declared.rows.Snapshot.{Snapshot}
+use Rattle.records.specs.declared.rows.Row.TheVariants as row
 use Rattle.row_machine.specs.machine.Task.{Task}
 use Rattle.row_machine.specs.machine.State.{State}
 use Rattle.row_machine.specs.machine.Rows.{is_instance, instance_named, with_instance}
@@ -19,7 +19,7 @@ use Rattle.row_machine.specs.machine.Holders.{keeps_busy, busy_with}
 use Rattle.row_machine.specs.machine.SettingRules.{profile_missing, devices_miss, instance_settings, row_settings}
 use Rattle.row_machine.specs.machine.Plans.{put_all}
 use Rattle.row_machine.specs.opening.Opening.{home_missing}
-use Rattle.row_machine.specs.facts.Whole.{IsWhole, IsLinked, IsByDeed, AreLinked}
+use Rattle.row_machine.specs.facts.Whole.{IsWhole, IsLinked, IsByDeed, ReferencesExist}
 use Rattle.machine_laws.proofs.Cases.{IsIdle, IsSameInstance}
 use Rattle.machine_laws.proofs.NamesRows.{EachRow, each-row, rows-each}
 use Rattle.machine_laws.proofs.LinksCore.{links-core}
@@ -47,9 +47,9 @@ linked-guests : (s : State) (is : List Instance) (ss : List Snapshot) (i : Insta
 unfolding profile_missing devices_miss
 linked-guests s is ss i h = record { few = h.few; profiles = h.profiles; devices = h.devices }
 
-pub guests-links : (s : State) (is : List Instance) (ss : List Snapshot) → AreLinked s
+pub guests-links : (s : State) (is : List Instance) (ss : List Snapshot) → ReferencesExist s
     → Each (λ o. IsByDeed o.work) s.operations.live → GuestsServe s is ss
-    → AreLinked (with_guests s is ss)
+    → ReferencesExist (with_guests s is ss)
 unfolding judged_instances devices_miss
 guests-links s is ss h deeds serve = record {
   homes = rows-each (with_guests s is ss) (record {
@@ -80,7 +80,7 @@ unfolding busy_with
 idle-free s project name e = find-none (λ (o : Operation Task). keeps_busy project name o.work) s.operations.live e
 
 -- the instance under its name is at home where its project is there
-pub instance-home : (s : State) (old i : Instance) → AreLinked s → Mem old s.instances → i.project ≡ old.project
+pub instance-home : (s : State) (old i : Instance) → ReferencesExist s → Mem old s.instances → i.project ≡ old.project
     → home_missing s (row.Instance i) ≡ None
 instance-home s old i h m same =
     homeless-stays s s (row.Instance i) (stays-found s.projects s.projects i.project refl)
@@ -97,13 +97,13 @@ patched_linked : (s : State) (i : Instance) → IsLinked (applied s (put_all (ro
 unfolding profile_missing devices_miss
 patched_linked s i h = record { few = h.few; profiles = h.profiles; devices = h.devices }
 
-pub rows-linked : (s : State) → AreLinked s → Each (IsLinked s) s.instances
+pub rows-linked : (s : State) → ReferencesExist s → Each (IsLinked s) s.instances
 unfolding judged_instances
 rows-linked s h = Each-left (of_live claimed_instance s) h.instances
 
 pub instance-patched_links : (s : State) (old i : Instance) → IsWhole s → IsIdle s old → IsSameInstance old i
     → row_settings (applied s (put_all (row.Instance i ∷ []))) (row.Instance i) ≡ None
-    → AreLinked (applied s (put_all (row.Instance i ∷ [])))
+    → ReferencesExist (applied s (put_all (row.Instance i ∷ [])))
 instance-patched_links s old i h idle same settled =
     links-core (with_guests s is s.snapshots) (applied s (put_all (row.Instance i ∷ []))) refl
     (guests-links s is s.snapshots h.links h.operations.deeds (record {

@@ -1,21 +1,21 @@
 -- The tests by name and the keys of rows of each kind tell names.
 use Rattle.std.proofs.Common.{◌≡◌, ℕ, true, List, [], ◌∷◌, ap, ◌∙◌}
 use Rattle.std.specs.Str.{bytes_eq}
-use Rattle.row_machine.specs.plain_lists.specs.Members.{Mem, Each}
-use Rattle.row_machine.specs.plain_lists.proofs.Elements.{Each-left}
-use Rattle.row_machine.specs.config_lists.proofs.Keys.{same, bytes_eq-itself}
-use Rattle.record_keeper.specs.size_values.specs.declared.kinds.ObjectKind.TheVariants as kind
-use Rattle.row_machine.specs.records.specs.declared.rows.Project.{Project}
-use Rattle.row_machine.specs.records.specs.declared.rows.Profile.{Profile}
-use Rattle.row_machine.specs.records.specs.declared.rows.Network.{Network}
-use Rattle.row_machine.specs.records.specs.declared.rows.Pool.{Pool}
-use Rattle.row_machine.specs.records.specs.declared.rows.Volume.{Volume}
-use Rattle.row_machine.specs.records.specs.declared.rows.Instance.{Instance}
-use Rattle.row_machine.specs.records.specs.declared.rows.Snapshot.{Snapshot}
-use Rattle.row_machine.specs.records.specs.declared.rows.Row.TheVariants as row
-use Rattle.row_machine.specs.row_codec.specs.Rows.{HasGoodKey}
-use Rattle.row_machine.specs.row_codec.specs.Spelling.{key_of, two_names, three_names}
-use Rattle.row_machine.specs.row_codec.proofs.Names.{two_again, three_again}
+use Rattle.plain_lists.specs.Members.{Mem, Each}
+use Rattle.plain_lists.proofs.Elements.{Each-left}
+use Rattle.config_lists.proofs.Keys.{same, bytes_eq-itself}
+use Rattle.size_values.specs.declared.kinds.ObjectKind.TheVariants as kind
+use Rattle.records.specs.declared.rows.Project.{Project}
+use Rattle.records.specs.declared.rows.Profile.{Profile}
+use Rattle.records.specs.declared.rows.Network.{Network}
+use Rattle.records.specs.declared.rows.Pool.{Pool}
+use Rattle.records.specs.declared.rows.Volume.{Volume}
+use Rattle.records.specs.declared.rows.Instance.{Instance}
+use Rattle.records.specs.declared.rows.Snapshot.{Snapshot}
+use Rattle.records.specs.declared.rows.Row.TheVariants as row
+use Rattle.row_codec.specs.Rows.{HasGoodKey}
+use Rattle.row_codec.specs.Spelling.{key_of, two_names, three_names}
+use Rattle.row_codec.proofs.Names.{two_again, three_again}
 use Rattle.row_machine.specs.machine.State.{State}
 use Rattle.row_machine.specs.machine.Rows.{is_project, is_profile, is_network, is_pool, is_volume, is_instance, is_snapshot, project_names, profile_names, network_names, pool_names, volume_names, instance_names, snapshot_names}
 use Rattle.row_machine.specs.machine.Changes.{has_key}

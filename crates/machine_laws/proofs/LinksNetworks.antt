@@ -3,18 +3,18 @@ use Rattle.std.proofs.Common.{◌≡◌, ◌≢◌, ℕ, true, false, Some, None
 use Rattle.std.specs.Option.{is_some}
 use Rattle.std.specs.Str.{bytes_eq}
 use Rattle.std.proofs.lemmas.Bool.{and_from}
-use Rattle.row_machine.specs.plain_lists.specs.Members.{Each}
-use Rattle.row_machine.specs.plain_lists.specs.Edits.{dropped}
-use Rattle.row_machine.specs.plain_lists.proofs.Elements.{Each-map}
-use Rattle.row_machine.specs.plain_lists.proofs.Searches.{find-some}
-use Rattle.row_machine.specs.plain_lists.proofs.EditLemmas.{Each-dropped}
-use Rattle.row_machine.specs.config_lists.proofs.Keys.{bytes_eq-itself}
-use Rattle.row_machine.specs.config_lists.specs.Devices.{NamedDevices}
-use Rattle.row_machine.specs.estate_rules.specs.Uses.{names_network}
-use Rattle.record_keeper.specs.size_values.specs.declared.kinds.ObjectKind.TheVariants as kind
-use Rattle.row_machine.specs.records.specs.declared.rows.Network.{Network}
-use Rattle.row_machine.specs.records.specs.declared.rows.Row.TheVariants as row
-use Rattle.row_machine.specs.row_codec.specs.Spelling.{key_of}
+use Rattle.plain_lists.specs.Members.{Each}
+use Rattle.plain_lists.specs.Edits.{dropped}
+use Rattle.plain_lists.proofs.Elements.{Each-map}
+use Rattle.plain_lists.proofs.Searches.{find-some}
+use Rattle.plain_lists.proofs.EditLemmas.{Each-dropped}
+use Rattle.config_lists.proofs.Keys.{bytes_eq-itself}
+use Rattle.config_lists.specs.Devices.{NamedDevices}
+use Rattle.estate_rules.specs.Uses.{names_network}
+use Rattle.size_values.specs.declared.kinds.ObjectKind.TheVariants as kind
+use Rattle.records.specs.declared.rows.Network.{Network}
+use Rattle.records.specs.declared.rows.Row.TheVariants as row
+use Rattle.row_codec.specs.Spelling.{key_of}
 use Rattle.row_machine.specs.machine.State.{State}
 use Rattle.row_machine.specs.machine.Rows.{is_network, network_names, network_named, with_network}
 use Rattle.row_machine.specs.machine.Homes.{home_of}
@@ -25,7 +25,7 @@ use Rattle.row_machine.specs.shown.Links.{target_of}
 use Rattle.row_machine.specs.machine.Holders.{devices_name, first_user_of}
 use Rattle.row_machine.specs.machine.Plans.{put_all, moved_row}
 use Rattle.row_machine.specs.opening.Opening.{home_missing}
-use Rattle.row_machine.specs.facts.Whole.{IsWhole, AreLinked}
+use Rattle.row_machine.specs.facts.Whole.{IsWhole, ReferencesExist}
 use Rattle.machine_laws.proofs.Cases.{IsHome}
 use Rattle.machine_laws.proofs.NamesRows.{each-row}
 use Rattle.machine_laws.proofs.LinksHomes.{at-home}
@@ -49,7 +49,7 @@ serving : (s : State) (ns : List Network) → IsWhole s → Each (λ r. home_mis
     → network_there (record s { networks = ns }) r.project name) s.profiles
     → Each (λ i. (name : List ℕ) → names_network (expanded_of s.projects s.profiles i).devices name ≡ true → network_there s i.project name
     → network_there (record s { networks = ns }) i.project name) (judged_instances s)
-    → AreLinked (record s { networks = ns })
+    → ReferencesExist (record s { networks = ns })
 serving s ns h at_homes profiles instances = stores-links s ns s.pools s.volumes h.links h.operations.deeds (record {
   networks = at_homes;
   volumes = (each-row s h.links.homes).volumes;
@@ -68,7 +68,7 @@ serving s ns h at_homes profiles instances = stores-links s ns s.pools s.volumes
 -- where each network stays
 more : (s : State) (ns : List Network) → IsWhole s → Each (λ r. home_missing s (row.Network r) ≡ None) ns
     → ((home name : List ℕ) → is_some (network_named s.networks home name) ≡ true → is_some (network_named ns home name) ≡ true)
-    → AreLinked (record s { networks = ns })
+    → ReferencesExist (record s { networks = ns })
 more s ns h at_homes stay = serving s ns h at_homes
     (record { at = λ r m name names there. stay (home_of s.projects r.project kind.Network) name there })
     (record { at = λ i m name names there. stay (home_of s.projects i.project kind.Network) name there })
@@ -78,7 +78,7 @@ fewer : (s : State) (old : Network) (ns : List Network) → IsWhole s
     → first_user_of s old.project (target_of (row.Network old)) ≡ None
     → Each (λ r. home_missing s (row.Network r) ≡ None) ns
     → ((home name : List ℕ) → network_names old ≢ home ∷ name ∷ [] → is_some (network_named s.networks home name) ≡ true → is_some (network_named ns home name) ≡ true)
-    → AreLinked (record s { networks = ns })
+    → ReferencesExist (record s { networks = ns })
 fewer s old ns h used at_homes stay = serving s ns h at_homes
     (record { at = λ r m name names there. stay (home_of s.projects r.project kind.Network) name (other r.project r.devices (unused.profiles.at r m) name names) there })
     (record {
@@ -103,7 +103,7 @@ fewer s old ns h used at_homes stay = serving s ns h at_homes
 
 pub network-put_links : (s : State) (r : Network) (home : List ℕ) → IsWhole s → IsHome s home kind.Network
     → r.project ≡ home
-    → AreLinked (applied s (put_all (row.Network r ∷ [])))
+    → ReferencesExist (applied s (put_all (row.Network r ∷ [])))
 network-put_links s r home h is same =
     more s (with_network r s.networks) h (network-each _ r s.networks (at_home s r home is same) (homes h))
     (network-still r s.networks)
@@ -121,7 +121,7 @@ undropped s old h found home name other there =
 pub network-moved_links : (s : State) (old : Network) (to : List ℕ) → IsWhole s → IsHome s old.project kind.Network
     → network_named s.networks old.project old.name ≡ Some old
     → first_user_of s old.project (target_of (row.Network old)) ≡ None
-    → AreLinked (applied s (moved_row (row.Network old) (row.Network (record old { name = to }))))
+    → ReferencesExist (applied s (moved_row (row.Network old) (row.Network (record old { name = to }))))
 network-moved_links s old to h is found used =
     let new : Network = record old { name = to } in
     let rest : List Network = dropped (λ y. has_key (key_of (row.Network old)) (row.Network y)) s.networks in
@@ -132,7 +132,7 @@ network-moved_links s old to h is found used =
 pub network-removed_links : (s : State) (old : Network) → IsWhole s
     → network_named s.networks old.project old.name ≡ Some old
     → first_user_of s old.project (target_of (row.Network old)) ≡ None
-    → AreLinked (applied s (removal (row.Network old) ∷ []))
+    → ReferencesExist (applied s (removal (row.Network old) ∷ []))
 network-removed_links s old h found used =
     fewer s old (dropped (λ y. has_key (key_of (row.Network old)) (row.Network y)) s.networks) h used
     (Each-dropped _ (homes h)) (undropped s old h found)

@@ -1,22 +1,22 @@
 -- Steps of live operations leave the links.
 use Rattle.std.proofs.Common.{◌≡◌, ℕ, Bool, true, false, cond, Some, List, [], ◌∷◌, refl, sym, ◌∙◌, ap, subst, inl, inr}
 use Rattle.std.specs.List.{find}
-use Rattle.row_machine.specs.plain_lists.specs.Members.{Mem}
-use Rattle.row_machine.specs.plain_lists.specs.Puts.{Puts}
-use Rattle.row_machine.specs.plain_lists.specs.Edits.{changed_first, dropped}
-use Rattle.row_machine.specs.plain_lists.proofs.PutsLemmas.{Mem-Puts, Mem-puts, Mem-unputs}
-use Rattle.row_machine.specs.plain_lists.proofs.Searches.{find-some}
-use Rattle.row_machine.specs.plain_lists.proofs.EditLemmas.{changed-Puts, find-changed, Mem-dropped}
-use Rattle.row_machine.specs.operations.specs.declared.operation.Operation.{Operation}
-use Rattle.row_machine.specs.operations.specs.declared.operation.OpFault.{OpFault}
-use Rattle.row_machine.specs.operations.specs.declared.status.Status.{Status}
-use Rattle.row_machine.specs.operations.specs.Kept.{has_number, live_at}
-use Rattle.row_machine.specs.records.specs.declared.notices.Untold.{Untold}
+use Rattle.plain_lists.specs.Members.{Mem}
+use Rattle.plain_lists.specs.Puts.{Puts}
+use Rattle.plain_lists.specs.Edits.{changed_first, dropped}
+use Rattle.plain_lists.proofs.PutsLemmas.{Mem-Puts, Mem-puts, Mem-unputs}
+use Rattle.plain_lists.proofs.Searches.{find-some}
+use Rattle.plain_lists.proofs.EditLemmas.{changed-Puts, find-changed, Mem-dropped}
+use Rattle.operations.specs.declared.operation.Operation.{Operation}
+use Rattle.operations.specs.declared.operation.OpFault.{OpFault}
+use Rattle.operations.specs.declared.status.Status.{Status}
+use Rattle.operations.specs.Kept.{has_number, live_at}
+use Rattle.records.specs.declared.notices.Untold.{Untold}
 use Rattle.row_machine.specs.machine.Task.{Task}
 use Rattle.row_machine.specs.machine.State.{State}
 use Rattle.row_machine.specs.shown.Notices.{telling, push_notice}
 use Rattle.row_machine.specs.machine.Work.{with_task, moved, failed, cancelled, after_failure}
-use Rattle.row_machine.specs.facts.Whole.{AreLinked}
+use Rattle.row_machine.specs.facts.Whole.{ReferencesExist}
 use Rattle.machine_laws.proofs.LinksCore.{bare, core, AreOf, IsSameWork, links-fewer, links-core}
 
 -- ---- lists of live operations
@@ -47,14 +47,14 @@ number_itself s o live = (find-some (has_number o.number) s.operations.live o li
 
 pub task-links : (s : State) (o : Operation Task) (task : Task) → live_at s.operations o.number ≡ Some o
     → IsSameWork o.work task
-    → AreLinked s → AreLinked (with_task o.number task s)
+    → ReferencesExist s → ReferencesExist (with_task o.number task s)
 task-links s o task live same h =
     links-fewer s (with_task o.number task s) refl
     (AreOf-changed o.number (λ x. record x { work = task }) o s.operations.live live same) h
 
 pub moved-links : (s : State) (o : Operation Task) (now : Status) (moment : ℕ)
     → live_at s.operations o.number ≡ Some o
-    → AreLinked s → AreLinked (moved o.number now moment s)
+    → ReferencesExist s → ReferencesExist (moved o.number now moment s)
 moved-links s o now moment live h =
     links-fewer s (moved o.number now moment s) refl
     (AreOf-changed o.number (λ x. record x { status = now; updated = moment }) o s.operations.live live refl) h
@@ -62,7 +62,7 @@ moved-links s o now moment live h =
 -- moved, and with further calls
 pub running-links : (s : State) (o : Operation Task) (task : Task) (now : Status) (moment : ℕ)
     → live_at s.operations o.number ≡ Some o → IsSameWork o.work task
-    → AreLinked s → AreLinked (with_task o.number task (moved o.number now moment s))
+    → ReferencesExist s → ReferencesExist (with_task o.number task (moved o.number now moment s))
 running-links s o task now moment live same h =
     task-links (moved o.number now moment s) (record o { status = now; updated = moment }) task
     (find-changed (has_number o.number) (λ x. record x { status = now; updated = moment }) o s.operations.live live (number_itself s o live))
@@ -70,11 +70,11 @@ running-links s o task now moment live same h =
     (moved-links s o now moment live h)
 
 pub ended-links : (s t : State) (p : Operation Task → Bool) → bare t [] ≡ bare s []
-    → t.operations.live ≡ dropped p s.operations.live → AreLinked s → AreLinked t
+    → t.operations.live ≡ dropped p s.operations.live → ReferencesExist s → ReferencesExist t
 ended-links s t p same live h =
     links-fewer s t same (subst (AreOf s.operations.live) (sym live) (AreOf-dropped p s.operations.live)) h
 
-pub cancelled-links : (s : State) (number moment : ℕ) → AreLinked s → AreLinked (cancelled s number moment)
+pub cancelled-links : (s : State) (number moment : ℕ) → ReferencesExist s → ReferencesExist (cancelled s number moment)
 unfolding cancelled
 cancelled-links s number moment h = ended-links s (cancelled s number moment) (has_number number) refl refl h
 
@@ -86,8 +86,8 @@ either_core false s t u e f = f
 pub failure_core : (task : Task) (done : ℕ) (s : State) → core (after_failure task done s) ≡ core s
 failure_core task done s = either_core _ s _ s refl refl
 
-pub failed-links : (s : State) (o : Operation Task) (why : OpFault) (done moment : ℕ) → AreLinked s
-    → AreLinked (failed s o why done moment)
+pub failed-links : (s : State) (o : Operation Task) (why : OpFault) (done moment : ℕ) → ReferencesExist s
+    → ReferencesExist (failed s o why done moment)
 unfolding failed
 failed-links s o why done moment h =
     ended-links s (failed s o why done moment) (has_number o.number)
@@ -99,5 +99,5 @@ pub telling_core : (notices : List Untold) (s : State) → core (telling notices
 telling_core [] s = refl
 telling_core (n ∷ ns) s = telling_core ns (push_notice n s) ∙ either_core _ s s _ refl refl
 
-pub telling-links : (notices : List Untold) (s : State) → AreLinked s → AreLinked (telling notices s)
+pub telling-links : (notices : List Untold) (s : State) → ReferencesExist s → ReferencesExist (telling notices s)
 telling-links notices s h = links-core s (telling notices s) (telling_core notices s) h

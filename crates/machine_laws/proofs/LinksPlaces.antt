@@ -4,15 +4,15 @@ use Rattle.std.specs.Prelude.{IfSome}
 use Rattle.std.specs.Option.{option_map, option_map_or, option_and_then, is_some}
 use Rattle.std.specs.Str.{bytes_eq}
 use Rattle.std.proofs.lemmas.Bool.{and_from}
-use Rattle.row_machine.specs.config_lists.proofs.Keys.{bytes_eq-itself}
-use Rattle.record_keeper.specs.size_values.specs.declared.kinds.Deed.{Deed}
-use Rattle.record_keeper.specs.size_values.specs.declared.kinds.Deed.TheVariants as deed
-use Rattle.record_keeper.specs.size_values.specs.declared.kinds.ObjectKind.{ObjectKind}
-use Rattle.record_keeper.specs.size_values.specs.declared.kinds.ObjectKind.TheVariants as kind
-use Rattle.row_machine.specs.records.specs.declared.rows.Volume.{Volume}
-use Rattle.row_machine.specs.records.specs.declared.rows.Row.{Row}
-use Rattle.row_machine.specs.records.specs.declared.rows.Row.TheVariants as row
-use Rattle.row_machine.specs.records.specs.declared.commands.Target.{Target}
+use Rattle.config_lists.proofs.Keys.{bytes_eq-itself}
+use Rattle.size_values.specs.declared.kinds.Deed.{Deed}
+use Rattle.size_values.specs.declared.kinds.Deed.TheVariants as deed
+use Rattle.size_values.specs.declared.kinds.ObjectKind.{ObjectKind}
+use Rattle.size_values.specs.declared.kinds.ObjectKind.TheVariants as kind
+use Rattle.records.specs.declared.rows.Volume.{Volume}
+use Rattle.records.specs.declared.rows.Row.{Row}
+use Rattle.records.specs.declared.rows.Row.TheVariants as row
+use Rattle.records.specs.declared.commands.Target.{Target}
 use Rattle.row_machine.specs.machine.Task.{Task}
 use Rattle.row_machine.specs.machine.State.{State}
 use Rattle.row_machine.specs.machine.Rows.{pool_named, volume_named, instance_named, snapshot_named}

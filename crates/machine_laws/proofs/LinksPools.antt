@@ -2,18 +2,18 @@
 use Rattle.std.proofs.Common.{◌≡◌, ◌≢◌, ℕ, true, false, Some, None, List, [], ◌∷◌, sym, ap, ◌∙◌, true≢false}
 use Rattle.std.specs.Option.{option_map_or, is_some}
 use Rattle.std.specs.Str.{bytes_eq}
-use Rattle.row_machine.specs.plain_lists.specs.Members.{Mem, Each}
-use Rattle.row_machine.specs.plain_lists.specs.Edits.{dropped}
-use Rattle.row_machine.specs.plain_lists.proofs.Elements.{Each-map}
-use Rattle.row_machine.specs.plain_lists.proofs.Searches.{find-some}
-use Rattle.row_machine.specs.config_lists.proofs.Keys.{bytes_eq-itself}
-use Rattle.row_machine.specs.config_lists.specs.Devices.{NamedDevices}
-use Rattle.row_machine.specs.estate_rules.specs.Uses.{names_pool}
-use Rattle.row_machine.specs.operations.specs.declared.operation.Operation.{Operation}
-use Rattle.row_machine.specs.records.specs.declared.rows.Pool.{Pool}
-use Rattle.row_machine.specs.records.specs.declared.rows.Volume.{Volume}
-use Rattle.row_machine.specs.records.specs.declared.rows.Row.TheVariants as row
-use Rattle.row_machine.specs.row_codec.specs.Spelling.{key_of}
+use Rattle.plain_lists.specs.Members.{Mem, Each}
+use Rattle.plain_lists.specs.Edits.{dropped}
+use Rattle.plain_lists.proofs.Elements.{Each-map}
+use Rattle.plain_lists.proofs.Searches.{find-some}
+use Rattle.config_lists.proofs.Keys.{bytes_eq-itself}
+use Rattle.config_lists.specs.Devices.{NamedDevices}
+use Rattle.estate_rules.specs.Uses.{names_pool}
+use Rattle.operations.specs.declared.operation.Operation.{Operation}
+use Rattle.records.specs.declared.rows.Pool.{Pool}
+use Rattle.records.specs.declared.rows.Volume.{Volume}
+use Rattle.records.specs.declared.rows.Row.TheVariants as row
+use Rattle.row_codec.specs.Spelling.{key_of}
 use Rattle.row_machine.specs.machine.Task.{Task}
 use Rattle.row_machine.specs.machine.State.{State}
 use Rattle.row_machine.specs.machine.Rows.{is_pool, pool_names, pool_named, with_pool}
@@ -23,7 +23,7 @@ use Rattle.row_machine.specs.machine.Changes.{applied, has_key, removal}
 use Rattle.row_machine.specs.shown.Links.{target_of}
 use Rattle.row_machine.specs.machine.Holders.{volume_uses, first_user_of}
 use Rattle.row_machine.specs.machine.Plans.{put_all}
-use Rattle.row_machine.specs.facts.Whole.{IsWhole, AreLinked}
+use Rattle.row_machine.specs.facts.Whole.{IsWhole, ReferencesExist}
 use Rattle.machine_laws.proofs.NamesRows.{each-row}
 use Rattle.machine_laws.proofs.LinksDevices.{pool_there}
 use Rattle.machine_laws.proofs.LinksClaims.{claim-volume}
@@ -37,7 +37,7 @@ serving : (s : State) (ps : List Pool) → IsWhole s
     → Each (λ r. (name : List ℕ) → names_pool r.devices name ≡ true → pool_there s name → is_some (pool_named ps name) ≡ true) s.profiles
     → Each (λ i. (name : List ℕ) → names_pool (expanded_of s.projects s.profiles i).devices name ≡ true → pool_there s name → is_some (pool_named ps name) ≡ true) (judged_instances s)
     → Each (λ o. (v : Volume) → claimed_volume o.work ≡ Some v → is_some (pool_named s.pools v.pool) ≡ true → is_some (pool_named ps v.pool) ≡ true) s.operations.live
-    → AreLinked (record s { pools = ps })
+    → ReferencesExist (record s { pools = ps })
 serving s ps h volumes profiles instances claims =
     stores-links s s.networks ps s.volumes h.links h.operations.deeds (record {
       networks = (each-row s h.links.homes).networks;
@@ -56,7 +56,7 @@ serving s ps h volumes profiles instances claims =
     })
 
 -- Pools are put.
-pub pool-put_links : (s : State) (r : Pool) → IsWhole s → AreLinked (applied s (put_all (row.Pool r ∷ [])))
+pub pool-put_links : (s : State) (r : Pool) → IsWhole s → ReferencesExist (applied s (put_all (row.Pool r ∷ [])))
 pool-put_links s r h = serving s (with_pool r s.pools) h
     (record { at = λ v m. pool-still r s.pools v.pool })
     (record { at = λ x m name names. pool-still r s.pools name })
@@ -65,7 +65,7 @@ pool-put_links s r h = serving s (with_pool r s.pools) h
 
 -- A pool that nothing names is removed.
 pub pool-removed_links : (s : State) (home : List ℕ) (old : Pool) → IsWhole s → pool_named s.pools old.name ≡ Some old
-    → first_user_of s home (target_of (row.Pool old)) ≡ None → AreLinked (applied s (removal (row.Pool old) ∷ []))
+    → first_user_of s home (target_of (row.Pool old)) ≡ None → ReferencesExist (applied s (removal (row.Pool old) ∷ []))
 pool-removed_links s home old h found used = serving s rest h
     (record { at = λ v m. stays v.pool (other v (unused.volumes.at v m)) })
     (record { at = λ r m name names. stays name (named r.devices (unused.profiles.at r m) name names) })

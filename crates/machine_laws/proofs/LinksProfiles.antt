@@ -2,22 +2,22 @@
 use Rattle.std.proofs.Common.{◌≡◌, ℕ, Bool, true, false, ◌⊎◌, Some, None, List, [], ◌∷◌, refl, sym, subst, inl, inr}
 use Rattle.std.specs.List.{list_any}
 use Rattle.std.specs.Option.{option_or, option_to_list}
-use Rattle.row_machine.specs.plain_lists.specs.Members.{Mem, Each}
-use Rattle.row_machine.specs.plain_lists.specs.Edits.{dropped}
-use Rattle.row_machine.specs.plain_lists.specs.Firsts.{first_of}
-use Rattle.row_machine.specs.plain_lists.proofs.Elements.{Each-map, Each-append, Mem-left}
-use Rattle.row_machine.specs.plain_lists.proofs.FirstLemmas.{none_both, told_if, first_of-none}
-use Rattle.row_machine.specs.plain_lists.proofs.Readings.{Mem-from_read}
-use Rattle.row_machine.specs.plain_lists.proofs.Searches.{any-none, find-some, find-none}
-use Rattle.row_machine.specs.plain_lists.proofs.EditLemmas.{Each-dropped}
-use Rattle.record_keeper.specs.size_values.specs.declared.kinds.ObjectKind.TheVariants as kind
-use Rattle.row_machine.specs.option_tables.specs.Checks.{instance_fault}
-use Rattle.row_machine.specs.option_tables.specs.declared.tables.Scope.TheVariants as scope
-use Rattle.row_machine.specs.operations.specs.declared.operation.Operation.{Operation}
-use Rattle.row_machine.specs.records.specs.declared.rows.Profile.{Profile}
-use Rattle.row_machine.specs.records.specs.declared.rows.Instance.{Instance}
-use Rattle.row_machine.specs.records.specs.declared.rows.Row.TheVariants as row
-use Rattle.row_machine.specs.row_codec.specs.Spelling.{key_of}
+use Rattle.plain_lists.specs.Members.{Mem, Each}
+use Rattle.plain_lists.specs.Edits.{dropped}
+use Rattle.plain_lists.specs.Firsts.{first_of}
+use Rattle.plain_lists.proofs.Elements.{Each-map, Each-append, Mem-left}
+use Rattle.plain_lists.proofs.FirstLemmas.{none_both, told_if, first_of-none}
+use Rattle.plain_lists.proofs.Readings.{Mem-from_read}
+use Rattle.plain_lists.proofs.Searches.{any-none, find-some, find-none}
+use Rattle.plain_lists.proofs.EditLemmas.{Each-dropped}
+use Rattle.size_values.specs.declared.kinds.ObjectKind.TheVariants as kind
+use Rattle.option_tables.specs.Checks.{instance_fault}
+use Rattle.option_tables.specs.declared.tables.Scope.TheVariants as scope
+use Rattle.operations.specs.declared.operation.Operation.{Operation}
+use Rattle.records.specs.declared.rows.Profile.{Profile}
+use Rattle.records.specs.declared.rows.Instance.{Instance}
+use Rattle.records.specs.declared.rows.Row.TheVariants as row
+use Rattle.row_codec.specs.Spelling.{key_of}
 use Rattle.row_machine.specs.machine.Task.{Task}
 use Rattle.row_machine.specs.machine.State.{State}
 use Rattle.row_machine.specs.machine.Rows.{is_profile, profile_named, with_profile}
@@ -29,7 +29,7 @@ use Rattle.row_machine.specs.machine.Holders.{names_profile, claim_rows, holder_
 use Rattle.row_machine.specs.machine.SettingRules.{tables_break, scope_of, root_missing, profile_missing, devices_miss, instance_settings, profile_settings, row_settings, naming}
 use Rattle.row_machine.specs.machine.Plans.{moved_row}
 use Rattle.row_machine.specs.opening.Opening.{home_missing}
-use Rattle.row_machine.specs.facts.Whole.{IsWhole, IsLinked, AreLinked}
+use Rattle.row_machine.specs.facts.Whole.{IsWhole, IsLinked, ReferencesExist}
 use Rattle.machine_laws.proofs.Cases.{IsHome}
 use Rattle.machine_laws.proofs.Expansions.{home_in, IsAlike}
 use Rattle.machine_laws.proofs.ExpansionsApart.{AreApart, apart-both, apart-profile, apart-no_profile, apart-alike, not-named}
@@ -77,7 +77,7 @@ record AreEnough (s : State) (rs : List Profile) : Type 0 where
   devices : Each (λ r. devices_miss s r.project r.devices ≡ None) rs
   instances : Each (λ i. IsAlike s (record s { profiles = rs }) i ⊎ (instance_settings (record s { profiles = rs }) i ≡ None)) (judged_instances s)
 
-profiles_links : (s : State) (rs : List Profile) → IsWhole s → AreEnough s rs → AreLinked (record s { profiles = rs })
+profiles_links : (s : State) (rs : List Profile) → IsWhole s → AreEnough s rs → ReferencesExist (record s { profiles = rs })
 unfolding judged_instances devices_miss
 profiles_links s rs h enough = record {
   homes = rows-each t (record {
@@ -177,7 +177,7 @@ judged_anew s rs r i settled m named =
 -- A profile is put, and each instance that names it is judged.
 pub profile-put_links : (s : State) (r : Profile) → IsWhole s → home_missing s (row.Profile r) ≡ None
     → row_settings (record s { profiles = with_profile r s.profiles }) (row.Profile r) ≡ None
-    → AreLinked (record s { profiles = with_profile r s.profiles })
+    → ReferencesExist (record s { profiles = with_profile r s.profiles })
 profile-put_links s r h home settled = profiles_links s (with_profile r s.profiles) h (record {
   homes = profile-each _ r s.profiles home (each-row s h.links.homes).profiles;
   devices = profile-each _ r s.profiles (devices_same s (with_profile r s.profiles) r accepted.0) h.links.profiles;
@@ -208,7 +208,7 @@ dropped_apart s old h found = apart-no_profile s (key_of (row.Profile old)) (rec
 pub profile-removed_links : (s : State) (old : Profile) → IsWhole s
     → profile_named s.profiles old.project old.name ≡ Some old
     → first_user_of s old.project (target_of (row.Profile old)) ≡ None → holder_of s old.project old.name ≡ None
-    → AreLinked (applied s (removal (row.Profile old) ∷ []))
+    → ReferencesExist (applied s (removal (row.Profile old) ∷ []))
 profile-removed_links s old h found used held = profiles_links s _ h (record {
   homes = Each-dropped _ (each-row s h.links.homes).profiles;
   devices = Each-dropped _ h.links.profiles;
@@ -223,7 +223,7 @@ pub profile-moved_links : (s : State) (old : Profile) (to : List ℕ) → IsWhol
     → profile_named s.profiles old.project old.name ≡ Some old
     → first_user_of s old.project (target_of (row.Profile old)) ≡ None → holder_of s old.project old.name ≡ None
     → row_settings (applied s (moved_row (row.Profile old) (row.Profile (record old { name = to })))) (row.Profile (record old { name = to })) ≡ None
-    → AreLinked (applied s (moved_row (row.Profile old) (row.Profile (record old { name = to }))))
+    → ReferencesExist (applied s (moved_row (row.Profile old) (row.Profile (record old { name = to }))))
 profile-moved_links s old to h is found used held settled = profiles_links s (with_profile new rest) h (record {
   homes =
       profile-each _ new rest (profile-home s new old.project is refl)

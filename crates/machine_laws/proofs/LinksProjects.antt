@@ -1,18 +1,18 @@
 -- A project that is made, renamed or removed keeps the links.
 use Rattle.std.proofs.Common.{◌≡◌, ◌≢◌, ℕ, Bool, true, false, cond, ◌⊎◌, Option, Some, None, List, [], ◌∷◌, ◌++◌, map, refl, sym, ap, subst, ◌∙◌, inl, inr, true≢false}
 use Rattle.std.specs.Option.{option_map, option_map_or, option_to_list, is_some}
-use Rattle.row_machine.specs.plain_lists.specs.Members.{Mem, Each, Distinct}
-use Rattle.row_machine.specs.plain_lists.specs.Edits.{dropped}
-use Rattle.row_machine.specs.plain_lists.proofs.Elements.{Each-map}
-use Rattle.row_machine.specs.plain_lists.proofs.FirstLemmas.{none_both}
-use Rattle.row_machine.specs.plain_lists.proofs.Searches.{find-some, find-none}
-use Rattle.row_machine.specs.plain_lists.proofs.EditLemmas.{Mem-dropped}
-use Rattle.record_keeper.specs.size_values.specs.declared.kinds.ObjectKind.TheVariants as kind
-use Rattle.row_machine.specs.records.specs.declared.rows.Project.{Project}
-use Rattle.row_machine.specs.records.specs.declared.rows.Profile.{Profile}
-use Rattle.row_machine.specs.records.specs.declared.rows.Row.{Row}
-use Rattle.row_machine.specs.records.specs.declared.rows.Row.TheVariants as row
-use Rattle.row_machine.specs.row_codec.specs.Spelling.{key_of}
+use Rattle.plain_lists.specs.Members.{Mem, Each, Distinct}
+use Rattle.plain_lists.specs.Edits.{dropped}
+use Rattle.plain_lists.proofs.Elements.{Each-map}
+use Rattle.plain_lists.proofs.FirstLemmas.{none_both}
+use Rattle.plain_lists.proofs.Searches.{find-some, find-none}
+use Rattle.plain_lists.proofs.EditLemmas.{Mem-dropped}
+use Rattle.size_values.specs.declared.kinds.ObjectKind.TheVariants as kind
+use Rattle.records.specs.declared.rows.Project.{Project}
+use Rattle.records.specs.declared.rows.Profile.{Profile}
+use Rattle.records.specs.declared.rows.Row.{Row}
+use Rattle.records.specs.declared.rows.Row.TheVariants as row
+use Rattle.row_codec.specs.Spelling.{key_of}
 use Rattle.row_machine.specs.declared.changes.RowChange.{RowChange}
 use Rattle.row_machine.specs.machine.State.{State}
 use Rattle.row_machine.specs.machine.Rows.{default_name, is_profile, project_named, profile_names, with_project, with_profile, texts_before}
@@ -22,7 +22,7 @@ use Rattle.row_machine.specs.machine.SettingRules.{settings_broken, row_settings
 use Rattle.row_machine.specs.machine.StandingRules.{is_occupied}
 use Rattle.row_machine.specs.machine.Plans.{put_all, moved_row, project_creation, project_rename, project_deletion, own_profile}
 use Rattle.row_machine.specs.opening.Opening.{home_missing, has_all_features}
-use Rattle.row_machine.specs.facts.Whole.{IsWhole, AreLinked}
+use Rattle.row_machine.specs.facts.Whole.{IsWhole, ReferencesExist}
 use Rattle.machine_laws.proofs.Found.{profile-found}
 use Rattle.machine_laws.proofs.ExpansionsApart.{AreApart, apart-both, apart-project, apart-profile, apart-no_project, apart-no_profile}
 use Rattle.machine_laws.proofs.NamesLists.{Mem-replaced}
@@ -80,7 +80,7 @@ own_placed t r name found on = (at-home t.projects name kind.Profile (own-home t
 -- ---- a new project
 
 pub project-made_links : (s : State) (r : Project) → IsWhole s → project_named s.projects r.name ≡ None
-    → AreLinked (applied s (project_creation r))
+    → ReferencesExist (applied s (project_creation r))
 project-made_links s r h fresh = at (has_profiles r) refl where
   Q : List ℕ → Type 0
   Q name = name ≡ r.name
@@ -95,7 +95,7 @@ project-made_links s r h fresh = at (has_profiles r) refl where
   put = apart-project s r refl
 
   at : (b : Bool) → has_profiles r ≡ b
-      → AreLinked (applied s (cond b (put_all (row.Project r ∷ row.Profile (default_profile r.name) ∷ [])) (put_all (row.Project r ∷ []))))
+      → ReferencesExist (applied s (cond b (put_all (row.Project r ∷ row.Profile (default_profile r.name) ∷ [])) (put_all (row.Project r ∷ []))))
   at true on =
       elsewhere-links Q s (with_project r s.projects) (with_profile (default_profile r.name) s.profiles) h away
       (apart-both put (apart-profile (with_row (row.Project r) s) (default_profile r.name) refl))
@@ -150,7 +150,7 @@ own_dropped Q s old p h is touched = record {
 
 pub project-removed_links : (s : State) (old : Project) → IsWhole s → project_named s.projects old.name ≡ Some old
     → old.name ≢ default_name
-    → is_occupied s old.name ≡ false → AreLinked (applied s (project_deletion s old))
+    → is_occupied s old.name ≡ false → ReferencesExist (applied s (project_deletion s old))
 project-removed_links s old h found differs free = at (own_profile s old) refl where
   Q : List ℕ → Type 0
   Q name = name ≡ old.name
@@ -162,7 +162,7 @@ project-removed_links s old h found differs free = at (own_profile s old) refl w
   gone = apart-no_project s old.name refl
 
   at : (o : Option Profile) → own_profile s old ≡ o
-      → AreLinked (applied s (map removal (row.Project old ∷ map row.Profile (option_to_list o))))
+      → ReferencesExist (applied s (map removal (row.Project old ∷ map row.Profile (option_to_list o))))
   at None is =
       elsewhere-links Q s (dropped (λ y. has_key old.name (row.Project y)) s.projects) s.profiles h
       (emptied s old.name empty differs) gone
@@ -189,7 +189,7 @@ pub project-moved_links : (s : State) (old : Project) (to : List ℕ) → IsWhol
     → project_named s.projects old.name ≡ Some old → old.name ≢ default_name
     → is_occupied s old.name ≡ false → project_named s.projects to ≡ None
     → settings_broken (applied s (project_rename s to old)) (rows_put (project_rename s to old)) ≡ None
-    → AreLinked (applied s (project_rename s to old))
+    → ReferencesExist (applied s (project_rename s to old))
 project-moved_links s old to h found differs free fresh settled = at (own_profile s old) refl settled where
   Q : List ℕ → Type 0
   Q name = (name ≡ old.name) ⊎ (name ≡ to)
@@ -241,7 +241,7 @@ project-moved_links s old to h found differs free fresh settled = at (own_profil
 
   at : (o : Option Profile) → own_profile s old ≡ o
       → settings_broken (applied s (moved_row (row.Project old) (row.Project new) ++ own_moved to o)) (rows_put (moved_row (row.Project old) (row.Project new) ++ own_moved to o)) ≡ None
-      → AreLinked (applied s (moved_row (row.Project old) (row.Project new) ++ own_moved to o))
+      → ReferencesExist (applied s (moved_row (row.Project old) (row.Project new) ++ own_moved to o))
   at None is settled = elsewhere-links Q s projects s.profiles h away moved (λ y m. inl (m, others None is y m m))
   at (Some p) is settled = elsewhere-links Q s projects profiles h away
       (apart-both (apart-both moved (apart-no_profile (with_row (row.Project new) rest) (key_of (row.Profile p)) (own_dropped Q s old p h is (inl refl))))

@@ -1,22 +1,22 @@
 -- Where an operation succeeds that removes its instance, or gives it another name, the links are kept.
 use Rattle.std.proofs.Common.{◌≡◌, ◌≢◌, ℕ, true, cond, Some, None, List, [], ◌∷◌, map, sym, ap, subst, ◌∙◌, inl, inr}
 use Rattle.std.specs.Option.{is_some}
-use Rattle.row_machine.specs.plain_lists.specs.Members.{Mem, Each, Distinct}
-use Rattle.row_machine.specs.plain_lists.specs.Edits.{dropped}
-use Rattle.row_machine.specs.plain_lists.proofs.Elements.{Mem-from_map}
-use Rattle.row_machine.specs.plain_lists.proofs.Keys.{Distinct-apart}
-use Rattle.row_machine.specs.plain_lists.proofs.Readings.{Mem-read}
-use Rattle.row_machine.specs.plain_lists.proofs.Searches.{find-some}
-use Rattle.row_machine.specs.plain_lists.proofs.EditLemmas.{Each-dropped}
-use Rattle.record_keeper.specs.size_values.specs.declared.kinds.Deed.TheVariants as deed
-use Rattle.record_keeper.specs.size_values.specs.declared.kinds.ObjectKind.TheVariants as kind
-use Rattle.row_machine.specs.operations.specs.declared.operation.Operation.{Operation}
-use Rattle.row_machine.specs.operations.specs.Kept.{live_at}
-use Rattle.row_machine.specs.records.specs.declared.rows.Instance.{Instance}
-use Rattle.row_machine.specs.records.specs.declared.rows.Snapshot.{Snapshot}
-use Rattle.row_machine.specs.records.specs.declared.rows.Row.TheVariants as row
-use Rattle.row_machine.specs.row_codec.specs.Rows.{HasGoodKey}
-use Rattle.row_machine.specs.row_codec.specs.Spelling.{key_of}
+use Rattle.plain_lists.specs.Members.{Mem, Each, Distinct}
+use Rattle.plain_lists.specs.Edits.{dropped}
+use Rattle.plain_lists.proofs.Elements.{Mem-from_map}
+use Rattle.plain_lists.proofs.Keys.{Distinct-apart}
+use Rattle.plain_lists.proofs.Readings.{Mem-read}
+use Rattle.plain_lists.proofs.Searches.{find-some}
+use Rattle.plain_lists.proofs.EditLemmas.{Each-dropped}
+use Rattle.size_values.specs.declared.kinds.Deed.TheVariants as deed
+use Rattle.size_values.specs.declared.kinds.ObjectKind.TheVariants as kind
+use Rattle.operations.specs.declared.operation.Operation.{Operation}
+use Rattle.operations.specs.Kept.{live_at}
+use Rattle.records.specs.declared.rows.Instance.{Instance}
+use Rattle.records.specs.declared.rows.Snapshot.{Snapshot}
+use Rattle.records.specs.declared.rows.Row.TheVariants as row
+use Rattle.row_codec.specs.Rows.{HasGoodKey}
+use Rattle.row_codec.specs.Spelling.{key_of}
 use Rattle.row_machine.specs.machine.Task.{Task}
 use Rattle.row_machine.specs.machine.State.{State}
 use Rattle.row_machine.specs.machine.Rows.{is_instance, project_named, instance_names, snapshot_names, instance_named, snapshot_named, with_instance}
@@ -24,7 +24,7 @@ use Rattle.row_machine.specs.machine.Claims.{of_live, claimed_instance}
 use Rattle.row_machine.specs.machine.Changes.{has_key}
 use Rattle.row_machine.specs.machine.Asked.{snapshots_of}
 use Rattle.row_machine.specs.machine.Holders.{keeps_busy}
-use Rattle.row_machine.specs.facts.Whole.{IsWhole, AreLinked, new_instance}
+use Rattle.row_machine.specs.facts.Whole.{IsWhole, ReferencesExist, new_instance}
 use Rattle.row_machine.specs.machine.Deeds.{keeps_name}
 use Rattle.machine_laws.proofs.Found.{there-is, instance-found}
 use Rattle.machine_laws.proofs.NamesRise.{Rise-Distinct}
@@ -97,7 +97,7 @@ module _ {s : State} {o : Operation Task} (h : IsWhole s) (live : live_at s.oper
       (λ e. apart x m instance busy (sym e))
 
   -- The instance is removed, and its snapshots with it.
-  pub removal-success : AreLinked (with_guests (rest s o) (without_instance old s.instances) (without_those s o.work.project o.work.target.name))
+  pub removal-success : ReferencesExist (with_guests (rest s o) (without_instance old s.instances) (without_those s o.work.project o.work.target.name))
   removal-success =
       guests-links (rest s o) (without_instance old s.instances) (without_those s o.work.project o.work.target.name)
       (rest-links s o h.links) (rest-deeds s o h) (record {
@@ -155,7 +155,7 @@ module _ {s : State} {o : Operation Task} (h : IsWhole s) (live : live_at s.oper
         (e ∙ sym (λ k. names.0 k ∷ names.1 k ∷ []))
 
     -- The instance gets its new name, and its snapshots go with it.
-    pub rename-success : AreLinked (with_guests (rest s o) (with_instance i (without_instance old s.instances)) (moved_snapshots s o.work i))
+    pub rename-success : ReferencesExist (with_guests (rest s o) (with_instance i (without_instance old s.instances)) (moved_snapshots s o.work i))
     rename-success =
         guests-links (rest s o) (with_instance i (without_instance old s.instances)) (moved_snapshots s o.work i)
         (rest-links s o h.links) (rest-deeds s o h) (record {

@@ -3,16 +3,16 @@ use Rattle.std.proofs.Common.{◌≡◌, ◌≢◌, ℕ, Bool, true, false, cond
 use Rattle.std.specs.List.{filter}
 use Rattle.std.specs.Option.{is_some}
 use Rattle.std.specs.Str.{bytes_eq}
-use Rattle.row_machine.specs.plain_lists.specs.Members.{Mem, Each, Distinct}
-use Rattle.row_machine.specs.plain_lists.specs.Edits.{dropped}
-use Rattle.row_machine.specs.plain_lists.proofs.Elements.{Each-head, Each-tail}
-use Rattle.row_machine.specs.plain_lists.proofs.EditLemmas.{Mem-dropped, Each-dropped, Distinct-dropped}
-use Rattle.row_machine.specs.config_lists.proofs.Keys.{same, bytes_eq-itself}
-use Rattle.row_machine.specs.records.specs.declared.rows.Snapshot.{Snapshot}
-use Rattle.row_machine.specs.records.specs.declared.rows.Row.{Row}
-use Rattle.row_machine.specs.records.specs.declared.rows.Row.TheVariants as row
-use Rattle.row_machine.specs.row_codec.specs.Rows.{HasGoodKey}
-use Rattle.row_machine.specs.row_codec.specs.Spelling.{key_of}
+use Rattle.plain_lists.specs.Members.{Mem, Each, Distinct}
+use Rattle.plain_lists.specs.Edits.{dropped}
+use Rattle.plain_lists.proofs.Elements.{Each-head, Each-tail}
+use Rattle.plain_lists.proofs.EditLemmas.{Mem-dropped, Each-dropped, Distinct-dropped}
+use Rattle.config_lists.proofs.Keys.{same, bytes_eq-itself}
+use Rattle.records.specs.declared.rows.Snapshot.{Snapshot}
+use Rattle.records.specs.declared.rows.Row.{Row}
+use Rattle.records.specs.declared.rows.Row.TheVariants as row
+use Rattle.row_codec.specs.Rows.{HasGoodKey}
+use Rattle.row_codec.specs.Spelling.{key_of}
 use Rattle.row_machine.specs.declared.changes.RowChange.{RowChange}
 use Rattle.row_machine.specs.declared.changes.RowChange.TheVariants as change
 use Rattle.row_machine.specs.machine.State.{State}

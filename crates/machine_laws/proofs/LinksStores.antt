@@ -1,15 +1,15 @@
 -- Links where networks, pools and volumes alone change.
 use Rattle.std.proofs.Common.{◌≡◌, ℕ, true, Some, None, List, refl}
 use Rattle.std.specs.Option.{is_some}
-use Rattle.row_machine.specs.plain_lists.specs.Members.{Each}
-use Rattle.record_keeper.specs.size_values.specs.declared.kinds.ObjectKind.{ObjectKind}
-use Rattle.record_keeper.specs.size_values.specs.declared.kinds.ObjectKind.TheVariants as kind
-use Rattle.row_machine.specs.records.specs.declared.rows.Network.{Network}
-use Rattle.row_machine.specs.records.specs.declared.rows.Pool.{Pool}
-use Rattle.row_machine.specs.records.specs.declared.rows.Volume.{Volume}
-use Rattle.row_machine.specs.records.specs.declared.rows.Instance.{Instance}
-use Rattle.row_machine.specs.records.specs.declared.rows.Row.TheVariants as row
-use Rattle.row_machine.specs.records.specs.declared.commands.Target.{Target}
+use Rattle.plain_lists.specs.Members.{Each}
+use Rattle.size_values.specs.declared.kinds.ObjectKind.{ObjectKind}
+use Rattle.size_values.specs.declared.kinds.ObjectKind.TheVariants as kind
+use Rattle.records.specs.declared.rows.Network.{Network}
+use Rattle.records.specs.declared.rows.Pool.{Pool}
+use Rattle.records.specs.declared.rows.Volume.{Volume}
+use Rattle.records.specs.declared.rows.Instance.{Instance}
+use Rattle.records.specs.declared.rows.Row.TheVariants as row
+use Rattle.records.specs.declared.commands.Target.{Target}
 use Rattle.row_machine.specs.machine.Task.{Task}
 use Rattle.row_machine.specs.machine.State.{State}
 use Rattle.row_machine.specs.machine.Rows.{pool_named, volume_named}
@@ -17,7 +17,7 @@ use Rattle.row_machine.specs.machine.Homes.{home_of}
 use Rattle.row_machine.specs.machine.Expansions.{expanded_of}
 use Rattle.row_machine.specs.machine.Claims.{judged_instances, claimed_volume}
 use Rattle.row_machine.specs.opening.Opening.{home_missing}
-use Rattle.row_machine.specs.facts.Whole.{IsByDeed, AreLinked}
+use Rattle.row_machine.specs.facts.Whole.{IsByDeed, ReferencesExist}
 use Rattle.machine_laws.proofs.Cases.{IsHome}
 use Rattle.machine_laws.proofs.Expansions.{IsAlike}
 use Rattle.machine_laws.proofs.NamesRows.{EachRow, each-row, rows-each}
@@ -38,9 +38,9 @@ pub record StoresServe (s : State) (ns : List Network) (ps : List Pool) (vs : Li
   pub instances : Each (λ i. Serves s (with_stores s ns ps vs) i.project (expanded_of s.projects s.profiles i).devices) (judged_instances s)
   pub operations : Each (λ o. Leaves s (with_stores s ns ps vs) o.work) s.operations.live
 
-pub stores-links : (s : State) (ns : List Network) (ps : List Pool) (vs : List Volume) → AreLinked s
+pub stores-links : (s : State) (ns : List Network) (ps : List Pool) (vs : List Volume) → ReferencesExist s
     → Each (λ o. IsByDeed o.work) s.operations.live
-    → StoresServe s ns ps vs → AreLinked (with_stores s ns ps vs)
+    → StoresServe s ns ps vs → ReferencesExist (with_stores s ns ps vs)
 unfolding judged_instances
 stores-links s ns ps vs h deeds serve = record {
   homes = rows-each t (record {

@@ -2,19 +2,19 @@
 use Rattle.std.proofs.Common.{◌≡◌, ◌≢◌, ℕ, Bool, true, false, Option, Some, None, List, [], ◌∷◌, map, refl, sym, ap, subst, ◌∙◌}
 use Rattle.std.specs.Prelude.{IfSome}
 use Rattle.std.specs.Option.{option_map, option_map_or, option_to_list}
-use Rattle.row_machine.specs.plain_lists.specs.Edits.{dropped}
-use Rattle.record_keeper.specs.size_values.specs.declared.kinds.Action.{Action}
-use Rattle.record_keeper.specs.size_values.specs.declared.kinds.Action.TheVariants as action
-use Rattle.record_keeper.specs.size_values.specs.declared.kinds.Deed.{Deed}
-use Rattle.record_keeper.specs.size_values.specs.declared.kinds.Deed.TheVariants as deed
-use Rattle.record_keeper.specs.size_values.specs.declared.kinds.ObjectKind.TheVariants as kind
-use Rattle.record_keeper.specs.size_values.specs.declared.kinds.Power.{Power}
-use Rattle.row_machine.specs.operations.specs.declared.operation.Operation.{Operation}
-use Rattle.row_machine.specs.operations.specs.Kept.{Kept, has_number, live_at}
-use Rattle.row_machine.specs.records.specs.declared.rows.Instance.{Instance}
-use Rattle.row_machine.specs.records.specs.declared.rows.Snapshot.{Snapshot}
-use Rattle.row_machine.specs.records.specs.declared.rows.Row.{Row}
-use Rattle.row_machine.specs.records.specs.declared.rows.Row.TheVariants as row
+use Rattle.plain_lists.specs.Edits.{dropped}
+use Rattle.size_values.specs.declared.kinds.Action.{Action}
+use Rattle.size_values.specs.declared.kinds.Action.TheVariants as action
+use Rattle.size_values.specs.declared.kinds.Deed.{Deed}
+use Rattle.size_values.specs.declared.kinds.Deed.TheVariants as deed
+use Rattle.size_values.specs.declared.kinds.ObjectKind.TheVariants as kind
+use Rattle.size_values.specs.declared.kinds.Power.{Power}
+use Rattle.operations.specs.declared.operation.Operation.{Operation}
+use Rattle.operations.specs.Kept.{Kept, has_number, live_at}
+use Rattle.records.specs.declared.rows.Instance.{Instance}
+use Rattle.records.specs.declared.rows.Snapshot.{Snapshot}
+use Rattle.records.specs.declared.rows.Row.{Row}
+use Rattle.records.specs.declared.rows.Row.TheVariants as row
 use Rattle.row_machine.specs.declared.changes.RowChange.{RowChange}
 use Rattle.row_machine.specs.declared.changes.RowChange.TheVariants as change
 use Rattle.row_machine.specs.machine.Task.{Task}
@@ -25,7 +25,7 @@ use Rattle.row_machine.specs.machine.Changes.{applied, changed, removal}
 use Rattle.row_machine.specs.machine.Asked.{snapshots_of}
 use Rattle.row_machine.specs.shown.Links.{target_of}
 use Rattle.row_machine.specs.machine.Work.{succeeded, success_changes, removes_instance, renames_instance, with_power_after, power_after}
-use Rattle.row_machine.specs.facts.Whole.{IsWhole, AreLinked, instance_there}
+use Rattle.row_machine.specs.facts.Whole.{IsWhole, ReferencesExist, instance_there}
 use Rattle.row_machine.specs.machine.Deeds.{has_target, target_kind, claim_kind}
 use Rattle.machine_laws.proofs.Found.{there-is}
 use Rattle.machine_laws.proofs.LinksCore.{bare, AreOf, AreOf-itself, links-fewer, links-core}
@@ -89,8 +89,8 @@ powered : (task : Task) (power : Option Power) (s : State)
 powered task None s = (refl, refl)
 powered task (Some power) s = (refl, refl)
 
-by_rows : (s : State) (o : Operation Task) (moment : ℕ) → AreLinked (applied (rest s o) (success_changes s o.work))
-    → AreLinked (succeeded s o moment)
+by_rows : (s : State) (o : Operation Task) (moment : ℕ) → ReferencesExist (applied (rest s o) (success_changes s o.work))
+    → ReferencesExist (succeeded s o moment)
 unfolding succeeded
 by_rows s o moment h = links-fewer (applied (rest s o) cs) (succeeded s o moment) same
     (subst (AreOf (applied (rest s o) cs).operations.live) lives AreOf-itself) h
@@ -115,7 +115,7 @@ by_rows s o moment h = links-fewer (applied (rest s o) cs) (succeeded s o moment
 module _ {s : State} {o : Operation Task} (h : IsWhole s) (live : live_at s.operations o.number ≡ Some o) where
   -- the claim is put
   abbrev puts : (c : Option Row) → Type 0
-  puts c = AreLinked (applied (rest s o) (map change.Put (option_to_list c)))
+  puts c = ReferencesExist (applied (rest s o) (map change.Put (option_to_list c)))
 
   claim_of : (d : Deed) → o.work.deed ≡ d → option_map (λ r. (target_of r).kind) o.work.claim ≡ claim_kind d
   claim_of d is = (own-deed h live).kind ∙ ap claim_kind is
@@ -169,7 +169,7 @@ module _ {s : State} {o : Operation Task} (h : IsWhole s) (live : live_at s.oper
   )
 
   removes : (d : Deed) → o.work.deed ≡ d → target_kind d ≡ kind.Instance → has_target d ≡ true
-      → AreLinked (applied (rest s o) (removes_instance s o.work.project o.work.target.name))
+      → ReferencesExist (applied (rest s o) (removes_instance s o.work.project o.work.target.name))
   removes d is about has =
       let old = target_row d is about has in
       let same = removed_bare old.0 old.1 in
@@ -197,29 +197,29 @@ module _ {s : State} {o : Operation Task} (h : IsWhole s) (live : live_at s.oper
   )
 
   renames : o.work.deed ≡ deed.Rename
-      → AreLinked (applied (rest s o) (option_map_or (renames_instance s o.work) (claimed_instance o.work) []))
+      → ReferencesExist (applied (rest s o) (option_map_or (renames_instance s o.work) (claimed_instance o.work) []))
   renames is =
       let claim = instance-claimed o.work.claim (claim_of deed.Rename is) in
       let claimed : claimed_instance o.work ≡ Some claim.0 = ap (λ c. claimed_instance (record o.work { claim = c })) claim.1 in
       let old = target_row deed.Rename is refl refl in
       let same = renamed_bare claim.0 old.0 old.1 in
-      subst (λ c. AreLinked (applied (rest s o) (option_map_or (renames_instance s o.work) c []))) (sym claimed)
+      subst (λ c. ReferencesExist (applied (rest s o) (option_map_or (renames_instance s o.work) c []))) (sym claimed)
       (links-fewer (with_guests (rest s o) (with_instance claim.0 (without_instance old.0 s.instances)) (moved_snapshots s o.work claim.0))
       (applied (rest s o) (renames_instance s o.work claim.0)) same.0
       (subst (AreOf (others s o)) (sym (ap (λ (k : Kept Task). k.live) same.1)) AreOf-itself)
       (rename-success h live (instance_target deed.Rename is refl) old.0 old.1 claim.0 claim.1 is))
 
   unsnaps : o.work.deed ≡ deed.Unsnap
-      → AreLinked (applied (rest s o) (map removal (map row.Snapshot (option_to_list (snapshot_named s.snapshots o.work.project o.work.target.instance o.work.target.name)))))
+      → ReferencesExist (applied (rest s o) (map removal (map row.Snapshot (option_to_list (snapshot_named s.snapshots o.work.project o.work.target.instance o.work.target.name)))))
   unsnaps is = at (snapshot_named s.snapshots o.work.project o.work.target.instance o.work.target.name) refl where
     at : (c : Option Snapshot)
         → snapshot_named s.snapshots o.work.project o.work.target.instance o.work.target.name ≡ c
-        → AreLinked (applied (rest s o) (map removal (map row.Snapshot (option_to_list c))))
+        → ReferencesExist (applied (rest s o) (map removal (map row.Snapshot (option_to_list c))))
     at None found = rest-links s o h.links
     at (Some r) found = unsnap-success h live r found ((own-deed h live).target ∙ ap target_kind is)
 
   acts : (does : Action) (ephemeral : Bool) → o.work.deed ≡ deed.Act does ephemeral
-      → AreLinked (applied (rest s o) (success_changes s (record o.work { deed = deed.Act does ephemeral })))
+      → ReferencesExist (applied (rest s o) (success_changes s (record o.work { deed = deed.Act does ephemeral })))
   acts action.Stop true is = removes (deed.Act action.Stop true) is refl refl
   acts action.Stop false is = rest-links s o h.links
   acts action.Start ephemeral is = rest-links s o h.links
@@ -228,7 +228,7 @@ module _ {s : State} {o : Operation Task} (h : IsWhole s) (live : live_at s.oper
   acts action.Unfreeze ephemeral is = rest-links s o h.links
 
   by_deed : (d : Deed) → o.work.deed ≡ d
-      → AreLinked (applied (rest s o) (success_changes s (record o.work { deed = d })))
+      → ReferencesExist (applied (rest s o) (success_changes s (record o.work { deed = d })))
   by_deed deed.Create is =
       puts_instance deed.Create is refl (λ e. let x : deed.Create ≡ deed.Rename = sym is ∙ e in cc)
   by_deed deed.Copy is = puts_instance deed.Copy is refl (λ e. let x : deed.Copy ≡ deed.Rename = sym is ∙ e in cc)
@@ -243,5 +243,5 @@ module _ {s : State} {o : Operation Task} (h : IsWhole s) (live : live_at s.oper
   by_deed deed.Unsnap is = unsnaps is
   by_deed deed.CopyVolume is = puts_volume is
 
-  pub succeeded-links : (moment : ℕ) → AreLinked (succeeded s o moment)
+  pub succeeded-links : (moment : ℕ) → ReferencesExist (succeeded s o moment)
   succeeded-links moment = by_rows s o moment (by_deed o.work.deed refl)

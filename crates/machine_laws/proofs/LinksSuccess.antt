@@ -1,22 +1,22 @@
 -- Where an operation succeeds that puts its claim, or removes a snapshot, the links are kept.
 use Rattle.std.proofs.Common.{◌≡◌, ◌≢◌, ℕ, true, Some, List, [], ◌∷◌, refl, sym, ap, subst, ◌∙◌, true≢false}
 use Rattle.std.specs.Option.{is_some}
-use Rattle.row_machine.specs.plain_lists.specs.Members.{Mem, Each}
-use Rattle.row_machine.specs.plain_lists.specs.Edits.{dropped}
-use Rattle.row_machine.specs.plain_lists.proofs.Elements.{Each-map, Each-left, Each-right}
-use Rattle.row_machine.specs.plain_lists.proofs.Readings.{Mem-read}
-use Rattle.row_machine.specs.plain_lists.proofs.Searches.{find-some}
-use Rattle.row_machine.specs.plain_lists.proofs.EditLemmas.{Each-dropped}
-use Rattle.row_machine.specs.config_lists.proofs.Keys.{bytes_eq-itself}
-use Rattle.record_keeper.specs.size_values.specs.declared.kinds.ObjectKind.TheVariants as kind
-use Rattle.row_machine.specs.operations.specs.declared.operation.Operation.{Operation}
-use Rattle.row_machine.specs.operations.specs.Kept.{has_number, live_at}
-use Rattle.row_machine.specs.records.specs.Forms.{are_profiles}
-use Rattle.row_machine.specs.records.specs.declared.rows.Volume.{Volume}
-use Rattle.row_machine.specs.records.specs.declared.rows.Instance.{Instance}
-use Rattle.row_machine.specs.records.specs.declared.rows.Snapshot.{Snapshot}
-use Rattle.row_machine.specs.records.specs.declared.rows.Row.TheVariants as row
-use Rattle.row_machine.specs.row_codec.specs.Spelling.{key_of}
+use Rattle.plain_lists.specs.Members.{Mem, Each}
+use Rattle.plain_lists.specs.Edits.{dropped}
+use Rattle.plain_lists.proofs.Elements.{Each-map, Each-left, Each-right}
+use Rattle.plain_lists.proofs.Readings.{Mem-read}
+use Rattle.plain_lists.proofs.Searches.{find-some}
+use Rattle.plain_lists.proofs.EditLemmas.{Each-dropped}
+use Rattle.config_lists.proofs.Keys.{bytes_eq-itself}
+use Rattle.size_values.specs.declared.kinds.ObjectKind.TheVariants as kind
+use Rattle.operations.specs.declared.operation.Operation.{Operation}
+use Rattle.operations.specs.Kept.{has_number, live_at}
+use Rattle.records.specs.Forms.{are_profiles}
+use Rattle.records.specs.declared.rows.Volume.{Volume}
+use Rattle.records.specs.declared.rows.Instance.{Instance}
+use Rattle.records.specs.declared.rows.Snapshot.{Snapshot}
+use Rattle.records.specs.declared.rows.Row.TheVariants as row
+use Rattle.row_codec.specs.Spelling.{key_of}
 use Rattle.row_machine.specs.machine.Task.{Task}
 use Rattle.row_machine.specs.machine.State.{State}
 use Rattle.row_machine.specs.machine.Rows.{is_snapshot, instance_named, snapshot_named, with_instance, with_snapshot, with_volume}
@@ -24,7 +24,7 @@ use Rattle.row_machine.specs.machine.Claims.{of_live, claimed_instance, claimed_
 use Rattle.row_machine.specs.machine.Changes.{has_key}
 use Rattle.row_machine.specs.shown.Links.{target_of}
 use Rattle.row_machine.specs.machine.Holders.{keeps_busy, is_about}
-use Rattle.row_machine.specs.facts.Whole.{IsWhole, IsByDeed, IsPlaced, IsLinked, AreLinked}
+use Rattle.row_machine.specs.facts.Whole.{IsWhole, IsByDeed, IsPlaced, IsLinked, ReferencesExist}
 use Rattle.machine_laws.proofs.Found.{snapshot-found}
 use Rattle.machine_laws.proofs.NamesRows.{each-row}
 use Rattle.machine_laws.proofs.LinksCore.{links-fewer, linked-rows}
@@ -41,7 +41,7 @@ use Rattle.machine_laws.proofs.LinksBusy.{others, busy-alone}
 abbrev pub rest : State → Operation Task → State
 rest s o = record s { operations = record s.operations { live = others s o } }
 
-pub rest-links : (s : State) (o : Operation Task) → AreLinked s → AreLinked (rest s o)
+pub rest-links : (s : State) (o : Operation Task) → ReferencesExist s → ReferencesExist (rest s o)
 rest-links s o h = links-fewer s (rest s o) refl (AreOf-dropped (has_number o.number) s.operations.live) h
 
 pub rest-deeds : (s : State) (o : Operation Task) → IsWhole s → Each (λ x. IsByDeed x.work) (others s o)
@@ -114,7 +114,7 @@ module _ {s : State} {o : Operation Task} (h : IsWhole s) (live : live_at s.oper
 
   pub instance-success : (i : Instance) → o.work.claim ≡ Some (row.Instance i)
       → target_of (row.Instance i) ≡ o.work.target
-      → AreLinked (with_guests (rest s o) (with_instance i s.instances) s.snapshots)
+      → ReferencesExist (with_guests (rest s o) (with_instance i s.instances) s.snapshots)
   instance-success i claim named =
       guests-links (rest s o) (with_instance i s.instances) s.snapshots (rest-links s o h.links) (rest-deeds s o h)
       (record {
@@ -141,7 +141,7 @@ module _ {s : State} {o : Operation Task} (h : IsWhole s) (live : live_at s.oper
   -- ---- a snapshot is put
 
   pub snapshot-success : (r : Snapshot) → o.work.claim ≡ Some (row.Snapshot r)
-      → AreLinked (with_guests (rest s o) s.instances (with_snapshot r s.snapshots))
+      → ReferencesExist (with_guests (rest s o) s.instances (with_snapshot r s.snapshots))
   snapshot-success r claim =
       guests-links (rest s o) s.instances (with_snapshot r s.snapshots) (rest-links s o h.links) (rest-deeds s o h)
       (record {
@@ -167,7 +167,7 @@ module _ {s : State} {o : Operation Task} (h : IsWhole s) (live : live_at s.oper
   -- ---- a volume is put
 
   pub volume-success : (v : Volume) → o.work.claim ≡ Some (row.Volume v)
-      → AreLinked (record (rest s o) { volumes = with_volume v s.volumes })
+      → ReferencesExist (record (rest s o) { volumes = with_volume v s.volumes })
   volume-success v claim = volume-put_links (rest s o) v (rest-links s o h.links) (rest-deeds s o h)
       (own-placed.claim_home (row.Volume v) claim) (own-placed.pool (row.Volume v) claim refl)
 
@@ -176,7 +176,7 @@ module _ {s : State} {o : Operation Task} (h : IsWhole s) (live : live_at s.oper
   pub unsnap-success : (r : Snapshot)
       → snapshot_named s.snapshots o.work.project o.work.target.instance o.work.target.name ≡ Some r
       → o.work.target.kind ≡ kind.Snapshot
-      → AreLinked (with_guests (rest s o) s.instances (dropped (λ y. has_key (key_of (row.Snapshot r)) (row.Snapshot y)) s.snapshots))
+      → ReferencesExist (with_guests (rest s o) s.instances (dropped (λ y. has_key (key_of (row.Snapshot r)) (row.Snapshot y)) s.snapshots))
   unsnap-success r found is =
       guests-links (rest s o) s.instances left (rest-links s o h.links) (rest-deeds s o h) (record {
         homes = (each-row s h.links.homes).instances;

@@ -3,31 +3,31 @@ use Rattle.std.proofs.Common.{◌≡◌, ℕ, Bool, true, false, cond, ◌&&◌,
 use Rattle.std.specs.List.{filter, list_any}
 use Rattle.std.specs.Option.{option_map_or, option_to_list, option_or, is_some}
 use Rattle.std.specs.Str.{bytes_eq}
-use Rattle.row_machine.specs.plain_lists.specs.Members.{Mem, Each}
-use Rattle.row_machine.specs.plain_lists.specs.Firsts.{first_of}
-use Rattle.row_machine.specs.plain_lists.proofs.Elements.{Each-append, Mem-left}
-use Rattle.row_machine.specs.plain_lists.proofs.FirstLemmas.{none_both, told_if, first_of-none}
-use Rattle.row_machine.specs.plain_lists.proofs.Readings.{Mem-from_read}
-use Rattle.row_machine.specs.plain_lists.proofs.Searches.{any-none, find-some}
-use Rattle.row_machine.specs.config_lists.proofs.Keys.{bytes_eq-itself}
-use Rattle.record_keeper.specs.size_values.specs.declared.kinds.ObjectKind.TheVariants as kind
-use Rattle.row_machine.specs.operations.specs.declared.operation.Operation.{Operation}
-use Rattle.row_machine.specs.records.specs.declared.rows.Project.{Project}
-use Rattle.row_machine.specs.records.specs.declared.rows.Profile.{Profile}
-use Rattle.row_machine.specs.records.specs.declared.rows.Network.{Network}
-use Rattle.row_machine.specs.records.specs.declared.rows.Pool.{Pool}
-use Rattle.row_machine.specs.records.specs.declared.rows.Volume.{Volume}
-use Rattle.row_machine.specs.records.specs.declared.rows.Instance.{Instance}
-use Rattle.row_machine.specs.records.specs.declared.rows.Row.{Row}
-use Rattle.row_machine.specs.records.specs.declared.rows.Row.TheVariants as row
-use Rattle.row_machine.specs.records.specs.declared.commands.Target.{Target}
+use Rattle.plain_lists.specs.Members.{Mem, Each}
+use Rattle.plain_lists.specs.Firsts.{first_of}
+use Rattle.plain_lists.proofs.Elements.{Each-append, Mem-left}
+use Rattle.plain_lists.proofs.FirstLemmas.{none_both, told_if, first_of-none}
+use Rattle.plain_lists.proofs.Readings.{Mem-from_read}
+use Rattle.plain_lists.proofs.Searches.{any-none, find-some}
+use Rattle.config_lists.proofs.Keys.{bytes_eq-itself}
+use Rattle.size_values.specs.declared.kinds.ObjectKind.TheVariants as kind
+use Rattle.operations.specs.declared.operation.Operation.{Operation}
+use Rattle.records.specs.declared.rows.Project.{Project}
+use Rattle.records.specs.declared.rows.Profile.{Profile}
+use Rattle.records.specs.declared.rows.Network.{Network}
+use Rattle.records.specs.declared.rows.Pool.{Pool}
+use Rattle.records.specs.declared.rows.Volume.{Volume}
+use Rattle.records.specs.declared.rows.Instance.{Instance}
+use Rattle.records.specs.declared.rows.Row.{Row}
+use Rattle.records.specs.declared.rows.Row.TheVariants as row
+use Rattle.records.specs.declared.commands.Target.{Target}
 use Rattle.row_machine.specs.machine.Task.{Task}
 use Rattle.row_machine.specs.machine.State.{State}
 use Rattle.row_machine.specs.machine.Rows.{is_project, project_named}
 use Rattle.row_machine.specs.machine.Claims.{claimed_instance, claimed_volume, judged_instances, project_of_row, replaced_instance}
 use Rattle.row_machine.specs.shown.Links.{target_of, link_of}
 use Rattle.row_machine.specs.machine.Holders.{user_link, work_link, profile_uses, instance_uses, volume_uses, source_uses, claim_rows, claim_uses, user_in, first_user_of}
-use Rattle.row_machine.specs.facts.Whole.{AreLinked}
+use Rattle.row_machine.specs.facts.Whole.{ReferencesExist}
 use Rattle.machine_laws.proofs.Found.{there-is, project-found}
 use Rattle.machine_laws.proofs.NamesRows.{EachRow, each-row}
 use Rattle.row_machine.specs.opening.Opening.{home_missing}
@@ -120,7 +120,7 @@ module _ (s : State) (home : List ℕ) (of : Target) where
       none_in name
       (ap (user_in s home of) (sym p.1.1) ∙ (first_of-none (λ (x : Project). user_in s home of x.name) s.projects e).at p.0 p.1.0)
 
-  no_claim : first_of (λ (p : Project). user_in s home of p.name) s.projects ≡ None → AreLinked s
+  no_claim : first_of (λ (p : Project). user_in s home of p.name) s.projects ≡ None → ReferencesExist s
       → (o : Operation Task) → Mem o s.operations.live
       → (r : Row) → o.work.claim ≡ Some r → claim_uses s home of o.work ≡ false
   no_claim e h o m r is =
@@ -133,7 +133,7 @@ module _ (s : State) (home : List ℕ) (of : Target) where
       (told_if (claimed_in (project_of_row r) o.work && claim_uses s home of o.work) (work_link o.work)
       ((first_of-none (claim_in (project_of_row r)) s.operations.live here.claims).at o m))
 
-  claimed_unused : first_of (λ (p : Project). user_in s home of p.name) s.projects ≡ None → AreLinked s
+  claimed_unused : first_of (λ (p : Project). user_in s home of p.name) s.projects ≡ None → ReferencesExist s
       → (i : Instance)
       → (o : Operation Task) × (Mem o s.operations.live × (claimed_instance o.work ≡ Some i))
       → instance_uses s home of i ≡ false
@@ -148,7 +148,7 @@ module _ (s : State) (home : List ℕ) (of : Target) where
       (subst (λ c. Mem i (option_to_list c)) (sym found.1.1) (inl refl)))
 
   -- what has no user in any project
-  unused_in : first_of (λ (p : Project). user_in s home of p.name) s.projects ≡ None → AreLinked s
+  unused_in : first_of (λ (p : Project). user_in s home of p.name) s.projects ≡ None → ReferencesExist s
       → IsUnused s home of
   unfolding judged_instances
   unused_in e h = record {
@@ -182,17 +182,17 @@ module _ (s : State) (home : List ℕ) (of : Target) where
     rows = each-row s h.homes
 
 -- an object without a first user
-pub unused-network : (s : State) (r : Network) → AreLinked s
+pub unused-network : (s : State) (r : Network) → ReferencesExist s
     → first_user_of s r.project (target_of (row.Network r)) ≡ None → IsUnused s r.project (target_of (row.Network r))
 unfolding first_user_of
 unused-network s r h e = unused_in s r.project (target_of (row.Network r)) e h
 
-pub unused-pool : (s : State) (home : List ℕ) (r : Pool) → AreLinked s
+pub unused-pool : (s : State) (home : List ℕ) (r : Pool) → ReferencesExist s
     → first_user_of s home (target_of (row.Pool r)) ≡ None → IsUnused s home (target_of (row.Pool r))
 unfolding first_user_of
 unused-pool s home r h e = unused_in s home (target_of (row.Pool r)) e h
 
-pub unused-volume : (s : State) (r : Volume) → AreLinked s
+pub unused-volume : (s : State) (r : Volume) → ReferencesExist s
     → first_user_of s r.project (target_of (row.Volume r)) ≡ None → IsUnused s r.project (target_of (row.Volume r))
 unfolding first_user_of
 unused-volume s r h e = unused_in s r.project (target_of (row.Volume r)) e h

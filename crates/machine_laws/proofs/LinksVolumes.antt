@@ -3,22 +3,22 @@ use Rattle.std.proofs.Common.{◌≡◌, ◌≢◌, ℕ, true, false, Some, None
 use Rattle.std.specs.Option.{option_map_or, is_some}
 use Rattle.std.specs.Str.{bytes_eq}
 use Rattle.std.proofs.lemmas.Bool.{and_from}
-use Rattle.row_machine.specs.plain_lists.specs.Members.{Mem, Each}
-use Rattle.row_machine.specs.plain_lists.specs.Edits.{dropped}
-use Rattle.row_machine.specs.plain_lists.proofs.Elements.{Each-map}
-use Rattle.row_machine.specs.plain_lists.proofs.Searches.{find-some}
-use Rattle.row_machine.specs.plain_lists.proofs.EditLemmas.{Each-dropped}
-use Rattle.row_machine.specs.config_lists.proofs.Keys.{bytes_eq-itself}
-use Rattle.row_machine.specs.config_lists.specs.Devices.{NamedDevices}
-use Rattle.row_machine.specs.estate_rules.specs.Uses.{names_volume}
-use Rattle.record_keeper.specs.size_values.specs.declared.kinds.Deed.{Deed}
-use Rattle.record_keeper.specs.size_values.specs.declared.kinds.Deed.TheVariants as deed
-use Rattle.record_keeper.specs.size_values.specs.declared.kinds.ObjectKind.TheVariants as kind
-use Rattle.row_machine.specs.operations.specs.declared.operation.Operation.{Operation}
-use Rattle.row_machine.specs.records.specs.declared.rows.Volume.{Volume}
-use Rattle.row_machine.specs.records.specs.declared.rows.Row.TheVariants as row
-use Rattle.row_machine.specs.records.specs.declared.commands.Target.{Target}
-use Rattle.row_machine.specs.row_codec.specs.Spelling.{key_of}
+use Rattle.plain_lists.specs.Members.{Mem, Each}
+use Rattle.plain_lists.specs.Edits.{dropped}
+use Rattle.plain_lists.proofs.Elements.{Each-map}
+use Rattle.plain_lists.proofs.Searches.{find-some}
+use Rattle.plain_lists.proofs.EditLemmas.{Each-dropped}
+use Rattle.config_lists.proofs.Keys.{bytes_eq-itself}
+use Rattle.config_lists.specs.Devices.{NamedDevices}
+use Rattle.estate_rules.specs.Uses.{names_volume}
+use Rattle.size_values.specs.declared.kinds.Deed.{Deed}
+use Rattle.size_values.specs.declared.kinds.Deed.TheVariants as deed
+use Rattle.size_values.specs.declared.kinds.ObjectKind.TheVariants as kind
+use Rattle.operations.specs.declared.operation.Operation.{Operation}
+use Rattle.records.specs.declared.rows.Volume.{Volume}
+use Rattle.records.specs.declared.rows.Row.TheVariants as row
+use Rattle.records.specs.declared.commands.Target.{Target}
+use Rattle.row_codec.specs.Spelling.{key_of}
 use Rattle.row_machine.specs.machine.Task.{Task}
 use Rattle.row_machine.specs.machine.State.{State}
 use Rattle.row_machine.specs.machine.Rows.{is_volume, volume_names, volume_named, pool_named, with_volume}
@@ -30,7 +30,7 @@ use Rattle.row_machine.specs.shown.Links.{target_of}
 use Rattle.row_machine.specs.machine.Holders.{devices_name, source_uses, first_user_of}
 use Rattle.row_machine.specs.machine.Plans.{moved_row}
 use Rattle.row_machine.specs.opening.Opening.{home_missing}
-use Rattle.row_machine.specs.facts.Whole.{IsWhole, AreLinked, IsPlaced, IsByDeed}
+use Rattle.row_machine.specs.facts.Whole.{IsWhole, ReferencesExist, IsPlaced, IsByDeed}
 use Rattle.row_machine.specs.machine.Deeds.{has_source, claim_kind}
 use Rattle.machine_laws.proofs.Cases.{IsHome}
 use Rattle.machine_laws.proofs.NamesRows.{each-row}
@@ -83,8 +83,8 @@ record AreEnough (s : State) (vs : List Volume) : Type 0 where
   sources : Each (λ o. (of : Target) → o.work.source ≡ Some of → of.kind ≡ kind.Volume → volume_there s o.work.project of.pool of.name
       → volume_there (record s { volumes = vs }) o.work.project of.pool of.name) s.operations.live
 
-serving : (s : State) (vs : List Volume) → AreLinked s → Each (λ o. IsByDeed o.work) s.operations.live
-    → AreEnough s vs → AreLinked (record s { volumes = vs })
+serving : (s : State) (vs : List Volume) → ReferencesExist s → Each (λ o. IsByDeed o.work) s.operations.live
+    → AreEnough s vs → ReferencesExist (record s { volumes = vs })
 serving s vs h deeds enough = stores-links s s.networks s.pools vs h deeds (record {
   networks = (each-row s h.homes).networks;
   volumes = enough.homes;
@@ -107,7 +107,7 @@ fewer : (s : State) (old : Volume) (vs : List Volume) → IsWhole s
     → Each (λ v. home_missing s (row.Volume v) ≡ None) vs → Each (λ v. is_some (pool_named s.pools v.pool) ≡ true) vs
     → ((home pool name : List ℕ) → volume_names old ≢ home ∷ pool ∷ name ∷ [] → is_some (volume_named s.volumes home pool name) ≡ true
     → is_some (volume_named vs home pool name) ≡ true)
-    → AreLinked (record s { volumes = vs })
+    → ReferencesExist (record s { volumes = vs })
 fewer s old vs h used homes pools stay = serving s vs h.links h.operations.deeds (record {
   homes = homes;
   pools = pools;
@@ -161,9 +161,9 @@ fewer s old vs h used homes pools stay = serving s vs h.links h.operations.deeds
 -- ---- the changes
 
 -- A volume is put.
-pub volume-put_links : (s : State) (r : Volume) → AreLinked s → Each (λ o. IsByDeed o.work) s.operations.live
+pub volume-put_links : (s : State) (r : Volume) → ReferencesExist s → Each (λ o. IsByDeed o.work) s.operations.live
     → home_missing s (row.Volume r) ≡ None
-    → is_some (pool_named s.pools r.pool) ≡ true → AreLinked (record s { volumes = with_volume r s.volumes })
+    → is_some (pool_named s.pools r.pool) ≡ true → ReferencesExist (record s { volumes = with_volume r s.volumes })
 volume-put_links s r h deeds home pool = serving s (with_volume r s.volumes) h deeds (record {
   homes = volume-each _ r s.volumes home (each-row s h.homes).volumes;
   pools = volume-each _ r s.volumes pool h.volumes;
@@ -191,7 +191,7 @@ undropped s old h found home pool name other there =
 pub volume-moved_links : (s : State) (old : Volume) (to : List ℕ) → IsWhole s → IsHome s old.project kind.Volume
     → volume_named s.volumes old.project old.pool old.name ≡ Some old
     → first_user_of s old.project (target_of (row.Volume old)) ≡ None
-    → AreLinked (applied s (moved_row (row.Volume old) (row.Volume (record old { name = to }))))
+    → ReferencesExist (applied s (moved_row (row.Volume old) (row.Volume (record old { name = to }))))
 volume-moved_links s old to h is found used =
     let new : Volume = record old { name = to } in
     let rest : List Volume = dropped (λ y. has_key (key_of (row.Volume old)) (row.Volume y)) s.volumes in
@@ -203,7 +203,7 @@ volume-moved_links s old to h is found used =
 pub volume-removed_links : (s : State) (old : Volume) → IsWhole s
     → volume_named s.volumes old.project old.pool old.name ≡ Some old
     → first_user_of s old.project (target_of (row.Volume old)) ≡ None
-    → AreLinked (applied s (removal (row.Volume old) ∷ []))
+    → ReferencesExist (applied s (removal (row.Volume old) ∷ []))
 volume-removed_links s old h found used =
     fewer s old (dropped (λ y. has_key (key_of (row.Volume old)) (row.Volume y)) s.volumes) h used
     (Each-dropped _ (each-row s h.links.homes).volumes)

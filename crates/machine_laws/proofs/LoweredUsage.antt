@@ -4,29 +4,29 @@ use Rattle.std.specs.Prelude.{map, is_some, IfSome}
 use Rattle.std.specs.List.{sum_by}
 use Rattle.std.specs.Option.{option_map, option_and_then, option_to_list}
 use Rattle.std.specs.Str.{bytes_eq}
-use Rattle.row_machine.specs.plain_lists.specs.Members.{Mem, Each}
-use Rattle.row_machine.specs.plain_lists.specs.Edits.{dropped}
-use Rattle.row_machine.specs.plain_lists.proofs.PutsLemmas.{sum_by-Puts}
-use Rattle.row_machine.specs.plain_lists.proofs.EditLemmas.{dropped-Puts}
-use Rattle.row_machine.specs.plain_lists.proofs.Readings.{sum_by-same}
-use Rattle.row_machine.specs.plain_lists.proofs.Searches.{find-some}
-use Rattle.row_machine.specs.config_lists.proofs.Keys.{same, bytes_eq-itself}
-use Rattle.record_keeper.specs.size_values.specs.Amounts.{part, minus_of, excess_of}
-use Rattle.record_keeper.specs.size_values.specs.declared.amounts.Part.{Part}
-use Rattle.record_keeper.specs.size_values.specs.declared.amounts.Part.TheVariants.{Instances, Containers, Machines, Cpu, Memory, Processes, Disk}
-use Rattle.record_keeper.specs.size_values.proofs.AmountParts.{part-excess, part-minus}
-use Rattle.record_keeper.specs.size_values.specs.declared.kinds.Deed.{Deed}
-use Rattle.record_keeper.specs.size_values.specs.declared.kinds.Deed.TheVariants as deed
-use Rattle.record_keeper.specs.size_values.specs.declared.kinds.ObjectKind.TheVariants as kind
-use Rattle.row_machine.specs.host_model.specs.declared.report.Report.TheVariants as report
-use Rattle.row_machine.specs.operations.specs.declared.operation.Operation.{Operation}
-use Rattle.row_machine.specs.operations.specs.declared.operation.OpFault.TheVariants as fault
-use Rattle.row_machine.specs.operations.specs.declared.status.Status.TheVariants as status
-use Rattle.row_machine.specs.operations.specs.Kept.{has_number}
-use Rattle.row_machine.specs.records.specs.declared.commands.Target.{Target}
-use Rattle.row_machine.specs.records.specs.declared.notices.Notice.{Notice}
-use Rattle.row_machine.specs.records.specs.declared.rows.Instance.{Instance}
-use Rattle.row_machine.specs.records.specs.declared.rows.Row.TheVariants as row
+use Rattle.plain_lists.specs.Members.{Mem, Each}
+use Rattle.plain_lists.specs.Edits.{dropped}
+use Rattle.plain_lists.proofs.PutsLemmas.{sum_by-Puts}
+use Rattle.plain_lists.proofs.EditLemmas.{dropped-Puts}
+use Rattle.plain_lists.proofs.Readings.{sum_by-same}
+use Rattle.plain_lists.proofs.Searches.{find-some}
+use Rattle.config_lists.proofs.Keys.{same, bytes_eq-itself}
+use Rattle.size_values.specs.Amounts.{part, minus_of, excess_of}
+use Rattle.size_values.specs.declared.amounts.Part.{Part}
+use Rattle.size_values.specs.declared.amounts.Part.TheVariants.{Instances, Containers, Machines, Cpu, Memory, Processes, Disk}
+use Rattle.size_values.proofs.AmountParts.{part-excess, part-minus}
+use Rattle.size_values.specs.declared.kinds.Deed.{Deed}
+use Rattle.size_values.specs.declared.kinds.Deed.TheVariants as deed
+use Rattle.size_values.specs.declared.kinds.ObjectKind.TheVariants as kind
+use Rattle.host_model.specs.declared.report.Report.TheVariants as report
+use Rattle.operations.specs.declared.operation.Operation.{Operation}
+use Rattle.operations.specs.declared.operation.OpFault.TheVariants as fault
+use Rattle.operations.specs.declared.status.Status.TheVariants as status
+use Rattle.operations.specs.Kept.{has_number}
+use Rattle.records.specs.declared.commands.Target.{Target}
+use Rattle.records.specs.declared.notices.Notice.{Notice}
+use Rattle.records.specs.declared.rows.Instance.{Instance}
+use Rattle.records.specs.declared.rows.Row.TheVariants as row
 use Rattle.row_machine.specs.declared.changes.RowChange.{RowChange}
 use Rattle.row_machine.specs.declared.changes.RowChange.TheVariants as change
 use Rattle.row_machine.specs.declared.events.Event.TheVariants as event

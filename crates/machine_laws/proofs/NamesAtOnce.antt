@@ -2,20 +2,20 @@
 use Rattle.std.proofs.Common.{◌≡◌, ◌≢◌, ℕ, ◌<◌, Bool, true, false, cond, Option, Some, None, List, [], ◌∷◌, ◌++◌, map, refl, sym, subst}
 use Rattle.std.specs.Prelude.{codes}
 use Rattle.std.specs.Option.{option_map_or, option_to_list}
-use Rattle.row_machine.specs.plain_lists.specs.Members.{Mem, Each}
-use Rattle.row_machine.specs.plain_lists.proofs.Elements.{Each-none, Each-cons, Each-right}
-use Rattle.row_machine.specs.plain_lists.proofs.Keys.{Distinct-apart}
-use Rattle.row_machine.specs.plain_lists.proofs.Searches.{find-some}
-use Rattle.row_machine.specs.estate_rules.specs.Names.{is_object_name}
-use Rattle.record_keeper.specs.size_values.specs.Moments.{moment_limit}
-use Rattle.record_keeper.specs.size_values.specs.declared.kinds.ObjectKind.TheVariants as kind
-use Rattle.row_machine.specs.records.specs.declared.rows.Project.{Project}
-use Rattle.row_machine.specs.records.specs.declared.rows.Profile.{Profile}
-use Rattle.row_machine.specs.records.specs.declared.rows.Volume.{Volume}
-use Rattle.row_machine.specs.records.specs.declared.rows.Instance.{Instance}
-use Rattle.row_machine.specs.records.specs.declared.rows.Row.{Row}
-use Rattle.row_machine.specs.records.specs.declared.rows.Row.TheVariants as row
-use Rattle.row_machine.specs.row_codec.specs.Rows.{IsGood, HasGoodKey, HasMoments}
+use Rattle.plain_lists.specs.Members.{Mem, Each}
+use Rattle.plain_lists.proofs.Elements.{Each-none, Each-cons, Each-right}
+use Rattle.plain_lists.proofs.Keys.{Distinct-apart}
+use Rattle.plain_lists.proofs.Searches.{find-some}
+use Rattle.estate_rules.specs.Names.{is_object_name}
+use Rattle.size_values.specs.Moments.{moment_limit}
+use Rattle.size_values.specs.declared.kinds.ObjectKind.TheVariants as kind
+use Rattle.records.specs.declared.rows.Project.{Project}
+use Rattle.records.specs.declared.rows.Profile.{Profile}
+use Rattle.records.specs.declared.rows.Volume.{Volume}
+use Rattle.records.specs.declared.rows.Instance.{Instance}
+use Rattle.records.specs.declared.rows.Row.{Row}
+use Rattle.records.specs.declared.rows.Row.TheVariants as row
+use Rattle.row_codec.specs.Rows.{IsGood, HasGoodKey, HasMoments}
 use Rattle.row_machine.specs.declared.changes.RowChange.{RowChange}
 use Rattle.row_machine.specs.machine.State.{State}
 use Rattle.row_machine.specs.machine.Rows.{default_name, is_project, is_profile, is_network, is_pool, is_volume, instance_names, volume_names}

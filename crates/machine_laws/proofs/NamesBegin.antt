@@ -2,21 +2,21 @@
 use Rattle.std.proofs.Common.{◌≡◌, ◌≢◌, ℕ, ◌<◌, true, Option, Some, None, List, ◌++◌, refl, sym, subst, arith}
 use Rattle.std.specs.Prelude.{IfSome}
 use Rattle.std.specs.Option.{is_some}
-use Rattle.row_machine.specs.plain_lists.specs.Members.{Mem, Each, Distinct}
-use Rattle.row_machine.specs.plain_lists.specs.Puts.{Puts}
-use Rattle.row_machine.specs.plain_lists.proofs.Elements.{Each-left}
-use Rattle.row_machine.specs.plain_lists.proofs.PutsLemmas.{Each-puts, Distinct-puts, Puts-right, Puts-push}
-use Rattle.row_machine.specs.plain_lists.proofs.Readings.{read-same, read-Puts}
-use Rattle.row_machine.specs.plain_lists.proofs.Searches.{find-some}
-use Rattle.row_machine.specs.config_lists.proofs.Keys.{same}
-use Rattle.record_keeper.specs.size_values.specs.Moments.{moment_limit}
-use Rattle.record_keeper.specs.size_values.specs.declared.kinds.ObjectKind.TheVariants as kind
-use Rattle.row_machine.specs.operations.specs.declared.operation.Operation.{Operation}
-use Rattle.row_machine.specs.operations.specs.Kept.{Kept}
-use Rattle.row_machine.specs.records.specs.declared.rows.Instance.{Instance}
-use Rattle.row_machine.specs.records.specs.declared.rows.Row.{Row}
-use Rattle.row_machine.specs.records.specs.declared.rows.Row.TheVariants as row
-use Rattle.row_machine.specs.row_codec.specs.Rows.{IsGood, HasGoodKey, HasMoments}
+use Rattle.plain_lists.specs.Members.{Mem, Each, Distinct}
+use Rattle.plain_lists.specs.Puts.{Puts}
+use Rattle.plain_lists.proofs.Elements.{Each-left}
+use Rattle.plain_lists.proofs.PutsLemmas.{Each-puts, Distinct-puts, Puts-right, Puts-push}
+use Rattle.plain_lists.proofs.Readings.{read-same, read-Puts}
+use Rattle.plain_lists.proofs.Searches.{find-some}
+use Rattle.config_lists.proofs.Keys.{same}
+use Rattle.size_values.specs.Moments.{moment_limit}
+use Rattle.size_values.specs.declared.kinds.ObjectKind.TheVariants as kind
+use Rattle.operations.specs.declared.operation.Operation.{Operation}
+use Rattle.operations.specs.Kept.{Kept}
+use Rattle.records.specs.declared.rows.Instance.{Instance}
+use Rattle.records.specs.declared.rows.Row.{Row}
+use Rattle.records.specs.declared.rows.Row.TheVariants as row
+use Rattle.row_codec.specs.Rows.{IsGood, HasGoodKey, HasMoments}
 use Rattle.row_machine.specs.machine.Task.{Task}
 use Rattle.row_machine.specs.machine.State.{State}
 use Rattle.row_machine.specs.machine.Rows.{project_named, pool_named, is_project, is_pool, is_instance, volume_names, instance_names, snapshot_names}

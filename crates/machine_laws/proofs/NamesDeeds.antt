@@ -2,24 +2,24 @@
 use Rattle.std.proofs.Common.{◌≡◌, ◌≢◌, ℕ, true, false, cond, Option, Some, None, List, [], ◌∷◌, ◌++◌, map, refl, sym, ap, subst, ◌∙◌}
 use Rattle.std.specs.Str.{bytes_eq}
 use Rattle.std.specs.Option.{option_map_or, option_to_list}
-use Rattle.row_machine.specs.plain_lists.specs.Members.{Mem, Each}
-use Rattle.row_machine.specs.plain_lists.proofs.Elements.{Mem-from_map, Each-none, Each-cons, Each-left, Each-right}
-use Rattle.row_machine.specs.plain_lists.proofs.Searches.{find-some}
-use Rattle.row_machine.specs.plain_lists.proofs.EditLemmas.{dropped-Puts}
-use Rattle.record_keeper.specs.size_values.specs.declared.kinds.Action.TheVariants as action
-use Rattle.record_keeper.specs.size_values.specs.declared.kinds.Deed.{Deed}
-use Rattle.record_keeper.specs.size_values.specs.declared.kinds.Deed.TheVariants as deed
-use Rattle.record_keeper.specs.size_values.specs.declared.kinds.Power.{Power}
-use Rattle.row_machine.specs.operations.specs.declared.operation.Operation.{Operation}
-use Rattle.row_machine.specs.operations.specs.declared.operation.OpFault.TheVariants as op_fault
-use Rattle.row_machine.specs.operations.specs.declared.status.Status.TheVariants as status
-use Rattle.row_machine.specs.operations.specs.Kept.{Kept, has_number, live_at}
-use Rattle.row_machine.specs.operations.specs.Kept as kept
-use Rattle.row_machine.specs.records.specs.declared.rows.Instance.{Instance}
-use Rattle.row_machine.specs.records.specs.declared.rows.Snapshot.{Snapshot}
-use Rattle.row_machine.specs.records.specs.declared.rows.Row.{Row}
-use Rattle.row_machine.specs.records.specs.declared.rows.Row.TheVariants as row
-use Rattle.row_machine.specs.row_codec.specs.Rows.{HasGoodKey, HasMoments}
+use Rattle.plain_lists.specs.Members.{Mem, Each}
+use Rattle.plain_lists.proofs.Elements.{Mem-from_map, Each-none, Each-cons, Each-left, Each-right}
+use Rattle.plain_lists.proofs.Searches.{find-some}
+use Rattle.plain_lists.proofs.EditLemmas.{dropped-Puts}
+use Rattle.size_values.specs.declared.kinds.Action.TheVariants as action
+use Rattle.size_values.specs.declared.kinds.Deed.{Deed}
+use Rattle.size_values.specs.declared.kinds.Deed.TheVariants as deed
+use Rattle.size_values.specs.declared.kinds.Power.{Power}
+use Rattle.operations.specs.declared.operation.Operation.{Operation}
+use Rattle.operations.specs.declared.operation.OpFault.TheVariants as op_fault
+use Rattle.operations.specs.declared.status.Status.TheVariants as status
+use Rattle.operations.specs.Kept.{Kept, has_number, live_at}
+use Rattle.operations.specs.Kept as kept
+use Rattle.records.specs.declared.rows.Instance.{Instance}
+use Rattle.records.specs.declared.rows.Snapshot.{Snapshot}
+use Rattle.records.specs.declared.rows.Row.{Row}
+use Rattle.records.specs.declared.rows.Row.TheVariants as row
+use Rattle.row_codec.specs.Rows.{HasGoodKey, HasMoments}
 use Rattle.row_machine.specs.declared.changes.RowChange.{RowChange}
 use Rattle.row_machine.specs.machine.Task.{Task}
 use Rattle.row_machine.specs.machine.State.{State}

@@ -1,21 +1,21 @@
 -- Names after an operation ended without its rows: cancelled or failed; and after notices.
 use Rattle.std.proofs.Common.{◌≡◌, ℕ, ◌+◌, ◌-◌, ◌^◌, ◌==◌, Bool, true, false, cond, ◌&&◌, nat_lt, Option, Some, None, List, [], ◌∷◌, refl, ◌∙◌}
-use Rattle.row_machine.specs.plain_lists.specs.Rings.{ring_push}
-use Rattle.row_machine.specs.plain_lists.proofs.EditLemmas.{map-changed, dropped-Puts}
-use Rattle.record_keeper.specs.size_values.specs.declared.kinds.Power.{Power}
-use Rattle.record_keeper.specs.size_values.specs.declared.kinds.Power.TheVariants.{Error}
-use Rattle.row_machine.specs.operations.specs.declared.operation.Operation.{Operation}
-use Rattle.row_machine.specs.operations.specs.declared.operation.OpFault.{OpFault}
-use Rattle.row_machine.specs.operations.specs.declared.operation.OpFault.TheVariants as op_fault
-use Rattle.row_machine.specs.operations.specs.declared.status.Status.{Status}
-use Rattle.row_machine.specs.operations.specs.declared.status.Status.TheVariants as status
-use Rattle.row_machine.specs.operations.specs.Kept.{Kept, has_number, live_at}
-use Rattle.row_machine.specs.operations.specs.Kept as kept
-use Rattle.row_machine.specs.reservations.specs.declared.books.Books.{Books}
-use Rattle.row_machine.specs.records.specs.declared.notices.Notice.{Notice}
-use Rattle.row_machine.specs.records.specs.declared.notices.Untold.{Untold}
+use Rattle.plain_lists.specs.Rings.{ring_push}
+use Rattle.plain_lists.proofs.EditLemmas.{map-changed, dropped-Puts}
+use Rattle.size_values.specs.declared.kinds.Power.{Power}
+use Rattle.size_values.specs.declared.kinds.Power.TheVariants.{Error}
+use Rattle.operations.specs.declared.operation.Operation.{Operation}
+use Rattle.operations.specs.declared.operation.OpFault.{OpFault}
+use Rattle.operations.specs.declared.operation.OpFault.TheVariants as op_fault
+use Rattle.operations.specs.declared.status.Status.{Status}
+use Rattle.operations.specs.declared.status.Status.TheVariants as status
+use Rattle.operations.specs.Kept.{Kept, has_number, live_at}
+use Rattle.operations.specs.Kept as kept
+use Rattle.reservations.specs.declared.books.Books.{Books}
+use Rattle.records.specs.declared.notices.Notice.{Notice}
+use Rattle.records.specs.declared.notices.Untold.{Untold}
 use Rattle.row_machine.specs.machine.Task.{Task}
-use Rattle.row_machine.specs.reservations.specs.declared.books.Hold.{Hold}
+use Rattle.reservations.specs.declared.books.Hold.{Hold}
 use Rattle.row_machine.specs.machine.State.{State, Standing}
 use Rattle.row_machine.specs.machine.Rows.{is_standing, standing_names}
 use Rattle.row_machine.specs.machine.Work.{with_power, with_power_after, ended, returned, converted, cancelled, failed}

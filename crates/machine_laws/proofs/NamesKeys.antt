@@ -1,20 +1,20 @@
 -- Keys of rows with good names tell their names, so rows of one kind have distinct keys.
 use Rattle.std.proofs.Common.{◌≡◌, ℕ, Bool, true, false, cond, List, [], ◌∷◌, filter, ap}
-use Rattle.row_machine.specs.plain_lists.specs.Members.{Each, Distinct}
-use Rattle.row_machine.specs.plain_lists.proofs.Elements.{Each-left}
-use Rattle.record_keeper.specs.size_values.specs.declared.kinds.ObjectKind.{ObjectKind}
-use Rattle.record_keeper.specs.size_values.specs.declared.kinds.ObjectKind.TheVariants as kind
-use Rattle.row_machine.specs.records.specs.declared.rows.Project.{Project}
-use Rattle.row_machine.specs.records.specs.declared.rows.Profile.{Profile}
-use Rattle.row_machine.specs.records.specs.declared.rows.Network.{Network}
-use Rattle.row_machine.specs.records.specs.declared.rows.Pool.{Pool}
-use Rattle.row_machine.specs.records.specs.declared.rows.Volume.{Volume}
-use Rattle.row_machine.specs.records.specs.declared.rows.Instance.{Instance}
-use Rattle.row_machine.specs.records.specs.declared.rows.Snapshot.{Snapshot}
-use Rattle.row_machine.specs.records.specs.declared.rows.Row.TheVariants as row
-use Rattle.row_machine.specs.row_codec.specs.Rows.{IsGood, HasGoodKey}
-use Rattle.row_machine.specs.row_codec.specs.Spelling.{key_of, two_names, three_names}
-use Rattle.row_machine.specs.row_codec.proofs.Names.{two_again, three_again}
+use Rattle.plain_lists.specs.Members.{Each, Distinct}
+use Rattle.plain_lists.proofs.Elements.{Each-left}
+use Rattle.size_values.specs.declared.kinds.ObjectKind.{ObjectKind}
+use Rattle.size_values.specs.declared.kinds.ObjectKind.TheVariants as kind
+use Rattle.records.specs.declared.rows.Project.{Project}
+use Rattle.records.specs.declared.rows.Profile.{Profile}
+use Rattle.records.specs.declared.rows.Network.{Network}
+use Rattle.records.specs.declared.rows.Pool.{Pool}
+use Rattle.records.specs.declared.rows.Volume.{Volume}
+use Rattle.records.specs.declared.rows.Instance.{Instance}
+use Rattle.records.specs.declared.rows.Snapshot.{Snapshot}
+use Rattle.records.specs.declared.rows.Row.TheVariants as row
+use Rattle.row_codec.specs.Rows.{IsGood, HasGoodKey}
+use Rattle.row_codec.specs.Spelling.{key_of, two_names, three_names}
+use Rattle.row_codec.proofs.Names.{two_again, three_again}
 use Rattle.row_machine.specs.machine.State.{State}
 use Rattle.row_machine.specs.machine.Rows.{project_names, profile_names, network_names, pool_names, volume_names, instance_names, snapshot_names}
 use Rattle.row_machine.specs.facts.Whole.{AreNamed, claims_of}

@@ -1,14 +1,14 @@
 -- Lists in which one element was put in, replaced or dropped: their members, and the keys of the rest.
 use Rattle.std.proofs.Common.{◌≡◌, ◌≢◌, ◌+◌, ◌≤◌, Bool, true, false, cond, ◌||◌, ◌⊎◌, List, [], ◌∷◌, ◌++◌, map, length, refl, sym, ap, subst, ◌∙◌, inl, inr, arith, true≢false}
 use Rattle.std.specs.List.{list_any}
-use Rattle.row_machine.specs.plain_lists.specs.Members.{Mem, Each, Distinct}
-use Rattle.row_machine.specs.plain_lists.specs.Edits.{changed_first, dropped, inserted, replaced, Replaces}
-use Rattle.row_machine.specs.plain_lists.specs.Edits.Replaces.{new, instead}
-use Rattle.row_machine.specs.plain_lists.proofs.Elements.{Mem-from_map}
-use Rattle.row_machine.specs.plain_lists.proofs.Keys.{Distinct-append, Distinct-left, Distinct-right, Distinct-apart}
-use Rattle.row_machine.specs.plain_lists.proofs.PutsLemmas.{Mem-Puts, Mem-puts, Mem-unputs, length-Puts}
-use Rattle.row_machine.specs.plain_lists.proofs.Searches.{any-mem, any-find}
-use Rattle.row_machine.specs.plain_lists.proofs.EditLemmas.{replaced-is, Each-Replaces, Distinct-Replaces, Distinct-dropped, Each-dropped, dropped-Puts, length-changed}
+use Rattle.plain_lists.specs.Members.{Mem, Each, Distinct}
+use Rattle.plain_lists.specs.Edits.{changed_first, dropped, inserted, replaced, Replaces}
+use Rattle.plain_lists.specs.Edits.Replaces.{new, instead}
+use Rattle.plain_lists.proofs.Elements.{Mem-from_map}
+use Rattle.plain_lists.proofs.Keys.{Distinct-append, Distinct-left, Distinct-right, Distinct-apart}
+use Rattle.plain_lists.proofs.PutsLemmas.{Mem-Puts, Mem-puts, Mem-unputs, length-Puts}
+use Rattle.plain_lists.proofs.Searches.{any-mem, any-find}
+use Rattle.plain_lists.proofs.EditLemmas.{replaced-is, Each-Replaces, Distinct-Replaces, Distinct-dropped, Each-dropped, dropped-Puts, length-changed}
 
 -- ---- members
 

@@ -2,17 +2,17 @@
 use Rattle.std.proofs.Common.{◌≡◌, ◌≢◌, ℕ, Option, Some, None, List, ◌++◌, refl, sym, subst}
 use Rattle.std.specs.List.{filter_map}
 use Rattle.std.proofs.lemmas.Bool.{eq-eqb}
-use Rattle.row_machine.specs.plain_lists.specs.Members.{Each, Distinct}
-use Rattle.row_machine.specs.plain_lists.specs.Puts.{Puts}
-use Rattle.row_machine.specs.plain_lists.specs.Edits.{changed_first}
-use Rattle.row_machine.specs.plain_lists.proofs.PutsLemmas.{Each-unputs, Distinct-unputs, Puts-right}
-use Rattle.row_machine.specs.plain_lists.proofs.Readings.{read-same, read-Puts}
-use Rattle.row_machine.specs.plain_lists.proofs.EditLemmas.{find-changed}
-use Rattle.row_machine.specs.operations.specs.declared.operation.Operation.{Operation}
-use Rattle.row_machine.specs.operations.specs.declared.status.Status.{Status}
-use Rattle.row_machine.specs.operations.specs.Kept.{Kept, has_number, live_at}
-use Rattle.row_machine.specs.records.specs.declared.rows.Row.{Row}
-use Rattle.row_machine.specs.row_codec.specs.Rows.{HasGoodKey, HasMoments}
+use Rattle.plain_lists.specs.Members.{Each, Distinct}
+use Rattle.plain_lists.specs.Puts.{Puts}
+use Rattle.plain_lists.specs.Edits.{changed_first}
+use Rattle.plain_lists.proofs.PutsLemmas.{Each-unputs, Distinct-unputs, Puts-right}
+use Rattle.plain_lists.proofs.Readings.{read-same, read-Puts}
+use Rattle.plain_lists.proofs.EditLemmas.{find-changed}
+use Rattle.operations.specs.declared.operation.Operation.{Operation}
+use Rattle.operations.specs.declared.status.Status.{Status}
+use Rattle.operations.specs.Kept.{Kept, has_number, live_at}
+use Rattle.records.specs.declared.rows.Row.{Row}
+use Rattle.row_codec.specs.Rows.{HasGoodKey, HasMoments}
 use Rattle.row_machine.specs.machine.Task.{Task}
 use Rattle.row_machine.specs.machine.State.{State}
 use Rattle.row_machine.specs.machine.Rows.{volume_names, instance_names, snapshot_names}

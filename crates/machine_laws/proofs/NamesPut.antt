@@ -2,15 +2,15 @@
 use Rattle.std.proofs.Common.{◌≡◌, ◌≢◌, ℕ, Bool, true, false, cond, ◌&&◌, List, [], ◌∷◌, ◌++◌, map, refl, sym, ap, ◌∙◌}
 use Rattle.std.specs.List.{list_any}
 use Rattle.std.specs.Str.{bytes_eq}
-use Rattle.row_machine.specs.plain_lists.specs.Members.{Each}
-use Rattle.row_machine.specs.plain_lists.specs.Edits.{changed_first, inserted}
-use Rattle.row_machine.specs.plain_lists.proofs.Elements.{Each-append, Each-left, Each-right}
-use Rattle.record_keeper.specs.size_values.specs.declared.kinds.Power.TheVariants.{Stopped}
-use Rattle.row_machine.specs.operations.specs.Kept.{Kept}
-use Rattle.row_machine.specs.records.specs.declared.rows.Instance.{Instance}
-use Rattle.row_machine.specs.records.specs.declared.rows.Row.{Row}
-use Rattle.row_machine.specs.records.specs.declared.rows.Row.TheVariants as row
-use Rattle.row_machine.specs.row_codec.specs.Rows.{HasGoodKey, HasMoments}
+use Rattle.plain_lists.specs.Members.{Each}
+use Rattle.plain_lists.specs.Edits.{changed_first, inserted}
+use Rattle.plain_lists.proofs.Elements.{Each-append, Each-left, Each-right}
+use Rattle.size_values.specs.declared.kinds.Power.TheVariants.{Stopped}
+use Rattle.operations.specs.Kept.{Kept}
+use Rattle.records.specs.declared.rows.Instance.{Instance}
+use Rattle.records.specs.declared.rows.Row.{Row}
+use Rattle.records.specs.declared.rows.Row.TheVariants as row
+use Rattle.row_codec.specs.Rows.{HasGoodKey, HasMoments}
 use Rattle.row_machine.specs.machine.Task.{Task}
 use Rattle.row_machine.specs.machine.State.{State, Standing}
 use Rattle.row_machine.specs.machine.Rows.{texts_before, project_names, profile_names, network_names, pool_names, volume_names, instance_names, snapshot_names, standing_names, is_project, is_profile, is_network, is_pool, is_volume, is_instance, is_snapshot, is_standing, with_instance, with_standing}

@@ -9,12 +9,12 @@ use Rattle.std.specs.Ordering.{nat_cmp, is_lt, ordering_reverse, ordering_then}
 use Rattle.std.proofs.lemmas.Cmp.{nat_list_cmp_total, lists_total}
 use Rattle.std.proofs.lemmas.Map.Lookups.{exact_bytes}
 use Rattle.std.proofs.lemmas.Bool.{true≢false}
-use Rattle.row_machine.specs.plain_lists.specs.Members.{Mem, Each, Distinct}
-use Rattle.row_machine.specs.plain_lists.specs.Edits.{changed_first, dropped, inserted, replaced}
-use Rattle.row_machine.specs.plain_lists.proofs.Elements.{Each-none, Each-cons, Each-head, Each-tail, Each-map}
-use Rattle.row_machine.specs.plain_lists.proofs.PutsLemmas.{Each-puts}
-use Rattle.row_machine.specs.plain_lists.proofs.Searches.{any-none}
-use Rattle.row_machine.specs.plain_lists.proofs.EditLemmas.{Each-changed, Each-dropped, inserted-Puts}
+use Rattle.plain_lists.specs.Members.{Mem, Each, Distinct}
+use Rattle.plain_lists.specs.Edits.{changed_first, dropped, inserted, replaced}
+use Rattle.plain_lists.proofs.Elements.{Each-none, Each-cons, Each-head, Each-tail, Each-map}
+use Rattle.plain_lists.proofs.PutsLemmas.{Each-puts}
+use Rattle.plain_lists.proofs.Searches.{any-none}
+use Rattle.plain_lists.proofs.EditLemmas.{Each-changed, Each-dropped, inserted-Puts}
 use Rattle.row_machine.specs.machine.Rows.{texts_before}
 use Rattle.row_machine.specs.facts.Whole.{Rise}
 

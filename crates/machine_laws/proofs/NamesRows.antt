@@ -1,13 +1,13 @@
 -- What each row of a state meets, kind by kind, and after rows were put and removed.
 use Rattle.std.proofs.Common.{ℕ, Bool, ◌⊎◌, List, [], ◌∷◌, ◌++◌, map, inl, inr}
-use Rattle.row_machine.specs.plain_lists.specs.Members.{Mem, Each}
-use Rattle.row_machine.specs.plain_lists.specs.Edits.{replaced}
-use Rattle.row_machine.specs.plain_lists.proofs.Elements.{Each-append, Each-left, Each-right, Each-from_map, Each-head, Each-tail}
-use Rattle.row_machine.specs.plain_lists.proofs.EditLemmas.{replaced-is, Each-Replaces, Each-dropped}
-use Rattle.record_keeper.specs.size_values.specs.declared.kinds.ObjectKind.{ObjectKind}
-use Rattle.record_keeper.specs.size_values.specs.declared.kinds.ObjectKind.TheVariants as kind
-use Rattle.row_machine.specs.records.specs.declared.rows.Row.{Row}
-use Rattle.row_machine.specs.records.specs.declared.rows.Row.TheVariants as row
+use Rattle.plain_lists.specs.Members.{Mem, Each}
+use Rattle.plain_lists.specs.Edits.{replaced}
+use Rattle.plain_lists.proofs.Elements.{Each-append, Each-left, Each-right, Each-from_map, Each-head, Each-tail}
+use Rattle.plain_lists.proofs.EditLemmas.{replaced-is, Each-Replaces, Each-dropped}
+use Rattle.size_values.specs.declared.kinds.ObjectKind.{ObjectKind}
+use Rattle.size_values.specs.declared.kinds.ObjectKind.TheVariants as kind
+use Rattle.records.specs.declared.rows.Row.{Row}
+use Rattle.records.specs.declared.rows.Row.TheVariants as row
 use Rattle.row_machine.specs.declared.changes.RowChange.{RowChange}
 use Rattle.row_machine.specs.declared.changes.RowChange.TheVariants as change
 use Rattle.row_machine.specs.machine.State.{State}

@@ -3,23 +3,23 @@ use Rattle.std.proofs.Common.{◌≡◌, ◌≢◌, ℕ, Bool, true, false, cond
 use Rattle.std.specs.Prelude.{filter}
 use Rattle.std.specs.Prelude.{IfSome}
 use Rattle.std.specs.Option.{option_to_list, is_some}
-use Rattle.row_machine.specs.plain_lists.specs.Members.{Mem, Each, Distinct}
-use Rattle.row_machine.specs.plain_lists.specs.Puts.{Puts}
-use Rattle.row_machine.specs.plain_lists.proofs.Elements.{Each-none, Each-cons, Each-right}
-use Rattle.row_machine.specs.plain_lists.proofs.Keys.{Distinct-apart}
-use Rattle.row_machine.specs.plain_lists.proofs.PutsLemmas.{Mem-puts}
-use Rattle.row_machine.specs.plain_lists.proofs.Readings.{Mem-read, Mem-from_read}
-use Rattle.row_machine.specs.plain_lists.proofs.Searches.{find-some}
-use Rattle.record_keeper.specs.size_values.specs.declared.kinds.Deed.TheVariants as deed
-use Rattle.record_keeper.specs.size_values.specs.declared.kinds.ObjectKind.TheVariants as kind
-use Rattle.row_machine.specs.operations.specs.declared.operation.Operation.{Operation}
-use Rattle.row_machine.specs.operations.specs.Kept.{Kept}
-use Rattle.row_machine.specs.records.specs.declared.rows.Instance.{Instance}
-use Rattle.row_machine.specs.records.specs.declared.rows.Snapshot.{Snapshot}
-use Rattle.row_machine.specs.records.specs.declared.rows.Row.{Row}
-use Rattle.row_machine.specs.records.specs.declared.rows.Row.TheVariants as row
-use Rattle.row_machine.specs.records.specs.declared.commands.Target.{Target}
-use Rattle.row_machine.specs.row_codec.specs.Rows.{HasGoodKey, HasMoments}
+use Rattle.plain_lists.specs.Members.{Mem, Each, Distinct}
+use Rattle.plain_lists.specs.Puts.{Puts}
+use Rattle.plain_lists.proofs.Elements.{Each-none, Each-cons, Each-right}
+use Rattle.plain_lists.proofs.Keys.{Distinct-apart}
+use Rattle.plain_lists.proofs.PutsLemmas.{Mem-puts}
+use Rattle.plain_lists.proofs.Readings.{Mem-read, Mem-from_read}
+use Rattle.plain_lists.proofs.Searches.{find-some}
+use Rattle.size_values.specs.declared.kinds.Deed.TheVariants as deed
+use Rattle.size_values.specs.declared.kinds.ObjectKind.TheVariants as kind
+use Rattle.operations.specs.declared.operation.Operation.{Operation}
+use Rattle.operations.specs.Kept.{Kept}
+use Rattle.records.specs.declared.rows.Instance.{Instance}
+use Rattle.records.specs.declared.rows.Snapshot.{Snapshot}
+use Rattle.records.specs.declared.rows.Row.{Row}
+use Rattle.records.specs.declared.rows.Row.TheVariants as row
+use Rattle.records.specs.declared.commands.Target.{Target}
+use Rattle.row_codec.specs.Rows.{HasGoodKey, HasMoments}
 use Rattle.row_machine.specs.declared.changes.RowChange.TheVariants as change
 use Rattle.row_machine.specs.machine.Task.{Task}
 use Rattle.row_machine.specs.machine.State.{State}

@@ -2,14 +2,14 @@
 use Rattle.std.proofs.Common.{◌≡◌, ◌≢◌, ℕ, Bool, true, false, ◌&&◌, List, [], ◌∷◌, refl, sym, ap, ◌∙◌, true≢false}
 use Rattle.std.specs.Str.{bytes_eq}
 use Rattle.std.proofs.lemmas.Bool.{and_parts, and_from}
-use Rattle.row_machine.specs.config_lists.proofs.Keys.{same, bytes_eq-itself}
-use Rattle.row_machine.specs.records.specs.declared.rows.Project.{Project}
-use Rattle.row_machine.specs.records.specs.declared.rows.Profile.{Profile}
-use Rattle.row_machine.specs.records.specs.declared.rows.Network.{Network}
-use Rattle.row_machine.specs.records.specs.declared.rows.Pool.{Pool}
-use Rattle.row_machine.specs.records.specs.declared.rows.Volume.{Volume}
-use Rattle.row_machine.specs.records.specs.declared.rows.Instance.{Instance}
-use Rattle.row_machine.specs.records.specs.declared.rows.Snapshot.{Snapshot}
+use Rattle.config_lists.proofs.Keys.{same, bytes_eq-itself}
+use Rattle.records.specs.declared.rows.Project.{Project}
+use Rattle.records.specs.declared.rows.Profile.{Profile}
+use Rattle.records.specs.declared.rows.Network.{Network}
+use Rattle.records.specs.declared.rows.Pool.{Pool}
+use Rattle.records.specs.declared.rows.Volume.{Volume}
+use Rattle.records.specs.declared.rows.Instance.{Instance}
+use Rattle.records.specs.declared.rows.Snapshot.{Snapshot}
 use Rattle.row_machine.specs.machine.Rows.{is_project, is_profile, is_network, is_pool, is_volume, is_instance, is_snapshot, project_names, profile_names, network_names, pool_names, volume_names, instance_names, snapshot_names}
 
 -- ---- lists of names

@@ -2,24 +2,24 @@
 use Rattle.std.proofs.Common.{◌≡◌, ℕ, ◌≤◌, Bool, true, false, cond, not, ◌&&◌, ◌||◌, Option, Some, None, List, [], ◌∷◌, ◌++◌, length, filter, codes, refl, sym, ap, ◌∙◌, inl, inr, arith}
 use Rattle.std.specs.Str.{bytes_eq}
 use Rattle.std.specs.Option.{option_map, option_and_then, is_some, is_none}
-use Rattle.row_machine.specs.plain_lists.specs.Firsts.{first_of}
-use Rattle.row_machine.specs.plain_lists.specs.Members.{Mem, Each}
-use Rattle.row_machine.specs.plain_lists.proofs.Elements.{Mem-append, Each-none, Each-cons, Each-append, Each-map}
-use Rattle.row_machine.specs.plain_lists.proofs.FirstLemmas.{none_both, told_if, not_mapped, none-first_of}
-use Rattle.row_machine.specs.plain_lists.proofs.Searches.{find-some, find-mem}
-use Rattle.row_machine.specs.config_lists.proofs.Keys.{same, bytes_eq-itself}
-use Rattle.record_keeper.specs.size_values.specs.declared.amounts.Part.TheVariants.{Instances, Containers, Machines, Cpu, Memory, Processes, Disk}
-use Rattle.record_keeper.specs.size_values.specs.declared.kinds.ObjectKind.{ObjectKind}
-use Rattle.row_machine.specs.operations.proofs.KeptLemmas.{AreKept-none}
-use Rattle.row_machine.specs.records.specs.Forms.{are_profiles}
-use Rattle.row_machine.specs.records.specs.declared.refusals.Rule.{Rule}
-use Rattle.row_machine.specs.records.specs.declared.refusals.Refusal.{Refusal}
-use Rattle.row_machine.specs.records.specs.declared.rows.Project.{Project}
-use Rattle.row_machine.specs.records.specs.declared.rows.Profile.{Profile}
-use Rattle.row_machine.specs.records.specs.declared.rows.Volume.{Volume}
-use Rattle.row_machine.specs.records.specs.declared.rows.Instance.{Instance}
-use Rattle.row_machine.specs.records.specs.declared.rows.Row.{Row}
-use Rattle.row_machine.specs.records.specs.declared.rows.Row.TheVariants as row
+use Rattle.plain_lists.specs.Firsts.{first_of}
+use Rattle.plain_lists.specs.Members.{Mem, Each}
+use Rattle.plain_lists.proofs.Elements.{Mem-append, Each-none, Each-cons, Each-append, Each-map}
+use Rattle.plain_lists.proofs.FirstLemmas.{none_both, told_if, not_mapped, none-first_of}
+use Rattle.plain_lists.proofs.Searches.{find-some, find-mem}
+use Rattle.config_lists.proofs.Keys.{same, bytes_eq-itself}
+use Rattle.size_values.specs.declared.amounts.Part.TheVariants.{Instances, Containers, Machines, Cpu, Memory, Processes, Disk}
+use Rattle.size_values.specs.declared.kinds.ObjectKind.{ObjectKind}
+use Rattle.operations.proofs.KeptLemmas.{AreKept-none}
+use Rattle.records.specs.Forms.{are_profiles}
+use Rattle.records.specs.declared.refusals.Rule.{Rule}
+use Rattle.records.specs.declared.refusals.Refusal.{Refusal}
+use Rattle.records.specs.declared.rows.Project.{Project}
+use Rattle.records.specs.declared.rows.Profile.{Profile}
+use Rattle.records.specs.declared.rows.Volume.{Volume}
+use Rattle.records.specs.declared.rows.Instance.{Instance}
+use Rattle.records.specs.declared.rows.Row.{Row}
+use Rattle.records.specs.declared.rows.Row.TheVariants as row
 use Rattle.row_machine.specs.machine.State.{State}
 use Rattle.row_machine.specs.machine.Rows.{default_name, project_named, profile_named, is_project, project_names}
 use Rattle.row_machine.specs.machine.Homes.{is_on}
@@ -31,7 +31,7 @@ use Rattle.row_machine.specs.machine.PolicyRules.{forbids_profile, forbids_insta
 use Rattle.row_machine.specs.machine.LimitRules.{instance_uncounted, volume_uncounts, project_uncounted, counts_broken}
 use Rattle.row_machine.specs.machine.TableRules.{count_of}
 use Rattle.row_machine.specs.opening.Opening.{profiles_malformed, defaults_missing, named_row_missing, has_all_features}
-use Rattle.row_machine.specs.facts.Whole.{IsWhole, AreNamed, IsLinked, AreLinked, HasDefaults, AreSettled, AreOperations, AreBalanced, AreFew}
+use Rattle.row_machine.specs.facts.Whole.{IsWhole, AreNamed, IsLinked, ReferencesExist, HasDefaults, AreSettled, AreOperations, AreBalanced, AreFew}
 use Rattle.machine_laws.proofs.NamesRise.{Rise-Distinct}
 use Rattle.machine_laws.proofs.NamesRows.{EachRow, each-row}
 use Rattle.machine_laws.proofs.NamesSuccess.{some_there}
@@ -75,7 +75,7 @@ module _ (a : State) (rows : List Row) (h : IsOpened (rows_alone a) rows) where
   with_none : {P : Row → Type 0} → Each P rows → Each P (rows_of s ++ [])
   with_none {P} e = Each-append (record { at = λ r m. e.at r (h.only r m) }) Each-none
 
-  links : AreLinked s
+  links : ReferencesExist s
   unfolding judged_instances
   links = record {
     homes = record { at = λ r m. h.accepted.homes.at r (h.only r m) };

@@ -5,18 +5,18 @@ use Rattle.std.specs.List.Sorted.{IsStrictlySortedBy}
 use Rattle.std.specs.Ordering.{is_lt, is_gt}
 use Rattle.std.specs.declared.cmp.Ordering.TheVariants.{Less}
 use Rattle.std.proofs.lemmas.List.{append_assoc}
-use Rattle.row_machine.specs.plain_lists.specs.Members.{Each}
-use Rattle.row_machine.specs.plain_lists.proofs.Elements.{Each-none, Each-cons, Each-head, Each-tail, Each-map}
-use Rattle.record_keeper.specs.size_values.specs.declared.entry.Entry.{Entry}
-use Rattle.record_keeper.specs.size_values.specs.declared.kinds.ObjectKind.{ObjectKind}
-use Rattle.record_keeper.specs.size_values.specs.declared.kinds.ObjectKind.TheVariants as kind
+use Rattle.plain_lists.specs.Members.{Each}
+use Rattle.plain_lists.proofs.Elements.{Each-none, Each-cons, Each-head, Each-tail, Each-map}
+use Rattle.size_values.specs.declared.entry.Entry.{Entry}
+use Rattle.size_values.specs.declared.kinds.ObjectKind.{ObjectKind}
+use Rattle.size_values.specs.declared.kinds.ObjectKind.TheVariants as kind
 use Rattle.record_keeper.specs.Entries.{entry_order, seen_from, IsOrderedEntries, put_entry, after_changes}
-use Rattle.row_machine.specs.records.specs.declared.rows.Row.{Row}
-use Rattle.row_machine.specs.row_codec.specs.Spelling.{entry_of}
-use Rattle.row_machine.specs.row_codec.specs.Reading.{row_of}
-use Rattle.row_machine.specs.row_codec.specs.declared.damage.Damaged.{Damaged}
-use Rattle.row_machine.specs.row_codec.proofs.Fields.{IsBytes}
-use Rattle.row_machine.specs.row_codec.proofs.Entries.{row_found}
+use Rattle.records.specs.declared.rows.Row.{Row}
+use Rattle.row_codec.specs.Spelling.{entry_of}
+use Rattle.row_codec.specs.Reading.{row_of}
+use Rattle.row_codec.specs.declared.damage.Damaged.{Damaged}
+use Rattle.row_codec.proofs.Fields.{IsBytes}
+use Rattle.row_codec.proofs.Entries.{row_found}
 use Rattle.row_machine.specs.machine.State.{State, empty_state}
 use Rattle.row_machine.specs.opening.Records.{records_of}
 use Rattle.row_machine.specs.machine.Plans.{put_all}

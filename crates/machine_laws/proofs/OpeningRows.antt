@@ -1,15 +1,15 @@
 -- The state that rows open to: which rows it has, their names, how many, and that nothing else is there.
 use Rattle.std.proofs.Common.{◌≡◌, ℕ, ◌+◌, ◌==◌, ◌≤◌, Bool, true, false, cond, ◌⊎◌, List, [], ◌∷◌, filter, fold, length, refl, ap, ◌∙◌, inl, inr, arith}
-use Rattle.row_machine.specs.plain_lists.specs.Members.{Mem, Each}
-use Rattle.row_machine.specs.plain_lists.proofs.Elements.{Each-none, Each-map}
-use Rattle.record_keeper.specs.size_values.specs.declared.kinds.ObjectKind.{ObjectKind}
-use Rattle.record_keeper.specs.size_values.specs.declared.kinds.ObjectKind.TheVariants as kind
-use Rattle.row_machine.specs.operations.specs.Kept.{no_operations}
-use Rattle.row_machine.specs.reservations.specs.Holdings.{no_books}
-use Rattle.row_machine.specs.records.specs.declared.rows.Row.{Row}
-use Rattle.row_machine.specs.records.specs.declared.rows.Row.TheVariants as row
-use Rattle.row_machine.specs.row_codec.specs.Rows.{HasGoodKey, HasMoments}
-use Rattle.row_machine.specs.row_codec.specs.Spelling.{kind_of}
+use Rattle.plain_lists.specs.Members.{Mem, Each}
+use Rattle.plain_lists.proofs.Elements.{Each-none, Each-map}
+use Rattle.size_values.specs.declared.kinds.ObjectKind.{ObjectKind}
+use Rattle.size_values.specs.declared.kinds.ObjectKind.TheVariants as kind
+use Rattle.operations.specs.Kept.{no_operations}
+use Rattle.reservations.specs.Holdings.{no_books}
+use Rattle.records.specs.declared.rows.Row.{Row}
+use Rattle.records.specs.declared.rows.Row.TheVariants as row
+use Rattle.row_codec.specs.Rows.{HasGoodKey, HasMoments}
+use Rattle.row_codec.specs.Spelling.{kind_of}
 use Rattle.row_machine.specs.machine.State.{State, empty_state}
 use Rattle.row_machine.specs.machine.Rows.{texts_before, is_project, is_profile, is_network, is_pool, is_volume, is_instance, is_snapshot, project_names, profile_names, network_names, pool_names, volume_names, instance_names, snapshot_names}
 use Rattle.row_machine.specs.machine.Changes.{with_row, applied, rows_put}

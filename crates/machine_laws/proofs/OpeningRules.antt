@@ -3,19 +3,19 @@ use Rattle.std.proofs.Common.{◌≡◌, ℕ, ◌≤◌, Bool, true, false, cond
 use Rattle.std.specs.List.{slice_get}
 use Rattle.std.specs.Option.{option_map, option_or, is_none}
 use Rattle.std.proofs.lemmas.Option.{slice_get_cases}
-use Rattle.row_machine.specs.plain_lists.specs.Firsts.{first_of}
-use Rattle.row_machine.specs.plain_lists.specs.Members.{Mem, Each}
-use Rattle.row_machine.specs.plain_lists.proofs.Elements.{Each-none, Each-cons, Each-map}
-use Rattle.row_machine.specs.plain_lists.proofs.FirstLemmas.{none_both, told_if, not_mapped, first_of-none, none-first_of}
-use Rattle.row_machine.specs.project_limits.specs.Admission.{parts}
-use Rattle.record_keeper.specs.size_values.specs.declared.kinds.ObjectKind.{ObjectKind}
-use Rattle.record_keeper.specs.size_values.specs.declared.kinds.ObjectKind.TheVariants as kind
+use Rattle.plain_lists.specs.Firsts.{first_of}
+use Rattle.plain_lists.specs.Members.{Mem, Each}
+use Rattle.plain_lists.proofs.Elements.{Each-none, Each-cons, Each-map}
+use Rattle.plain_lists.proofs.FirstLemmas.{none_both, told_if, not_mapped, first_of-none, none-first_of}
+use Rattle.project_limits.specs.Admission.{parts}
+use Rattle.size_values.specs.declared.kinds.ObjectKind.{ObjectKind}
+use Rattle.size_values.specs.declared.kinds.ObjectKind.TheVariants as kind
 use Rattle.std.proofs.lemmas.Bool.{ltb-false}
-use Rattle.row_machine.specs.records.specs.declared.refusals.Rule.{Rule}
-use Rattle.row_machine.specs.records.specs.declared.refusals.Rule.TheVariants as rule
-use Rattle.row_machine.specs.records.specs.declared.refusals.Refusal.{Refusal}
-use Rattle.row_machine.specs.records.specs.declared.rows.Project.{Project}
-use Rattle.row_machine.specs.records.specs.declared.rows.Row.{Row}
+use Rattle.records.specs.declared.refusals.Rule.{Rule}
+use Rattle.records.specs.declared.refusals.Rule.TheVariants as rule
+use Rattle.records.specs.declared.refusals.Refusal.{Refusal}
+use Rattle.records.specs.declared.rows.Project.{Project}
+use Rattle.records.specs.declared.rows.Row.{Row}
 use Rattle.row_machine.specs.machine.State.{State}
 use Rattle.row_machine.specs.machine.Rows.{default_name, project_named}
 use Rattle.row_machine.specs.machine.LimitRules.{part_exceeds, networks_exceed, limits_broken}

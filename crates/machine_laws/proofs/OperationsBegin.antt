@@ -1,10 +1,10 @@
 -- An operation that begins is by its deed, and has all its calls before it.
 use Rattle.std.proofs.Common.{◌≡◌, Bool, true, false, map, refl, ap}
 use Rattle.std.specs.Option.{option_map}
-use Rattle.record_keeper.specs.size_values.specs.declared.kinds.Action.{Action}
-use Rattle.record_keeper.specs.size_values.specs.declared.kinds.Action.TheVariants as action
-use Rattle.row_machine.specs.instance_states.specs.Plans.{calls_of, calls_of_action, undo_of, name_of}
-use Rattle.row_machine.specs.host_model.specs.declared.place.Place.{Place}
+use Rattle.size_values.specs.declared.kinds.Action.{Action}
+use Rattle.size_values.specs.declared.kinds.Action.TheVariants as action
+use Rattle.instance_states.specs.Plans.{calls_of, calls_of_action, undo_of, name_of}
+use Rattle.host_model.specs.declared.place.Place.{Place}
 use Rattle.row_machine.specs.machine.Task.{Task}
 use Rattle.row_machine.specs.machine.State.{State}
 use Rattle.row_machine.specs.machine.HostCalls.{act_calls}

@@ -6,28 +6,28 @@ use Rattle.std.proofs.lemmas.Bool.{eq-eqb, ltb-true, ltb-false}
 use Rattle.std.proofs.lemmas.Bool.Decides.{eqb_tells}
 use Rattle.std.proofs.lemmas.List.Elements.{filter-append}
 use Rattle.std.proofs.lemmas.List.{length-append}
-use Rattle.row_machine.specs.plain_lists.specs.Members.{Each}
-use Rattle.row_machine.specs.plain_lists.specs.Edits.{changed_first, dropped}
-use Rattle.row_machine.specs.plain_lists.proofs.Elements.{Each-push, Each-head, Each-tail}
-use Rattle.row_machine.specs.plain_lists.proofs.EditLemmas.{Each-dropped, find-changed}
-use Rattle.row_machine.specs.plain_lists.proofs.Searches.{find-none}
-use Rattle.record_keeper.specs.size_values.specs.Moments.{moment_limit}
-use Rattle.row_machine.specs.instance_states.specs.Plans.{undo_of}
-use Rattle.row_machine.specs.host_model.specs.declared.call.HostCall.{HostCall}
-use Rattle.row_machine.specs.operations.specs.Limits.{most_live, number_limit}
-use Rattle.row_machine.specs.operations.specs.declared.operation.Operation.{Operation}
-use Rattle.row_machine.specs.operations.specs.declared.operation.OpFault.{OpFault}
-use Rattle.row_machine.specs.operations.specs.declared.operation.OpFault.TheVariants as fault
-use Rattle.row_machine.specs.operations.specs.declared.status.Status.{Status}
-use Rattle.row_machine.specs.operations.specs.declared.status.Status.TheVariants as status
-use Rattle.row_machine.specs.operations.specs.declared.status.Status.TheVariants.{Running, Cancelling}
-use Rattle.row_machine.specs.operations.specs.declared.faults.EnterFault.TheVariants.{Full, Spent}
-use Rattle.row_machine.specs.operations.specs.Kept.{Kept, has_number, live_at, enter_fault, ends}
-use Rattle.row_machine.specs.operations.specs.Kept as kept
-use Rattle.row_machine.specs.operations.specs.Facts.{AreKept}
-use Rattle.row_machine.specs.operations.proofs.KeptLemmas.{AreKept-entered, AreKept-moved, AreKept-with_work, AreKept-ends}
-use Rattle.row_machine.specs.records.specs.declared.commands.Command.{Command}
-use Rattle.row_machine.specs.records.specs.declared.notices.Untold.{Untold}
+use Rattle.plain_lists.specs.Members.{Each}
+use Rattle.plain_lists.specs.Edits.{changed_first, dropped}
+use Rattle.plain_lists.proofs.Elements.{Each-push, Each-head, Each-tail}
+use Rattle.plain_lists.proofs.EditLemmas.{Each-dropped, find-changed}
+use Rattle.plain_lists.proofs.Searches.{find-none}
+use Rattle.size_values.specs.Moments.{moment_limit}
+use Rattle.instance_states.specs.Plans.{undo_of}
+use Rattle.host_model.specs.declared.call.HostCall.{HostCall}
+use Rattle.operations.specs.Limits.{most_live, number_limit}
+use Rattle.operations.specs.declared.operation.Operation.{Operation}
+use Rattle.operations.specs.declared.operation.OpFault.{OpFault}
+use Rattle.operations.specs.declared.operation.OpFault.TheVariants as fault
+use Rattle.operations.specs.declared.status.Status.{Status}
+use Rattle.operations.specs.declared.status.Status.TheVariants as status
+use Rattle.operations.specs.declared.status.Status.TheVariants.{Running, Cancelling}
+use Rattle.operations.specs.declared.faults.EnterFault.TheVariants.{Full, Spent}
+use Rattle.operations.specs.Kept.{Kept, has_number, live_at, enter_fault, ends}
+use Rattle.operations.specs.Kept as kept
+use Rattle.operations.specs.Facts.{AreKept}
+use Rattle.operations.proofs.KeptLemmas.{AreKept-entered, AreKept-moved, AreKept-with_work, AreKept-ends}
+use Rattle.records.specs.declared.commands.Command.{Command}
+use Rattle.records.specs.declared.notices.Untold.{Untold}
 use Rattle.row_machine.specs.declared.changes.RowChange.{RowChange}
 use Rattle.row_machine.specs.machine.Task.{Task}
 use Rattle.row_machine.specs.machine.State.{State}

@@ -1,14 +1,14 @@
 -- A row put or removed, as a change of its entry.
 use Rattle.std.proofs.Common.{◌≡◌, ℕ, ◌<◌, List, [], ◌∷◌, ◌++◌, refl, sym, ap, ◌∙◌, arith}
-use Rattle.row_machine.specs.plain_lists.specs.Members.{Each}
-use Rattle.row_machine.specs.plain_lists.proofs.Elements.{Each-append}
-use Rattle.record_keeper.specs.size_values.specs.declared.entry.Entry.{Entry}
-use Rattle.record_keeper.specs.size_values.specs.declared.kinds.ObjectKind.{ObjectKind}
-use Rattle.record_keeper.specs.size_values.specs.declared.kinds.ObjectKind.TheVariants as kind
+use Rattle.plain_lists.specs.Members.{Each}
+use Rattle.plain_lists.proofs.Elements.{Each-append}
+use Rattle.size_values.specs.declared.entry.Entry.{Entry}
+use Rattle.size_values.specs.declared.kinds.ObjectKind.{ObjectKind}
+use Rattle.size_values.specs.declared.kinds.ObjectKind.TheVariants as kind
 use Rattle.record_keeper.specs.Entries.{put_entry, remove_entry, after_change, after_changes}
-use Rattle.row_machine.specs.records.specs.declared.rows.Row.{Row}
-use Rattle.row_machine.specs.records.specs.declared.rows.Row.TheVariants as row
-use Rattle.row_machine.specs.row_codec.specs.Spelling.{entry_of}
+use Rattle.records.specs.declared.rows.Row.{Row}
+use Rattle.records.specs.declared.rows.Row.TheVariants as row
+use Rattle.row_codec.specs.Spelling.{entry_of}
 use Rattle.row_machine.specs.declared.changes.RowChange.{RowChange}
 use Rattle.row_machine.specs.declared.changes.RowChange.TheVariants as change
 use Rattle.row_machine.specs.machine.State.{State}

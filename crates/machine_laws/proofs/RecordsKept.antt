@@ -1,13 +1,13 @@
 -- What the store keeps after the changes of an accepted command, and after those of a success.
 use Rattle.std.proofs.Common.{◌≡◌, ℕ, Option, Some, None, List, refl, sym, ap, subst, ◌∙◌}
-use Rattle.row_machine.specs.plain_lists.specs.Members.{Each}
-use Rattle.record_keeper.specs.size_values.specs.declared.kinds.Power.{Power}
-use Rattle.row_machine.specs.operations.specs.declared.operation.Operation.{Operation}
-use Rattle.row_machine.specs.operations.specs.declared.operation.OpFault.TheVariants as op_fault
-use Rattle.row_machine.specs.operations.specs.declared.status.Status.TheVariants as status
-use Rattle.row_machine.specs.operations.specs.Kept.{Kept, live_at}
+use Rattle.plain_lists.specs.Members.{Each}
+use Rattle.size_values.specs.declared.kinds.Power.{Power}
+use Rattle.operations.specs.declared.operation.Operation.{Operation}
+use Rattle.operations.specs.declared.operation.OpFault.TheVariants as op_fault
+use Rattle.operations.specs.declared.status.Status.TheVariants as status
+use Rattle.operations.specs.Kept.{Kept, live_at}
 use Rattle.record_keeper.specs.Entries.{after_changes}
-use Rattle.row_machine.specs.records.specs.declared.commands.Command.{Command}
+use Rattle.records.specs.declared.commands.Command.{Command}
 use Rattle.row_machine.specs.declared.changes.RowChange.{RowChange}
 use Rattle.row_machine.specs.machine.Task.{Task}
 use Rattle.row_machine.specs.machine.State.{State}

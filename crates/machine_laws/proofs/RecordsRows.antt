@@ -1,17 +1,17 @@
 -- A row put or removed changes the section of its kind as its entry does.
 use Rattle.std.proofs.Common.{◌≡◌, ℕ, Bool, List, refl, ◌∙◌}
-use Rattle.row_machine.specs.config_lists.proofs.Keys.{bytes_eq-order}
-use Rattle.record_keeper.specs.size_values.specs.declared.kinds.ObjectKind.TheVariants as kind
+use Rattle.config_lists.proofs.Keys.{bytes_eq-order}
+use Rattle.size_values.specs.declared.kinds.ObjectKind.TheVariants as kind
 use Rattle.record_keeper.specs.Entries.{put_entry, remove_entry}
-use Rattle.row_machine.specs.records.specs.declared.rows.Project.{Project}
-use Rattle.row_machine.specs.records.specs.declared.rows.Profile.{Profile}
-use Rattle.row_machine.specs.records.specs.declared.rows.Network.{Network}
-use Rattle.row_machine.specs.records.specs.declared.rows.Pool.{Pool}
-use Rattle.row_machine.specs.records.specs.declared.rows.Volume.{Volume}
-use Rattle.row_machine.specs.records.specs.declared.rows.Instance.{Instance}
-use Rattle.row_machine.specs.records.specs.declared.rows.Snapshot.{Snapshot}
-use Rattle.row_machine.specs.records.specs.declared.rows.Row.TheVariants as row
-use Rattle.row_machine.specs.row_codec.specs.Spelling.{key_of}
+use Rattle.records.specs.declared.rows.Project.{Project}
+use Rattle.records.specs.declared.rows.Profile.{Profile}
+use Rattle.records.specs.declared.rows.Network.{Network}
+use Rattle.records.specs.declared.rows.Pool.{Pool}
+use Rattle.records.specs.declared.rows.Volume.{Volume}
+use Rattle.records.specs.declared.rows.Instance.{Instance}
+use Rattle.records.specs.declared.rows.Snapshot.{Snapshot}
+use Rattle.records.specs.declared.rows.Row.TheVariants as row
+use Rattle.row_codec.specs.Spelling.{key_of}
 use Rattle.row_machine.specs.machine.State.{State}
 use Rattle.row_machine.specs.machine.Rows.{texts_before, project_names, profile_names, network_names, pool_names, volume_names, instance_names, snapshot_names, is_project, is_profile, is_network, is_pool, is_volume, is_instance, is_snapshot}
 use Rattle.row_machine.specs.machine.Changes.{with_row, without_row, has_key}

@@ -11,13 +11,13 @@ use Rattle.std.specs.declared.cmp.Ordering.TheVariants.{Less, Equal, Greater}
 use Rattle.std.proofs.lemmas.Bool.{false_from_ne_true}
 use Rattle.std.proofs.lemmas.Cmp.{ranked, nat_cmp_total}
 use Rattle.std.proofs.lemmas.Map.Lookups.{exact_bytes}
-use Rattle.row_machine.specs.plain_lists.specs.Members.{Each, Distinct}
-use Rattle.row_machine.specs.plain_lists.specs.Edits.{changed_first, dropped, inserted, replaced}
-use Rattle.row_machine.specs.plain_lists.proofs.Elements.{Mem-from_map, Each-head, Each-tail, Each-map}
-use Rattle.row_machine.specs.plain_lists.proofs.PutsLemmas.{Each-puts}
-use Rattle.row_machine.specs.plain_lists.proofs.Searches.{find-none, none-find, find-puts, find-Puts}
-use Rattle.row_machine.specs.plain_lists.proofs.EditLemmas.{inserted-Puts, find-put, find-replaced, find-dropped, find-gone}
-use Rattle.record_keeper.specs.size_values.specs.declared.entry.Entry.{Entry}
+use Rattle.plain_lists.specs.Members.{Each, Distinct}
+use Rattle.plain_lists.specs.Edits.{changed_first, dropped, inserted, replaced}
+use Rattle.plain_lists.proofs.Elements.{Mem-from_map, Each-head, Each-tail, Each-map}
+use Rattle.plain_lists.proofs.PutsLemmas.{Each-puts}
+use Rattle.plain_lists.proofs.Searches.{find-none, none-find, find-puts, find-Puts}
+use Rattle.plain_lists.proofs.EditLemmas.{inserted-Puts, find-put, find-replaced, find-dropped, find-gone}
+use Rattle.size_values.specs.declared.entry.Entry.{Entry}
 use Rattle.record_keeper.specs.Entries.{seen_from, entry_order, IsOrderedEntries, entry_at, put_entry, remove_entry}
 use Rattle.record_keeper.proofs.Lookups.{entry_at-put_entry, entry_at-remove_entry, entries-same}
 use Rattle.record_keeper.proofs.Listed.{each-map}

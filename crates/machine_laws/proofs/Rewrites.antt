@@ -2,26 +2,26 @@
 use Rattle.std.proofs.Common.{◌≡◌, ℕ, Bool, true, false, ◌&&◌, ◌||◌, Option, Some, None, List, [], ◌∷◌, refl, sym, ap, subst, ◌∙◌}
 use Rattle.std.specs.Str.{bytes_eq}
 use Rattle.std.specs.Option.{option_map, option_map_or}
-use Rattle.record_keeper.specs.size_values.specs.declared.kinds.ObjectKind.{ObjectKind}
-use Rattle.record_keeper.specs.size_values.specs.declared.kinds.ObjectKind.TheVariants as kind
-use Rattle.row_machine.specs.records.specs.Forms.{is_empty, is_change, are_profiles}
-use Rattle.row_machine.specs.records.specs.declared.commands.Body.{Body}
-use Rattle.row_machine.specs.records.specs.declared.commands.What.{What}
-use Rattle.row_machine.specs.records.specs.declared.commands.What.TheVariants as what
-use Rattle.row_machine.specs.records.specs.declared.rows.Project.{Project}
-use Rattle.row_machine.specs.records.specs.declared.rows.Profile.{Profile}
-use Rattle.row_machine.specs.records.specs.declared.rows.Network.{Network}
-use Rattle.row_machine.specs.records.specs.declared.rows.Pool.{Pool}
-use Rattle.row_machine.specs.records.specs.declared.rows.Volume.{Volume}
-use Rattle.row_machine.specs.records.specs.declared.rows.Instance.{Instance}
-use Rattle.row_machine.specs.records.specs.declared.rows.Snapshot.{Snapshot}
-use Rattle.row_machine.specs.records.specs.declared.rows.Row.TheVariants as row
-use Rattle.row_machine.specs.row_codec.proofs.Fields.{both_true}
+use Rattle.size_values.specs.declared.kinds.ObjectKind.{ObjectKind}
+use Rattle.size_values.specs.declared.kinds.ObjectKind.TheVariants as kind
+use Rattle.records.specs.Forms.{is_empty, is_change, are_profiles}
+use Rattle.records.specs.declared.commands.Body.{Body}
+use Rattle.records.specs.declared.commands.What.{What}
+use Rattle.records.specs.declared.commands.What.TheVariants as what
+use Rattle.records.specs.declared.rows.Project.{Project}
+use Rattle.records.specs.declared.rows.Profile.{Profile}
+use Rattle.records.specs.declared.rows.Network.{Network}
+use Rattle.records.specs.declared.rows.Pool.{Pool}
+use Rattle.records.specs.declared.rows.Volume.{Volume}
+use Rattle.records.specs.declared.rows.Instance.{Instance}
+use Rattle.records.specs.declared.rows.Snapshot.{Snapshot}
+use Rattle.records.specs.declared.rows.Row.TheVariants as row
+use Rattle.row_codec.proofs.Fields.{both_true}
 use Rattle.row_machine.specs.declared.changes.RowChange.{RowChange}
 use Rattle.row_machine.specs.machine.State.{State}
 use Rattle.row_machine.specs.machine.Rows.{default_name, project_named, profile_named, network_named, pool_named, volume_named, instance_named, snapshot_named}
 use Rattle.row_machine.specs.machine.Homes.{home_of}
-use Rattle.row_machine.specs.machine.Asked.{is_parting}
+use Rattle.row_machine.specs.machine.Asked.{renames_or_deletes}
 use Rattle.row_machine.specs.machine.Holders.{holder_of}
 use Rattle.row_machine.specs.machine.StandingRules.{asks_for_features, changes_features, is_occupied}
 use Rattle.row_machine.specs.machine.NewRows.{put_project, patched_project, put_profile, patched_profile, put_network, patched_network, put_pool, patched_pool, put_volume, patched_volume, patched_instance}
@@ -41,7 +41,7 @@ Accepts s project w moment cs = IsAccepted s (command_of project w) moment (chan
 
 project-changed : (s : State) (project : List ℕ) (w : What) (pool instance name : List ℕ) (moment : ℕ) (cs : List RowChange) (old r : Project)
     → Accepts s project w moment cs → IsAbout w (target kind.Project pool instance name) → project_named s.projects name ≡ Some old
-    → r.name ≡ old.name → is_parting w ≡ false → asks_for_features s w ≡ changes_features old r → AtOnce s (project_change old r)
+    → r.name ≡ old.name → renames_or_deletes w ≡ false → asks_for_features s w ≡ changes_features old r → AtOnce s (project_change old r)
 project-changed s project w pool instance name moment cs old r h about is same parting asks =
     changes_project old r (project-itself s.projects name old is) same features where
       named : old.name ≡ name
@@ -51,14 +51,14 @@ project-changed s project w pool instance name moment cs old r h about is same p
       either true b e = cc
       either false b e = refl
 
-      wants : changes_features old r ≡ true → (is_parting w || asks_for_features s w) ≡ true
-      wants e = either (is_parting w) (asks_for_features s w) parting ∙ asks ∙ e
+      wants : changes_features old r ≡ true → (renames_or_deletes w || asks_for_features s w) ≡ true
+      wants e = either (renames_or_deletes w) (asks_for_features s w) parting ∙ asks ∙ e
 
       features : changes_features old r ≡ true → (is_occupied s old.name ≡ false) × IsNotDefault old.name
       features e = (
-        subst (λ n. is_occupied s n ≡ false) (sym named) (and_false (is_parting w || asks_for_features s w) (is_occupied s name) (it-is_empty about (accepted-way h)) (wants e)),
+        subst (λ n. is_occupied s n ≡ false) (sym named) (and_false (renames_or_deletes w || asks_for_features s w) (is_occupied s name) (it-is_empty about (accepted-way h)) (wants e)),
         subst (λ n. IsNotDefault n) (sym named)
-            (apart name default_name (and_first (bytes_eq name default_name) (is_parting w || asks_for_features s w) (it-is_unprotected about (accepted-way h)) (wants e))),
+            (apart name default_name (and_first (bytes_eq name default_name) (renames_or_deletes w || asks_for_features s w) (it-is_unprotected about (accepted-way h)) (wants e))),
       )
 
 profile-changed : (s : State) (project : List ℕ) (w : What) (pool instance name : List ℕ) (moment : ℕ) (cs : List RowChange) (old r : Profile)

@@ -2,22 +2,22 @@
 use Rattle.std.proofs.Common.{◌≡◌, Bool, true, false, Option, Some, None, List, [], ◌∷◌, ◌++◌, refl, sym, ◌∙◌, ap, subst}
 use Rattle.std.specs.Prelude.{map}
 use Rattle.std.specs.Option.{option_map, option_map_or, option_or, option_to_list}
-use Rattle.row_machine.specs.plain_lists.specs.Members.{Mem, Each}
-use Rattle.row_machine.specs.plain_lists.specs.Firsts.{first_of}
-use Rattle.row_machine.specs.plain_lists.proofs.Elements.{Each-none, Each-cons, Each-map}
-use Rattle.row_machine.specs.plain_lists.proofs.FirstLemmas.{none_both, not_mapped, first_of-none}
-use Rattle.record_keeper.specs.size_values.specs.declared.kinds.Action.{Action}
-use Rattle.record_keeper.specs.size_values.specs.declared.kinds.Action.TheVariants as action
-use Rattle.record_keeper.specs.size_values.specs.declared.kinds.Deed.{Deed}
-use Rattle.record_keeper.specs.size_values.specs.declared.kinds.Deed.TheVariants as deed
-use Rattle.row_machine.specs.config_lists.specs.Settings.{Settings}
-use Rattle.row_machine.specs.config_lists.specs.Devices.{NamedDevices}
-use Rattle.row_machine.specs.option_tables.specs.Checks.{devices_fault, instance_fault, project_fault}
-use Rattle.row_machine.specs.option_tables.specs.declared.tables.Scope.TheVariants as scope
-use Rattle.row_machine.specs.records.specs.declared.rows.Instance.{Instance}
-use Rattle.row_machine.specs.records.specs.declared.rows.Snapshot.{Snapshot}
-use Rattle.row_machine.specs.records.specs.declared.rows.Row.{Row}
-use Rattle.row_machine.specs.records.specs.declared.rows.Row.TheVariants as row
+use Rattle.plain_lists.specs.Members.{Mem, Each}
+use Rattle.plain_lists.specs.Firsts.{first_of}
+use Rattle.plain_lists.proofs.Elements.{Each-none, Each-cons, Each-map}
+use Rattle.plain_lists.proofs.FirstLemmas.{none_both, not_mapped, first_of-none}
+use Rattle.size_values.specs.declared.kinds.Action.{Action}
+use Rattle.size_values.specs.declared.kinds.Action.TheVariants as action
+use Rattle.size_values.specs.declared.kinds.Deed.{Deed}
+use Rattle.size_values.specs.declared.kinds.Deed.TheVariants as deed
+use Rattle.config_lists.specs.Settings.{Settings}
+use Rattle.config_lists.specs.Devices.{NamedDevices}
+use Rattle.option_tables.specs.Checks.{devices_fault, instance_fault, project_fault}
+use Rattle.option_tables.specs.declared.tables.Scope.TheVariants as scope
+use Rattle.records.specs.declared.rows.Instance.{Instance}
+use Rattle.records.specs.declared.rows.Snapshot.{Snapshot}
+use Rattle.records.specs.declared.rows.Row.{Row}
+use Rattle.records.specs.declared.rows.Row.TheVariants as row
 use Rattle.row_machine.specs.declared.changes.RowChange.{RowChange}
 use Rattle.row_machine.specs.declared.changes.RowChange.TheVariants as change
 use Rattle.row_machine.specs.machine.Task.{Task}
@@ -26,7 +26,7 @@ use Rattle.row_machine.specs.machine.Changes.{removal, rows_put}
 use Rattle.row_machine.specs.machine.Claims.{claimed_instance, judged_instances}
 use Rattle.row_machine.specs.machine.Holders.{names_profile}
 use Rattle.machine_laws.proofs.LimitsBroken.{Mem-filter}
-use Rattle.row_machine.specs.records.specs.declared.rows.Profile.{Profile}
+use Rattle.records.specs.declared.rows.Profile.{Profile}
 use Rattle.row_machine.specs.machine.SettingRules.{naming, tables_break, setting_refusal, scope_of, root_missing, instance_settings, profile_settings, row_settings, settings_broken}
 use Rattle.row_machine.specs.opening.Opening.{settings_invalid, devices_invalid, rule_of}
 use Rattle.row_machine.specs.machine.Work.{success_changes, renames_instance}

@@ -3,14 +3,14 @@ use Rattle.std.proofs.Common.{◌≡◌, ℕ, Bool, true, false, Option, Some, N
 use Rattle.std.specs.Option.{option_and_then}
 use Rattle.std.specs.Prelude.{codes}
 use Rattle.std.proofs.lemmas.Bool.{false≢true}
-use Rattle.row_machine.specs.plain_lists.specs.Members.{Mem}
-use Rattle.row_machine.specs.plain_lists.proofs.Elements.{Mem-right}
-use Rattle.row_machine.specs.plain_lists.proofs.Readings.{Mem-read}
-use Rattle.row_machine.specs.plain_lists.proofs.Searches.{find-some, find-none}
-use Rattle.row_machine.specs.operations.specs.declared.operation.Operation.{Operation}
-use Rattle.row_machine.specs.records.specs.declared.rows.Project.{Project}
-use Rattle.row_machine.specs.records.specs.declared.rows.Profile.{Profile}
-use Rattle.row_machine.specs.records.specs.declared.rows.Instance.{Instance}
+use Rattle.plain_lists.specs.Members.{Mem}
+use Rattle.plain_lists.proofs.Elements.{Mem-right}
+use Rattle.plain_lists.proofs.Readings.{Mem-read}
+use Rattle.plain_lists.proofs.Searches.{find-some, find-none}
+use Rattle.operations.specs.declared.operation.Operation.{Operation}
+use Rattle.records.specs.declared.rows.Project.{Project}
+use Rattle.records.specs.declared.rows.Profile.{Profile}
+use Rattle.records.specs.declared.rows.Instance.{Instance}
 use Rattle.row_machine.specs.declared.changes.RowChange.{RowChange}
 use Rattle.row_machine.specs.machine.Task.{Task}
 use Rattle.row_machine.specs.machine.State.{State}

@@ -3,14 +3,14 @@ use Rattle.std.proofs.Common.{◌≡◌, ℕ, Bool, true, false, cond, Option, S
 use Rattle.std.specs.Prelude.{map}
 use Rattle.std.specs.List.{find, filter_map, cons_option}
 use Rattle.std.proofs.lemmas.Bool.{eqb-true, eq-eqb}
-use Rattle.row_machine.specs.plain_lists.specs.Members.{Mem, Each}
-use Rattle.row_machine.specs.plain_lists.specs.Edits.{changed_first, dropped}
-use Rattle.row_machine.specs.plain_lists.proofs.Elements.{Each-head, Each-tail}
-use Rattle.row_machine.specs.plain_lists.proofs.EditLemmas.{map-changed, find-changed}
-use Rattle.row_machine.specs.plain_lists.proofs.Searches.{find-some, find-mem}
-use Rattle.row_machine.specs.operations.specs.declared.operation.Operation.{Operation}
-use Rattle.row_machine.specs.operations.specs.declared.status.Status.{Status}
-use Rattle.row_machine.specs.operations.specs.Kept.{Kept, has_number, live_at, with_work, moved}
+use Rattle.plain_lists.specs.Members.{Mem, Each}
+use Rattle.plain_lists.specs.Edits.{changed_first, dropped}
+use Rattle.plain_lists.proofs.Elements.{Each-head, Each-tail}
+use Rattle.plain_lists.proofs.EditLemmas.{map-changed, find-changed}
+use Rattle.plain_lists.proofs.Searches.{find-some, find-mem}
+use Rattle.operations.specs.declared.operation.Operation.{Operation}
+use Rattle.operations.specs.declared.status.Status.{Status}
+use Rattle.operations.specs.Kept.{Kept, has_number, live_at, with_work, moved}
 use Rattle.row_machine.specs.machine.Task.{Task}
 use Rattle.row_machine.specs.machine.State.{State}
 use Rattle.row_machine.specs.machine.Claims.{of_live}

@@ -1,18 +1,18 @@
 -- Each live operation holds its share by the rows as they stand, after every change of a state.
 use Rattle.std.proofs.Common.{◌≡◌, ℕ, true, Option, Some, None, List, [], ◌∷◌, ◌++◌, ◌⊎◌, refl, sym, ◌∙◌, ap, subst, inl, inr}
 use Rattle.std.specs.Prelude.{map}
-use Rattle.row_machine.specs.plain_lists.specs.Members.{Mem}
-use Rattle.row_machine.specs.plain_lists.specs.Edits.{dropped}
-use Rattle.row_machine.specs.host_model.specs.declared.call.HostCall.{HostCall}
-use Rattle.row_machine.specs.operations.specs.declared.operation.Operation.{Operation}
-use Rattle.row_machine.specs.operations.specs.declared.operation.OpFault.{OpFault}
-use Rattle.row_machine.specs.operations.specs.declared.operation.OpFault.TheVariants as fault
-use Rattle.row_machine.specs.operations.specs.declared.status.Status.{Status}
-use Rattle.row_machine.specs.operations.specs.declared.status.Status.TheVariants as status
-use Rattle.row_machine.specs.operations.specs.declared.status.Status.TheVariants.{Running, Cancelling}
-use Rattle.row_machine.specs.operations.specs.Kept.{has_number, live_at}
-use Rattle.row_machine.specs.records.specs.declared.commands.Command.{Command}
-use Rattle.row_machine.specs.records.specs.declared.notices.Untold.{Untold}
+use Rattle.plain_lists.specs.Members.{Mem}
+use Rattle.plain_lists.specs.Edits.{dropped}
+use Rattle.host_model.specs.declared.call.HostCall.{HostCall}
+use Rattle.operations.specs.declared.operation.Operation.{Operation}
+use Rattle.operations.specs.declared.operation.OpFault.{OpFault}
+use Rattle.operations.specs.declared.operation.OpFault.TheVariants as fault
+use Rattle.operations.specs.declared.status.Status.{Status}
+use Rattle.operations.specs.declared.status.Status.TheVariants as status
+use Rattle.operations.specs.declared.status.Status.TheVariants.{Running, Cancelling}
+use Rattle.operations.specs.Kept.{has_number, live_at}
+use Rattle.records.specs.declared.commands.Command.{Command}
+use Rattle.records.specs.declared.notices.Untold.{Untold}
 use Rattle.row_machine.specs.declared.changes.RowChange.{RowChange}
 use Rattle.row_machine.specs.machine.Task.{Task}
 use Rattle.row_machine.specs.machine.State.{State}
@@ -38,12 +38,12 @@ use Rattle.machine_laws.proofs.ExpansionsNamed.{row-judged}
 use Rattle.machine_laws.proofs.ExpansionsSeen.{claims-alike}
 use Rattle.machine_laws.proofs.Judged.{judged}
 use Rattle.machine_laws.proofs.AtOnceCases.{at_once}
-use Rattle.row_machine.specs.plain_lists.proofs.Elements.{Mem-right}
+use Rattle.plain_lists.proofs.Elements.{Mem-right}
 use Rattle.std.specs.Option.{option_and_then, option_to_list}
-use Rattle.row_machine.specs.records.specs.declared.rows.Instance.{Instance}
+use Rattle.records.specs.declared.rows.Instance.{Instance}
 use Rattle.row_machine.specs.machine.Rows.{instance_named}
 use Rattle.row_machine.specs.machine.SettingRules.{settings_broken}
-use Rattle.row_machine.specs.plain_lists.proofs.Searches.{find-some}
+use Rattle.plain_lists.proofs.Searches.{find-some}
 
 -- a share is given back where one ended
 returned-held : (s : State) (n : ℕ) (now : Status) (why : OpFault) (moment : ℕ) → AreHeld s → AreHeld (returned n (ended n now why moment s))

@@ -2,10 +2,10 @@
 use Rattle.std.proofs.Common.{◌≡◌, ◌≢◌, ℕ, ◌+◌, ◌-◌, ◌<◌, ◌^◌, ◌==◌, zero, suc, Bool, true, false, cond, List, [], ◌∷◌, ◌++◌, length, drop, refl, arith}
 use Rattle.std.proofs.lemmas.Bool.{eqb-false}
 use Rattle.std.proofs.lemmas.List.{length_push}
-use Rattle.row_machine.specs.plain_lists.specs.Rings.{ring_push}
-use Rattle.row_machine.specs.plain_lists.proofs.RingLemmas.{ring-few}
-use Rattle.row_machine.specs.records.specs.declared.notices.Notice.{Notice}
-use Rattle.row_machine.specs.records.specs.declared.notices.Untold.{Untold}
+use Rattle.plain_lists.specs.Rings.{ring_push}
+use Rattle.plain_lists.proofs.RingLemmas.{ring-few}
+use Rattle.records.specs.declared.notices.Notice.{Notice}
+use Rattle.records.specs.declared.notices.Untold.{Untold}
 use Rattle.row_machine.specs.machine.State.{State}
 use Rattle.row_machine.specs.shown.Notices.{kept_notices, push_notice, telling}
 use Rattle.row_machine.specs.facts.Whole.{AreFew, AreCounted}

@@ -2,33 +2,33 @@
 use Rattle.std.proofs.Common.{◌≡◌, ℕ, ◌<◌, ◌≤◌, ◌^◌, Bool, true, false, cond, ◌&&◌, nat_lt, Option, Some, None, List, [], ◌∷◌, ◌++◌, length, refl, sym, ap, subst, ◌∙◌, arith}
 use Rattle.std.specs.Prelude.{IfSome}
 use Rattle.std.specs.Option.{option_to_list}
-use Rattle.row_machine.specs.plain_lists.specs.Members.{Mem, Each}
-use Rattle.row_machine.specs.plain_lists.specs.Puts.{Puts}
-use Rattle.row_machine.specs.plain_lists.specs.Edits.{changed_first}
-use Rattle.row_machine.specs.plain_lists.proofs.Elements.{Each-append, Each-left, Each-right, Each-head}
-use Rattle.row_machine.specs.plain_lists.proofs.PutsLemmas.{Puts-push}
-use Rattle.row_machine.specs.plain_lists.proofs.Readings.{Mem-read}
-use Rattle.row_machine.specs.plain_lists.proofs.Searches.{find-some}
-use Rattle.row_machine.specs.plain_lists.proofs.EditLemmas.{dropped-Puts}
-use Rattle.record_keeper.specs.size_values.specs.declared.kinds.ObjectKind.{ObjectKind}
-use Rattle.record_keeper.specs.size_values.specs.declared.kinds.ObjectKind.TheVariants as kind
-use Rattle.record_keeper.specs.size_values.specs.declared.kinds.Power.{Power}
-use Rattle.record_keeper.specs.size_values.specs.declared.kinds.Power.TheVariants.{Error}
-use Rattle.row_machine.specs.operations.specs.declared.operation.Operation.{Operation}
-use Rattle.row_machine.specs.operations.specs.declared.operation.OpFault.{OpFault}
-use Rattle.row_machine.specs.operations.specs.declared.operation.OpFault.TheVariants as op_fault
-use Rattle.row_machine.specs.operations.specs.declared.status.Status.{Status}
-use Rattle.row_machine.specs.operations.specs.declared.status.Status.TheVariants as status
-use Rattle.row_machine.specs.operations.specs.Kept.{Kept, has_number, live_at}
-use Rattle.row_machine.specs.operations.specs.Kept as kept
-use Rattle.row_machine.specs.reservations.specs.declared.books.Books.{Books}
-use Rattle.row_machine.specs.records.specs.declared.notices.Notice.{Notice}
-use Rattle.row_machine.specs.records.specs.declared.rows.Row.{Row}
-use Rattle.row_machine.specs.records.specs.declared.rows.Row.TheVariants as row
+use Rattle.plain_lists.specs.Members.{Mem, Each}
+use Rattle.plain_lists.specs.Puts.{Puts}
+use Rattle.plain_lists.specs.Edits.{changed_first}
+use Rattle.plain_lists.proofs.Elements.{Each-append, Each-left, Each-right, Each-head}
+use Rattle.plain_lists.proofs.PutsLemmas.{Puts-push}
+use Rattle.plain_lists.proofs.Readings.{Mem-read}
+use Rattle.plain_lists.proofs.Searches.{find-some}
+use Rattle.plain_lists.proofs.EditLemmas.{dropped-Puts}
+use Rattle.size_values.specs.declared.kinds.ObjectKind.{ObjectKind}
+use Rattle.size_values.specs.declared.kinds.ObjectKind.TheVariants as kind
+use Rattle.size_values.specs.declared.kinds.Power.{Power}
+use Rattle.size_values.specs.declared.kinds.Power.TheVariants.{Error}
+use Rattle.operations.specs.declared.operation.Operation.{Operation}
+use Rattle.operations.specs.declared.operation.OpFault.{OpFault}
+use Rattle.operations.specs.declared.operation.OpFault.TheVariants as op_fault
+use Rattle.operations.specs.declared.status.Status.{Status}
+use Rattle.operations.specs.declared.status.Status.TheVariants as status
+use Rattle.operations.specs.Kept.{Kept, has_number, live_at}
+use Rattle.operations.specs.Kept as kept
+use Rattle.reservations.specs.declared.books.Books.{Books}
+use Rattle.records.specs.declared.notices.Notice.{Notice}
+use Rattle.records.specs.declared.rows.Row.{Row}
+use Rattle.records.specs.declared.rows.Row.TheVariants as row
 use Rattle.row_machine.specs.declared.changes.RowChange.{RowChange}
 use Rattle.row_machine.specs.declared.changes.RowChange.TheVariants as change
 use Rattle.row_machine.specs.machine.Task.{Task}
-use Rattle.row_machine.specs.reservations.specs.declared.books.Hold.{Hold}
+use Rattle.reservations.specs.declared.books.Hold.{Hold}
 use Rattle.row_machine.specs.machine.State.{State, Standing}
 use Rattle.row_machine.specs.machine.Changes.{applied, with_row, without_row, rows_put}
 use Rattle.row_machine.specs.machine.Claims.{of_live, claimed_instance, claimed_volume, claimed_snapshot}

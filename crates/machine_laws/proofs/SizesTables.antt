@@ -1,19 +1,19 @@
 -- Sizes of tables after rows were put and removed, and while operations go on.
 use Rattle.std.proofs.Common.{◌≡◌, ℕ, ◌+◌, ◌≤◌, Option, Some, None, List, length, refl, ap, arith}
-use Rattle.row_machine.specs.plain_lists.specs.Members.{Each}
-use Rattle.row_machine.specs.plain_lists.specs.Puts.{Puts}
-use Rattle.row_machine.specs.plain_lists.proofs.Elements.{Each-map}
-use Rattle.row_machine.specs.plain_lists.specs.Firsts.{first_of}
-use Rattle.row_machine.specs.plain_lists.proofs.PutsLemmas.{length-Puts}
-use Rattle.row_machine.specs.plain_lists.proofs.FirstLemmas.{none_both, told_if, first_of-none}
-use Rattle.row_machine.specs.plain_lists.proofs.Readings.{read-same, read-Puts}
+use Rattle.plain_lists.specs.Members.{Each}
+use Rattle.plain_lists.specs.Puts.{Puts}
+use Rattle.plain_lists.proofs.Elements.{Each-map}
+use Rattle.plain_lists.specs.Firsts.{first_of}
+use Rattle.plain_lists.proofs.PutsLemmas.{length-Puts}
+use Rattle.plain_lists.proofs.FirstLemmas.{none_both, told_if, first_of-none}
+use Rattle.plain_lists.proofs.Readings.{read-same, read-Puts}
 use Rattle.std.proofs.lemmas.Bool.{ltb-false}
-use Rattle.record_keeper.specs.size_values.specs.declared.kinds.ObjectKind.{ObjectKind}
-use Rattle.record_keeper.specs.size_values.specs.declared.kinds.ObjectKind.TheVariants as kind
-use Rattle.row_machine.specs.operations.specs.declared.operation.Operation.{Operation}
-use Rattle.row_machine.specs.operations.specs.Kept.{Kept}
-use Rattle.row_machine.specs.records.specs.declared.rows.Row.{Row}
-use Rattle.row_machine.specs.records.specs.declared.rows.Row.TheVariants as row
+use Rattle.size_values.specs.declared.kinds.ObjectKind.{ObjectKind}
+use Rattle.size_values.specs.declared.kinds.ObjectKind.TheVariants as kind
+use Rattle.operations.specs.declared.operation.Operation.{Operation}
+use Rattle.operations.specs.Kept.{Kept}
+use Rattle.records.specs.declared.rows.Row.{Row}
+use Rattle.records.specs.declared.rows.Row.TheVariants as row
 use Rattle.row_machine.specs.machine.Task.{Task}
 use Rattle.row_machine.specs.machine.State.{State}
 use Rattle.row_machine.specs.machine.Rows.{is_volume, is_instance, is_snapshot, texts_before, volume_names, instance_names, snapshot_names}

@@ -1,25 +1,25 @@
 -- The rows of a state that entries open to have their settings and devices in order, and so each instance has what its layers say.
 use Rattle.std.proofs.Common.{◌≡◌, ℕ, Option, Some, None, Result, Ok, Err, List, [], ◌∷◌, inl, inr, All, refl, sym, subst}
 use Rattle.std.proofs.lemmas.List.Elements.{All-nil, All-cons, All-append, All-map}
-use Rattle.row_machine.specs.plain_lists.specs.Members.{Mem, Each}
-use Rattle.row_machine.specs.plain_lists.proofs.Elements.{Each-none, Each-cons, Each-head, Each-tail, Each-left, Each-right, Each-append, Mem-append}
-use Rattle.row_machine.specs.plain_lists.proofs.Readings.{Mem-read, Mem-from_read}
-use Rattle.row_machine.specs.plain_lists.proofs.Searches.{find-some}
-use Rattle.record_keeper.specs.size_values.specs.declared.entry.Entry.{Entry}
-use Rattle.record_keeper.specs.size_values.specs.declared.kinds.ObjectKind.TheVariants as kind
-use Rattle.row_machine.specs.config_lists.specs.Settings.{IsFull}
-use Rattle.row_machine.specs.config_lists.proofs.Keys.{KeysRise-nil}
-use Rattle.row_machine.specs.config_lists.specs.Settings.{Settings}
-use Rattle.row_machine.specs.expansion.specs.Layers.{IsLayer}
-use Rattle.row_machine.specs.operations.specs.declared.operation.Operation.{Operation}
-use Rattle.row_machine.specs.records.specs.declared.rows.Profile.{Profile}
-use Rattle.row_machine.specs.records.specs.declared.rows.Instance.{Instance}
-use Rattle.row_machine.specs.records.specs.declared.rows.Row.{Row}
-use Rattle.row_machine.specs.records.specs.declared.rows.Row.TheVariants as row
-use Rattle.row_machine.specs.row_codec.specs.Rows.{HasTypedParts}
-use Rattle.row_machine.specs.row_codec.specs.Reading.{row_of}
-use Rattle.row_machine.specs.row_codec.specs.declared.damage.Damaged.{Damaged}
-use Rattle.row_machine.specs.row_codec.proofs.Entries.{row_found}
+use Rattle.plain_lists.specs.Members.{Mem, Each}
+use Rattle.plain_lists.proofs.Elements.{Each-none, Each-cons, Each-head, Each-tail, Each-left, Each-right, Each-append, Mem-append}
+use Rattle.plain_lists.proofs.Readings.{Mem-read, Mem-from_read}
+use Rattle.plain_lists.proofs.Searches.{find-some}
+use Rattle.size_values.specs.declared.entry.Entry.{Entry}
+use Rattle.size_values.specs.declared.kinds.ObjectKind.TheVariants as kind
+use Rattle.config_lists.specs.Settings.{IsFull}
+use Rattle.config_lists.proofs.Keys.{KeysRise-nil}
+use Rattle.config_lists.specs.Settings.{Settings}
+use Rattle.expansion.specs.Layers.{IsLayer}
+use Rattle.operations.specs.declared.operation.Operation.{Operation}
+use Rattle.records.specs.declared.rows.Profile.{Profile}
+use Rattle.records.specs.declared.rows.Instance.{Instance}
+use Rattle.records.specs.declared.rows.Row.{Row}
+use Rattle.records.specs.declared.rows.Row.TheVariants as row
+use Rattle.row_codec.specs.Rows.{HasTypedParts}
+use Rattle.row_codec.specs.Reading.{row_of}
+use Rattle.row_codec.specs.declared.damage.Damaged.{Damaged}
+use Rattle.row_codec.proofs.Entries.{row_found}
 use Rattle.row_machine.specs.machine.Task.{Task}
 use Rattle.row_machine.specs.machine.State.{State}
 use Rattle.row_machine.specs.machine.Rows.{default_name, is_profile, profile_named}

@@ -3,17 +3,17 @@ use Rattle.std.proofs.Common.{ℕ, Option, Some, None, List, []}
 use Rattle.std.specs.Prelude.{IfSome, unwrap_or}
 use Rattle.std.specs.Option.{option_map_or}
 use Rattle.std.proofs.lemmas.List.Elements.{All-nil}
-use Rattle.row_machine.specs.config_lists.specs.Settings.{Settings, IsConfig, IsFull}
-use Rattle.row_machine.specs.config_lists.specs.Devices.{NamedDevices, IsDevices}
-use Rattle.row_machine.specs.config_lists.specs.Changes.{IsChanges, settled, patched}
-use Rattle.row_machine.specs.config_lists.specs.Entries.{replaced}
-use Rattle.row_machine.specs.config_lists.proofs.Keys.{KeysRise-nil}
-use Rattle.row_machine.specs.config_lists.proofs.Lookups.{IsConfig-patched, IsConfig-settled, KeysRise-replaced}
-use Rattle.row_machine.specs.records.specs.declared.commands.Body.{Body}
-use Rattle.row_machine.specs.records.specs.declared.rows.Profile.{Profile}
-use Rattle.row_machine.specs.records.specs.declared.rows.Instance.{Instance}
-use Rattle.row_machine.specs.records.specs.declared.rows.Snapshot.{Snapshot}
-use Rattle.row_machine.specs.records.specs.declared.rows.Row.TheVariants as row
+use Rattle.config_lists.specs.Settings.{Settings, IsConfig, IsFull}
+use Rattle.config_lists.specs.Devices.{NamedDevices, IsDevices}
+use Rattle.config_lists.specs.Changes.{IsChanges, settled, patched}
+use Rattle.config_lists.specs.Entries.{replaced}
+use Rattle.config_lists.proofs.Keys.{KeysRise-nil}
+use Rattle.config_lists.proofs.Lookups.{IsConfig-patched, IsConfig-settled, KeysRise-replaced}
+use Rattle.records.specs.declared.commands.Body.{Body}
+use Rattle.records.specs.declared.rows.Profile.{Profile}
+use Rattle.records.specs.declared.rows.Instance.{Instance}
+use Rattle.records.specs.declared.rows.Snapshot.{Snapshot}
+use Rattle.records.specs.declared.rows.Row.TheVariants as row
 use Rattle.row_machine.specs.machine.NewRows.{Source, new_config, new_devices, patched_config, patched_devices, made_profile, default_profile, put_profile, patched_profile, made_instance, copied_instance, put_instance, patched_instance, restored_instance, made_snapshot}
 use Rattle.machine_laws.specs.Sorted.{IsSortedBody, IsSortedRow}
 

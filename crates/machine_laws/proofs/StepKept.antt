@@ -1,6 +1,6 @@
 -- Each step keeps all ten facts, and each run.
 use Rattle.std.proofs.Common.{◌≡◌, Some, [], ◌∷◌, sym, subst}
-use Rattle.row_machine.specs.plain_lists.proofs.Elements.{Each-head, Each-tail}
+use Rattle.plain_lists.proofs.Elements.{Each-head, Each-tail}
 use Rattle.row_machine.specs.machine.State.{State}
 use Rattle.row_machine.specs.machine.Accept.{After}
 use Rattle.row_machine.specs.machine.Runs.{Ran, run}

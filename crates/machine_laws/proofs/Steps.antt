@@ -1,26 +1,26 @@
 -- What a step can make of a state, kind by kind: every event with each outcome is one of them.
 use Rattle.std.proofs.Common.{◌≡◌, ℕ, ◌<◌, Bool, true, false, Option, Some, None, List, [], ◌∷◌, ◌++◌, refl, sym, ap, subst}
 use Rattle.std.proofs.lemmas.Bool.{eqb-true}
-use Rattle.row_machine.specs.plain_lists.proofs.Searches.{find-some}
-use Rattle.record_keeper.specs.size_values.specs.Moments.{moment_limit}
-use Rattle.row_machine.specs.host_model.specs.declared.call.HostCall.{HostCall}
-use Rattle.row_machine.specs.host_model.specs.declared.report.Report.{Report}
-use Rattle.row_machine.specs.host_model.specs.declared.report.Report.TheVariants as report
-use Rattle.row_machine.specs.operations.specs.declared.operation.Operation.{Operation}
-use Rattle.row_machine.specs.operations.specs.declared.operation.OpFault.{OpFault}
-use Rattle.row_machine.specs.operations.specs.declared.status.Status.{Status}
-use Rattle.row_machine.specs.operations.specs.declared.status.Status.TheVariants as status
-use Rattle.row_machine.specs.operations.specs.declared.status.Status.TheVariants.{Pending, Running, Cancelling}
-use Rattle.row_machine.specs.operations.specs.Statuses.{is_live, cancel_of}
-use Rattle.row_machine.specs.operations.specs.Kept.{has_number, live_at, kept_at, cancel_answer}
-use Rattle.row_machine.specs.operations.proofs.KeptLemmas.{live-from_kept}
-use Rattle.row_machine.specs.records.specs.Forms.{is_formed}
-use Rattle.row_machine.specs.records.specs.declared.commands.Command.{Command}
-use Rattle.row_machine.specs.records.specs.declared.commands.What.{What}
-use Rattle.row_machine.specs.records.specs.declared.commands.What.TheVariants as what
-use Rattle.row_machine.specs.records.specs.declared.notices.Filter.{Filter}
-use Rattle.row_machine.specs.records.specs.declared.notices.Untold.{Untold}
-use Rattle.row_machine.specs.records.specs.declared.refusals.Refusal.{Refusal}
+use Rattle.plain_lists.proofs.Searches.{find-some}
+use Rattle.size_values.specs.Moments.{moment_limit}
+use Rattle.host_model.specs.declared.call.HostCall.{HostCall}
+use Rattle.host_model.specs.declared.report.Report.{Report}
+use Rattle.host_model.specs.declared.report.Report.TheVariants as report
+use Rattle.operations.specs.declared.operation.Operation.{Operation}
+use Rattle.operations.specs.declared.operation.OpFault.{OpFault}
+use Rattle.operations.specs.declared.status.Status.{Status}
+use Rattle.operations.specs.declared.status.Status.TheVariants as status
+use Rattle.operations.specs.declared.status.Status.TheVariants.{Pending, Running, Cancelling}
+use Rattle.operations.specs.Statuses.{is_live, cancel_of}
+use Rattle.operations.specs.Kept.{has_number, live_at, kept_at, cancel_answer}
+use Rattle.operations.proofs.KeptLemmas.{live-from_kept}
+use Rattle.records.specs.Forms.{is_formed}
+use Rattle.records.specs.declared.commands.Command.{Command}
+use Rattle.records.specs.declared.commands.What.{What}
+use Rattle.records.specs.declared.commands.What.TheVariants as what
+use Rattle.records.specs.declared.notices.Filter.{Filter}
+use Rattle.records.specs.declared.notices.Untold.{Untold}
+use Rattle.records.specs.declared.refusals.Refusal.{Refusal}
 use Rattle.row_machine.specs.declared.changes.RowChange.{RowChange}
 use Rattle.row_machine.specs.declared.events.Event.{Event}
 use Rattle.row_machine.specs.declared.events.Event.TheVariants as event

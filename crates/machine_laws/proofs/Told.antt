@@ -4,15 +4,15 @@ use Rattle.std.specs.Prelude.{codes, option_and_then}
 use Rattle.std.specs.Option.{option_map, option_map_or, is_some, is_none}
 use Rattle.std.specs.Str.{bytes_eq}
 use Rattle.std.proofs.lemmas.Bool.{eqb-true}
-use Rattle.row_machine.specs.plain_lists.proofs.FirstLemmas.{none_both, told_if, told_unless, not_mapped}
-use Rattle.row_machine.specs.plain_lists.proofs.Searches.{find-none}
-use Rattle.row_machine.specs.config_lists.proofs.Keys.{bytes_eq-itself}
-use Rattle.record_keeper.specs.size_values.specs.declared.kinds.ObjectKind.{ObjectKind}
-use Rattle.record_keeper.specs.size_values.specs.declared.kinds.ObjectKind.TheVariants as kind
-use Rattle.row_machine.specs.records.specs.Forms.{is_empty}
-use Rattle.row_machine.specs.records.specs.declared.rows.Project.{Project}
-use Rattle.row_machine.specs.records.specs.declared.commands.Target.{Target}
-use Rattle.row_machine.specs.records.specs.declared.commands.Command.{Command}
+use Rattle.plain_lists.proofs.FirstLemmas.{none_both, told_if, told_unless, not_mapped}
+use Rattle.plain_lists.proofs.Searches.{find-none}
+use Rattle.config_lists.proofs.Keys.{bytes_eq-itself}
+use Rattle.size_values.specs.declared.kinds.ObjectKind.{ObjectKind}
+use Rattle.size_values.specs.declared.kinds.ObjectKind.TheVariants as kind
+use Rattle.records.specs.Forms.{is_empty}
+use Rattle.records.specs.declared.rows.Project.{Project}
+use Rattle.records.specs.declared.commands.Target.{Target}
+use Rattle.records.specs.declared.commands.Command.{Command}
 use Rattle.row_machine.specs.machine.State.{State}
 use Rattle.row_machine.specs.machine.Rows.{default_name, project_named}
 use Rattle.row_machine.specs.machine.Homes.{home_of, home_by, has_feature}
@@ -21,7 +21,7 @@ use Rattle.row_machine.specs.machine.Rules.{names_broken}
 use Rattle.row_machine.specs.machine.Kinds.{is_in_project}
 use Rattle.row_machine.specs.machine.StandingRules.{instance_busy, wrong_state, object_protected, object_used, project_occupied, profile_held}
 use Rattle.row_machine.specs.machine.Rules.{standing_broken}
-use Rattle.row_machine.specs.machine.Asked.{object_of, named_anew}
+use Rattle.row_machine.specs.machine.Asked.{object_of, new_name_of}
 use Rattle.row_machine.specs.opening.Opening.{has_all_features}
 use Rattle.row_machine.specs.facts.Whole.{HasDefaults}
 use Rattle.machine_laws.proofs.Cases.{IsHome, IsNew, is_row}
@@ -52,14 +52,14 @@ apart a b e same = false-true (sym e ∙ subst (λ x. bytes_eq x b ≡ true) (sy
 pub record AreNamesRight (s : State) (c : Command) : Type 0 where
   pub project : project_missing s c ≡ None
   pub objects : what_is_missing s c.project c.what ≡ None
-  pub name : option_and_then (name_broken s c.project) (named_anew s c.project c.what) ≡ None
+  pub name : option_and_then (name_broken s c.project) (new_name_of s c.project c.what) ≡ None
 
 pub names-right : (s : State) (c : Command) → names_broken s c ≡ None → AreNamesRight s c
 unfolding names_broken
 names-right s c e =
     let project = none_both (project_missing s c) _ e in
     let objects = none_both (what_is_missing s c.project c.what) _ project.1 in
-    let name = none_both (option_and_then (name_broken s c.project) (named_anew s c.project c.what)) None objects.1 in
+    let name = none_both (option_and_then (name_broken s c.project) (new_name_of s c.project c.what)) None objects.1 in
     record { project = project.0; objects = objects.0; name = name.0 }
 
 -- the rules on what stands in the way

@@ -5,25 +5,25 @@ use Rattle.std.specs.List.{find, sum_by}
 use Rattle.std.specs.Option.{option_map, option_to_list}
 use Rattle.std.proofs.lemmas.List.Sums.{sum_by-cons}
 use Rattle.std.proofs.lemmas.Bool.{eq-eqb}
-use Rattle.row_machine.specs.plain_lists.specs.Members.{Each}
-use Rattle.row_machine.specs.plain_lists.specs.Edits.{changed_first, dropped}
-use Rattle.row_machine.specs.plain_lists.proofs.Elements.{Each-head, Each-tail, Each-map}
-use Rattle.row_machine.specs.plain_lists.proofs.PutsLemmas.{sum_by-Puts, Distinct-unputs}
-use Rattle.row_machine.specs.plain_lists.proofs.EditLemmas.{changed-Puts, dropped-Puts, find-changed, Each-dropped}
-use Rattle.row_machine.specs.plain_lists.proofs.Keys.{Distinct-left}
-use Rattle.row_machine.specs.plain_lists.proofs.Searches.{find-none}
-use Rattle.record_keeper.specs.size_values.specs.Moments.{moment_limit}
-use Rattle.record_keeper.specs.size_values.specs.declared.kinds.Action.TheVariants as action
-use Rattle.record_keeper.specs.size_values.specs.declared.kinds.Deed.{Deed}
-use Rattle.record_keeper.specs.size_values.specs.declared.kinds.Deed.TheVariants as deed
-use Rattle.row_machine.specs.host_model.specs.declared.call.HostCall.{HostCall}
-use Rattle.row_machine.specs.instance_states.specs.Plans.{calls_of}
-use Rattle.row_machine.specs.operations.specs.declared.operation.Operation.{Operation}
-use Rattle.row_machine.specs.operations.specs.declared.status.Status.{Status}
-use Rattle.row_machine.specs.operations.specs.declared.status.Status.TheVariants as status
-use Rattle.row_machine.specs.operations.specs.declared.status.Status.TheVariants.{Pending, Running, Cancelling}
-use Rattle.row_machine.specs.operations.specs.Statuses.{is_pending}
-use Rattle.row_machine.specs.operations.specs.Kept.{Kept, has_number, live_at}
+use Rattle.plain_lists.specs.Members.{Each}
+use Rattle.plain_lists.specs.Edits.{changed_first, dropped}
+use Rattle.plain_lists.proofs.Elements.{Each-head, Each-tail, Each-map}
+use Rattle.plain_lists.proofs.PutsLemmas.{sum_by-Puts, Distinct-unputs}
+use Rattle.plain_lists.proofs.EditLemmas.{changed-Puts, dropped-Puts, find-changed, Each-dropped}
+use Rattle.plain_lists.proofs.Keys.{Distinct-left}
+use Rattle.plain_lists.proofs.Searches.{find-none}
+use Rattle.size_values.specs.Moments.{moment_limit}
+use Rattle.size_values.specs.declared.kinds.Action.TheVariants as action
+use Rattle.size_values.specs.declared.kinds.Deed.{Deed}
+use Rattle.size_values.specs.declared.kinds.Deed.TheVariants as deed
+use Rattle.host_model.specs.declared.call.HostCall.{HostCall}
+use Rattle.instance_states.specs.Plans.{calls_of}
+use Rattle.operations.specs.declared.operation.Operation.{Operation}
+use Rattle.operations.specs.declared.status.Status.{Status}
+use Rattle.operations.specs.declared.status.Status.TheVariants as status
+use Rattle.operations.specs.declared.status.Status.TheVariants.{Pending, Running, Cancelling}
+use Rattle.operations.specs.Statuses.{is_pending}
+use Rattle.operations.specs.Kept.{Kept, has_number, live_at}
 use Rattle.row_machine.specs.machine.Task.{Task}
 use Rattle.row_machine.specs.machine.State.{State}
 use Rattle.row_machine.specs.machine.Work.{handing_out, one_more_done, undone}

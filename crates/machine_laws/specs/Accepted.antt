@@ -1,11 +1,11 @@
 -- An accepted command, and a live operation: what the laws by kind of change take for granted.
 use Rattle.std.specs.Prelude.{◌≡◌, ℕ, ◌<◌, true, Some, None}
-use Rattle.record_keeper.specs.size_values.specs.Moments.{moment_limit}
-use Rattle.row_machine.specs.operations.specs.declared.operation.Operation.{Operation}
-use Rattle.row_machine.specs.operations.specs.declared.status.Status.{Status}
-use Rattle.row_machine.specs.operations.specs.Kept.{live_at}
-use Rattle.row_machine.specs.records.specs.Forms.{is_formed}
-use Rattle.row_machine.specs.records.specs.declared.commands.Command.{Command}
+use Rattle.size_values.specs.Moments.{moment_limit}
+use Rattle.operations.specs.declared.operation.Operation.{Operation}
+use Rattle.operations.specs.declared.status.Status.{Status}
+use Rattle.operations.specs.Kept.{live_at}
+use Rattle.records.specs.Forms.{is_formed}
+use Rattle.records.specs.declared.commands.Command.{Command}
 use Rattle.row_machine.specs.machine.Task.{Task}
 use Rattle.row_machine.specs.machine.State.{State}
 use Rattle.row_machine.specs.machine.Plans.{Plan, plan_of}

@@ -2,15 +2,15 @@
 -- changes.
 use Rattle.std.specs.Prelude.{◌≡◌, ℕ, true, Some, None, is_some}
 use Rattle.std.specs.Option.{option_map}
-use Rattle.row_machine.specs.host_model.specs.declared.call.HostCall.{HostCall}
-use Rattle.row_machine.specs.host_model.specs.declared.report.Report.{Report}
-use Rattle.row_machine.specs.instance_states.specs.Plans.{undo_of, name_of}
-use Rattle.row_machine.specs.operations.specs.declared.operation.Operation.{Operation}
-use Rattle.row_machine.specs.operations.specs.declared.status.Status.TheVariants as status
-use Rattle.row_machine.specs.operations.specs.Kept.{live_at}
-use Rattle.row_machine.specs.records.specs.declared.commands.Command.{Command}
-use Rattle.row_machine.specs.records.specs.declared.commands.What.TheVariants as what
-use Rattle.row_machine.specs.records.specs.declared.replies.Reply.TheVariants as reply
+use Rattle.host_model.specs.declared.call.HostCall.{HostCall}
+use Rattle.host_model.specs.declared.report.Report.{Report}
+use Rattle.instance_states.specs.Plans.{undo_of, name_of}
+use Rattle.operations.specs.declared.operation.Operation.{Operation}
+use Rattle.operations.specs.declared.status.Status.TheVariants as status
+use Rattle.operations.specs.Kept.{live_at}
+use Rattle.records.specs.declared.commands.Command.{Command}
+use Rattle.records.specs.declared.commands.What.TheVariants as what
+use Rattle.records.specs.declared.replies.Reply.TheVariants as reply
 use Rattle.row_machine.specs.declared.events.Event.{Event}
 use Rattle.row_machine.specs.declared.events.Event.TheVariants as event
 use Rattle.row_machine.specs.declared.events.Answer.TheVariants as answer

@@ -1,10 +1,10 @@
 -- Changes of rows as changes of their entries.
 use Rattle.std.specs.Prelude.{ℕ, List, map}
-use Rattle.record_keeper.specs.size_values.specs.declared.kinds.ObjectKind.{ObjectKind}
-use Rattle.record_keeper.specs.size_values.specs.declared.kinds.ObjectKind.TheVariants as kind
-use Rattle.record_keeper.specs.size_values.specs.declared.entry.EntryChange.{EntryChange}
-use Rattle.record_keeper.specs.size_values.specs.declared.entry.EntryChange.TheVariants.{Put, Remove}
-use Rattle.row_machine.specs.row_codec.specs.Spelling.{entry_of}
+use Rattle.size_values.specs.declared.kinds.ObjectKind.{ObjectKind}
+use Rattle.size_values.specs.declared.kinds.ObjectKind.TheVariants as kind
+use Rattle.size_values.specs.declared.entry.EntryChange.{EntryChange}
+use Rattle.size_values.specs.declared.entry.EntryChange.TheVariants.{Put, Remove}
+use Rattle.row_codec.specs.Spelling.{entry_of}
 use Rattle.row_machine.specs.declared.changes.RowChange.{RowChange}
 use Rattle.row_machine.specs.declared.changes.RowChange.TheVariants as change
 

@@ -5,30 +5,30 @@
 use Rattle.std.specs.Prelude.{◌≡◌, ℕ, ◌+◌, ◌≤◌, List, [], ◌∷◌, ◌⊎◌, Some, None, IfSome}
 use Rattle.std.specs.List.{sum_by}
 use Rattle.std.specs.Option.{option_map}
-use Rattle.row_machine.specs.plain_lists.specs.Members.{Mem, Each, Distinct}
-use Rattle.record_keeper.specs.size_values.specs.Amounts.{part}
-use Rattle.record_keeper.specs.size_values.specs.declared.entry.Entry.{Entry}
-use Rattle.record_keeper.specs.size_values.specs.declared.amounts.Amounts.{Amounts}
-use Rattle.record_keeper.specs.size_values.specs.declared.amounts.Part.{Part}
-use Rattle.record_keeper.specs.size_values.specs.declared.kinds.ObjectKind.TheVariants as kind
-use Rattle.row_machine.specs.config_lists.specs.Settings.{setting}
-use Rattle.row_machine.specs.config_lists.specs.Devices.{device}
-use Rattle.row_machine.specs.expansion.specs.declared.expanded.Expanded.{Expanded}
-use Rattle.row_machine.specs.expansion.specs.Layers.{expanded_setting, expanded_device}
-use Rattle.row_machine.specs.restrictions.specs.declared.rows.Subject.TheVariants as subject
-use Rattle.row_machine.specs.restrictions.specs.Policies.{policy_of}
-use Rattle.row_machine.specs.restrictions.specs.Forbids.{first_forbidden}
-use Rattle.row_machine.specs.project_limits.specs.Admission.{limit_on}
-use Rattle.row_machine.specs.project_limits.specs.Limits.{limits_of}
-use Rattle.row_machine.specs.project_limits.specs.Countable.{first_uncounted, volume_uncounted}
-use Rattle.row_machine.specs.operations.specs.declared.operation.Operation.{Operation}
-use Rattle.row_machine.specs.operations.specs.declared.status.Status.{Status}
-use Rattle.row_machine.specs.operations.specs.declared.status.Status.TheVariants as status
-use Rattle.row_machine.specs.operations.specs.Kept.{live_at, kept_at}
-use Rattle.row_machine.specs.records.specs.declared.rows.Project.{Project}
-use Rattle.row_machine.specs.records.specs.declared.rows.Profile.{Profile}
-use Rattle.row_machine.specs.records.specs.declared.rows.Volume.{Volume}
-use Rattle.row_machine.specs.records.specs.declared.rows.Instance.{Instance}
+use Rattle.plain_lists.specs.Members.{Mem, Each, Distinct}
+use Rattle.size_values.specs.Amounts.{part}
+use Rattle.size_values.specs.declared.entry.Entry.{Entry}
+use Rattle.size_values.specs.declared.amounts.Amounts.{Amounts}
+use Rattle.size_values.specs.declared.amounts.Part.{Part}
+use Rattle.size_values.specs.declared.kinds.ObjectKind.TheVariants as kind
+use Rattle.config_lists.specs.Settings.{setting}
+use Rattle.config_lists.specs.Devices.{device}
+use Rattle.expansion.specs.declared.expanded.Expanded.{Expanded}
+use Rattle.expansion.specs.Layers.{expanded_setting, expanded_device}
+use Rattle.restrictions.specs.declared.rows.Subject.TheVariants as subject
+use Rattle.restrictions.specs.Policies.{policy_of}
+use Rattle.restrictions.specs.Forbids.{first_forbidden}
+use Rattle.project_limits.specs.Admission.{limit_on}
+use Rattle.project_limits.specs.Limits.{limits_of}
+use Rattle.project_limits.specs.Countable.{first_uncounted, volume_uncounted}
+use Rattle.operations.specs.declared.operation.Operation.{Operation}
+use Rattle.operations.specs.declared.status.Status.{Status}
+use Rattle.operations.specs.declared.status.Status.TheVariants as status
+use Rattle.operations.specs.Kept.{live_at, kept_at}
+use Rattle.records.specs.declared.rows.Project.{Project}
+use Rattle.records.specs.declared.rows.Profile.{Profile}
+use Rattle.records.specs.declared.rows.Volume.{Volume}
+use Rattle.records.specs.declared.rows.Instance.{Instance}
 use Rattle.row_machine.specs.declared.events.Event.{Event}
 use Rattle.row_machine.specs.machine.Task.{Task}
 use Rattle.row_machine.specs.machine.State.{State}

@@ -1,7 +1,7 @@
 -- What an opening that is accepted gives.
 use Rattle.std.specs.Prelude.{◌≡◌, ◌≢◌, ◌<◌, List, []}
-use Rattle.row_machine.specs.plain_lists.specs.Members.{Each}
-use Rattle.record_keeper.specs.size_values.specs.declared.entry.Entry.{Entry}
+use Rattle.plain_lists.specs.Members.{Each}
+use Rattle.size_values.specs.declared.entry.Entry.{Entry}
 use Rattle.record_keeper.specs.Entries.{IsOrderedEntries}
 use Rattle.row_machine.specs.machine.State.{State}
 use Rattle.row_machine.specs.opening.Records.{records_of}

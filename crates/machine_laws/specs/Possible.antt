@@ -1,8 +1,8 @@
 -- Which events are possible.
 use Rattle.std.specs.Prelude.{◌≡◌, ◌<◌, true, List}
-use Rattle.row_machine.specs.plain_lists.specs.Members.{Each}
-use Rattle.record_keeper.specs.size_values.specs.Moments.{moment_limit}
-use Rattle.row_machine.specs.records.specs.Forms.{is_formed}
+use Rattle.plain_lists.specs.Members.{Each}
+use Rattle.size_values.specs.Moments.{moment_limit}
+use Rattle.records.specs.Forms.{is_formed}
 use Rattle.row_machine.specs.declared.events.Event.{Event}
 use Rattle.row_machine.specs.declared.events.Event.TheVariants as event
 use Rattle.row_machine.specs.machine.Step.{Outcome}

@@ -1,11 +1,11 @@
 -- What is kept and the rows agree, for rows of all kinds.
 use Rattle.std.specs.Prelude.{◌≡◌, ◌<◌, ℕ, List, [], ◌∷◌, Some, None, true}
-use Rattle.record_keeper.specs.size_values.specs.Moments.{moment_limit}
+use Rattle.size_values.specs.Moments.{moment_limit}
 use Rattle.record_keeper.specs.Entries.{IsOrderedEntries, after_changes}
-use Rattle.row_machine.specs.operations.specs.declared.operation.Operation.{Operation}
-use Rattle.row_machine.specs.operations.specs.Kept.{live_at}
-use Rattle.row_machine.specs.records.specs.Forms.{is_formed}
-use Rattle.row_machine.specs.records.specs.declared.commands.Command.{Command}
+use Rattle.operations.specs.declared.operation.Operation.{Operation}
+use Rattle.operations.specs.Kept.{live_at}
+use Rattle.records.specs.Forms.{is_formed}
+use Rattle.records.specs.declared.commands.Command.{Command}
 use Rattle.row_machine.specs.declared.changes.RowChange.{RowChange}
 use Rattle.row_machine.specs.machine.Task.{Task}
 use Rattle.row_machine.specs.machine.State.{State}

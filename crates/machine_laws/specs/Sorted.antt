@@ -1,15 +1,15 @@
 -- Settings and devices stand in the order of their keys, in requests as the program's types keep them, and so in all
 -- rows.
 use Rattle.std.specs.Prelude.{◌≡◌, List, ◌++◌, IfSome, Some}
-use Rattle.row_machine.specs.plain_lists.specs.Members.{Each}
-use Rattle.row_machine.specs.config_lists.specs.Changes.{IsChanges}
-use Rattle.row_machine.specs.config_lists.specs.Devices.{IsDevices}
-use Rattle.row_machine.specs.expansion.specs.Layers.{IsLayer}
-use Rattle.row_machine.specs.records.specs.declared.commands.Body.{Body}
-use Rattle.row_machine.specs.records.specs.declared.commands.What.{What}
-use Rattle.row_machine.specs.records.specs.declared.commands.What.TheVariants as what
-use Rattle.row_machine.specs.records.specs.declared.rows.Row.{Row}
-use Rattle.row_machine.specs.records.specs.declared.rows.Row.TheVariants as row
+use Rattle.plain_lists.specs.Members.{Each}
+use Rattle.config_lists.specs.Changes.{IsChanges}
+use Rattle.config_lists.specs.Devices.{IsDevices}
+use Rattle.expansion.specs.Layers.{IsLayer}
+use Rattle.records.specs.declared.commands.Body.{Body}
+use Rattle.records.specs.declared.commands.What.{What}
+use Rattle.records.specs.declared.commands.What.TheVariants as what
+use Rattle.records.specs.declared.rows.Row.{Row}
+use Rattle.records.specs.declared.rows.Row.TheVariants as row
 use Rattle.row_machine.specs.declared.events.Event.{Event}
 use Rattle.row_machine.specs.declared.events.Event.TheVariants as event
 use Rattle.row_machine.specs.machine.State.{State}

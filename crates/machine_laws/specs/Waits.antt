@@ -3,12 +3,12 @@
 use Rattle.std.specs.Prelude.{◌≡◌, ◌≢◌, ◌⊎◌, ℕ, ◌*◌, ◌<◌, ◌≤◌, List, [], ◌∷◌, length, Option, Some, None}
 use Rattle.std.specs.Prelude.{option_and_then}
 use Rattle.std.specs.Option.{option_map}
-use Rattle.row_machine.specs.plain_lists.specs.Members.{Each}
-use Rattle.record_keeper.specs.size_values.specs.Moments.{moment_limit}
-use Rattle.row_machine.specs.host_model.specs.declared.report.Report.{Report}
-use Rattle.row_machine.specs.operations.specs.declared.operation.Operation.{Operation}
-use Rattle.row_machine.specs.operations.specs.declared.status.Status.TheVariants as status
-use Rattle.row_machine.specs.operations.specs.Kept.{live_at}
+use Rattle.plain_lists.specs.Members.{Each}
+use Rattle.size_values.specs.Moments.{moment_limit}
+use Rattle.host_model.specs.declared.report.Report.{Report}
+use Rattle.operations.specs.declared.operation.Operation.{Operation}
+use Rattle.operations.specs.declared.status.Status.TheVariants as status
+use Rattle.operations.specs.Kept.{live_at}
 use Rattle.row_machine.specs.declared.events.Event.{Event}
 use Rattle.row_machine.specs.declared.events.Event.TheVariants as event
 use Rattle.row_machine.specs.declared.events.Answer.{Answer}

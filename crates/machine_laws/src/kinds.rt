@@ -1,5 +1,5 @@
 //! What each kind of change keeps: functions that do nothing, whose contracts are the laws.
-ghost use Rattle.record_keeper.specs.size_values.specs.declared.kinds.ObjectKind.TheVariants as kind;
+ghost use Rattle.size_values.specs.declared.kinds.ObjectKind.TheVariants as kind;
 ghost use Rattle.machine_laws.specs.KindsOfChange.{RowsKeep, EntriesKeep, FirstCallsKeep, NextCallsKeep, CancelsKeep};
 ghost use Rattle.machine_laws.specs.KindsOfChange.{UndoCallsKeep, CancelledKeeps, FailureKeeps, SuccessKeeps};
 ghost use Rattle.machine_laws.specs.KindsOfChange.{NoticesKeep, ClosingKeeps};

@@ -1,8 +1,8 @@
 //! Keys of rows, as the store writes them.
 ghost use Rattle.std.specs.Prelude.{◌≡◌, IfOk};
-ghost use Rattle.row_machine.specs.row_codec.specs.Spelling.{two_names};
+ghost use Rattle.row_codec.specs.Spelling.{two_names};
 
-use row_machine::from_size_values::{NoMemory, Text};
+use size_values::{NoMemory, Text};
 use std::alloc::Global;
 
 /// The key of a row that has two names.

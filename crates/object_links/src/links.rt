@@ -2,8 +2,8 @@
 ghost use Rattle.std.specs.Prelude.{◌≡◌, ◌++◌, IfOk, string_bytes};
 ghost use Rattle.row_machine.specs.shown.Links.{project_query, path_of, link_of};
 
-use row_machine::from_records::Target;
-use row_machine::from_size_values::{NoMemory, ObjectKind, Text};
+use records::Target;
+use size_values::{NoMemory, ObjectKind, Text};
 use std::alloc::Global;
 
 /// A path of two parts.

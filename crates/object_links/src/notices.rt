@@ -3,10 +3,10 @@ ghost use Rattle.std.specs.Prelude.{◌≡◌, IfOk};
 ghost use Rattle.row_machine.specs.shown.Notices.{life_notice, project_told, view_of};
 
 use crate::links::link_of;
+use operations::Operation;
+use records::{Life, OpView, Target, Told, Untold};
 use row_machine::Work;
-use row_machine::from_operations::Operation;
-use row_machine::from_records::{Life, OpView, Target, Told, Untold};
-use row_machine::from_size_values::{NoMemory, ObjectKind, Text};
+use size_values::{NoMemory, ObjectKind, Text};
 use std::alloc::Global;
 
 /// The project that the notice of an object has: `default` for pools and projects, which belong to none.

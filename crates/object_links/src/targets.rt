@@ -1,10 +1,10 @@
 //! What names a row.
 ghost use Rattle.std.specs.Prelude.{◌≡◌, [], IfOk};
-ghost use Rattle.row_machine.specs.records.specs.declared.rows.Row.TheVariants as row;
+ghost use Rattle.records.specs.declared.rows.Row.TheVariants as row;
 ghost use Rattle.row_machine.specs.shown.Links.{target_of};
 
-use row_machine::from_records::{Row, Snapshot, Target, Volume};
-use row_machine::from_size_values::{NoMemory, ObjectKind, Text};
+use records::{Row, Snapshot, Target, Volume};
+use size_values::{NoMemory, ObjectKind, Text};
 use std::alloc::Global;
 
 /// What names an object that stands in no pool and in no instance.

@@ -5,8 +5,8 @@ use Rattle.std.specs.List.{list_any}
 use Rattle.std.specs.Str.{bytes_eq}
 use Rattle.row_machine.specs.Words.{ObjectKind, Target, NamedDevices, names_network, names_volume}
 use Rattle.row_machine.specs.Words.kind
-use Rattle.row_machine.specs.records.specs.declared.rows.Instance.{Instance}
-use Rattle.row_machine.specs.records.specs.declared.rows.Profile.{Profile}
+use Rattle.records.specs.declared.rows.Instance.{Instance}
+use Rattle.records.specs.declared.rows.Profile.{Profile}
 use Rattle.row_machine.specs.machine.Expansions.{expanded_of}
 use Rattle.row_machine.specs.machine.Holders.{devices_name, instance_uses, names_profile, profile_uses}
 use Rattle.row_machine.specs.machine.Homes.{home_of}

@@ -2,7 +2,7 @@
 use Rattle.std.proofs.Common.{◌≡◌, false, List, [], ◌∷◌, filter, refl, sym, subst, ◌⊎◌, inl, inr}
 use Rattle.row_machine.specs.Words.{ObjectKind, Target}
 use Rattle.row_machine.specs.Words.kind
-use Rattle.row_machine.specs.records.specs.declared.rows.Volume.{Volume}
+use Rattle.records.specs.declared.rows.Volume.{Volume}
 use Rattle.row_machine.specs.machine.Holders.{volume_uses}
 
 -- nothing is left by a test that no element passes

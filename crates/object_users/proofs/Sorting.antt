@@ -4,18 +4,18 @@ use Rattle.std.specs.Cmp.{IsStrictWeakOrder}
 use Rattle.std.specs.Cmp.Lexicographic.{slice_cmp}
 use Rattle.std.specs.Ordering.{nat_cmp, is_lt, is_eq, ordering_reverse}
 use Rattle.std.proofs.lemmas.Map.Text.{is_eq-slice_cmp}
-use Rattle.row_machine.specs.config_lists.proofs.Keys.{same}
+use Rattle.config_lists.proofs.Keys.{same}
 use Rattle.std.specs.List.{sum_by}
 use Rattle.std.specs.List.Sorted.{IsSortedBy, IsPermutation}
 use Rattle.std.proofs.lemmas.List.Sums.{sum_by-cons}
 use Rattle.std.proofs.lemmas.Cmp.{nat_list_cmp_total}
 use Rattle.std.proofs.lemmas.List.MinMax.{ranks_by}
 use Rattle.std.proofs.lemmas.List.Sorted.{sum_by-IsPermutation}
-use Rattle.row_machine.specs.plain_lists.specs.Members.{Each}
-use Rattle.row_machine.specs.plain_lists.specs.Edits.{inserted}
-use Rattle.row_machine.specs.plain_lists.proofs.Elements.{Each-none, Each-cons, Each-head, Each-tail, Each-map}
-use Rattle.row_machine.specs.plain_lists.proofs.PutsLemmas.{Each-puts, sum_by-Puts}
-use Rattle.row_machine.specs.plain_lists.proofs.EditLemmas.{inserted-Puts}
+use Rattle.plain_lists.specs.Members.{Each}
+use Rattle.plain_lists.specs.Edits.{inserted}
+use Rattle.plain_lists.proofs.Elements.{Each-none, Each-cons, Each-head, Each-tail, Each-map}
+use Rattle.plain_lists.proofs.PutsLemmas.{Each-puts, sum_by-Puts}
+use Rattle.plain_lists.proofs.EditLemmas.{inserted-Puts}
 use Rattle.row_machine.specs.machine.Rows.{text_before}
 use Rattle.row_machine.specs.shown.Links.{sorted}
 

@@ -1,6 +1,6 @@
 -- What contracts see of a lent row.
-use Rattle.row_machine.specs.records.specs.declared.rows.Row.{Row}
-use Rattle.row_machine.specs.records.specs.declared.rows.Row.TheVariants as row
+use Rattle.records.specs.declared.rows.Row.{Row}
+use Rattle.records.specs.declared.rows.Row.TheVariants as row
 use Rattle.object_users.specs.declared.row_ref.AnyRow.{AnyRow}
 use Rattle.object_users.specs.declared.row_ref.AnyRow.TheVariants as any
 

@@ -1,13 +1,13 @@
 //! Which rows may use an object of a home.
 ghost use Rattle.std.specs.Prelude.{◌≡◌};
-ghost use Rattle.row_machine.specs.size_values.specs.declared.kinds.ObjectKind.TheVariants as kind;
+ghost use Rattle.size_values.specs.declared.kinds.ObjectKind.TheVariants as kind;
 ghost use Rattle.row_machine.specs.facts.Whole.{Rise};
 ghost use Rattle.row_machine.specs.machine.Kinds.{is_of_kind};
 ghost use Rattle.object_users.specs.AtHome.{project_may_use, rows_that_may_use};
 
-use row_machine::from_records::Target;
-use row_machine::from_size_values::ObjectKind;
+use records::Target;
 use row_readings::{Named, rows_at_home};
+use size_values::ObjectKind;
 
 fn is_pool(of: &Target) -> bool
     ensures { result ≡ is_of_kind kind.Pool of.now }

@@ -1,11 +1,11 @@
 //! Rows of one kind that have something in common, as rows of any kind.
 ghost use Rattle.std.specs.Prelude.{◌≡◌, ◌++◌, OnOk, map, filter};
 ghost use Rattle.std.specs.Str.{bytes_eq};
-ghost use Rattle.row_machine.specs.records.specs.declared.rows.Row.TheVariants as row;
+ghost use Rattle.records.specs.declared.rows.Row.TheVariants as row;
 
 use crate::row_ref::{AnyRow, RowRef};
-use row_machine::from_records::{Instance, Network, Pool, Profile, Project, Snapshot, Volume};
-use row_machine::from_size_values::{Boxed, NoMemory};
+use records::{Instance, Network, Pool, Profile, Project, Snapshot, Volume};
+use size_values::{Boxed, NoMemory};
 
 /// Adds projects.
 pub fn add_projects<'x>(rows: &'x [Project], all: &mut Vec<RowRef<'x>>) -> Result<(), NoMemory>

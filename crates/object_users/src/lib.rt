@@ -1,19 +1,6 @@
 //! The users of objects: which rows use a row, and the links of rows.
 #![tactic(auto)]
 
-/// Of `object_links`, for the crates above.
-pub mod from_object_links {
-    pub use object_links::link_of;
-}
-
-/// Of `row_readings`, for the crates above.
-pub mod from_row_readings {
-    pub use row_readings::{
-        View, claimed_instance, claimed_volume, is_on, power_of, project_of_row, replaced_instance,
-        rows_at_home, rows_of,
-    };
-}
-
 mod at_home;
 mod gathered;
 mod row_links;

@@ -6,8 +6,8 @@ ghost use Rattle.row_machine.specs.shown.Views.{row_link, links};
 
 use crate::row_ref::{AnyRow, RowRef};
 use object_links::{link_of, snapshot_target, target_named, volume_target};
-use row_machine::from_records::Target;
-use row_machine::from_size_values::{NoMemory, ObjectKind, Seq, Text};
+use records::Target;
+use size_values::{NoMemory, ObjectKind, Seq, Text};
 use std::alloc::Global;
 
 /// What names a row.

@@ -1,4 +1,4 @@
-use row_machine::from_records::{Instance, Network, Pool, Profile, Project, Snapshot, Volume};
+use records::{Instance, Network, Pool, Profile, Project, Snapshot, Volume};
 use std::marker::Model;
 
 /// A row of any kind, which stays where it is.
@@ -20,7 +20,7 @@ pub struct RowRef<'a> {
 }
 
 impl<'a> Model for RowRef<'a> {
-    ghost use Rattle.row_machine.specs.records.specs.declared.rows.Row.{Row};
+    ghost use Rattle.records.specs.declared.rows.Row.{Row};
     ghost use Rattle.object_users.specs.Lent.{row_in};
 
     ghost Value = { Row };

@@ -1,6 +1,6 @@
 //! The users of an object: the rows that name it, or that belong to it.
 ghost use Rattle.std.specs.Prelude.{◌≡◌, ◌++◌, [], IfOk, OnOk, map, filter};
-ghost use Rattle.row_machine.specs.records.specs.declared.rows.Row.TheVariants as row;
+ghost use Rattle.records.specs.declared.rows.Row.TheVariants as row;
 ghost use Rattle.row_machine.specs.machine.Holders.{instance_uses, names_profile, profile_uses, volume_uses};
 ghost use Rattle.row_machine.specs.shown.Links.{sorted, target_of};
 ghost use Rattle.row_machine.specs.shown.Views.{links, rows_in, rows_using, used_by};
@@ -10,9 +10,9 @@ use crate::gathered::{add_instances, add_networks, add_profiles, add_volumes};
 use crate::row_links::{sorted_links, target_of};
 use crate::row_ref::{AnyRow, RowRef};
 use crate::uses::{instance_uses, names_profile, profile_uses, volume_uses};
-use row_machine::from_records::{Instance, Profile, Target};
-use row_machine::from_size_values::{Boxed, NoMemory, ObjectKind, Seq, Text};
+use records::{Instance, Profile, Target};
 use row_readings::{View, rows_at_home, rows_of};
+use size_values::{Boxed, NoMemory, ObjectKind, Seq, Text};
 use std::alloc::Global;
 
 /// The instances, networks, volumes and profiles of a project.

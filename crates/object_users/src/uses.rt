@@ -5,11 +5,11 @@ ghost use Rattle.std.specs.Str.{bytes_eq};
 ghost use Rattle.row_machine.specs.machine.Holders.{devices_name, instance_uses, names_profile, profile_uses};
 ghost use Rattle.row_machine.specs.machine.Holders.{volume_uses};
 
-use row_machine::from_config_lists::Devices;
-use row_machine::from_estate_rules::{names_network, names_pool, names_volume};
-use row_machine::from_records::{Instance, Profile, Target, Volume};
-use row_machine::from_size_values::{NoMemory, ObjectKind, Text};
+use config_lists::Devices;
+use estate_rules::{names_network, names_pool, names_volume};
+use records::{Instance, Profile, Target, Volume};
 use row_readings::View;
+use size_values::{NoMemory, ObjectKind, Text};
 use std::alloc::Global;
 
 fn has_name(names: &[Text], profile: &str) -> bool

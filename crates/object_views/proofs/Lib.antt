@@ -1,1 +1,2 @@
 mod OfHome
+mod Numbered

@@ -4,8 +4,8 @@ use Rattle.std.specs.Str.{bytes_eq}
 use Rattle.row_machine.specs.Words.{ObjectKind, Row, Target}
 use Rattle.row_machine.specs.Words.kind
 use Rattle.row_machine.specs.Words.row
-use Rattle.row_machine.specs.records.specs.declared.rows.Snapshot.{Snapshot}
-use Rattle.row_machine.specs.records.specs.declared.rows.Volume.{Volume}
+use Rattle.records.specs.declared.rows.Snapshot.{Snapshot}
+use Rattle.records.specs.declared.rows.Volume.{Volume}
 use Rattle.row_machine.specs.machine.Homes.{home_of}
 use Rattle.row_machine.specs.machine.State.{State}
 use Rattle.row_machine.specs.shown.Views.{listed}

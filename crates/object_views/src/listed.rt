@@ -4,13 +4,13 @@ ghost use Rattle.object_users.specs.Lent.{row_in};
 ghost use Rattle.row_machine.specs.machine.Plans.{row_of};
 ghost use Rattle.row_machine.specs.shown.Views.{listed};
 
-use object_users::from_row_readings::{View, rows_of};
 use object_users::{
     AnyRow, RowRef, add_instances, add_networks, add_pools, add_profiles, add_projects,
     add_snapshots, add_volumes_in,
 };
-use row_machine::from_records::Target;
-use row_machine::from_size_values::{NoMemory, ObjectKind};
+use records::Target;
+use row_readings::{View, rows_of};
+use size_values::{NoMemory, ObjectKind};
 use std::alloc::Global;
 
 /// Adds the rows of a list.

@@ -1,20 +1,20 @@
 //! What reads answer.
 ghost use Rattle.std.specs.Prelude.{◌≡◌, ◌∷◌, [], codes, IfOk};
 ghost use Rattle.std.specs.Option.{option_map, option_and_then};
-ghost use Rattle.row_machine.specs.records.specs.declared.replies.View.TheVariants as view_of_kind;
-ghost use Rattle.row_machine.specs.records.specs.declared.replies.Reply.TheVariants as reply;
+ghost use Rattle.records.specs.declared.replies.View.TheVariants as view_of_kind;
+ghost use Rattle.records.specs.declared.replies.Reply.TheVariants as reply;
 ghost use Rattle.row_machine.specs.machine.Plans.{row_of};
 ghost use Rattle.row_machine.specs.shown.Views.{list_reply, listed, one, read, row_view, rows_reply, state_view};
 ghost use Rattle.row_machine.specs.machine.StandingRules.{power_of};
 
 use crate::listed::{listed, row_of};
+use crate::operations_shown::{operation_reply, operations_reply};
 use crate::row_views::{row_view, row_views};
 use crate::usage::usage_view;
 use object_users::{AnyRow, RowRef, links_of_rows};
-use operation_views::{operation_reply, operations_reply};
-use project_usage::from_row_readings::{View, power_of};
-use row_machine::from_records::{Instance, Reply, Target, View as Shown, What};
-use row_machine::from_size_values::{NoMemory, ObjectKind, Seq, Text};
+use records::{Instance, Reply, Target, View as Shown, What};
+use row_readings::{View, power_of};
+use size_values::{NoMemory, ObjectKind, Seq, Text};
 use std::alloc::Global;
 
 // ---- lists

@@ -1,13 +1,13 @@
 //! How a row is shown.
 ghost use Rattle.std.specs.Prelude.{◌≡◌, Ok, IfOk, map, unwrap_or};
-ghost use Rattle.row_machine.specs.size_values.specs.declared.kinds.Power.TheVariants as power_of_kind;
+ghost use Rattle.size_values.specs.declared.kinds.Power.TheVariants as power_of_kind;
 ghost use Rattle.row_machine.specs.machine.StandingRules.{power_of};
 ghost use Rattle.row_machine.specs.shown.Views.{instance_view, row_view};
 
 use object_users::{AnyRow, RowRef, used_by};
-use project_usage::from_row_readings::{View, power_of};
-use row_machine::from_records::{Instance, View as Shown};
-use row_machine::from_size_values::{NoMemory, Power, Seq};
+use records::{Instance, View as Shown};
+use row_readings::{View, power_of};
+use size_values::{NoMemory, Power, Seq};
 use std::alloc::Global;
 
 fn shown_power(view: &View<'_>, row: &Instance) -> Power

@@ -1,15 +1,14 @@
 //! The usage of a project: each limit with what is used of it.
 ghost use Rattle.std.specs.Prelude.{◌≡◌, ◌++◌, ◌∷◌, [], IfOk, OnOk, map};
-ghost use Rattle.row_machine.specs.size_values.specs.Amounts.{part};
-ghost use Rattle.row_machine.specs.project_limits.specs.Admission.{limit_on, parts};
-ghost use Rattle.row_machine.specs.records.specs.declared.replies.LimitKeyName.TheVariants as line;
+ghost use Rattle.size_values.specs.Amounts.{part};
+ghost use Rattle.project_limits.specs.Admission.{limit_on, parts};
+ghost use Rattle.records.specs.declared.replies.LimitKeyName.TheVariants as line;
 ghost use Rattle.row_machine.specs.shown.Views.{line_key, usage_view};
 
-use project_usage::from_row_readings::{View, rows_of};
-use project_usage::usage_of;
-use row_machine::from_project_limits::{Limits, limits_of};
-use row_machine::from_records::{LimitKeyName, Project, UsageLine, View as Shown};
-use row_machine::from_size_values::{Amounts, NoMemory, Seq};
+use project_limits::{Limits, limits_of};
+use records::{LimitKeyName, Project, UsageLine, View as Shown};
+use row_readings::{View, rows_of, usage_of};
+use size_values::{Amounts, NoMemory, Seq};
 use std::alloc::Global;
 
 /// Each limit with what is used of it.

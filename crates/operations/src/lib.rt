@@ -2,11 +2,6 @@
 //! all of them is taken once, so no later call takes memory.
 #![tactic(auto)]
 
-/// Of `plain_lists`, for the crates above.
-pub mod from_plain_lists {
-    pub use plain_lists::push_reserved;
-}
-
 mod faults;
 mod limits;
 mod lists;

@@ -2,7 +2,7 @@ use crate::status::Status;
 
 /// Why an operation ended as `Failure`. A `Host` fault keeps which call of the operation failed, counted from 1,
 /// and the host's count of faults before and after it; a `Keeper` fault the keeper's counts.
-#[derive(Clone, Copy, Debug, PartialEq, Eq)]
+#[derive(Clone, Copy, PartialEq, Eq)]
 pub enum OpFault {
     None,
     Host { call: u8, before: u64, after: u64 },

@@ -3,15 +3,15 @@ use Rattle.std.specs.Prelude.{ℕ, Bool, List, [], ◌∷◌, Option, Some, None
 use Rattle.std.specs.List.{list_any}
 use Rattle.std.specs.Result.{result_err}
 use Rattle.std.specs.Str.{bytes_eq}
-use Rattle.config_lists.specs.size_values.specs.declared.fault.ValueFault.{ValueFault}
-use Rattle.config_lists.specs.size_values.specs.declared.fault.ValueFault.TheVariants.{OutOfRange}
-use Rattle.config_lists.specs.size_values.specs.Address.{address_of, cidr_of}
-use Rattle.config_lists.specs.size_values.specs.Count.{count_of}
-use Rattle.config_lists.specs.size_values.specs.Cpu.{cpu_of}
-use Rattle.config_lists.specs.size_values.specs.Expiry.{expiry_of}
-use Rattle.config_lists.specs.size_values.specs.MemorySize.{memory_of}
-use Rattle.config_lists.specs.size_values.specs.Size.{size_of}
-use Rattle.config_lists.specs.size_values.specs.Boolean.{boolean_of}
+use Rattle.size_values.specs.declared.fault.ValueFault.{ValueFault}
+use Rattle.size_values.specs.declared.fault.ValueFault.TheVariants.{OutOfRange}
+use Rattle.size_values.specs.Address.{address_of, cidr_of}
+use Rattle.size_values.specs.Count.{count_of}
+use Rattle.size_values.specs.Cpu.{cpu_of}
+use Rattle.size_values.specs.Expiry.{expiry_of}
+use Rattle.size_values.specs.MemorySize.{memory_of}
+use Rattle.size_values.specs.Size.{size_of}
+use Rattle.size_values.specs.Boolean.{boolean_of}
 use Rattle.option_tables.specs.declared.form.Form.{Form}
 use Rattle.option_tables.specs.declared.form.Form.TheVariants as form
 use Rattle.option_tables.specs.declared.form.Words.{Words}

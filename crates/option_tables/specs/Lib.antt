@@ -1,7 +1,3 @@
--- The libraries whose words crates above name through this one.
-pub use Rattle.config_lists as config_lists
-pub use Rattle.plain_lists as plain_lists
-pub use Rattle.config_lists.specs.size_values as size_values
 pub mod Apart
 pub mod Checks
 pub mod Faults

@@ -1,4 +1,4 @@
-use config_lists::from_size_values::ValueFault;
+use size_values::ValueFault;
 
 /// The first setting or device that a table refuses. A place counts from 0 in the order of the keys, or of
 /// the names of devices.

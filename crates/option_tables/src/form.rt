@@ -3,7 +3,7 @@ ghost use Rattle.std.specs.Result.{result_err};
 ghost use Rattle.option_tables.specs.Forms.{value_fault, words_of, is_word, unless, cidr_fault};
 
 use crate::names::{are_network_names, is_pattern};
-use config_lists::from_size_values::{
+use size_values::{
     ValueFault, read_address, read_boolean, read_cidr, read_count, read_cpu, read_expiry,
     read_memory, read_size,
 };

@@ -3,19 +3,6 @@
 //! the tables refuse. Commands check every row that they would put.
 #![tactic(auto)]
 
-/// Of `config_lists`, for the crates above.
-pub mod from_config_lists {
-    pub use config_lists::{Changes, Config, Device, Devices, is_root_disk};
-}
-
-/// Of `size_values`, for the crates above.
-pub mod from_size_values {
-    pub use config_lists::from_size_values::{
-        Action, Amounts, Boxed, Cpu, Deed, Kind, Memory, NoMemory, ObjectKind, Or, Power, Rise,
-        Seq, Text, read_boolean, read_count, read_cpu, read_memory, read_size,
-    };
-}
-
 mod checks;
 mod devices;
 mod faults;

@@ -4,8 +4,8 @@ use Rattle.std.specs.List.{list_any, slice_get}
 use Rattle.std.specs.Map.{keys_of}
 use Rattle.std.specs.Result.{result_ok}
 use Rattle.std.specs.Str.{bytes_eq}
-use Rattle.config_lists.specs.size_values.specs.Count.{count_of}
-use Rattle.config_lists.specs.size_values.specs.Size.{size_of}
+use Rattle.size_values.specs.Count.{count_of}
+use Rattle.size_values.specs.Size.{size_of}
 use Rattle.config_lists.specs.Entries.{value_of}
 use Rattle.config_lists.specs.Settings.{Settings, setting}
 use Rattle.config_lists.proofs.Keys.{same}

@@ -1,10 +1,10 @@
 -- Whether what is asked for fits under the limits together with what is used.
 use Rattle.std.specs.Prelude.{ℕ, ◌+◌, nat_lt, if◌then◌else◌, List, [], ◌∷◌, Option, Some, None}
 use Rattle.plain_lists.specs.Firsts.{first_of}
-use Rattle.config_lists.specs.size_values.specs.Amounts.{part}
-use Rattle.config_lists.specs.size_values.specs.declared.amounts.Amounts.{Amounts}
-use Rattle.config_lists.specs.size_values.specs.declared.amounts.Part.{Part}
-use Rattle.config_lists.specs.size_values.specs.declared.amounts.Part.TheVariants as part_of
+use Rattle.size_values.specs.Amounts.{part}
+use Rattle.size_values.specs.declared.amounts.Amounts.{Amounts}
+use Rattle.size_values.specs.declared.amounts.Part.{Part}
+use Rattle.size_values.specs.declared.amounts.Part.TheVariants as part_of
 use Rattle.project_limits.specs.declared.admission.LimitKey.{LimitKey}
 use Rattle.project_limits.specs.declared.admission.LimitKey.TheVariants.{Instances, Containers, Machines, Cpu, Memory}
 use Rattle.project_limits.specs.declared.admission.LimitKey.TheVariants.{Processes, Disk, Networks}

@@ -1,6 +1,6 @@
 -- Where a limit on a sum is set, each instance and volume has to give a number for it.
 use Rattle.std.specs.Prelude.{ℕ, ◌&&◌, if◌then◌else◌, List, [], ◌∷◌, Option, Some, None, is_some, is_none, codes}
-use Rattle.config_lists.specs.size_values.specs.declared.kinds.Kind.{Kind}
+use Rattle.size_values.specs.declared.kinds.Kind.{Kind}
 use Rattle.plain_lists.specs.Firsts.{first_of}
 use Rattle.config_lists.specs.Devices.{NamedDevices}
 use Rattle.config_lists.specs.Settings.{Settings}

@@ -2,15 +2,15 @@
 use Rattle.std.specs.Prelude.{ℕ, Option, Some, None, codes, option_and_then, unwrap_or, slice_get}
 use Rattle.std.specs.Map.{values_of}
 use Rattle.std.specs.Result.{result_ok}
-use Rattle.config_lists.specs.size_values.specs.Cpu.{cpu_of}
-use Rattle.config_lists.specs.size_values.specs.MemorySize.{memory_of}
-use Rattle.config_lists.specs.size_values.specs.declared.amounts.Amounts.{Amounts}
-use Rattle.config_lists.specs.size_values.specs.declared.cpu.Cpu.{Cpu}
-use Rattle.config_lists.specs.size_values.specs.declared.cpu.Cpu.TheVariants as cpu
-use Rattle.config_lists.specs.size_values.specs.declared.kinds.Kind.{Kind}
-use Rattle.config_lists.specs.size_values.specs.declared.kinds.Kind.TheVariants.{Container, Machine}
-use Rattle.config_lists.specs.size_values.specs.declared.memory_size.Memory.{Memory}
-use Rattle.config_lists.specs.size_values.specs.declared.memory_size.Memory.TheVariants as memory
+use Rattle.size_values.specs.Cpu.{cpu_of}
+use Rattle.size_values.specs.MemorySize.{memory_of}
+use Rattle.size_values.specs.declared.amounts.Amounts.{Amounts}
+use Rattle.size_values.specs.declared.cpu.Cpu.{Cpu}
+use Rattle.size_values.specs.declared.cpu.Cpu.TheVariants as cpu
+use Rattle.size_values.specs.declared.kinds.Kind.{Kind}
+use Rattle.size_values.specs.declared.kinds.Kind.TheVariants.{Container, Machine}
+use Rattle.size_values.specs.declared.memory_size.Memory.{Memory}
+use Rattle.size_values.specs.declared.memory_size.Memory.TheVariants as memory
 use Rattle.config_lists.specs.Devices.{NamedDevices, root_of}
 use Rattle.config_lists.specs.Settings.{Settings, setting}
 use Rattle.config_lists.specs.declared.root.Root.{Root}

@@ -2,8 +2,8 @@
 use Rattle.std.specs.Prelude.{ℕ, ◌-◌, ◌^◌, Bool, List, Option, codes, nat_eq, option_and_then}
 use Rattle.std.specs.List.{starts_with}
 use Rattle.std.specs.Result.{result_ok}
-use Rattle.config_lists.specs.size_values.specs.Count.{count_of}
-use Rattle.config_lists.specs.size_values.specs.Size.{size_of}
+use Rattle.size_values.specs.Count.{count_of}
+use Rattle.size_values.specs.Size.{size_of}
 use Rattle.config_lists.specs.Settings.{Settings, setting}
 use Rattle.project_limits.specs.declared.limits.Limits.{Limits}
 

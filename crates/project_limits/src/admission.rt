@@ -1,11 +1,11 @@
 ghost use Rattle.std.specs.Prelude.{◌≡◌, ◌+◌, ◌<◌, ◌^◌, None, Some, option_map};
 ghost use Rattle.std.specs.Result.{result_err};
-ghost use Rattle.config_lists.specs.size_values.specs.Amounts.{part};
-ghost use Rattle.config_lists.specs.size_values.specs.declared.amounts.Part.{Part};
+ghost use Rattle.size_values.specs.Amounts.{part};
+ghost use Rattle.size_values.specs.declared.amounts.Part.{Part};
 ghost use Rattle.project_limits.specs.Admission.{first_over, networks_over, exceeded};
 
 use crate::limits::Limits;
-use config_lists::from_size_values::Amounts;
+use size_values::Amounts;
 
 /// The keys of limits, in the order in which they are judged.
 #[derive(Clone, Copy, PartialEq, Eq)]

@@ -3,8 +3,8 @@ ghost use Rattle.project_limits.specs.Instance.{cpu_in, disk_in, instance_amount
 ghost use Rattle.project_limits.specs.Instance.{one_if_machine, processes_in, volume_amounts};
 
 use crate::limits::{count_in, size_in};
-use config_lists::from_size_values::{Amounts, Cpu, Kind, Memory, read_cpu, read_memory};
 use config_lists::{Config, Devices, Root};
+use size_values::{Amounts, Cpu, Kind, Memory, read_cpu, read_memory};
 
 /// What an instance counts for in its project, by its expanded settings and devices: one instance of its kind,
 /// its processors where they are a count, its memory where it is in bytes, the processes of a container, and the

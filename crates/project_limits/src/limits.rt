@@ -4,7 +4,7 @@ ghost use Rattle.std.specs.Map.{keys_of};
 ghost use Rattle.project_limits.specs.Limits.{count_in, is_limit_key, limits_of, size_in};
 
 use config_lists::Config;
-use config_lists::from_size_values::{read_count, read_size};
+use size_values::{read_count, read_size};
 
 /// The limits of a project on its sums, each None where it is not set: numbers of instances, containers,
 /// virtual machines and networks, processors, bytes of memory, processes, and bytes of disk.

@@ -4,8 +4,8 @@ ghost use Rattle.project_limits.specs.Countable.{first_uncounted, uncounted, vol
 
 use crate::amounts::{cpu_in, disk_in, memory_in, processes_in};
 use crate::limits::{Limits, size_in};
-use config_lists::from_size_values::Kind;
 use config_lists::{Config, Devices};
+use size_values::Kind;
 
 /// The sums that settings of instances add to.
 #[derive(Clone, Copy, PartialEq, Eq)]

@@ -2,13 +2,6 @@
 //! fail, for runs without a file and for tests.
 #![tactic(auto)]
 
-/// Of `size_values`, for the crates above.
-pub mod from_size_values {
-    pub use size_values::{
-        Amounts, Boxed, Entry, EntryChange, Kind, NoMemory, ObjectKind, Or, Power, Seq, Text,
-    };
-}
-
 mod keeper;
 mod laws;
 mod map_keeper;

@@ -5,10 +5,10 @@ use Rattle.std.specs.Prelude.{length, is_some}
 use Rattle.std.specs.List.{list_all, list_any}
 use Rattle.std.specs.Option.{option_map_or}
 use Rattle.std.specs.Str.{bytes_eq}
-use Rattle.config_lists.specs.size_values.specs.declared.kinds.ObjectKind.{ObjectKind}
-use Rattle.config_lists.specs.size_values.specs.declared.kinds.ObjectKind.TheVariants.{Project, Profile}
-use Rattle.config_lists.specs.size_values.specs.declared.kinds.ObjectKind.TheVariants.{Network, Pool, Volume, Instance}
-use Rattle.config_lists.specs.size_values.specs.declared.kinds.ObjectKind.TheVariants.{Snapshot, Operation}
+use Rattle.size_values.specs.declared.kinds.ObjectKind.{ObjectKind}
+use Rattle.size_values.specs.declared.kinds.ObjectKind.TheVariants.{Project, Profile}
+use Rattle.size_values.specs.declared.kinds.ObjectKind.TheVariants.{Network, Pool, Volume, Instance}
+use Rattle.size_values.specs.declared.kinds.ObjectKind.TheVariants.{Snapshot, Operation}
 use Rattle.config_lists.specs.Settings.{Settings}
 use Rattle.config_lists.specs.Devices.{NamedDevices}
 use Rattle.records.specs.declared.commands.Target.{Target}

@@ -1,6 +1,1 @@
--- The libraries whose words crates above name through this one.
-pub use Rattle.config_lists as config_lists
-pub use Rattle.operations as operations
-pub use Rattle.operations.specs.plain_lists as plain_lists
-pub use Rattle.config_lists.specs.size_values as size_values
 pub mod Forms

@@ -1,8 +1,8 @@
 ghost use Rattle.std.specs.Prelude.{◌≡◌, IfOk};
 
 use crate::rows::Driver;
-use config_lists::from_size_values::{Action, Kind, NoMemory, ObjectKind, Seq, Text};
 use config_lists::{Changes, Devices};
+use size_values::{Action, Kind, NoMemory, ObjectKind, Seq, Text};
 use std::alloc::Global;
 
 /// The object that a command is about, or the objects of a list. A volume has its pool and a snapshot its

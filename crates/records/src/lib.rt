@@ -3,31 +3,6 @@
 //! the store speaks of them.
 #![tactic(auto)]
 
-/// Of `config_lists`, for the crates above.
-pub mod from_config_lists {
-    pub use config_lists::{Changes, Config, Device, Devices};
-}
-
-/// Of `operations`, for the crates above.
-pub mod from_operations {
-    pub use operations::{
-        CancelFault, ENDED_LIMIT, EnterFault, LIVE_LIMIT, NUMBER_LIMIT, OpFault, Operation, Status,
-        drop_oldest, known_place, set_status, take_out,
-    };
-}
-
-/// Of `plain_lists`, for the crates above.
-pub mod from_plain_lists {
-    pub use operations::from_plain_lists::push_reserved;
-}
-
-/// Of `size_values`, for the crates above.
-pub mod from_size_values {
-    pub use config_lists::from_size_values::{
-        Action, Kind, MOMENT_LIMIT, NoMemory, ObjectKind, Or, Power, Seq, Text, read_count,
-    };
-}
-
 mod commands;
 mod notices;
 mod refusals;

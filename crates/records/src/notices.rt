@@ -1,7 +1,7 @@
 ghost use Rattle.std.specs.Prelude.{◌≡◌, IfOk};
 
 use crate::replies::OpView;
-use config_lists::from_size_values::{NoMemory, Text};
+use size_values::{NoMemory, Text};
 use std::alloc::Global;
 
 /// What an event tells: an action of a lifecycle event with the link of its object, or an operation as it is

@@ -1,6 +1,6 @@
 ghost use Rattle.std.specs.Prelude.{◌≡◌, IfOk};
 
-use config_lists::from_size_values::{NoMemory, Text};
+use size_values::{NoMemory, Text};
 use std::alloc::Global;
 
 /// The rules by which a request is refused, in the order in which they are judged: of the head of a request (H), its

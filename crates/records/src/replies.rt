@@ -3,9 +3,9 @@ ghost use Rattle.std.specs.Prelude.{◌≡◌, IfOk};
 use crate::commands::Target;
 use crate::refusals::Refusal;
 use crate::rows::{Instance, Network, Pool, Profile, Project, Snapshot, Volume};
-use config_lists::from_size_values::{NoMemory, Power, Seq, Text};
 use config_lists::{Config, Devices};
 use operations::{OpFault, Status};
+use size_values::{NoMemory, Power, Seq, Text};
 use std::alloc::Global;
 
 /// A background operation as `GET /1.0/operations/{id}` shows it, with the project and the object that it is

@@ -1,8 +1,8 @@
 ghost use Rattle.std.specs.Prelude.{◌≡◌, IfOk};
 
 use crate::texts::copy_texts;
-use config_lists::from_size_values::{Boxed, Kind, NoMemory, Seq, Text};
 use config_lists::{Config, Devices};
+use size_values::{Boxed, Kind, NoMemory, Seq, Text};
 use std::alloc::Global;
 
 /// The driver of a storage pool.

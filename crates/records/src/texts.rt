@@ -1,6 +1,6 @@
 ghost use Rattle.std.specs.Prelude.{◌≡◌, IfOk};
 
-use config_lists::from_size_values::{NoMemory, Seq, Text};
+use size_values::{NoMemory, Seq, Text};
 use std::alloc::Global;
 
 /// A list of its own with the same texts.

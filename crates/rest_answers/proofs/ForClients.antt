@@ -3,31 +3,31 @@
 use Rattle.std.proofs.Common.{◌≡◌, ◌≢◌, ℕ, Bool, cond, true, false, List, Option, Some, None, option_map, refl, ap}
 use Rattle.std.proofs.Common.{subst}
 use Rattle.std.specs.Option.{option_map_or, option_and_then}
-use Rattle.core_turns.specs.record_keeper.specs.Store.{Store}
-use Rattle.rest_replies.specs.operations.specs.declared.operation.Operation.{Operation}
-use Rattle.rest_replies.specs.operations.specs.Kept.{kept_at}
-use Rattle.rest_replies.specs.records.specs.declared.commands.Command.{Command}
-use Rattle.rest_replies.specs.records.specs.declared.commands.What.{What}
-use Rattle.rest_replies.specs.records.specs.declared.commands.What.TheVariants as what
-use Rattle.rest_replies.specs.records.specs.declared.commands.Target.{Target}
-use Rattle.rest_replies.specs.records.specs.declared.refusals.Refusal.{Refusal}
-use Rattle.rest_replies.specs.records.specs.declared.replies.Reply.{Reply}
-use Rattle.rest_replies.specs.records.specs.declared.replies.Reply.TheVariants as reply
-use Rattle.rest_replies.specs.records.specs.declared.replies.View.{View}
-use Rattle.rest_replies.specs.row_machine.specs.declared.events.Answer.{Answer}
-use Rattle.rest_replies.specs.row_machine.specs.declared.events.Answer.TheVariants as answer
-use Rattle.rest_replies.specs.row_machine.specs.declared.events.Event.{Event}
-use Rattle.rest_replies.specs.row_machine.specs.declared.events.Event.TheVariants as event
-use Rattle.rest_replies.specs.row_machine.specs.machine.State.{State}
-use Rattle.rest_replies.specs.row_machine.specs.machine.Task.{Task}
-use Rattle.rest_replies.specs.row_machine.specs.machine.Plans.{Plan, nothing, changes, starts, plan_of, row_of}
-use Rattle.rest_replies.specs.row_machine.specs.machine.Rules.{broken}
-use Rattle.rest_replies.specs.row_machine.specs.machine.Work.{entered}
-use Rattle.rest_replies.specs.row_machine.specs.machine.Accept.{After, and_then, accepted, carried_out, cancel_or_read, started}
-use Rattle.rest_replies.specs.row_machine.specs.machine.Step.{Outcome, well, keeper_failed, no_memory, step, after_command, unavailable}
-use Rattle.rest_replies.specs.row_machine.specs.shown.Views.{read, one, row_view, state_view, operation_view, list_reply, operations_reply}
-use Rattle.rest_replies.specs.row_machine.specs.shown.Views.{rows_reply, is_operation, listed}
-use Rattle.rest_replies.specs.row_machine.specs.shown.Notices.{view_of}
+use Rattle.record_keeper.specs.Store.{Store}
+use Rattle.operations.specs.declared.operation.Operation.{Operation}
+use Rattle.operations.specs.Kept.{kept_at}
+use Rattle.records.specs.declared.commands.Command.{Command}
+use Rattle.records.specs.declared.commands.What.{What}
+use Rattle.records.specs.declared.commands.What.TheVariants as what
+use Rattle.records.specs.declared.commands.Target.{Target}
+use Rattle.records.specs.declared.refusals.Refusal.{Refusal}
+use Rattle.records.specs.declared.replies.Reply.{Reply}
+use Rattle.records.specs.declared.replies.Reply.TheVariants as reply
+use Rattle.records.specs.declared.replies.View.{View}
+use Rattle.row_machine.specs.declared.events.Answer.{Answer}
+use Rattle.row_machine.specs.declared.events.Answer.TheVariants as answer
+use Rattle.row_machine.specs.declared.events.Event.{Event}
+use Rattle.row_machine.specs.declared.events.Event.TheVariants as event
+use Rattle.row_machine.specs.machine.State.{State}
+use Rattle.row_machine.specs.machine.Task.{Task}
+use Rattle.row_machine.specs.machine.Plans.{Plan, nothing, changes, starts, plan_of, row_of}
+use Rattle.row_machine.specs.machine.Rules.{broken}
+use Rattle.row_machine.specs.machine.Work.{entered}
+use Rattle.row_machine.specs.machine.Accept.{After, and_then, accepted, carried_out, cancel_or_read, started}
+use Rattle.row_machine.specs.machine.Step.{Outcome, well, keeper_failed, no_memory, step, after_command, unavailable}
+use Rattle.row_machine.specs.shown.Views.{read, one, row_view, state_view, operation_view, list_reply, operations_reply}
+use Rattle.row_machine.specs.shown.Views.{rows_reply, is_operation, listed}
+use Rattle.row_machine.specs.shown.Notices.{view_of}
 use Rattle.core_turns.specs.core_rows.specs.Asked.{answered}
 use Rattle.core_turns.specs.Turns.{IsTurn}
 use Rattle.rest_answers.specs.Asked.{IsAtOnce, IsForClient}

@@ -1,8 +1,8 @@
 -- Replies that take no memory, and what is written for an answer.
 use Rattle.std.proofs.Common.{◌≡◌, ◌≢◌, ℕ, Bool, [], ap, sym}
-use Rattle.rest_replies.specs.http_front.specs.Replies.{reply_text}
-use Rattle.rest_replies.specs.records.specs.declared.replies.Reply.{Reply}
-use Rattle.rest_replies.specs.records.specs.declared.replies.Reply.TheVariants as reply
+use Rattle.http_front.specs.Replies.{reply_text}
+use Rattle.records.specs.declared.replies.Reply.{Reply}
+use Rattle.records.specs.declared.replies.Reply.TheVariants as reply
 use Rattle.rest_replies.specs.Replies.{NoMemoryIsKnown, printed_of}
 use Rattle.rest_answers.specs.Texts.{HasText, IsUnprinted, no_memory_text, printed, text_for}
 use Rattle.rest_answers.specs.declared.answers.Answered.{Answered}

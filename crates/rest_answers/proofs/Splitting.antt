@@ -1,8 +1,8 @@
 -- What a text that begins with messages has after them.
 use Rattle.std.proofs.Common.{◌≡◌, ◌++◌, ℕ, List, [], ◌∷◌, refl, ap, sym, ◌∙◌, subst}
-use Rattle.rest_replies.specs.http_heads.specs.Messages.{Begins, Splits, Ending, EndsAs}
-use Rattle.rest_replies.specs.http_heads.specs.declared.request.Request.{Request}
-use Rattle.rest_replies.specs.http_heads.proofs.MessageLemmas.{message_unique, ending_message, ending_unique}
+use Rattle.http_heads.specs.Messages.{Begins, Splits, Ending, EndsAs}
+use Rattle.http_heads.specs.declared.request.Request.{Request}
+use Rattle.http_heads.proofs.MessageLemmas.{message_unique, ending_message, ending_unique}
 
 -- where a text begins with messages, its reading begins with them too, and goes on with that of the rest
 pub record GoesOn (rest : List ℕ) (begun messages : List Request) (ending : Ending) : Type 0 where

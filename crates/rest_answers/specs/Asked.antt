@@ -1,10 +1,10 @@
 -- What a command can be answered.
 use Rattle.std.specs.Prelude.{◌≢◌, ℕ}
-use Rattle.rest_replies.specs.records.specs.declared.commands.Command.{Command}
-use Rattle.rest_replies.specs.records.specs.declared.commands.What.TheVariants as what
-use Rattle.rest_replies.specs.records.specs.declared.replies.Reply.TheVariants as reply
-use Rattle.rest_replies.specs.row_machine.specs.declared.events.Answer.{Answer}
-use Rattle.rest_replies.specs.row_machine.specs.declared.events.Answer.TheVariants as answer
+use Rattle.records.specs.declared.commands.Command.{Command}
+use Rattle.records.specs.declared.commands.What.TheVariants as what
+use Rattle.records.specs.declared.replies.Reply.TheVariants as reply
+use Rattle.row_machine.specs.declared.events.Answer.{Answer}
+use Rattle.row_machine.specs.declared.events.Answer.TheVariants as answer
 use Rattle.core_turns.specs.core_rows.specs.Asked.{answered}
 use Rattle.rest_answers.specs.declared.asked.Asked.{Asked}
 use Rattle.rest_answers.specs.declared.asked.Asked.TheVariants as asked

@@ -1,7 +1,7 @@
 -- The last request on a connection.
 use Rattle.std.specs.Prelude.{List, [], ◌∷◌, Bool, if◌then◌else◌}
 use Rattle.std.specs.List.{list_any}
-use Rattle.rest_replies.specs.http_heads.specs.declared.request.Request.{Request}
+use Rattle.http_heads.specs.declared.request.Request.{Request}
 
 -- the requests up to and with the first that is the last on its connection
 abbrev pub through_last : List Request → List Request

@@ -2,10 +2,10 @@
 -- them.
 use Rattle.std.specs.Prelude.{◌≡◌, ◌≤◌, ◌⊎◌, ℕ, List, Bool, true, take, length, Option, IfSome}
 use Rattle.std.specs.Io.KnownBytes.{Appends, prepend_known}
-use Rattle.rest_replies.specs.size_values.specs.Causes.{Rose}
-use Rattle.rest_replies.specs.http_front.specs.Held.{most_held}
-use Rattle.rest_replies.specs.http_front.specs.Reading.{IsUnfinished, KeepsHeld, OnEnd, OnReadFault, ReadsNext}
-use Rattle.rest_replies.specs.http_front.specs.declared.read.Got.{Got}
+use Rattle.size_values.specs.Causes.{Rose}
+use Rattle.http_front.specs.Held.{most_held}
+use Rattle.http_front.specs.Reading.{IsUnfinished, KeepsHeld, OnEnd, OnReadFault, ReadsNext}
+use Rattle.http_front.specs.declared.read.Got.{Got}
 
 -- What is seen of a source at one moment: the bytes that it has left, where it tells them; whether it has ended; and
 -- how many reads failed.

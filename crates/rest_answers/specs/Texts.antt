@@ -1,13 +1,13 @@
 -- The bytes of replies, and what is written for them.
 use Rattle.std.specs.Prelude.{◌≡◌, ◌≢◌, ℕ, List, [], Bool, true}
-use Rattle.rest_replies.specs.http_heads.specs.declared.request.HeadFault.{HeadFault}
-use Rattle.rest_replies.specs.http_heads.specs.declared.request.HeadFault.TheVariants as fault
-use Rattle.rest_replies.specs.http_front.specs.Replies.{reply_text, no_memory_body}
-use Rattle.rest_replies.specs.records.specs.declared.refusals.Rule.{Rule}
-use Rattle.rest_replies.specs.records.specs.declared.refusals.Rule.TheVariants as rule
-use Rattle.rest_replies.specs.records.specs.declared.replies.Reply.{Reply}
-use Rattle.rest_replies.specs.records.specs.declared.replies.Reply.TheVariants as reply
-use Rattle.rest_replies.specs.row_machine.specs.machine.Refusals.{plain_refusal}
+use Rattle.http_heads.specs.declared.request.HeadFault.{HeadFault}
+use Rattle.http_heads.specs.declared.request.HeadFault.TheVariants as fault
+use Rattle.http_front.specs.Replies.{reply_text, no_memory_body}
+use Rattle.records.specs.declared.refusals.Rule.{Rule}
+use Rattle.records.specs.declared.refusals.Rule.TheVariants as rule
+use Rattle.records.specs.declared.replies.Reply.{Reply}
+use Rattle.records.specs.declared.replies.Reply.TheVariants as reply
+use Rattle.row_machine.specs.machine.Refusals.{plain_refusal}
 use Rattle.rest_replies.specs.Replies.{printed_of}
 use Rattle.rest_answers.specs.declared.answers.Answered.{Answered}
 use Rattle.rest_answers.specs.declared.answers.Answered.TheVariants as written

@@ -1,6 +1,6 @@
 -- How the writing of a reply ended, and what the sink took of it.
 use Rattle.std.specs.Prelude.{◌≡◌, Bool, Result, Ok, Err}
-use Rattle.rest_replies.specs.http_heads.specs.declared.request.HeadFault.{HeadFault}
+use Rattle.http_heads.specs.declared.request.HeadFault.{HeadFault}
 use Rattle.rest_answers.specs.Links.{BreaksOff, Outlet, Takes}
 use Rattle.rest_answers.specs.Texts.{IsUnprinted, malformed_text, text_for}
 use Rattle.rest_answers.specs.declared.answers.Answered.{Answered}

@@ -1,16 +1,16 @@
 //! What is written for a reply.
 ghost use Rattle.std.specs.Prelude.{◌≡◌, ℕ, true, false, IfOk};
-ghost use Rattle.rest_replies.specs.records.specs.declared.replies.Reply.TheVariants as reply;
-ghost use Rattle.rest_replies.specs.records.specs.declared.replies.View.TheVariants as view;
-ghost use Rattle.rest_replies.specs.row_machine.specs.machine.Refusals.{plain_refusal};
+ghost use Rattle.records.specs.declared.replies.Reply.TheVariants as reply;
+ghost use Rattle.records.specs.declared.replies.View.TheVariants as view;
+ghost use Rattle.row_machine.specs.machine.Refusals.{plain_refusal};
 ghost use Rattle.rest_answers.specs.Texts.{HasText, IsUnprinted, malformed_text, printed, rule_of};
 
 use crate::reply_text::ReplyText;
-use core_turns::from_rule_refusals::nothing_told;
-use rest_replies::from_http_front::{HeadFault, reply_bytes};
-use rest_replies::from_records::{Refusal, Reply, Rule};
-use rest_replies::from_size_values::{NoMemory, Seq};
+use http_front::{HeadFault, reply_bytes};
+use records::{Refusal, Reply, Rule};
 use rest_replies::{known_reply, no_memory_is_known, print, server_text};
+use rules_refusals::nothing_told;
+use size_values::{NoMemory, Seq};
 use std::alloc::Global;
 
 /// What is to be written for a request.

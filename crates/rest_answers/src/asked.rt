@@ -3,8 +3,8 @@ ghost use Rattle.std.specs.Prelude.{◌≡◌};
 ghost use Rattle.core_turns.specs.core_rows.specs.Asked.{answered};
 ghost use Rattle.rest_answers.specs.Asked.{answer_of, IsAtOnce, IsForClient};
 
-use rest_replies::from_records::Reply;
-use rest_replies::from_row_machine::Answer;
+use records::Reply;
+use row_machine::Answer;
 
 /// What a command is answered at first.
 #[derive(Drop)]

@@ -1,7 +1,7 @@
 //! The text of a reply, which stands ready or was made.
 ghost use Rattle.std.specs.Prelude.{◌≡◌};
 
-use rest_replies::from_size_values::Seq;
+use size_values::Seq;
 use std::marker::Model;
 
 /// Where the bytes of a reply are.

@@ -4,8 +4,8 @@ ghost use Rattle.rest_answers.specs.Links.{outlet};
 ghost use Rattle.rest_answers.specs.Writing.{RefusesPlace, WritesAnswer, written_by};
 
 use crate::answers::{Answered, print_malformed};
-use rest_replies::from_http_front::{HeadFault, Sink, SinkFailed, no_memory_reply};
-use rest_replies::from_size_values::NoMemory;
+use http_front::{HeadFault, Sink, SinkFailed, no_memory_reply};
+use size_values::NoMemory;
 use std::alloc::Global;
 
 /// How the writing of a reply ended.

@@ -3,8 +3,8 @@ use Rattle.std.specs.Prelude.{ℕ, List, Option, Some, None, option_and_then, if
 use Rattle.std.specs.Str.{bytes_eq}
 use Rattle.serde_json.specs.Data.{Data}
 use Rattle.serde_json.specs.Find.{as_str}
-use Rattle.records.specs.size_values.specs.declared.kinds.Action.{Action}
-use Rattle.records.specs.size_values.specs.declared.kinds.Action.TheVariants as action
+use Rattle.size_values.specs.declared.kinds.Action.{Action}
+use Rattle.size_values.specs.declared.kinds.Action.TheVariants as action
 use Rattle.rest_bodies.specs.Members.{non_null_member}
 
 -- the action of this name

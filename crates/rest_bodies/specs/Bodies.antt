@@ -1,8 +1,8 @@
 -- What the fields of a body say of an object.
 use Rattle.std.specs.Prelude.{ℕ, List, Bool, true, false, Option, None, option_map, codes}
 use Rattle.serde_json.specs.Data.{Data}
-use Rattle.records.specs.config_lists.specs.Devices.{NamedDevices}
-use Rattle.records.specs.config_lists.specs.Settings.{Settings}
+use Rattle.config_lists.specs.Devices.{NamedDevices}
+use Rattle.config_lists.specs.Settings.{Settings}
 use Rattle.records.specs.declared.commands.Body.{Body}
 use Rattle.records.specs.declared.commands.Origin.{Origin}
 use Rattle.records.specs.declared.commands.Origin.TheVariants as origin

@@ -5,8 +5,8 @@ use Rattle.std.specs.Option.{option_map_or}
 use Rattle.std.specs.Str.{bytes_eq}
 use Rattle.serde_json.specs.Data.{Data}
 use Rattle.serde_json.specs.Find.{as_bool, as_object, as_str}
-use Rattle.records.specs.size_values.specs.declared.kinds.Kind.{Kind}
-use Rattle.records.specs.size_values.specs.declared.kinds.Kind.TheVariants as kind
+use Rattle.size_values.specs.declared.kinds.Kind.{Kind}
+use Rattle.size_values.specs.declared.kinds.Kind.TheVariants as kind
 use Rattle.records.specs.declared.commands.Origin.{Origin}
 use Rattle.records.specs.declared.commands.Origin.TheVariants as origin
 use Rattle.rest_bodies.specs.Copies.{copied_fault}

@@ -1,7 +1,3 @@
--- The libraries whose words crates above name through this one.
-pub use Rattle.records.specs.config_lists as config_lists
-pub use Rattle.records as records
-pub use Rattle.records.specs.size_values as size_values
 pub mod Actions
 pub mod Bodies
 pub mod Copies

@@ -4,9 +4,9 @@ use Rattle.std.specs.Prelude.{is_some, if◌then◌else◌}
 use Rattle.std.specs.Option.{option_map_or}
 use Rattle.serde_json.specs.Data.{Data, Members, no_members, member}
 use Rattle.serde_json.specs.Find.{as_object, as_str}
-use Rattle.records.specs.config_lists.specs.Devices.{NamedDevices}
-use Rattle.records.specs.config_lists.specs.Entries.{put}
-use Rattle.records.specs.config_lists.specs.Settings.{Settings}
+use Rattle.config_lists.specs.Devices.{NamedDevices}
+use Rattle.config_lists.specs.Entries.{put}
+use Rattle.config_lists.specs.Settings.{Settings}
 
 -- a text of no bytes
 abbrev pub is_empty : List ℕ → Bool

@@ -3,8 +3,8 @@ ghost use Rattle.serde_json.specs.View.{view};
 ghost use Rattle.rest_bodies.specs.Actions.{action_of, action_in, action_at};
 
 use crate::members::non_null_member;
-use records::from_size_values::Action;
 use serde_json::Value;
+use size_values::Action;
 
 #[tactic(auto, unfolding(crate::specs::Actions::action_of))]
 fn action_of(name: &str) -> Option<Action>

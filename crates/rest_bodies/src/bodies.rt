@@ -15,10 +15,10 @@ use crate::members::{non_null_member, text_at};
 use crate::origins::volume_origin;
 use crate::profiles::profiles_at;
 use crate::settings::{changes_of, devices_of};
-use records::from_config_lists::{Changes, Devices};
-use records::from_size_values::{Kind, NoMemory, Seq, Text};
+use config_lists::{Changes, Devices};
 use records::{Body, Driver, Origin};
 use serde_json::Value;
+use size_values::{Kind, NoMemory, Seq, Text};
 use std::alloc::Global;
 
 #[tactic(auto, unfolding(crate::specs::Bodies::config_at))]

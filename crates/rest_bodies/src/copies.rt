@@ -6,8 +6,8 @@ ghost use Rattle.rest_bodies.specs.Copies.{copied_from, copy_origin};
 
 use crate::members::{non_null_member, str_at};
 use records::Origin;
-use records::from_size_values::{NoMemory, Text};
 use serde_json::Value;
+use size_values::{NoMemory, Text};
 use std::alloc::Global;
 
 fn has_slash(text: &str) -> bool

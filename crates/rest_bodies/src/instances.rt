@@ -8,8 +8,8 @@ use crate::copies::copied_fault;
 use crate::members::{is_word, non_null_member, str_at, text_at};
 use crate::origins::has_word;
 use records::Origin;
-use records::from_size_values::{Kind, NoMemory, Text};
 use serde_json::Value;
+use size_values::{Kind, NoMemory, Text};
 use std::alloc::Global;
 
 #[tactic(auto, unfolding(crate::specs::Instances::kind_of))]

@@ -2,25 +2,6 @@
 //! and what they say of an object.
 #![tactic(auto)]
 
-/// Of `config_lists`, for the crates above.
-pub mod from_config_lists {
-    pub use records::from_config_lists::{Config, Devices};
-}
-
-/// Of `records`, for the crates above.
-pub mod from_records {
-    pub use records::{
-        Body, Command, Driver, Instance, Kept, Life, LimitKeyName, Network, Notice, OpFault,
-        OpView, Origin, Pool, Profile, Project, Refusal, Reply, Rule, Snapshot, Status, Target,
-        Told, UsageLine, View, Volume, What,
-    };
-}
-
-/// Of `size_values`, for the crates above.
-pub mod from_size_values {
-    pub use records::from_size_values::{Action, Kind, NoMemory, ObjectKind, Or, Power, Seq, Text};
-}
-
 mod actions;
 mod bodies;
 mod copies;

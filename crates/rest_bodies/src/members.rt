@@ -3,8 +3,8 @@ ghost use Rattle.serde_json.specs.View.{view};
 ghost use Rattle.rest_bodies.specs.Members.{json_in, if_object, object_in, if_given, non_null_member, text_at, is_word};
 ghost use Rattle.rest_bodies.specs.Members.{name_at};
 
-use records::from_size_values::{NoMemory, Text};
 use serde_json::Value;
+use size_values::{NoMemory, Text};
 use std::alloc::Global;
 
 /// The JSON value that a body spells, if it is one.

@@ -5,8 +5,8 @@ ghost use Rattle.rest_bodies.specs.Origins.{source_pool, volume_copied, volume_o
 
 use crate::members::{is_word, name_at, non_null_member, str_at};
 use records::Origin;
-use records::from_size_values::{NoMemory, Text};
 use serde_json::Value;
+use size_values::{NoMemory, Text};
 use std::alloc::Global;
 
 fn may_be_text(field: Option<&Value>) -> bool

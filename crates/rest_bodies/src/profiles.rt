@@ -6,8 +6,8 @@ ghost use Rattle.rest_bodies.specs.Profiles.{is_text, are_texts, is_here, is_amo
 ghost use Rattle.rest_bodies.specs.Profiles.{are_names, fits_profiles, text_in, texts_in, profiles_in, profiles_at};
 
 use crate::members::non_null_member;
-use records::from_size_values::{NoMemory, Seq, Text};
 use serde_json::Value;
+use size_values::{NoMemory, Seq, Text};
 use std::alloc::Global;
 
 fn is_text(value: &Value) -> bool

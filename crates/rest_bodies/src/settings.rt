@@ -5,9 +5,9 @@ ghost use Rattle.rest_bodies.specs.Settings.{is_setting, all_settings, fits_sett
 ghost use Rattle.rest_bodies.specs.Settings.{with_change, changes_after, changes_of, with_setting, settings_after};
 ghost use Rattle.rest_bodies.specs.Settings.{device_of, devices_after, devices_of};
 
-use records::from_config_lists::{Changes, Device, Devices};
-use records::from_size_values::NoMemory;
+use config_lists::{Changes, Device, Devices};
 use serde_json::{Map, Value};
+use size_values::NoMemory;
 use std::alloc::Global;
 
 /// Whether a member is a text under a key that is not empty. A null is no text.

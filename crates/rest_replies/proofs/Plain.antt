@@ -1,24 +1,24 @@
 -- What is made before it is written, and notices, have no number with a fraction, so each has the compact text.
 use Rattle.std.proofs.Common.{◌≡◌, ℕ, List, [], ◌∷◌, false, codes, refl}
-use Rattle.reply_views.specs.operations.specs.declared.status.Status.{Status}
-use Rattle.reply_views.specs.records.specs.declared.refusals.Kept.{Kept}
-use Rattle.reply_views.specs.records.specs.declared.refusals.Refusal.{Refusal}
-use Rattle.reply_views.specs.records.specs.declared.replies.OpView.{OpView}
-use Rattle.reply_views.specs.records.specs.declared.notices.Told.{Told}
-use Rattle.reply_views.specs.records.specs.declared.notices.Told.TheVariants as told
-use Rattle.reply_views.specs.records.specs.declared.notices.Notice.{Notice}
+use Rattle.operations.specs.declared.status.Status.{Status}
+use Rattle.records.specs.declared.refusals.Kept.{Kept}
+use Rattle.records.specs.declared.refusals.Refusal.{Refusal}
+use Rattle.records.specs.declared.replies.OpView.{OpView}
+use Rattle.records.specs.declared.notices.Told.{Told}
+use Rattle.records.specs.declared.notices.Told.TheVariants as told
+use Rattle.records.specs.declared.notices.Notice.{Notice}
 use Rattle.serde_json.specs.Data.{Data, string, Members, no_members, put}
 use Rattle.serde_json.specs.Written.{has_float, members_have_float}
 use Rattle.rest_replies.specs.declared.refusals.Part.{Part}
 use Rattle.rest_replies.specs.declared.refusals.Part.TheVariants as part
-use Rattle.reply_views.specs.Words.{status_key}
-use Rattle.reply_views.specs.reply_parts.specs.Ids.{operation_link}
-use Rattle.reply_views.specs.Operations.{operation_data}
+use Rattle.rest_json.specs.Words.{status_key}
+use Rattle.rest_json.specs.Ids.{operation_link}
+use Rattle.rest_json.specs.Operations.{operation_data}
 use Rattle.rest_replies.specs.Refusals.{rule_name, kept_parts, part_key, part_data, put_parts, kept_data, refusal_data}
 use Rattle.rest_replies.specs.Replies.{links_data, put_links, by_status, operations_data, put_operations, whole_by_status}
 use Rattle.rest_replies.specs.Notices.{life_data, told_data, notice_data}
-use Rattle.reply_views.specs.reply_parts.proofs.Floatless.{put_plain, items_plain}
-use Rattle.reply_views.proofs.ViewsPlain.{operation_plain}
+use Rattle.rest_json.proofs.Floatless.{put_plain, items_plain}
+use Rattle.rest_json.proofs.ViewsPlain.{operation_plain}
 
 -- ---- refusals
 

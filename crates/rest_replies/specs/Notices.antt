@@ -1,15 +1,15 @@
 -- Notices as JSON.
 use Rattle.std.specs.Prelude.{ℕ, List, [], ◌∷◌, codes}
-use Rattle.reply_views.specs.records.specs.declared.notices.Life.{Life}
-use Rattle.reply_views.specs.records.specs.declared.notices.Life.TheVariants as life
-use Rattle.reply_views.specs.records.specs.declared.notices.Told.{Told}
-use Rattle.reply_views.specs.records.specs.declared.notices.Told.TheVariants as told
-use Rattle.reply_views.specs.records.specs.declared.notices.Notice.{Notice}
+use Rattle.records.specs.declared.notices.Life.{Life}
+use Rattle.records.specs.declared.notices.Life.TheVariants as life
+use Rattle.records.specs.declared.notices.Told.{Told}
+use Rattle.records.specs.declared.notices.Told.TheVariants as told
+use Rattle.records.specs.declared.notices.Notice.{Notice}
 use Rattle.serde_json.specs.Data.{Data, string}
 use Rattle.serde_json.specs.Written.{compact_text}
-use Rattle.reply_views.specs.reply_parts.specs.Moments.{moment_text}
-use Rattle.reply_views.specs.reply_parts.specs.Objects.{object_of}
-use Rattle.reply_views.specs.Operations.{operation_data}
+use Rattle.rest_json.specs.Moments.{moment_text}
+use Rattle.rest_json.specs.Objects.{object_of}
+use Rattle.rest_json.specs.Operations.{operation_data}
 
 -- how an action is written
 abbrev pub life_text : Life → List ℕ

@@ -1,19 +1,19 @@
 -- Refusals as JSON: what each rule is called, how it is answered, and what is told with it.
 use Rattle.std.specs.Prelude.{ℕ, List, [], ◌∷◌, codes, decimal}
-use Rattle.reply_views.specs.records.specs.declared.refusals.Rule.{Rule}
-use Rattle.reply_views.specs.records.specs.declared.refusals.Rule.TheVariants.{H1, H2, H3, H4, A1, A2, A3}
-use Rattle.reply_views.specs.records.specs.declared.refusals.Rule.TheVariants.{A4, A5, A6, N1, N2, N3, N4}
-use Rattle.reply_views.specs.records.specs.declared.refusals.Rule.TheVariants.{N5, B1, B2, B3, B4, B5, B6}
-use Rattle.reply_views.specs.records.specs.declared.refusals.Rule.TheVariants.{V1, V2, V3, V4, V5, F1, F2, F3}
-use Rattle.reply_views.specs.records.specs.declared.refusals.Rule.TheVariants.{F4, F5, F6, F7, F8, L0, L1}
-use Rattle.reply_views.specs.records.specs.declared.refusals.Rule.TheVariants.{L2, L3, L4, L5, L6, L7, L8, O1}
-use Rattle.reply_views.specs.records.specs.declared.refusals.Rule.TheVariants.{O2, O3, O4, O5, C1, C2, K1, M1}
-use Rattle.reply_views.specs.records.specs.declared.refusals.Kept.{Kept}
-use Rattle.reply_views.specs.records.specs.declared.refusals.Refusal.{Refusal}
+use Rattle.records.specs.declared.refusals.Rule.{Rule}
+use Rattle.records.specs.declared.refusals.Rule.TheVariants.{H1, H2, H3, H4, A1, A2, A3}
+use Rattle.records.specs.declared.refusals.Rule.TheVariants.{A4, A5, A6, N1, N2, N3, N4}
+use Rattle.records.specs.declared.refusals.Rule.TheVariants.{N5, B1, B2, B3, B4, B5, B6}
+use Rattle.records.specs.declared.refusals.Rule.TheVariants.{V1, V2, V3, V4, V5, F1, F2, F3}
+use Rattle.records.specs.declared.refusals.Rule.TheVariants.{F4, F5, F6, F7, F8, L0, L1}
+use Rattle.records.specs.declared.refusals.Rule.TheVariants.{L2, L3, L4, L5, L6, L7, L8, O1}
+use Rattle.records.specs.declared.refusals.Rule.TheVariants.{O2, O3, O4, O5, C1, C2, K1, M1}
+use Rattle.records.specs.declared.refusals.Kept.{Kept}
+use Rattle.records.specs.declared.refusals.Refusal.{Refusal}
 use Rattle.rest_replies.specs.declared.refusals.Part.{Part}
 use Rattle.rest_replies.specs.declared.refusals.Part.TheVariants as part
 use Rattle.serde_json.specs.Data.{Data, string, object, Members, no_members, put}
-use Rattle.reply_views.specs.reply_parts.specs.Objects.{object_of, whole}
+use Rattle.rest_json.specs.Objects.{object_of, whole}
 
 -- ---- the table of rules
 

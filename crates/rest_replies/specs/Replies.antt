@@ -1,24 +1,24 @@
 -- Replies: the code, the Location and the body of each.
 use Rattle.std.specs.Prelude.{◌≡◌, ℕ, List, [], ◌∷◌, Bool, true, false, not, ◌&&◌, map, codes}
-use Rattle.reply_views.specs.operations.specs.declared.status.Status.{Status}
+use Rattle.operations.specs.declared.status.Status.{Status}
 use Rattle.http_front.specs.declared.reply.Printed.{Printed}
 use Rattle.http_front.specs.Replies.{no_memory_body}
-use Rattle.reply_views.specs.records.specs.declared.refusals.Rule.TheVariants as rule
-use Rattle.reply_views.specs.records.specs.declared.refusals.Refusal.{Refusal}
-use Rattle.reply_views.specs.records.specs.declared.replies.OpView.{OpView}
-use Rattle.reply_views.specs.records.specs.declared.replies.Reply.{Reply}
-use Rattle.reply_views.specs.records.specs.declared.replies.Reply.TheVariants as reply
-use Rattle.reply_views.specs.records.specs.declared.replies.View.{View}
-use Rattle.reply_views.specs.records.specs.declared.replies.View.TheVariants as view
+use Rattle.records.specs.declared.refusals.Rule.TheVariants as rule
+use Rattle.records.specs.declared.refusals.Refusal.{Refusal}
+use Rattle.records.specs.declared.replies.OpView.{OpView}
+use Rattle.records.specs.declared.replies.Reply.{Reply}
+use Rattle.records.specs.declared.replies.Reply.TheVariants as reply
+use Rattle.records.specs.declared.replies.View.{View}
+use Rattle.records.specs.declared.replies.View.TheVariants as view
 use Rattle.serde_json.specs.Data.{Data, string, object, Members, no_members, put}
 use Rattle.serde_json.specs.Written.{compact_text}
-use Rattle.reply_views.specs.row_machine.specs.machine.Refusals.{nothing_told}
-use Rattle.reply_views.specs.Words.{status_key}
-use Rattle.reply_views.specs.reply_parts.specs.Ids.{operation_link}
-use Rattle.reply_views.specs.reply_parts.specs.Objects.{object_of, list_of, whole}
-use Rattle.reply_views.specs.reply_parts.specs.Settings.{texts_data}
-use Rattle.reply_views.specs.Operations.{operation_data}
-use Rattle.reply_views.specs.Views.{view_data}
+use Rattle.row_machine.specs.machine.Refusals.{nothing_told}
+use Rattle.rest_json.specs.Words.{status_key}
+use Rattle.rest_json.specs.Ids.{operation_link}
+use Rattle.rest_json.specs.Objects.{object_of, list_of, whole}
+use Rattle.rest_json.specs.Settings.{texts_data}
+use Rattle.rest_json.specs.Operations.{operation_data}
+use Rattle.rest_json.specs.Views.{view_data}
 use Rattle.rest_replies.specs.Refusals.{rule_code, refusal_data}
 
 -- the reply to a command that was carried out at once, with what it tells

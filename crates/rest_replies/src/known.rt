@@ -1,11 +1,11 @@
 //! Replies that depend on nothing: they are sent as they stand here, and not made anew.
 ghost use Rattle.std.specs.Prelude.{◌≡◌, ℕ, false, IfSome, is_some};
 ghost use Rattle.http_front.specs.Replies.{reply_text};
-ghost use Rattle.reply_views.specs.records.specs.declared.replies.Reply.TheVariants as reply;
-ghost use Rattle.reply_views.specs.records.specs.declared.replies.View.TheVariants as view;
+ghost use Rattle.records.specs.declared.replies.Reply.TheVariants as reply;
+ghost use Rattle.records.specs.declared.replies.View.TheVariants as view;
 ghost use Rattle.rest_replies.specs.Replies.{printed_of, is_server, stands_ready};
 
-use reply_views::from_records::{Reply, View};
+use records::{Reply, View};
 
 /// The reply to a command that was carried out and tells nothing.
 const EMPTY: &[u8] =

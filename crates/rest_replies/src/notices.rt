@@ -3,11 +3,10 @@ ghost use Rattle.std.specs.Prelude.{◌≡◌, IfOk};
 ghost use Rattle.serde_json.specs.View.{view};
 ghost use Rattle.rest_replies.specs.Notices.{life_text, told_type, life_data, told_data, notice_data, notice_text};
 
-use http_front::from_size_values::{NoMemory, Text};
-use reply_views::from_records::{Life, Notice, Told};
-use reply_views::from_reply_parts::Object;
-use reply_views::operation_value;
+use records::{Life, Notice, Told};
+use rest_json::{Object, operation_value};
 use serde_json::Value;
+use size_values::{NoMemory, Text};
 use std::alloc::Global;
 
 /// How an action is written.

@@ -4,9 +4,9 @@ ghost use Rattle.http_front.specs.Replies.{is_reply_code};
 ghost use Rattle.serde_json.specs.Data.{object, no_members};
 ghost use Rattle.serde_json.specs.View.{view};
 ghost use Rattle.serde_json.specs.Written.{has_float, compact_text};
-ghost use Rattle.reply_views.specs.reply_parts.specs.Objects.{list_of};
-ghost use Rattle.reply_views.specs.reply_parts.specs.Settings.{texts_data};
-ghost use Rattle.reply_views.specs.Views.{view_data};
+ghost use Rattle.rest_json.specs.Objects.{list_of};
+ghost use Rattle.rest_json.specs.Settings.{texts_data};
+ghost use Rattle.rest_json.specs.Views.{view_data};
 ghost use Rattle.rest_replies.specs.Refusals.{refusal_data};
 ghost use Rattle.rest_replies.specs.Replies.{success_data, started_data, links_data, by_status, operations_data};
 ghost use Rattle.rest_replies.specs.Replies.{whole_by_status, no_memory_refusal, reply_data, reply_code};
@@ -14,11 +14,12 @@ ghost use Rattle.rest_replies.specs.Replies.{reply_location, printed_of};
 
 use crate::refusals::{refusal_value, rule_code};
 use http_front::Printed;
-use http_front::from_size_values::{NoMemory, Seq, Text};
-use reply_views::from_records::{Kept, OpView, Refusal, Reply, Rule, Status, View};
-use reply_views::from_reply_parts::{JsonText, Object, operation_link};
-use reply_views::{operation_value, status_key, write_operation, write_view};
+use records::{Kept, OpView, Refusal, Reply, Rule, Status, View};
+use rest_json::{
+    JsonText, Object, operation_link, operation_value, status_key, write_operation, write_view,
+};
 use serde_json::Value;
+use size_values::{NoMemory, Seq, Text};
 use std::alloc::Global;
 
 /// What stands in a reply before what it tells, and after that where the command was carried out at once.

@@ -6,10 +6,10 @@ ghost use Rattle.serde_json.specs.View.{view};
 ghost use Rattle.rest_replies.specs.Refusals.{line, rule_line, rule_name, rule_code, part_key, part_data};
 ghost use Rattle.rest_replies.specs.Refusals.{kept_data, refusal_data};
 
-use http_front::from_size_values::NoMemory;
-use reply_views::from_records::{Kept, Refusal, Rule};
-use reply_views::from_reply_parts::Object;
+use records::{Kept, Refusal, Rule};
+use rest_json::Object;
 use serde_json::Value;
+use size_values::NoMemory;
 use std::alloc::Global;
 
 /// A part of what a refusal keeps.

@@ -2,16 +2,16 @@
 use Rattle.std.proofs.Common.{◌≡◌, ℕ, Bool, true, false, ◌&&◌, List, [], Result, Ok, refl, ap, ap₂, ◌∙◌, codes}
 use Rattle.std.specs.Str.{bytes_eq}
 use Rattle.std.proofs.lemmas.Slice.Eq.{bytes_eq-Decides}
-use Rattle.rest_replies.specs.http_heads.specs.declared.request.Request.{Request}
-use Rattle.rest_bodies.specs.records.specs.declared.commands.Command.{Command}
-use Rattle.rest_bodies.specs.records.specs.declared.commands.What.TheVariants as what
-use Rattle.rest_bodies.specs.records.specs.declared.refusals.Rule.TheVariants as rule
-use Rattle.rest_bodies.specs.records.specs.declared.refusals.Refusal.{Refusal}
-use Rattle.rest_paths.specs.Answers.{followed}
-use Rattle.rest_paths.specs.Paths.{path_of, query_of}
-use Rattle.rest_paths.specs.Places.{line_of, verb_of, verb_offered}
-use Rattle.rest_paths.specs.Queries.{project_of}
-use Rattle.rest_paths.proofs.Server.{server-stands, nothing-said}
+use Rattle.http_heads.specs.declared.request.Request.{Request}
+use Rattle.records.specs.declared.commands.Command.{Command}
+use Rattle.records.specs.declared.commands.What.TheVariants as what
+use Rattle.records.specs.declared.refusals.Rule.TheVariants as rule
+use Rattle.records.specs.declared.refusals.Refusal.{Refusal}
+use Rattle.rest_routes.specs.Answers.{followed}
+use Rattle.rest_routes.specs.Paths.{path_of, query_of}
+use Rattle.rest_routes.specs.Places.{line_of, verb_of, verb_offered}
+use Rattle.rest_routes.specs.Queries.{project_of}
+use Rattle.rest_routes.proofs.Server.{server-stands, nothing-said}
 use Rattle.rest_routes.specs.Commands.{command_at, command_of, sent_body}
 use Rattle.rest_routes.specs.Known.{is_server_asked, server_asked}
 use Rattle.rest_routes.specs.WithBody.{needed}

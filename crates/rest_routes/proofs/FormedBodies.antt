@@ -3,15 +3,15 @@ use Rattle.std.proofs.Common.{◌≡◌, ℕ, Bool, true, false, List, Option, S
 use Rattle.std.specs.Prelude.{is_some, option_and_then}
 use Rattle.std.specs.Option.{option_map_or}
 use Rattle.serde_json.specs.Data.{Data}
-use Rattle.rest_bodies.specs.size_values.specs.declared.kinds.Kind.{Kind}
-use Rattle.rest_bodies.specs.size_values.specs.declared.kinds.ObjectKind.TheVariants as kind
-use Rattle.rest_bodies.specs.config_lists.specs.Devices.{NamedDevices}
-use Rattle.rest_bodies.specs.config_lists.specs.Settings.{Settings}
-use Rattle.rest_bodies.specs.records.specs.Forms.{are_settings, are_devices, are_profiles, if_allowed, may_come_from, is_creation, is_change}
-use Rattle.rest_bodies.specs.records.specs.declared.commands.Body.{Body}
-use Rattle.rest_bodies.specs.records.specs.declared.commands.Origin.{Origin}
-use Rattle.rest_bodies.specs.records.specs.declared.commands.Origin.TheVariants as origin
-use Rattle.rest_bodies.specs.records.specs.declared.rows.Driver.{Driver}
+use Rattle.size_values.specs.declared.kinds.Kind.{Kind}
+use Rattle.size_values.specs.declared.kinds.ObjectKind.TheVariants as kind
+use Rattle.config_lists.specs.Devices.{NamedDevices}
+use Rattle.config_lists.specs.Settings.{Settings}
+use Rattle.records.specs.Forms.{are_settings, are_devices, are_profiles, if_allowed, may_come_from, is_creation, is_change}
+use Rattle.records.specs.declared.commands.Body.{Body}
+use Rattle.records.specs.declared.commands.Origin.{Origin}
+use Rattle.records.specs.declared.commands.Origin.TheVariants as origin
+use Rattle.records.specs.declared.rows.Driver.{Driver}
 use Rattle.rest_bodies.specs.Bodies.{body_of, config_at, devices_at}
 use Rattle.rest_bodies.specs.Drivers.{driver_in, driver_at}
 use Rattle.rest_bodies.specs.Fields.{fields_of, fault_of, fault_in, first_fault, body_fault, or_next}

@@ -1,20 +1,20 @@
 -- The command of each request is formed.
 use Rattle.std.proofs.Common.{◌≡◌, ℕ, true, List, Option, Result, Ok, Err, IfOk, IsTrue}
 use Rattle.serde_json.specs.Data.{Data}
-use Rattle.rest_bodies.specs.size_values.specs.declared.memory.Or.{Or}
-use Rattle.rest_replies.specs.http_heads.specs.declared.request.Request.{Request}
-use Rattle.rest_bodies.specs.records.specs.Forms.{is_timeout, is_formed}
-use Rattle.rest_bodies.specs.records.specs.declared.commands.Command.{Command}
-use Rattle.rest_bodies.specs.records.specs.declared.commands.What.{What}
-use Rattle.rest_bodies.specs.records.specs.declared.refusals.Refusal.{Refusal}
-use Rattle.rest_bodies.specs.records.specs.declared.refusals.Rule.TheVariants as rule
-use Rattle.rest_paths.proofs.Timeouts.{timeout_formed}
-use Rattle.rest_paths.specs.Answers.{Gives, mapped, followed}
-use Rattle.rest_paths.specs.Paths.{path_of, query_of}
-use Rattle.rest_paths.specs.Places.{line_of, verb_offered}
-use Rattle.rest_paths.specs.Queries.{query_from_text, project_of, wait_timeout}
-use Rattle.rest_paths.specs.declared.places.Place.{Place}
-use Rattle.rest_paths.specs.declared.places.Verb.{Verb}
+use Rattle.size_values.specs.declared.memory.Or.{Or}
+use Rattle.http_heads.specs.declared.request.Request.{Request}
+use Rattle.records.specs.Forms.{is_timeout, is_formed}
+use Rattle.records.specs.declared.commands.Command.{Command}
+use Rattle.records.specs.declared.commands.What.{What}
+use Rattle.records.specs.declared.refusals.Refusal.{Refusal}
+use Rattle.records.specs.declared.refusals.Rule.TheVariants as rule
+use Rattle.rest_routes.proofs.Timeouts.{timeout_formed}
+use Rattle.rest_routes.specs.Answers.{Gives, mapped, followed}
+use Rattle.rest_routes.specs.Paths.{path_of, query_of}
+use Rattle.rest_routes.specs.Places.{line_of, verb_offered}
+use Rattle.rest_routes.specs.Queries.{query_from_text, project_of, wait_timeout}
+use Rattle.rest_routes.specs.declared.places.Place.{Place}
+use Rattle.rest_routes.specs.declared.places.Verb.{Verb}
 use Rattle.rest_routes.specs.Commands.{sent_body, command_at, command_of}
 use Rattle.rest_routes.specs.Routed.{RoutedIsFormed}
 use Rattle.rest_routes.specs.WithBody.{needed}

@@ -4,10 +4,10 @@ use Rattle.std.specs.Prelude.{option_and_then}
 use Rattle.std.specs.Option.{option_map_or}
 use Rattle.std.specs.List.{before_first, after_first}
 use Rattle.serde_json.specs.Data.{Data}
-use Rattle.rest_bodies.specs.size_values.specs.declared.kinds.ObjectKind.TheVariants as kind
-use Rattle.rest_bodies.specs.records.specs.Forms.{is_empty, has_slash, may_come_from}
-use Rattle.rest_bodies.specs.records.specs.declared.commands.Origin.{Origin}
-use Rattle.rest_bodies.specs.records.specs.declared.commands.Origin.TheVariants as origin
+use Rattle.size_values.specs.declared.kinds.ObjectKind.TheVariants as kind
+use Rattle.records.specs.Forms.{is_empty, has_slash, may_come_from}
+use Rattle.records.specs.declared.commands.Origin.{Origin}
+use Rattle.records.specs.declared.commands.Origin.TheVariants as origin
 use Rattle.rest_bodies.specs.Copies.{is_slash, is_part, two_parts, copied_in, copied_at, copied_from, copy_origin}
 use Rattle.rest_bodies.specs.Instances.{image_name, instance_made, instance_origin}
 use Rattle.rest_bodies.specs.Members.{non_null_member, text_at}

@@ -6,8 +6,8 @@ use Rattle.std.specs.Str.{bytes_eq}
 use Rattle.std.specs.Option.{option_map_or}
 use Rattle.serde_json.specs.Data.{Data, Items, no_items, item}
 use Rattle.serde_json.specs.Find.{as_array, as_str}
-use Rattle.rest_bodies.specs.records.specs.Forms as Forms
-use Rattle.rest_bodies.specs.records.specs.Forms.{are_profiles, most_profiles}
+use Rattle.records.specs.Forms as Forms
+use Rattle.records.specs.Forms.{are_profiles, most_profiles}
 use Rattle.rest_bodies.specs.Fields.{fault_of, fault_in}
 use Rattle.rest_bodies.specs.Members.{non_null_member, unless}
 use Rattle.rest_bodies.specs.Profiles.{count_of, are_texts, is_here, is_among, comes_again, are_distinct, are_names, fits_profiles, text_in, texts_in, profiles_in, profiles_at}

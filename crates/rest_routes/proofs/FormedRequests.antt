@@ -2,28 +2,28 @@
 use Rattle.std.proofs.Common.{◌≡◌, ℕ, Bool, true, false, List, [], Option, Some, None, Result, Ok, Err, IfOk, refl, cond}
 use Rattle.std.specs.Prelude.{is_some}
 use Rattle.serde_json.specs.Data.{Data}
-use Rattle.rest_bodies.specs.size_values.specs.declared.kinds.Action.{Action}
-use Rattle.rest_bodies.specs.size_values.specs.declared.kinds.ObjectKind.{ObjectKind}
-use Rattle.rest_bodies.specs.size_values.specs.declared.kinds.ObjectKind.TheVariants as kind
-use Rattle.rest_bodies.specs.records.specs.Forms.{is_named, is_object, is_list, is_timeout, is_request}
-use Rattle.rest_bodies.specs.records.specs.declared.commands.What.{What}
-use Rattle.rest_bodies.specs.records.specs.declared.commands.What.TheVariants as what
-use Rattle.rest_bodies.specs.records.specs.declared.refusals.Refusal.{Refusal}
-use Rattle.rest_bodies.specs.records.specs.declared.refusals.Rule.TheVariants as rule
+use Rattle.size_values.specs.declared.kinds.Action.{Action}
+use Rattle.size_values.specs.declared.kinds.ObjectKind.{ObjectKind}
+use Rattle.size_values.specs.declared.kinds.ObjectKind.TheVariants as kind
+use Rattle.records.specs.Forms.{is_named, is_object, is_list, is_timeout, is_request}
+use Rattle.records.specs.declared.commands.What.{What}
+use Rattle.records.specs.declared.commands.What.TheVariants as what
+use Rattle.records.specs.declared.refusals.Refusal.{Refusal}
+use Rattle.records.specs.declared.refusals.Rule.TheVariants as rule
 use Rattle.rest_bodies.specs.Fields.{fields_of, first_fault, body_fault}
 use Rattle.rest_bodies.specs.Instances.{restore_at}
 use Rattle.rest_bodies.specs.Origins.{asks_for_copy}
 use Rattle.rest_bodies.specs.declared.fields.Shape.{Shape}
 use Rattle.rest_bodies.specs.declared.fields.Shape.TheVariants as shape
-use Rattle.rest_paths.specs.Answers.{mapped, followed}
-use Rattle.rest_paths.specs.Paths.{pool_of}
-use Rattle.rest_paths.specs.Places.{has_body}
-use Rattle.rest_paths.specs.Queries.{wait_timeout}
-use Rattle.rest_paths.specs.declared.places.Place.{Place}
-use Rattle.rest_paths.specs.declared.places.Place.TheVariants as place
-use Rattle.rest_paths.specs.declared.places.Verb.{Verb}
-use Rattle.rest_paths.specs.declared.places.Verb.TheVariants as verb
-use Rattle.rest_paths.specs.declared.query.Query.{Query}
+use Rattle.rest_routes.specs.Answers.{mapped, followed}
+use Rattle.rest_routes.specs.Paths.{pool_of}
+use Rattle.rest_routes.specs.Places.{has_body}
+use Rattle.rest_routes.specs.Queries.{wait_timeout}
+use Rattle.rest_routes.specs.declared.places.Place.{Place}
+use Rattle.rest_routes.specs.declared.places.Place.TheVariants as place
+use Rattle.rest_routes.specs.declared.places.Verb.{Verb}
+use Rattle.rest_routes.specs.declared.places.Verb.TheVariants as verb
+use Rattle.rest_routes.specs.declared.query.Query.{Query}
 use Rattle.rest_routes.specs.Commands.{what_of}
 use Rattle.rest_routes.specs.Shapes.{rename_shape, change_shape, object_shape, shape_of}
 use Rattle.rest_routes.specs.Targets.{object_of, objects_of, operation_at}

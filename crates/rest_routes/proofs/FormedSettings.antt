@@ -9,10 +9,10 @@ use Rattle.std.specs.List.{list_all}
 use Rattle.std.specs.Option.{option_map_or}
 use Rattle.serde_json.specs.Data.{Data, Members, no_members, member}
 use Rattle.serde_json.specs.Find.{as_object, as_str}
-use Rattle.rest_bodies.specs.config_lists.specs.Devices.{NamedDevices}
-use Rattle.rest_bodies.specs.config_lists.specs.Entries.{put}
-use Rattle.rest_bodies.specs.config_lists.specs.Settings.{Settings}
-use Rattle.rest_bodies.specs.records.specs.Forms.{are_settings, are_devices}
+use Rattle.config_lists.specs.Devices.{NamedDevices}
+use Rattle.config_lists.specs.Entries.{put}
+use Rattle.config_lists.specs.Settings.{Settings}
+use Rattle.records.specs.Forms.{are_settings, are_devices}
 use Rattle.rest_bodies.specs.Bodies.{config_at, devices_at}
 use Rattle.rest_bodies.specs.Members.{non_null_member}
 use Rattle.rest_bodies.specs.Settings.{is_empty, with_change, changes_after, changes_of, with_setting, settings_after, device_of, devices_after, devices_of}

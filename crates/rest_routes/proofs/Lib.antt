@@ -1,3 +1,10 @@
+pub mod Matching
+pub mod Names
+pub mod Rows
+pub mod Taken
+pub mod Timeouts
+mod Events
+pub mod Server
 mod ByGet
 mod FormedBodies
 mod FormedCommands

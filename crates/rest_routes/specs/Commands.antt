@@ -1,19 +1,19 @@
 -- Which command a request asks for, or by which rule of its form it is refused.
 use Rattle.std.specs.Prelude.{ℕ, List, Option, None, Result, if◌then◌else◌}
 use Rattle.serde_json.specs.Data.{Data}
-use Rattle.rest_replies.specs.http_heads.specs.declared.request.Request.{Request}
-use Rattle.rest_bodies.specs.records.specs.declared.commands.Command.{Command}
-use Rattle.rest_bodies.specs.records.specs.declared.commands.What.{What}
-use Rattle.rest_bodies.specs.records.specs.declared.refusals.Rule.TheVariants as rule
-use Rattle.rest_bodies.specs.records.specs.declared.refusals.Refusal.{Refusal}
+use Rattle.http_heads.specs.declared.request.Request.{Request}
+use Rattle.records.specs.declared.commands.Command.{Command}
+use Rattle.records.specs.declared.commands.What.{What}
+use Rattle.records.specs.declared.refusals.Rule.TheVariants as rule
+use Rattle.records.specs.declared.refusals.Refusal.{Refusal}
 use Rattle.rest_bodies.specs.Members.{object_in}
-use Rattle.rest_paths.specs.Answers.{mapped, followed}
-use Rattle.rest_paths.specs.Paths.{path_of, query_of}
-use Rattle.rest_paths.specs.Places.{line_of, verb_offered, has_body}
-use Rattle.rest_paths.specs.Queries.{query_from_text, project_of}
-use Rattle.rest_paths.specs.declared.places.Place.{Place}
-use Rattle.rest_paths.specs.declared.places.Verb.{Verb}
-use Rattle.rest_paths.specs.declared.query.Query.{Query}
+use Rattle.rest_routes.specs.Answers.{mapped, followed}
+use Rattle.rest_routes.specs.Paths.{path_of, query_of}
+use Rattle.rest_routes.specs.Places.{line_of, verb_offered, has_body}
+use Rattle.rest_routes.specs.Queries.{query_from_text, project_of}
+use Rattle.rest_routes.specs.declared.places.Place.{Place}
+use Rattle.rest_routes.specs.declared.places.Verb.{Verb}
+use Rattle.rest_routes.specs.declared.query.Query.{Query}
 use Rattle.rest_routes.specs.WithBody.{needed, what_with_body}
 use Rattle.rest_routes.specs.WithoutBody.{what_without_body}
 

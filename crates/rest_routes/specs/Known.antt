@@ -1,9 +1,9 @@
 -- A request whose reply depends on no row.
 use Rattle.std.specs.Prelude.{Bool, ◌&&◌, codes}
 use Rattle.std.specs.Str.{bytes_eq}
-use Rattle.rest_replies.specs.http_heads.specs.declared.request.Request.{Request}
-use Rattle.rest_bodies.specs.records.specs.declared.commands.Command.{Command}
-use Rattle.rest_bodies.specs.records.specs.declared.commands.What.TheVariants as what
+use Rattle.http_heads.specs.declared.request.Request.{Request}
+use Rattle.records.specs.declared.commands.Command.{Command}
+use Rattle.records.specs.declared.commands.What.TheVariants as what
 
 -- it is GET /1.0, without a query
 abbrev pub is_server_asked : Request → Bool

@@ -1,7 +1,7 @@
 -- What is said of the commands that requests ask for.
 use Rattle.std.specs.Prelude.{ℕ, IfOk, IsTrue}
-use Rattle.rest_replies.specs.http_heads.specs.declared.request.Request.{Request}
-use Rattle.rest_bodies.specs.records.specs.Forms.{is_formed}
+use Rattle.http_heads.specs.declared.request.Request.{Request}
+use Rattle.records.specs.Forms.{is_formed}
 use Rattle.rest_routes.specs.Commands.{command_of}
 
 -- the command of each request is formed

@@ -1,15 +1,15 @@
 -- The shapes of bodies: which one a method sends to a place.
 use Rattle.std.specs.Prelude.{Option, Some, None, if◌then◌else◌}
 use Rattle.serde_json.specs.Data.{Data}
-use Rattle.rest_bodies.specs.size_values.specs.declared.kinds.ObjectKind.{ObjectKind}
-use Rattle.rest_bodies.specs.size_values.specs.declared.kinds.ObjectKind.TheVariants as kind
+use Rattle.size_values.specs.declared.kinds.ObjectKind.{ObjectKind}
+use Rattle.size_values.specs.declared.kinds.ObjectKind.TheVariants as kind
 use Rattle.rest_bodies.specs.Origins.{asks_for_copy}
 use Rattle.rest_bodies.specs.declared.fields.Shape.{Shape}
 use Rattle.rest_bodies.specs.declared.fields.Shape.TheVariants as shape
-use Rattle.rest_paths.specs.declared.places.Place.{Place}
-use Rattle.rest_paths.specs.declared.places.Place.TheVariants as place
-use Rattle.rest_paths.specs.declared.places.Verb.{Verb}
-use Rattle.rest_paths.specs.declared.places.Verb.TheVariants as verb
+use Rattle.rest_routes.specs.declared.places.Place.{Place}
+use Rattle.rest_routes.specs.declared.places.Place.TheVariants as place
+use Rattle.rest_routes.specs.declared.places.Verb.{Verb}
+use Rattle.rest_routes.specs.declared.places.Verb.TheVariants as verb
 
 -- a new instance, which is a copy where its source says so, whatever else the body says
 abbrev pub instance_shape : Data → Shape

@@ -1,12 +1,12 @@
 -- The objects that the path of a request names.
 use Rattle.std.specs.Prelude.{ℕ, List, [], Result, ok_or}
-use Rattle.rest_bodies.specs.size_values.specs.declared.kinds.ObjectKind.{ObjectKind}
-use Rattle.rest_bodies.specs.size_values.specs.declared.kinds.ObjectKind.TheVariants as kind
-use Rattle.rest_bodies.specs.records.specs.declared.commands.Target.{Target}
-use Rattle.rest_bodies.specs.records.specs.declared.refusals.Refusal.{Refusal}
-use Rattle.rest_replies.specs.reply_parts.specs.Ids.{number_of}
-use Rattle.rest_paths.specs.Paths.{name_of, pool_of, instance_of}
-use Rattle.rest_paths.specs.Refusals.{no_operation}
+use Rattle.size_values.specs.declared.kinds.ObjectKind.{ObjectKind}
+use Rattle.size_values.specs.declared.kinds.ObjectKind.TheVariants as kind
+use Rattle.records.specs.declared.commands.Target.{Target}
+use Rattle.records.specs.declared.refusals.Refusal.{Refusal}
+use Rattle.rest_json.specs.Ids.{number_of}
+use Rattle.rest_routes.specs.Paths.{name_of, pool_of, instance_of}
+use Rattle.rest_routes.specs.Refusals.{no_operation}
 
 -- the object of this kind and name that stands where the path says: a volume in its pool, a snapshot in its instance
 abbrev pub target_at_path : ObjectKind → List ℕ → List ℕ → Target

@@ -1,14 +1,14 @@
 -- What POST, PUT and PATCH ask for, whose bodies are JSON objects.
 use Rattle.std.specs.Prelude.{ℕ, List, Option, Some, None, Result, Ok, Err, ok_or, codes}
 use Rattle.serde_json.specs.Data.{Data}
-use Rattle.rest_bodies.specs.size_values.specs.declared.kinds.ObjectKind.{ObjectKind}
-use Rattle.rest_bodies.specs.size_values.specs.declared.kinds.ObjectKind.TheVariants as kind
-use Rattle.rest_bodies.specs.records.specs.declared.commands.Target.{Target}
-use Rattle.rest_bodies.specs.records.specs.declared.commands.What.{What}
-use Rattle.rest_bodies.specs.records.specs.declared.commands.What.TheVariants as what
-use Rattle.rest_bodies.specs.records.specs.declared.refusals.Rule.{Rule}
-use Rattle.rest_bodies.specs.records.specs.declared.refusals.Rule.TheVariants as rule
-use Rattle.rest_bodies.specs.records.specs.declared.refusals.Refusal.{Refusal}
+use Rattle.size_values.specs.declared.kinds.ObjectKind.{ObjectKind}
+use Rattle.size_values.specs.declared.kinds.ObjectKind.TheVariants as kind
+use Rattle.records.specs.declared.commands.Target.{Target}
+use Rattle.records.specs.declared.commands.What.{What}
+use Rattle.records.specs.declared.commands.What.TheVariants as what
+use Rattle.records.specs.declared.refusals.Rule.{Rule}
+use Rattle.records.specs.declared.refusals.Rule.TheVariants as rule
+use Rattle.records.specs.declared.refusals.Refusal.{Refusal}
 use Rattle.rest_bodies.specs.Actions.{action_at}
 use Rattle.rest_bodies.specs.Bodies.{body_of}
 use Rattle.rest_bodies.specs.Fields.{body_fault}
@@ -16,13 +16,13 @@ use Rattle.rest_bodies.specs.Instances.{restore_at}
 use Rattle.rest_bodies.specs.Members.{name_at}
 use Rattle.rest_bodies.specs.declared.fields.Shape.{Shape}
 use Rattle.rest_bodies.specs.declared.fields.Shape.TheVariants as shape
-use Rattle.rest_paths.specs.Answers.{mapped, followed}
-use Rattle.rest_paths.specs.Paths.{pool_of}
-use Rattle.rest_paths.specs.Refusals.{on_key, plain_refusal}
-use Rattle.rest_paths.specs.declared.places.Place.{Place}
-use Rattle.rest_paths.specs.declared.places.Place.TheVariants as place
-use Rattle.rest_paths.specs.declared.places.Verb.{Verb}
-use Rattle.rest_paths.specs.declared.places.Verb.TheVariants as verb
+use Rattle.rest_routes.specs.Answers.{mapped, followed}
+use Rattle.rest_routes.specs.Paths.{pool_of}
+use Rattle.rest_routes.specs.Refusals.{on_key, plain_refusal}
+use Rattle.rest_routes.specs.declared.places.Place.{Place}
+use Rattle.rest_routes.specs.declared.places.Place.TheVariants as place
+use Rattle.rest_routes.specs.declared.places.Verb.{Verb}
+use Rattle.rest_routes.specs.declared.places.Verb.TheVariants as verb
 use Rattle.rest_routes.specs.Shapes.{shape_of}
 use Rattle.rest_routes.specs.Targets.{target_at_path, object_of}
 

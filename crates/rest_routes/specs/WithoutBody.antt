@@ -1,20 +1,20 @@
 -- What GET and DELETE ask for, whose bodies are not read.
 use Rattle.std.specs.Prelude.{ℕ, List, Result, Ok, Err}
-use Rattle.rest_bodies.specs.size_values.specs.declared.kinds.ObjectKind.{ObjectKind}
-use Rattle.rest_bodies.specs.size_values.specs.declared.kinds.ObjectKind.TheVariants as kind
-use Rattle.rest_bodies.specs.records.specs.declared.commands.Target.{Target}
-use Rattle.rest_bodies.specs.records.specs.declared.commands.What.{What}
-use Rattle.rest_bodies.specs.records.specs.declared.commands.What.TheVariants as what
-use Rattle.rest_bodies.specs.records.specs.declared.refusals.Rule.TheVariants as rule
-use Rattle.rest_bodies.specs.records.specs.declared.refusals.Refusal.{Refusal}
-use Rattle.rest_paths.specs.Answers.{mapped}
-use Rattle.rest_paths.specs.Queries.{wants_objects, wait_timeout}
-use Rattle.rest_paths.specs.Refusals.{plain_refusal}
-use Rattle.rest_paths.specs.declared.places.Place.{Place}
-use Rattle.rest_paths.specs.declared.places.Place.TheVariants as place
-use Rattle.rest_paths.specs.declared.places.Verb.{Verb}
-use Rattle.rest_paths.specs.declared.places.Verb.TheVariants as verb
-use Rattle.rest_paths.specs.declared.query.Query.{Query}
+use Rattle.size_values.specs.declared.kinds.ObjectKind.{ObjectKind}
+use Rattle.size_values.specs.declared.kinds.ObjectKind.TheVariants as kind
+use Rattle.records.specs.declared.commands.Target.{Target}
+use Rattle.records.specs.declared.commands.What.{What}
+use Rattle.records.specs.declared.commands.What.TheVariants as what
+use Rattle.records.specs.declared.refusals.Rule.TheVariants as rule
+use Rattle.records.specs.declared.refusals.Refusal.{Refusal}
+use Rattle.rest_routes.specs.Answers.{mapped}
+use Rattle.rest_routes.specs.Queries.{wants_objects, wait_timeout}
+use Rattle.rest_routes.specs.Refusals.{plain_refusal}
+use Rattle.rest_routes.specs.declared.places.Place.{Place}
+use Rattle.rest_routes.specs.declared.places.Place.TheVariants as place
+use Rattle.rest_routes.specs.declared.places.Verb.{Verb}
+use Rattle.rest_routes.specs.declared.places.Verb.TheVariants as verb
+use Rattle.rest_routes.specs.declared.query.Query.{Query}
 use Rattle.rest_routes.specs.Targets.{object_of, objects_of, operation_at}
 
 -- one object is deleted or shown

@@ -1,20 +1,21 @@
 //! The command of a request, or the refusal of its form.
 ghost use Rattle.std.specs.Prelude.{◌≡◌, IfOk, option_map};
 ghost use Rattle.serde_json.specs.View.{view};
-ghost use Rattle.rest_paths.specs.Answers.{Gives};
+ghost use Rattle.rest_routes.specs.Answers.{Gives};
 ghost use Rattle.rest_routes.specs.Commands.{sent_body, what_of, command_at, command_of};
 
+use crate::paths::split_target;
+use crate::places::{Place, Verb, has_body, verb_offered};
+use crate::query::{Query, project_of, query_from_text};
+use crate::refusals::plain_refusal;
+use crate::table::PathTable;
 use crate::with_body::what_with_body;
 use crate::without_body::what_without_body;
-use rest_bodies::from_records::{Command, Refusal, Rule, What};
-use rest_bodies::from_size_values::{NoMemory, Or};
+use http_heads::Request;
+use records::{Command, Refusal, Rule, What};
 use rest_bodies::object_in;
-use rest_paths::{
-    PathTable, Place, Query, Verb, has_body, plain_refusal, project_of, query_from_text,
-    split_target, verb_offered,
-};
-use rest_replies::from_http_heads::Request;
 use serde_json::Value;
+use size_values::{NoMemory, Or};
 use std::alloc::Global;
 
 /// The object that a body spells, if the method sends one.

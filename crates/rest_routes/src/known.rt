@@ -3,7 +3,7 @@ ghost use Rattle.std.specs.Prelude.{◌≡◌, IsTrue, Ok, ℕ};
 ghost use Rattle.rest_routes.specs.Commands.{command_of};
 ghost use Rattle.rest_routes.specs.Known.{is_server_asked, server_asked};
 
-use rest_replies::from_http_heads::Request;
+use http_heads::Request;
 
 /// Whether a request asks for the server, by GET `/1.0` without a query. It is told by two comparisons, since most
 /// requests of those who only look whether the server is there are such.

@@ -1,14 +1,14 @@
 ghost use Rattle.std.specs.Prelude.{◌≡◌, IfOk, IsTrue};
-ghost use Rattle.rest_bodies.specs.records.specs.Forms.{is_formed};
-ghost use Rattle.rest_paths.specs.Answers.{Gives};
-ghost use Rattle.rest_paths.specs.Places.{rows};
+ghost use Rattle.records.specs.Forms.{is_formed};
+ghost use Rattle.rest_routes.specs.Answers.{Gives};
+ghost use Rattle.rest_routes.specs.Places.{rows};
 ghost use Rattle.rest_routes.specs.Commands.{command_of};
 
 use crate::commands::command_of;
-use rest_bodies::from_records::{Command, Refusal};
-use rest_bodies::from_size_values::{NoMemory, Or};
-use rest_paths::PathTable;
-use rest_replies::from_http_heads::Request;
+use crate::table::PathTable;
+use http_heads::Request;
+use records::{Command, Refusal};
+use size_values::{NoMemory, Or};
 use std::alloc::Global;
 use std::marker::Model;
 
@@ -19,7 +19,7 @@ pub struct Router {
 }
 
 impl Model for Router {
-    ghost use Rattle.rest_paths.specs.Places.{PathRows};
+    ghost use Rattle.rest_routes.specs.Places.{PathRows};
 
     ghost Value = { PathRows };
 

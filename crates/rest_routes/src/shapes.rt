@@ -4,10 +4,10 @@ ghost use Rattle.serde_json.specs.View.{view};
 ghost use Rattle.rest_routes.specs.Shapes.{instance_shape, creation_shape, rename_shape, instance_change};
 ghost use Rattle.rest_routes.specs.Shapes.{change_shape, object_shape, shape_of};
 
-use rest_bodies::from_size_values::ObjectKind;
+use crate::places::{Place, Verb};
 use rest_bodies::{Shape, asks_for_copy};
-use rest_paths::{Place, Verb};
 use serde_json::Value;
+use size_values::ObjectKind;
 
 /// A new instance, which is a copy where its source says so. This is looked up before any field is judged.
 fn instance_shape(body: &Value) -> Shape

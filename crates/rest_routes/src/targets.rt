@@ -1,12 +1,13 @@
 //! The objects that the path of a request names.
 ghost use Rattle.std.specs.Prelude.{◌≡◌, IfOk};
-ghost use Rattle.rest_paths.specs.Answers.{Gives};
+ghost use Rattle.rest_routes.specs.Answers.{Gives};
 ghost use Rattle.rest_routes.specs.Targets.{target_at_path, object_of, objects_of, operation_at};
 
-use rest_bodies::from_records::{Refusal, Target};
-use rest_bodies::from_size_values::{NoMemory, ObjectKind, Or, Text};
-use rest_paths::{instance_of, name_of, no_operation, pool_of};
+use crate::paths::{instance_of, name_of, pool_of};
+use crate::refusals::no_operation;
+use records::{Refusal, Target};
 use rest_replies::number_of;
+use size_values::{NoMemory, ObjectKind, Or, Text};
 use std::alloc::Global;
 
 /// The object of a kind and name that stands where the path says: a volume in its pool, a snapshot in its instance.

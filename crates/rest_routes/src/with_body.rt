@@ -1,18 +1,20 @@
 //! What POST, PUT and PATCH ask for.
 ghost use Rattle.std.specs.Prelude.{◌≡◌, IfOk, option_map};
 ghost use Rattle.serde_json.specs.View.{view};
-ghost use Rattle.rest_paths.specs.Answers.{Gives};
+ghost use Rattle.rest_routes.specs.Answers.{Gives};
 ghost use Rattle.rest_routes.specs.WithBody.{creation_from_body, snapshot_to_restore, put_from_body, change_from_body};
 ghost use Rattle.rest_routes.specs.WithBody.{action_from_body};
 ghost use Rattle.rest_routes.specs.WithBody.{what_from_body, what_with_body};
 
+use crate::paths::pool_of;
+use crate::places::{Place, Verb};
+use crate::refusals::{plain_refusal, refusal_on_key};
 use crate::shapes::shape_of;
 use crate::targets::{object_of, target_at_path};
-use rest_bodies::from_records::{Refusal, Rule, Target, What};
-use rest_bodies::from_size_values::{NoMemory, ObjectKind, Or, Text};
+use records::{Refusal, Rule, Target, What};
 use rest_bodies::{Shape, action_at, body_of, judge_fields, name_at, restore_at};
-use rest_paths::{Place, Verb, plain_refusal, pool_of, refusal_on_key};
 use serde_json::Value;
+use size_values::{NoMemory, ObjectKind, Or, Text};
 use std::alloc::Global;
 
 /// A new object of the name in the body, which stands where the path says.

@@ -1,12 +1,14 @@
 //! What GET and DELETE ask for.
 ghost use Rattle.std.specs.Prelude.{◌≡◌};
-ghost use Rattle.rest_paths.specs.Answers.{Gives};
+ghost use Rattle.rest_routes.specs.Answers.{Gives};
 ghost use Rattle.rest_routes.specs.WithoutBody.{get_or_delete, get_or_cancel, get_or_delete_at, what_without_body};
 
+use crate::places::{Place, Verb};
+use crate::query::{Query, wait_timeout, wants_objects};
+use crate::refusals::plain_refusal;
 use crate::targets::{object_of, objects_of, operation_at};
-use rest_bodies::from_records::{Refusal, Rule, Target, What};
-use rest_bodies::from_size_values::{ObjectKind, Or};
-use rest_paths::{Place, Query, Verb, plain_refusal, wait_timeout, wants_objects};
+use records::{Refusal, Rule, Target, What};
+use size_values::{ObjectKind, Or};
 use std::alloc::Global;
 
 fn get_or_delete(verb: Verb, of: Target) -> What

@@ -5,8 +5,8 @@ use Rattle.std.specs.List.{list_any, enumerate_from, slice_split}
 use Rattle.std.specs.Map.{values_of}
 use Rattle.std.specs.Option.{option_map, option_or}
 use Rattle.std.specs.Str.{bytes_eq, byte}
-use Rattle.option_tables.specs.config_lists.specs.Settings.{Settings, setting, has_setting}
-use Rattle.option_tables.specs.config_lists.specs.Devices.{NamedDevices, is_root_disk}
+use Rattle.config_lists.specs.Settings.{Settings, setting, has_setting}
+use Rattle.config_lists.specs.Devices.{NamedDevices, is_root_disk}
 use Rattle.option_tables.specs.Tables.{takes}
 use Rattle.restrictions.specs.declared.forbidden.Forbidden.{Forbidden}
 use Rattle.restrictions.specs.declared.rows.Word.{Word}

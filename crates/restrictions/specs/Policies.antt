@@ -1,7 +1,7 @@
 -- The policy of a project: the word of each restriction.
 use Rattle.std.specs.Prelude.{ℕ, Bool, false, List, Option, codes}
 use Rattle.std.specs.Option.{option_map_or, option_copied}
-use Rattle.option_tables.specs.config_lists.specs.Settings.{Settings, setting}
+use Rattle.config_lists.specs.Settings.{Settings, setting}
 use Rattle.restrictions.specs.declared.policy.Policy.{Policy}
 use Rattle.restrictions.specs.declared.rows.Word.{Word}
 use Rattle.restrictions.specs.declared.rows.Word.TheVariants.{Block, Managed, Unprivileged}

@@ -3,9 +3,9 @@ use Rattle.std.specs.Prelude.{ℕ, ◌==◌, Bool, true, false, List, [], ◌∷
 use Rattle.std.specs.Prelude.{unwrap_or}
 use Rattle.std.specs.Option.{option_map, option_and_then}
 use Rattle.std.specs.Str.{bytes_eq}
-use Rattle.option_tables.specs.size_values.specs.declared.fault.ValueFault.{ValueFault}
-use Rattle.option_tables.specs.size_values.specs.Boolean.{boolean_of}
-use Rattle.option_tables.specs.config_lists.specs.Settings.{Settings, setting}
+use Rattle.size_values.specs.declared.fault.ValueFault.{ValueFault}
+use Rattle.size_values.specs.Boolean.{boolean_of}
+use Rattle.config_lists.specs.Settings.{Settings, setting}
 use Rattle.restrictions.specs.declared.rows.Word.{Word}
 use Rattle.restrictions.specs.declared.rows.Word.TheVariants.{Block, Allow, Managed, Unprivileged, Isolated, Full}
 use Rattle.restrictions.specs.declared.rows.Subject.{Subject}

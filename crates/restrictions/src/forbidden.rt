@@ -8,7 +8,7 @@ ghost use Rattle.restrictions.specs.Forbids.{device_rule, device_rule_in, networ
 
 use crate::policy::Policy;
 use crate::rows::{DEVICES, DeviceLine, SETTINGS, SettingLine, Subject, Word};
-use option_tables::from_config_lists::{Config, Device, Devices};
+use config_lists::{Config, Device, Devices};
 use option_tables::takes_key;
 
 /// What a policy forbids: the number of the rule, and the place of the setting or device, counted from 0 in the

@@ -3,8 +3,8 @@ ghost use Rattle.restrictions.specs.Words.{word_of, is_true};
 ghost use Rattle.restrictions.specs.Policies.{seen, policy_of, word_in};
 
 use crate::rows::{Restriction, Word};
-use option_tables::from_config_lists::Config;
-use option_tables::from_size_values::read_boolean;
+use config_lists::Config;
+use size_values::read_boolean;
 
 /// The restrictions of a project, each with its word. They act only where the project is restricted. `access`
 /// lists the names of the networks that may be used, joined by commas; without it any may.

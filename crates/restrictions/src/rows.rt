@@ -3,7 +3,7 @@ ghost use Rattle.restrictions.specs.Words.{word_named, is_word, is_judged};
 ghost use Rattle.restrictions.specs.Forbids.{is_against, demands, is_meant};
 
 use crate::policy::is_true;
-use option_tables::from_config_lists::{Device, is_root_disk};
+use config_lists::{Device, is_root_disk};
 
 /// What a restriction says.
 #[derive(Clone, Copy, PartialEq, Eq)]

@@ -1,17 +1,17 @@
 -- No spelling of a body goes on after another one of the same kind.
 use Rattle.std.proofs.Common.{◌≡◌, ℕ, List, [], ◌∷◌, ◌++◌, sym, refl, ap, ◌∙◌, arith}
 use Rattle.std.proofs.lemmas.List.{append-nil}
-use Rattle.row_parts.specs.records.specs.declared.rows.Project.{Project}
-use Rattle.row_parts.specs.records.specs.declared.rows.Profile.{Profile}
-use Rattle.row_parts.specs.records.specs.declared.rows.Network.{Network}
-use Rattle.row_parts.specs.records.specs.declared.rows.Pool.{Pool}
-use Rattle.row_parts.specs.records.specs.declared.rows.Volume.{Volume}
-use Rattle.row_parts.specs.records.specs.declared.rows.Instance.{Instance}
-use Rattle.row_parts.specs.records.specs.declared.rows.Snapshot.{Snapshot}
-use Rattle.row_parts.specs.records.specs.declared.rows.Row.{Row}
-use Rattle.row_parts.specs.records.specs.declared.rows.Row.TheVariants as row
+use Rattle.records.specs.declared.rows.Project.{Project}
+use Rattle.records.specs.declared.rows.Profile.{Profile}
+use Rattle.records.specs.declared.rows.Network.{Network}
+use Rattle.records.specs.declared.rows.Pool.{Pool}
+use Rattle.records.specs.declared.rows.Volume.{Volume}
+use Rattle.records.specs.declared.rows.Instance.{Instance}
+use Rattle.records.specs.declared.rows.Snapshot.{Snapshot}
+use Rattle.records.specs.declared.rows.Row.{Row}
+use Rattle.records.specs.declared.rows.Row.TheVariants as row
 use Rattle.row_codec.specs.Spelling.{body_of, kind_of, project_bytes, profile_bytes, network_bytes, pool_bytes, volume_bytes, instance_bytes, snapshot_bytes}
-use Rattle.estate_rules.specs.size_values.specs.declared.entry.Entry.{Entry}
+use Rattle.size_values.specs.declared.entry.Entry.{Entry}
 use Rattle.row_codec.specs.Rows.{IsRow, Spells}
 use Rattle.row_codec.specs.Reading.{◌>>=◌, ended, project_in, profile_in, network_in, pool_in, volume_in, instance_in, snapshot_in}
 use Rattle.row_codec.proofs.Fields.{done}

@@ -2,18 +2,18 @@
 use Rattle.std.proofs.Common.{◌≡◌, ℕ, Bool, true, false, cond, eqb, List, [], ◌∷◌, ◌++◌, Some, Ok, refl, ap, subst, ◌∙◌, append_assoc, arith}
 use Rattle.std.proofs.lemmas.Bool.Decides.{nat_tests}
 use Rattle.std.proofs.lemmas.List.{append-nil}
-use Rattle.estate_rules.specs.size_values.specs.declared.kinds.Kind.{Kind}
-use Rattle.estate_rules.specs.size_values.specs.declared.kinds.Kind.TheVariants as kind
-use Rattle.row_parts.specs.records.specs.declared.rows.Driver.{Driver}
-use Rattle.row_parts.specs.records.specs.declared.rows.Driver.TheVariants as driver
-use Rattle.row_parts.specs.records.specs.declared.rows.Project.{Project}
-use Rattle.row_parts.specs.records.specs.declared.rows.Profile.{Profile}
-use Rattle.row_parts.specs.records.specs.declared.rows.Network.{Network}
-use Rattle.row_parts.specs.records.specs.declared.rows.Pool.{Pool}
-use Rattle.row_parts.specs.records.specs.declared.rows.Volume.{Volume}
-use Rattle.row_parts.specs.records.specs.declared.rows.Instance.{Instance}
-use Rattle.row_parts.specs.records.specs.declared.rows.Snapshot.{Snapshot}
-use Rattle.row_parts.specs.declared.parts.Shape.{Shape}
+use Rattle.size_values.specs.declared.kinds.Kind.{Kind}
+use Rattle.size_values.specs.declared.kinds.Kind.TheVariants as kind
+use Rattle.records.specs.declared.rows.Driver.{Driver}
+use Rattle.records.specs.declared.rows.Driver.TheVariants as driver
+use Rattle.records.specs.declared.rows.Project.{Project}
+use Rattle.records.specs.declared.rows.Profile.{Profile}
+use Rattle.records.specs.declared.rows.Network.{Network}
+use Rattle.records.specs.declared.rows.Pool.{Pool}
+use Rattle.records.specs.declared.rows.Volume.{Volume}
+use Rattle.records.specs.declared.rows.Instance.{Instance}
+use Rattle.records.specs.declared.rows.Snapshot.{Snapshot}
+use Rattle.row_codec.specs.declared.parts.Shape.{Shape}
 use Rattle.row_codec.specs.Rows.{IsMoment}
 use Rattle.row_codec.specs.Spelling.{text_bytes, number_bytes, boolean_byte, kind_byte, driver_byte, settings_bytes, devices_bytes, texts_bytes, project_bytes, profile_bytes, network_bytes, pool_bytes, volume_bytes, instance_bytes, snapshot_bytes}
 use Rattle.row_codec.specs.Reading.{◌>>=◌, stops_at, code_at, boolean_of, instance_kind_of, driver_of, text_at, moment_at, settings_at, texts_at, devices_at, shape_at, version_at, ended, project_in, profile_in, network_in, pool_in, volume_in, instance_in, snapshot_in}

@@ -3,22 +3,22 @@ use Rattle.std.proofs.Common.{◌≡◌, ℕ, Bool, true, false, cond, eqb, List
 use Rattle.std.specs.Prelude.{IfOk}
 use Rattle.std.proofs.lemmas.Bool.{eqb-true}
 use Rattle.std.proofs.lemmas.List.{append-nil}
-use Rattle.estate_rules.specs.size_values.specs.declared.kinds.ObjectKind.TheVariants as kind
-use Rattle.estate_rules.specs.size_values.specs.declared.entry.Entry.{Entry}
-use Rattle.estate_rules.specs.size_values.specs.declared.memory.Or.{Or}
-use Rattle.row_parts.specs.records.specs.declared.rows.Project.{Project}
-use Rattle.row_parts.specs.records.specs.declared.rows.Profile.{Profile}
-use Rattle.row_parts.specs.records.specs.declared.rows.Network.{Network}
-use Rattle.row_parts.specs.records.specs.declared.rows.Pool.{Pool}
-use Rattle.row_parts.specs.records.specs.declared.rows.Volume.{Volume}
-use Rattle.row_parts.specs.records.specs.declared.rows.Instance.{Instance}
-use Rattle.row_parts.specs.records.specs.declared.rows.Snapshot.{Snapshot}
-use Rattle.row_parts.specs.records.specs.declared.rows.Row.{Row}
-use Rattle.row_parts.specs.records.specs.declared.rows.Row.TheVariants as row
+use Rattle.size_values.specs.declared.kinds.ObjectKind.TheVariants as kind
+use Rattle.size_values.specs.declared.entry.Entry.{Entry}
+use Rattle.size_values.specs.declared.memory.Or.{Or}
+use Rattle.records.specs.declared.rows.Project.{Project}
+use Rattle.records.specs.declared.rows.Profile.{Profile}
+use Rattle.records.specs.declared.rows.Network.{Network}
+use Rattle.records.specs.declared.rows.Pool.{Pool}
+use Rattle.records.specs.declared.rows.Volume.{Volume}
+use Rattle.records.specs.declared.rows.Instance.{Instance}
+use Rattle.records.specs.declared.rows.Snapshot.{Snapshot}
+use Rattle.records.specs.declared.rows.Row.{Row}
+use Rattle.records.specs.declared.rows.Row.TheVariants as row
 use Rattle.estate_rules.specs.Names.{good_name_of}
 use Rattle.row_codec.specs.declared.damage.Damaged.{Damaged}
 use Rattle.row_codec.specs.declared.damage.Damaged.TheVariants as damaged
-use Rattle.row_parts.specs.declared.unreadable.Unreadable.{Unreadable}
+use Rattle.row_codec.specs.declared.unreadable.Unreadable.{Unreadable}
 use Rattle.row_codec.specs.Spelling.{two_names, three_names, entry_of, project_bytes, profile_bytes, network_bytes, pool_bytes, volume_bytes, instance_bytes, snapshot_bytes}
 use Rattle.row_codec.specs.Rows.{IsGood, IsRow, Spells}
 use Rattle.row_codec.specs.Reading.{Gives, placed, mapped, two_names_in, three_names_in, project_in, profile_in, network_in, pool_in, volume_in, instance_in, snapshot_in, read_project, read_profile, read_network, read_pool, read_volume, read_instance, read_snapshot, row_at, row_of}

@@ -6,8 +6,8 @@ use Rattle.std.proofs.lemmas.Bool.{cases_lt, ltb-false, ltb-true, le-ltb, lt-ltb
 use Rattle.std.proofs.lemmas.List.{take_at, drop_at, take-append-drop, length-append, length-take, get_or-drop, get_or-take, get_or_past}
 use Rattle.std.proofs.lemmas.Nat.{be_bytes_4, be_bytes_8, from_be_bytes-to_be_bytes_4, from_be_bytes-to_be_bytes_8}
 use Rattle.std.proofs.lemmas.Str.{IsUtf8-from_is_utf8, is_utf8-from_IsUtf8}
-use Rattle.estate_rules.specs.size_values.specs.Moments.{moment_limit}
-use Rattle.row_parts.specs.declared.unreadable.Unreadable.{Unreadable}
+use Rattle.size_values.specs.Moments.{moment_limit}
+use Rattle.row_codec.specs.declared.unreadable.Unreadable.{Unreadable}
 use Rattle.row_codec.specs.Spelling.{text_bytes, number_bytes}
 use Rattle.row_codec.specs.Rows.{IsShort, IsMoment}
 use Rattle.row_codec.specs.Reading.{◌>>=◌, Read, stops_at, count_at, number_at, moment_at, meant_at, code_at, text_at}

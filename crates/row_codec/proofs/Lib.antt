@@ -1,3 +1,7 @@
+pub mod Texts
+pub mod FieldRising
+pub mod Items
+pub mod Written
 pub mod Rising
 pub mod Fields
 pub mod Listed
@@ -6,3 +10,6 @@ pub mod Bodies
 pub mod Names
 pub mod Entries
 pub mod Alone
+pub mod Lengths
+pub mod ShortParts
+pub mod Sums

@@ -3,8 +3,8 @@ use Rattle.std.proofs.Common.{◌≡◌, ℕ, true, List, [], ◌∷◌, Option,
 use Rattle.std.specs.declared.cmp.Ordering.{Ordering}
 use Rattle.std.specs.declared.cmp.Ordering.TheVariants.{Less, Equal, Greater}
 use Rattle.std.specs.Ordering.{is_lt}
-use Rattle.estate_rules.specs.config_lists.specs.Entries.{KeysRise}
-use Rattle.estate_rules.specs.config_lists.proofs.Keys.{order, IsBelow-trans, KeysRise-nil, KeysRise-cons, KeysRise-head, KeysRise-tail}
+use Rattle.config_lists.specs.Entries.{KeysRise}
+use Rattle.config_lists.proofs.Keys.{order, IsBelow-trans, KeysRise-nil, KeysRise-cons, KeysRise-head, KeysRise-tail}
 use Rattle.row_codec.specs.Reading.{is_next}
 use Rattle.row_codec.proofs.Listed.{AreInRow}
 

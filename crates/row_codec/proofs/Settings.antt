@@ -4,8 +4,8 @@ use Rattle.std.specs.List.{AllByRecursion}
 use Rattle.std.specs.Str.{IsUtf8}
 use Rattle.std.proofs.lemmas.Bool.Decides.{nat_tests}
 use Rattle.std.proofs.lemmas.List.Elements.{All-from_recursion, recursion_from_All}
-use Rattle.estate_rules.specs.config_lists.specs.Settings.{Settings, IsFull}
-use Rattle.estate_rules.specs.config_lists.specs.Devices.{NamedDevices}
+use Rattle.config_lists.specs.Settings.{Settings, IsFull}
+use Rattle.config_lists.specs.Devices.{NamedDevices}
 use Rattle.row_codec.specs.Spelling.{text_bytes, setting_bytes, settings_bytes, device_bytes, devices_bytes, texts_bytes}
 use Rattle.row_codec.specs.Rows.{IsShort, AreShortTexts, AreShortSettings, AreShortDevices, AreUtf8, AreTypedSettings, AreTypedDevices}
 use Rattle.row_codec.specs.Reading.{◌>>=◌, Read, stops_at, text_at, is_next, is_empty, filled_at, next_at, next_filled_at, setting_at, settings_at, device_at, devices_at, texts_at}

@@ -1,25 +1,25 @@
 -- An entry read from left to right: the row that it spells, or the first damage with its place.
 use Rattle.std.specs.Prelude.{ℕ, Bool, ◌-◌, ◌==◌, ◌&&◌, List, [], ◌∷◌, length, Result, Ok, Err, if◌then◌else◌}
 use Rattle.std.specs.List.{before_first, after_first}
-use Rattle.estate_rules.specs.size_values.specs.declared.kinds.ObjectKind.{ObjectKind}
-use Rattle.estate_rules.specs.size_values.specs.declared.kinds.ObjectKind.TheVariants as kind
-use Rattle.estate_rules.specs.size_values.specs.declared.memory.Or.{Or}
-use Rattle.estate_rules.specs.size_values.specs.declared.memory.Or.TheVariants as or
-use Rattle.estate_rules.specs.size_values.specs.declared.entry.Entry.{Entry}
+use Rattle.size_values.specs.declared.kinds.ObjectKind.{ObjectKind}
+use Rattle.size_values.specs.declared.kinds.ObjectKind.TheVariants as kind
+use Rattle.size_values.specs.declared.memory.Or.{Or}
+use Rattle.size_values.specs.declared.memory.Or.TheVariants as or
+use Rattle.size_values.specs.declared.entry.Entry.{Entry}
 use Rattle.estate_rules.specs.Names.{good_name_of}
-use Rattle.row_parts.specs.records.specs.declared.rows.Project.{Project}
-use Rattle.row_parts.specs.records.specs.declared.rows.Profile.{Profile}
-use Rattle.row_parts.specs.records.specs.declared.rows.Network.{Network}
-use Rattle.row_parts.specs.records.specs.declared.rows.Pool.{Pool}
-use Rattle.row_parts.specs.records.specs.declared.rows.Volume.{Volume}
-use Rattle.row_parts.specs.records.specs.declared.rows.Instance.{Instance}
-use Rattle.row_parts.specs.records.specs.declared.rows.Snapshot.{Snapshot}
-use Rattle.row_parts.specs.records.specs.declared.rows.Row.{Row}
-use Rattle.row_parts.specs.records.specs.declared.rows.Row.TheVariants as row
-use Rattle.row_parts.specs.declared.unreadable.Unreadable.{Unreadable}
+use Rattle.records.specs.declared.rows.Project.{Project}
+use Rattle.records.specs.declared.rows.Profile.{Profile}
+use Rattle.records.specs.declared.rows.Network.{Network}
+use Rattle.records.specs.declared.rows.Pool.{Pool}
+use Rattle.records.specs.declared.rows.Volume.{Volume}
+use Rattle.records.specs.declared.rows.Instance.{Instance}
+use Rattle.records.specs.declared.rows.Snapshot.{Snapshot}
+use Rattle.records.specs.declared.rows.Row.{Row}
+use Rattle.records.specs.declared.rows.Row.TheVariants as row
+use Rattle.row_codec.specs.declared.unreadable.Unreadable.{Unreadable}
 use Rattle.row_codec.specs.declared.damage.Damaged.{Damaged}
 use Rattle.row_codec.specs.declared.damage.Damaged.TheVariants as damaged
-unfoldable pub use Rattle.row_parts.specs.Reading.{
+unfoldable pub use Rattle.row_codec.specs.FieldReading.{
   count_at,
   number_at,
   moment_at,
@@ -34,7 +34,7 @@ unfoldable pub use Rattle.row_parts.specs.Reading.{
   device_at,
   shape_at,
 }
-pub use Rattle.row_parts.specs.Reading.{
+pub use Rattle.row_codec.specs.FieldReading.{
   ◌>>=◌,
   Fails,
   Gives,

@@ -1,14 +1,14 @@
 -- Which rows have a spelling, and what it means that an entry spells a row.
 use Rattle.std.specs.Prelude.{◌≡◌, ℕ, true, List}
 use Rattle.std.specs.Str.{IsUtf8}
-use Rattle.estate_rules.specs.size_values.specs.declared.kinds.ObjectKind.{ObjectKind}
-use Rattle.estate_rules.specs.size_values.specs.declared.kinds.ObjectKind.TheVariants as kind
-use Rattle.estate_rules.specs.size_values.specs.declared.entry.Entry.{Entry}
+use Rattle.size_values.specs.declared.kinds.ObjectKind.{ObjectKind}
+use Rattle.size_values.specs.declared.kinds.ObjectKind.TheVariants as kind
+use Rattle.size_values.specs.declared.entry.Entry.{Entry}
 use Rattle.estate_rules.specs.Names.{good_name_of}
-use Rattle.row_parts.specs.records.specs.declared.rows.Row.{Row}
-use Rattle.row_parts.specs.records.specs.declared.rows.Row.TheVariants as row
+use Rattle.records.specs.declared.rows.Row.{Row}
+use Rattle.records.specs.declared.rows.Row.TheVariants as row
 use Rattle.row_codec.specs.Spelling.{entry_of}
-pub use Rattle.row_parts.specs.Parts.{
+pub use Rattle.row_codec.specs.Parts.{
   IsMoment,
   IsShort,
   AreShortTexts,

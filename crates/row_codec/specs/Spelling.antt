@@ -1,17 +1,17 @@
 -- The one spelling of each row as an entry: its kind, its key and its body of version 1.
 use Rattle.std.specs.Prelude.{ℕ, List, ◌∷◌, ◌++◌}
-use Rattle.estate_rules.specs.size_values.specs.declared.entry.Entry.{Entry}
-use Rattle.row_parts.specs.records.specs.declared.rows.Project.{Project}
-use Rattle.row_parts.specs.records.specs.declared.rows.Profile.{Profile}
-use Rattle.row_parts.specs.records.specs.declared.rows.Network.{Network}
-use Rattle.row_parts.specs.records.specs.declared.rows.Pool.{Pool}
-use Rattle.row_parts.specs.records.specs.declared.rows.Volume.{Volume}
-use Rattle.row_parts.specs.records.specs.declared.rows.Instance.{Instance}
-use Rattle.row_parts.specs.records.specs.declared.rows.Snapshot.{Snapshot}
-use Rattle.row_parts.specs.records.specs.declared.rows.Row.{Row}
-use Rattle.row_parts.specs.records.specs.declared.rows.Row.TheVariants as row
-unfoldable pub use Rattle.row_parts.specs.Spelling.{text_bytes, number_bytes, list_bytes}
-pub use Rattle.row_parts.specs.Spelling.{
+use Rattle.size_values.specs.declared.entry.Entry.{Entry}
+use Rattle.records.specs.declared.rows.Project.{Project}
+use Rattle.records.specs.declared.rows.Profile.{Profile}
+use Rattle.records.specs.declared.rows.Network.{Network}
+use Rattle.records.specs.declared.rows.Pool.{Pool}
+use Rattle.records.specs.declared.rows.Volume.{Volume}
+use Rattle.records.specs.declared.rows.Instance.{Instance}
+use Rattle.records.specs.declared.rows.Snapshot.{Snapshot}
+use Rattle.records.specs.declared.rows.Row.{Row}
+use Rattle.records.specs.declared.rows.Row.TheVariants as row
+unfoldable pub use Rattle.row_codec.specs.FieldSpelling.{text_bytes, number_bytes, list_bytes}
+pub use Rattle.row_codec.specs.FieldSpelling.{
   boolean_byte,
   kind_byte,
   driver_byte,

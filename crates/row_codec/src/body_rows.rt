@@ -3,12 +3,11 @@ ghost use Rattle.std.specs.Prelude.{◌≡◌, Ok, Err, IfOk, IfErr};
 ghost use Rattle.row_codec.specs.Reading.{Gives, Fails, IsRead, version_at, ended, project_in, profile_in, network_in};
 ghost use Rattle.row_codec.specs.Reading.{pool_in, volume_in, instance_in, snapshot_in};
 
-use estate_rules::from_size_values::{NoMemory, Or, Text};
-use row_parts::from_records::{Instance, Network, Pool, Profile, Project, Snapshot, Volume};
-use row_parts::{
-    Unreadable, boolean_at, devices_at, driver_at, kind_at, moment_at, settings_at, shape_at,
-    stops_at, str_at,
-};
+use crate::lists::{devices_at, settings_at, shape_at};
+use crate::parts::{boolean_at, driver_at, kind_at, moment_at, stops_at, str_at};
+use crate::unreadable::Unreadable;
+use records::{Instance, Network, Pool, Profile, Project, Snapshot, Volume};
+use size_values::{NoMemory, Or, Text};
 use std::alloc::Global;
 
 /// The bytes after the version.

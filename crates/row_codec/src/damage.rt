@@ -1,7 +1,7 @@
 ghost use Rattle.std.specs.Prelude.{◌≡◌};
-ghost use Rattle.estate_rules.specs.size_values.specs.declared.memory.Or.TheVariants as or;
+ghost use Rattle.size_values.specs.declared.memory.Or.TheVariants as or;
 
-use estate_rules::from_size_values::Or;
+use size_values::Or;
 
 /// Why an entry is no spelling of a row: its kind is none of 1 to 7; or its key is no key of this kind; or its
 /// body is no spelling, from this place on. The place is the start of the first byte, number, text or count that

@@ -4,8 +4,8 @@ ghost use Rattle.std.specs.List.{before_first, after_first};
 ghost use Rattle.row_codec.specs.Reading.{IsRead, is_slash, two_names_in, three_names_in};
 
 use crate::damage::Damaged;
-use estate_rules::from_size_values::ObjectKind;
 use estate_rules::good_name;
+use size_values::ObjectKind;
 
 /// What stands before the first slash, and what stands after it.
 fn parts_of(key: &str) -> (&str, &str)

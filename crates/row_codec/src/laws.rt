@@ -1,7 +1,7 @@
 //! What is true of all spellings. Each law is the contract of a function that does nothing.
 ghost use Rattle.std.specs.Prelude.{◌≡◌, ℕ, ◌++◌, [], List, Ok, Err};
-ghost use Rattle.estate_rules.specs.size_values.specs.declared.entry.Entry.{Entry};
-ghost use Rattle.row_parts.specs.records.specs.declared.rows.Row.{Row};
+ghost use Rattle.size_values.specs.declared.entry.Entry.{Entry};
+ghost use Rattle.records.specs.declared.rows.Row.{Row};
 ghost use Rattle.row_codec.specs.declared.damage.Damaged.{Damaged};
 ghost use Rattle.row_codec.specs.Spelling.{entry_of};
 ghost use Rattle.row_codec.specs.Rows.{IsRow, Spells};

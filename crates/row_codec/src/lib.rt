@@ -1,55 +1,33 @@
-//! Rows as entries of the store, and entries as rows again: one spelling for each row, and the place of the
-//! first damage where an entry is no spelling.
+//! Rows of all kinds as entries, and entries as rows: the bytes of their fields, of each kind of row,
+//! and how many bytes the body of a row has.
 #![tactic(auto)]
-
-/// Of `config_lists`, for the crates above.
-pub mod from_config_lists {
-    pub use estate_rules::from_config_lists::{Config, Devices};
-}
-
-/// Of `estate_rules`, for the crates above.
-pub mod from_estate_rules {
-    pub use estate_rules::{good_name, names_network, names_pool, names_volume};
-}
-
-/// Of `operations`, for the crates above.
-pub mod from_operations {
-    pub use row_parts::from_operations::{
-        CancelFault, ENDED_LIMIT, EnterFault, LIVE_LIMIT, NUMBER_LIMIT, OpFault, Operation, Status,
-        drop_oldest, known_place, set_status, take_out,
-    };
-}
-
-/// Of `plain_lists`, for the crates above.
-pub mod from_plain_lists {
-    pub use row_parts::from_plain_lists::push_reserved;
-}
-
-/// Of `records`, for the crates above.
-pub mod from_records {
-    pub use row_parts::from_records::{
-        Body, Command, Driver, Filter, Instance, Kept, Life, LimitKeyName, Network, Notice,
-        OpFault, OpView, Origin, Pool, Profile, Project, Refusal, Reply, Row, Rule, Snapshot,
-        Status, Target, Told, Untold, UsageLine, View, Volume, What,
-    };
-}
-
-/// Of `size_values`, for the crates above.
-pub mod from_size_values {
-    pub use estate_rules::from_size_values::{
-        Action, Amounts, Boxed, Deed, Entry, EntryChange, Kind, NoMemory, ObjectKind, Or, Power,
-        Seq, Text,
-    };
-}
 
 mod body_rows;
 mod damage;
+mod field_writing;
 mod keys;
 mod laws;
+mod lists;
+mod parts;
 mod reading;
+mod size_laws;
+mod sizes;
+mod unreadable;
 mod writing;
 
 pub use damage::Damaged;
+pub use field_writing::{
+    boolean_byte, driver_byte, kind_byte, put_devices, put_number, put_settings, put_text,
+    put_texts,
+};
 pub use laws::{each_row_is_spelled, no_spelling_goes_on, one_spelling, spelled_or_damaged};
+pub use lists::{devices_at, settings_at, shape_at};
+pub use parts::{Shape, boolean_at, driver_at, kind_at, moment_at, stops_at, str_at};
 pub use reading::decode;
+pub use size_laws::{capped_large, capped_small, small_rows_are_short};
+pub use sizes::{
+    instance_size, network_size, pool_size, profile_size, project_size, row_size, snapshot_size,
+    volume_size,
+};
+pub use unreadable::Unreadable;
 pub use writing::{encode, key_of, kind_of};

@@ -1,6 +1,6 @@
 //! Rows, read from their entries.
 ghost use Rattle.std.specs.Prelude.{◌≡◌, length, IfOk, IfErr};
-ghost use Rattle.row_parts.specs.records.specs.declared.rows.Row.{Row};
+ghost use Rattle.records.specs.declared.rows.Row.{Row};
 ghost use Rattle.row_codec.specs.Rows.{Spells};
 ghost use Rattle.row_codec.specs.Reading.{Gives, read_project, read_profile, read_network, read_pool, read_volume};
 ghost use Rattle.row_codec.specs.Reading.{read_instance};
@@ -11,10 +11,10 @@ use crate::body_rows::{
 };
 use crate::damage::Damaged;
 use crate::keys::{three_names_in, two_names_in};
-use estate_rules::from_size_values::{Boxed, Entry, ObjectKind, Or};
+use crate::unreadable::Unreadable;
 use estate_rules::good_name;
-use row_parts::Unreadable;
-use row_parts::from_records::{Instance, Network, Pool, Profile, Project, Row, Snapshot, Volume};
+use records::{Instance, Network, Pool, Profile, Project, Row, Snapshot, Volume};
+use size_values::{Boxed, Entry, ObjectKind, Or};
 use std::alloc::Global;
 
 /// The damage of a body in which a part cannot be read.

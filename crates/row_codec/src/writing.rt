@@ -1,18 +1,18 @@
 //! Rows, written as entries.
 ghost use Rattle.std.specs.Prelude.{◌≡◌, ◌++◌, IfOk, OnOk};
-ghost use Rattle.row_parts.specs.records.specs.declared.rows.Row.{Row};
-ghost use Rattle.row_parts.specs.records.specs.declared.rows.Row.TheVariants as row;
+ghost use Rattle.records.specs.declared.rows.Row.{Row};
+ghost use Rattle.records.specs.declared.rows.Row.TheVariants as row;
 ghost use Rattle.row_codec.specs.Rows.{HasGoodKey, HasMoments, HasShortParts, HasTypedParts, Spells};
 ghost use Rattle.row_codec.specs.Spelling.{project_bytes, profile_bytes, network_bytes, pool_bytes, volume_bytes};
 ghost use Rattle.row_codec.specs.Spelling.{instance_bytes, snapshot_bytes, body_of, kind_of, key_of, two_names};
 ghost use Rattle.row_codec.specs.Spelling.{three_names};
 
-use estate_rules::from_size_values::{Entry, NoMemory, Seq, Text};
-use row_parts::from_records::{Instance, Network, Pool, Profile, Project, Row, Snapshot, Volume};
-use row_parts::{
+use crate::field_writing::{
     boolean_byte, driver_byte, kind_byte, put_devices, put_number, put_settings, put_text,
     put_texts,
 };
+use records::{Instance, Network, Pool, Profile, Project, Row, Snapshot, Volume};
+use size_values::{Entry, NoMemory, Seq, Text};
 use std::alloc::Global;
 
 fn put_project(out: &mut Vec<u8>, project: &Project) -> Result<(), NoMemory>

@@ -3,17 +3,17 @@ use Rattle.std.proofs.Common.{◌≡◌, ◌≢◌, ℕ, ◌≤◌, Bool, true, 
 use Rattle.std.specs.Prelude.{IfSome, filter, unwrap_or}
 use Rattle.std.specs.Str.{bytes_eq}
 use Rattle.std.proofs.lemmas.Bool.{false≢true}
-use Rattle.reservations.specs.plain_lists.specs.Members.{Each}
-use Rattle.reservations.specs.plain_lists.proofs.Elements.{Each-none, Each-cons}
-use Rattle.expansion.specs.config_lists.proofs.Keys.{same}
-use Rattle.reservations.specs.size_values.specs.declared.amounts.Part.{Part}
-use Rattle.reservations.specs.size_values.specs.declared.amounts.Part.TheVariants.{Instances, Containers, Machines, Cpu, Memory, Processes, Disk}
-use Rattle.reservations.specs.size_values.specs.declared.kinds.ObjectKind.TheVariants as kind
-use Rattle.row_codec.specs.operations.specs.declared.operation.Operation.{Operation}
-use Rattle.row_codec.specs.operations.specs.Facts.{AreKept}
+use Rattle.plain_lists.specs.Members.{Each}
+use Rattle.plain_lists.proofs.Elements.{Each-none, Each-cons}
+use Rattle.config_lists.proofs.Keys.{same}
+use Rattle.size_values.specs.declared.amounts.Part.{Part}
+use Rattle.size_values.specs.declared.amounts.Part.TheVariants.{Instances, Containers, Machines, Cpu, Memory, Processes, Disk}
+use Rattle.size_values.specs.declared.kinds.ObjectKind.TheVariants as kind
+use Rattle.operations.specs.declared.operation.Operation.{Operation}
+use Rattle.operations.specs.Facts.{AreKept}
 use Rattle.project_limits.specs.Admission.{limit_on}
-use Rattle.row_codec.specs.records.specs.declared.commands.Target.{Target}
-use Rattle.row_codec.specs.records.specs.declared.rows.Row.{Row}
+use Rattle.records.specs.declared.commands.Target.{Target}
+use Rattle.records.specs.declared.rows.Row.{Row}
 use Rattle.row_machine.specs.machine.Task.{Task}
 use Rattle.row_machine.specs.machine.State.{State}
 use Rattle.row_machine.specs.machine.Rows.{default_name, texts_before}
@@ -23,34 +23,34 @@ use Rattle.row_machine.specs.machine.Usage.{used}
 use Rattle.row_machine.specs.machine.Claims.{project_of_row}
 use Rattle.row_machine.specs.shown.Links.{target_of}
 use Rattle.row_machine.specs.machine.Holders.{keeps_busy}
-use Rattle.row_machine.specs.facts.Whole.{IsWhole, AreNamed, AreLinked, HasDefaults, AreSettled, IsByDeed, IsBusyOnce, IsUnderWay, AreWithin, AreBalanced, AreFew}
+use Rattle.row_machine.specs.facts.Whole.{IsWhole, AreNamed, ReferencesExist, HasDefaults, AreSettled, IsByDeed, IsBusyOnce, IsUnderWay, AreWithin, AreBalanced, AreFew}
 use Rattle.row_machine.specs.examples.Scenes.{begin, state_after}
 use Rattle.row_machine.specs.examples.Worked.{a, b, c, d, busy_server, BusyIsWhole}
 use Rattle.std.specs.List.{sum_by}
 use Rattle.std.specs.Prelude.{◌<◌, ◌+◌, is_some}
-use Rattle.reservations.specs.size_values.specs.Amounts.{nothing, part}
-use Rattle.reservations.specs.size_values.specs.declared.amounts.Amounts.{Amounts}
-use Rattle.reservations.specs.size_values.specs.declared.moment.TheConstants.{MOMENT_LIMIT}
+use Rattle.size_values.specs.Amounts.{nothing, part}
+use Rattle.size_values.specs.declared.amounts.Amounts.{Amounts}
+use Rattle.size_values.specs.declared.moment.TheConstants.{MOMENT_LIMIT}
 use Rattle.reservations.specs.declared.books.Hold.{Hold}
 use Rattle.row_machine.specs.machine.Rows.{pool_named}
 use Rattle.std.specs.Prelude.{map}
 use Rattle.row_machine.specs.facts.Whole.{instance_there, held_by}
-use Rattle.reservations.specs.size_values.specs.Address.{address_of, cidr_of}
-use Rattle.reservations.specs.size_values.specs.Amounts.{plus_of, minus_of, excess_of, fits_in}
-use Rattle.reservations.specs.size_values.specs.Count.{count_of}
-use Rattle.reservations.specs.size_values.specs.Cpu.{set_of, cpu_of}
-use Rattle.reservations.specs.size_values.specs.Expiry.{expiry_of}
-use Rattle.reservations.specs.size_values.specs.MemorySize.{memory_of}
-use Rattle.reservations.specs.size_values.specs.Size.{size_of}
-use Rattle.reservations.specs.size_values.specs.Boolean.{boolean_of}
-use Rattle.expansion.specs.config_lists.specs.Changes.{settled, patched}
-use Rattle.expansion.specs.config_lists.specs.Devices.{is_root_disk, root_of}
-use Rattle.expansion.specs.config_lists.specs.Entries.{value_of, put, without, replaced}
-use Rattle.restrictions.specs.option_tables.specs.Checks.{keys_fault, instance_fault, project_fault, network_fault, pool_fault, volume_fault, device_fault, devices_fault}
-use Rattle.restrictions.specs.option_tables.specs.Forms.{value_fault}
-use Rattle.restrictions.specs.option_tables.specs.Tables.{instance_lines, project_lines, network_lines, pool_lines, volume_lines, device_lines as option_tables_tables_device_lines, device_form, device_type, listed_form, form_of}
-use Rattle.row_codec.specs.estate_rules.specs.Names.{is_instance_name, is_project_name, is_object_name}
-use Rattle.row_codec.specs.estate_rules.specs.Uses.{names_network, names_pool, names_volume}
+use Rattle.size_values.specs.Address.{address_of, cidr_of}
+use Rattle.size_values.specs.Amounts.{plus_of, minus_of, excess_of, fits_in}
+use Rattle.size_values.specs.Count.{count_of}
+use Rattle.size_values.specs.Cpu.{set_of, cpu_of}
+use Rattle.size_values.specs.Expiry.{expiry_of}
+use Rattle.size_values.specs.MemorySize.{memory_of}
+use Rattle.size_values.specs.Size.{size_of}
+use Rattle.size_values.specs.Boolean.{boolean_of}
+use Rattle.config_lists.specs.Changes.{settled, patched}
+use Rattle.config_lists.specs.Devices.{is_root_disk, root_of}
+use Rattle.config_lists.specs.Entries.{value_of, put, without, replaced}
+use Rattle.option_tables.specs.Checks.{keys_fault, instance_fault, project_fault, network_fault, pool_fault, volume_fault, device_fault, devices_fault}
+use Rattle.option_tables.specs.Forms.{value_fault}
+use Rattle.option_tables.specs.Tables.{instance_lines, project_lines, network_lines, pool_lines, volume_lines, device_lines as option_tables_tables_device_lines, device_form, device_type, listed_form, form_of}
+use Rattle.estate_rules.specs.Names.{is_instance_name, is_project_name, is_object_name}
+use Rattle.estate_rules.specs.Uses.{names_network, names_pool, names_volume}
 use Rattle.expansion.specs.Layers.{laid, expanded, expanded_setting, expanded_device}
 use Rattle.restrictions.specs.Forbids.{setting_lines, device_lines as restrictions_forbids_device_lines, device_rule, setting_rule, broken_settings, missing_setting, broken_devices, first_forbidden, snapshots_forbidden}
 use Rattle.restrictions.specs.Policies.{policy_of}
@@ -208,7 +208,7 @@ names = record {
   new_snapshots = tt;
 }
 
-links : AreLinked busy
+links : ReferencesExist busy
 unfolding
     digits address_of cidr_of plus_of minus_of excess_of fits_in count_of set_of cpu_of expiry_of memory_of size_of
     boolean_of settled patched is_root_disk root_of value_of put without replaced keys_fault instance_fault project_fault

@@ -1,7 +1,7 @@
 -- Operations and their deeds: what may be entered, and what a success tells.
 use Rattle.std.proofs.Common.{◌≡◌, List, [], ◌∷◌, map, refl, ap, inl}
-use Rattle.reservations.specs.plain_lists.proofs.Elements.{Mem-right}
-use Rattle.row_codec.specs.records.specs.declared.notices.Life.{Life}
+use Rattle.plain_lists.proofs.Elements.{Mem-right}
+use Rattle.records.specs.declared.notices.Life.{Life}
 use Rattle.row_machine.specs.machine.Work.{entered}
 use Rattle.row_machine.specs.shown.Notices.{life_notice, deed_lives, object_told}
 use Rattle.row_machine.specs.facts.Laws.{DeletesInstances, at_moment, SuccessIsFixed}

@@ -2,28 +2,28 @@
 use Rattle.std.proofs.Common.{◌≡◌, ℕ, Bool, true, false, cond, Option, Some, None, List, [], ◌∷◌, refl, sym, ◌∙◌, ap, subst}
 use Rattle.std.specs.Option.{option_map_or}
 use Rattle.std.specs.Prelude.{Result, Ok, Err}
-use Rattle.reservations.specs.size_values.specs.declared.kinds.ObjectKind.{ObjectKind}
-use Rattle.reservations.specs.size_values.specs.declared.kinds.ObjectKind.TheVariants as kind
-use Rattle.instance_states.specs.host_model.specs.declared.call.HostCall.{HostCall}
-use Rattle.instance_states.specs.host_model.specs.declared.report.Report.{Report}
-use Rattle.instance_states.specs.host_model.specs.declared.report.Report.TheVariants as report
-use Rattle.row_codec.specs.operations.specs.declared.operation.Operation.{Operation}
-use Rattle.row_codec.specs.operations.specs.declared.operation.OpFault.{OpFault}
-use Rattle.row_codec.specs.operations.specs.declared.operation.OpFault.TheVariants as fault
-use Rattle.row_codec.specs.operations.specs.declared.status.Status.{Status}
-use Rattle.row_codec.specs.operations.specs.declared.status.Status.TheVariants as status
-use Rattle.row_codec.specs.operations.specs.declared.faults.CancelFault.{CancelFault}
-use Rattle.row_codec.specs.operations.specs.Kept.{Kept, live_at, kept_at, cancel_answer, ends}
-use Rattle.row_codec.specs.records.specs.declared.commands.Command.{Command}
-use Rattle.row_codec.specs.records.specs.declared.commands.What.{What}
-use Rattle.row_codec.specs.records.specs.declared.commands.What.TheVariants as what
-use Rattle.row_codec.specs.records.specs.declared.notices.Untold.{Untold}
-use Rattle.row_codec.specs.records.specs.declared.notices.Filter.{Filter}
-use Rattle.row_codec.specs.records.specs.declared.refusals.Refusal.{Refusal}
-use Rattle.row_codec.specs.records.specs.declared.replies.Reply.{Reply}
-use Rattle.row_codec.specs.records.specs.declared.replies.Reply.TheVariants as reply
-use Rattle.row_codec.specs.records.specs.declared.rows.Row.{Row}
-use Rattle.row_codec.specs.records.specs.declared.rows.Row.TheVariants as row
+use Rattle.size_values.specs.declared.kinds.ObjectKind.{ObjectKind}
+use Rattle.size_values.specs.declared.kinds.ObjectKind.TheVariants as kind
+use Rattle.host_model.specs.declared.call.HostCall.{HostCall}
+use Rattle.host_model.specs.declared.report.Report.{Report}
+use Rattle.host_model.specs.declared.report.Report.TheVariants as report
+use Rattle.operations.specs.declared.operation.Operation.{Operation}
+use Rattle.operations.specs.declared.operation.OpFault.{OpFault}
+use Rattle.operations.specs.declared.operation.OpFault.TheVariants as fault
+use Rattle.operations.specs.declared.status.Status.{Status}
+use Rattle.operations.specs.declared.status.Status.TheVariants as status
+use Rattle.operations.specs.declared.faults.CancelFault.{CancelFault}
+use Rattle.operations.specs.Kept.{Kept, live_at, kept_at, cancel_answer, ends}
+use Rattle.records.specs.declared.commands.Command.{Command}
+use Rattle.records.specs.declared.commands.What.{What}
+use Rattle.records.specs.declared.commands.What.TheVariants as what
+use Rattle.records.specs.declared.notices.Untold.{Untold}
+use Rattle.records.specs.declared.notices.Filter.{Filter}
+use Rattle.records.specs.declared.refusals.Refusal.{Refusal}
+use Rattle.records.specs.declared.replies.Reply.{Reply}
+use Rattle.records.specs.declared.replies.Reply.TheVariants as reply
+use Rattle.records.specs.declared.rows.Row.{Row}
+use Rattle.records.specs.declared.rows.Row.TheVariants as row
 use Rattle.row_machine.specs.declared.changes.RowChange.{RowChange}
 use Rattle.row_machine.specs.declared.changes.RowChange.TheVariants as change
 use Rattle.row_machine.specs.declared.events.Event.{Event}

@@ -2,20 +2,20 @@
 use Rattle.std.proofs.Common.{◌≡◌, ◌≢◌, ℕ, ◌+◌, ◌<◌, ◌≤◌, Bool, Option, Some, None, ◌++◌, ◌⊎◌, refl, sym, ◌∙◌, subst, arith, inl, inr}
 use Rattle.std.specs.Option.{option_map_or}
 use Rattle.std.proofs.lemmas.Bool.{eqb-true}
-use Rattle.reservations.specs.plain_lists.specs.Members.{Mem, Each, Distinct}
-use Rattle.reservations.specs.plain_lists.specs.Edits.{changed_first}
-use Rattle.reservations.specs.plain_lists.specs.Rings.{ring_push}
-use Rattle.reservations.specs.plain_lists.proofs.Elements.{Each-map, Each-left, Each-right, Each-push, Mem-append}
-use Rattle.reservations.specs.plain_lists.proofs.Keys.{Distinct-push, Distinct-left, Distinct-right, Distinct-apart, Distinct-same}
-use Rattle.reservations.specs.plain_lists.proofs.EditLemmas.{Each-changed, Distinct-changed, Each-dropped, Distinct-dropped}
-use Rattle.reservations.specs.plain_lists.proofs.RingLemmas.{Each-ring}
-use Rattle.reservations.specs.plain_lists.proofs.Searches.{find-some}
-use Rattle.row_codec.specs.operations.specs.Limits.{most_ended}
-use Rattle.row_codec.specs.operations.specs.declared.operation.Operation.{Operation}
-use Rattle.row_codec.specs.operations.specs.declared.operation.OpFault.{OpFault}
-use Rattle.row_codec.specs.operations.specs.declared.status.Status.{Status}
-use Rattle.row_codec.specs.operations.specs.Kept.{Kept, has_number, live_at, kept_at, entered, ends}
-use Rattle.row_codec.specs.operations.specs.Facts.{AreKept}
+use Rattle.plain_lists.specs.Members.{Mem, Each, Distinct}
+use Rattle.plain_lists.specs.Edits.{changed_first}
+use Rattle.plain_lists.specs.Rings.{ring_push}
+use Rattle.plain_lists.proofs.Elements.{Each-map, Each-left, Each-right, Each-push, Mem-append}
+use Rattle.plain_lists.proofs.Keys.{Distinct-push, Distinct-left, Distinct-right, Distinct-apart, Distinct-same}
+use Rattle.plain_lists.proofs.EditLemmas.{Each-changed, Distinct-changed, Each-dropped, Distinct-dropped}
+use Rattle.plain_lists.proofs.RingLemmas.{Each-ring}
+use Rattle.plain_lists.proofs.Searches.{find-some}
+use Rattle.operations.specs.Limits.{most_ended}
+use Rattle.operations.specs.declared.operation.Operation.{Operation}
+use Rattle.operations.specs.declared.operation.OpFault.{OpFault}
+use Rattle.operations.specs.declared.status.Status.{Status}
+use Rattle.operations.specs.Kept.{Kept, has_number, live_at, kept_at, entered, ends}
+use Rattle.operations.specs.Facts.{AreKept}
 
 -- the kept operations after some steps
 pub data Moves {W : Type 0} : Kept W → Kept W → Type 0 where

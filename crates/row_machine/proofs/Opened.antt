@@ -1,21 +1,21 @@
 -- The examples of opening, computed.
 use Rattle.std.specs.Prelude.{refl}
-use Rattle.reservations.specs.size_values.specs.Address.{address_of, cidr_of}
-use Rattle.reservations.specs.size_values.specs.Amounts.{plus_of, minus_of, excess_of, fits_in}
-use Rattle.reservations.specs.size_values.specs.Count.{count_of}
-use Rattle.reservations.specs.size_values.specs.Cpu.{set_of, cpu_of}
-use Rattle.reservations.specs.size_values.specs.Expiry.{expiry_of}
-use Rattle.reservations.specs.size_values.specs.MemorySize.{memory_of}
-use Rattle.reservations.specs.size_values.specs.Size.{size_of}
-use Rattle.reservations.specs.size_values.specs.Boolean.{boolean_of}
-use Rattle.expansion.specs.config_lists.specs.Changes.{settled, patched}
-use Rattle.expansion.specs.config_lists.specs.Devices.{is_root_disk, root_of}
-use Rattle.expansion.specs.config_lists.specs.Entries.{value_of, put, without, replaced}
-use Rattle.restrictions.specs.option_tables.specs.Checks.{keys_fault, instance_fault, project_fault, network_fault, pool_fault, volume_fault, device_fault, devices_fault}
-use Rattle.restrictions.specs.option_tables.specs.Forms.{value_fault}
-use Rattle.restrictions.specs.option_tables.specs.Tables.{instance_lines, project_lines, network_lines, pool_lines, volume_lines, device_lines as option_tables_tables_device_lines, device_form, device_type, listed_form, form_of}
-use Rattle.row_codec.specs.estate_rules.specs.Names.{is_instance_name, is_project_name, is_object_name}
-use Rattle.row_codec.specs.estate_rules.specs.Uses.{names_network, names_pool, names_volume}
+use Rattle.size_values.specs.Address.{address_of, cidr_of}
+use Rattle.size_values.specs.Amounts.{plus_of, minus_of, excess_of, fits_in}
+use Rattle.size_values.specs.Count.{count_of}
+use Rattle.size_values.specs.Cpu.{set_of, cpu_of}
+use Rattle.size_values.specs.Expiry.{expiry_of}
+use Rattle.size_values.specs.MemorySize.{memory_of}
+use Rattle.size_values.specs.Size.{size_of}
+use Rattle.size_values.specs.Boolean.{boolean_of}
+use Rattle.config_lists.specs.Changes.{settled, patched}
+use Rattle.config_lists.specs.Devices.{is_root_disk, root_of}
+use Rattle.config_lists.specs.Entries.{value_of, put, without, replaced}
+use Rattle.option_tables.specs.Checks.{keys_fault, instance_fault, project_fault, network_fault, pool_fault, volume_fault, device_fault, devices_fault}
+use Rattle.option_tables.specs.Forms.{value_fault}
+use Rattle.option_tables.specs.Tables.{instance_lines, project_lines, network_lines, pool_lines, volume_lines, device_lines as option_tables_tables_device_lines, device_form, device_type, listed_form, form_of}
+use Rattle.estate_rules.specs.Names.{is_instance_name, is_project_name, is_object_name}
+use Rattle.estate_rules.specs.Uses.{names_network, names_pool, names_volume}
 use Rattle.expansion.specs.Layers.{laid, expanded, expanded_setting, expanded_device}
 use Rattle.restrictions.specs.Forbids.{setting_lines, device_lines as restrictions_forbids_device_lines, device_rule, setting_rule, broken_settings, missing_setting, broken_devices, first_forbidden, snapshots_forbidden}
 use Rattle.restrictions.specs.Policies.{policy_of}

@@ -5,13 +5,13 @@ use Rattle.std.specs.Option.{option_map, option_and_then}
 use Rattle.std.specs.Prelude.{is_none}
 use Rattle.std.proofs.lemmas.List.{append_assoc}
 use Rattle.std.proofs.lemmas.Bool.{eqb-true, eq-eqb, false≢true}
-use Rattle.reservations.specs.plain_lists.specs.Members.{Each, Distinct}
-use Rattle.reservations.specs.plain_lists.proofs.Elements.{Each-none, Each-cons, Each-append, Each-map, Each-head, Each-tail}
-use Rattle.reservations.specs.plain_lists.proofs.Keys.{Distinct-append}
-use Rattle.reservations.specs.plain_lists.proofs.Searches.{find-some, find-none}
-use Rattle.row_codec.specs.operations.specs.declared.operation.Operation.{Operation}
-use Rattle.row_codec.specs.operations.specs.declared.status.Status.{Status}
-use Rattle.row_codec.specs.operations.specs.Kept.{has_number, live_at}
+use Rattle.plain_lists.specs.Members.{Each, Distinct}
+use Rattle.plain_lists.proofs.Elements.{Each-none, Each-cons, Each-append, Each-map, Each-head, Each-tail}
+use Rattle.plain_lists.proofs.Keys.{Distinct-append}
+use Rattle.plain_lists.proofs.Searches.{find-some, find-none}
+use Rattle.operations.specs.declared.operation.Operation.{Operation}
+use Rattle.operations.specs.declared.status.Status.{Status}
+use Rattle.operations.specs.Kept.{has_number, live_at}
 use Rattle.row_machine.specs.declared.events.Event.{Event}
 use Rattle.row_machine.specs.machine.Task.{Task}
 use Rattle.row_machine.specs.machine.State.{State}

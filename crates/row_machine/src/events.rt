@@ -1,6 +1,6 @@
-use instance_states::from_host_model::{HostCall, Report};
-use reservations::from_size_values::Seq;
-use row_codec::from_records::{Command, Filter, Notice, Reply};
+use host_model::{HostCall, Report};
+use records::{Command, Filter, Notice, Reply};
+use size_values::Seq;
 
 /// What happens to the server, one thing at a time. The last number of `Ask`, `Take` and `Done` is the moment, in
 /// seconds since 1970.

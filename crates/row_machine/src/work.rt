@@ -1,9 +1,9 @@
 ghost use Rattle.std.specs.Prelude.{◌≡◌};
 ghost use Rattle.row_machine.specs.machine.Deeds.{target_kind};
 
-use instance_states::from_host_model::HostCall;
-use reservations::from_size_values::{Deed, ObjectKind, Seq, Text};
-use row_codec::from_records::{Row, Target};
+use host_model::HostCall;
+use records::{Row, Target};
+use size_values::{Deed, ObjectKind, Seq, Text};
 use std::marker::Model;
 
 /// What a background operation holds: its deed, the project and the object that it is about, the row that it would put

@@ -1,8 +1,8 @@
 -- What only rows of projects with a home pass, it passes among the rows of those that may have this home.
 use Rattle.std.proofs.Common.{◌≡◌, ℕ, Bool, true, false, cond, Option, None, List, [], filter, refl, ap}
 use Rattle.std.specs.Str.{bytes_eq}
-use Rattle.restrictions.specs.plain_lists.specs.Firsts.{first_of}
-use Rattle.row_machine.specs.records.specs.declared.rows.Project.{Project}
+use Rattle.plain_lists.specs.Firsts.{first_of}
+use Rattle.records.specs.declared.rows.Project.{Project}
 use Rattle.row_machine.specs.machine.Homes.{has_feature, home_by}
 use Rattle.row_machine.specs.machine.Rows.{default_name}
 use Rattle.row_readings.specs.Rising.{begins_with, rows_at_home}

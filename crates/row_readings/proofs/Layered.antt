@@ -2,10 +2,10 @@
 use Rattle.std.proofs.Common.{◌≡◌, ℕ, ◌+◌, ◌<◌, List, [], ◌∷◌, ◌++◌, map, take, length, get_or, refl, sym, ap, ◌∙◌}
 use Rattle.std.proofs.lemmas.List.{map-append, take_more}
 use Rattle.std.proofs.lemmas.List.Sums.{fold-append}
-use Rattle.restrictions.specs.config_lists.specs.Entries.{replaced}
-use Rattle.row_machine.specs.expansion.specs.declared.expanded.Expanded.{Expanded}
-use Rattle.row_machine.specs.expansion.specs.Layers.{nothing, laid, expanded}
-use Rattle.row_machine.specs.records.specs.declared.rows.Profile.{Profile}
+use Rattle.config_lists.specs.Entries.{replaced}
+use Rattle.expansion.specs.declared.expanded.Expanded.{Expanded}
+use Rattle.expansion.specs.Layers.{nothing, laid, expanded}
+use Rattle.records.specs.declared.rows.Profile.{Profile}
 use Rattle.row_machine.specs.machine.Rows.{profile_named}
 use Rattle.row_machine.specs.machine.Expansions.{layer_of}
 

@@ -5,3 +5,5 @@ pub mod Risen
 pub mod SameNames
 pub mod Small
 pub mod Totals
+mod Over
+pub mod Parts

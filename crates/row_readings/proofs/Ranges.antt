@@ -15,8 +15,8 @@ use Rattle.std.proofs.lemmas.List.{get_or-drop, length-drop}
 use Rattle.std.proofs.Math.Seq.{take-length}
 use Rattle.std.proofs.lemmas.List.Sums.{sum_by-cons}
 use Rattle.std.proofs.lemmas.Map.Lookups.{exact_bytes}
-use Rattle.restrictions.specs.config_lists.proofs.Keys.{same, bytes_eq-itself}
-use Rattle.restrictions.specs.plain_lists.specs.Firsts.{first_of}
+use Rattle.config_lists.proofs.Keys.{same, bytes_eq-itself}
+use Rattle.plain_lists.specs.Firsts.{first_of}
 use Rattle.row_machine.specs.facts.Whole.{Rise}
 use Rattle.row_readings.specs.Rising.{begins_with, comes_before}
 use Rattle.row_readings.proofs.Risen.{is-less, rise-far}

@@ -7,7 +7,7 @@ use Rattle.std.specs.declared.cmp.Ordering.TheVariants.{Less, Equal, Greater}
 use Rattle.std.specs.Ordering.{is_lt, ordering_reverse}
 use Rattle.std.proofs.lemmas.Bool.{cases_lt}
 use Rattle.std.proofs.lemmas.List.Sorted.{searchable_from_sorted}
-use Rattle.restrictions.specs.plain_lists.proofs.Elements.{Each-none, Each-cons, Each-map, Each-get_or}
+use Rattle.plain_lists.proofs.Elements.{Each-none, Each-cons, Each-map, Each-get_or}
 use Rattle.row_machine.specs.facts.Whole.{Rise}
 use Rattle.row_machine.specs.machine.Rows.{same_names, texts_before}
 use Rattle.row_readings.specs.Rising.{FindsPlace}

@@ -8,7 +8,7 @@ use Rattle.std.specs.Ordering.{nat_cmp, is_lt, is_gt, ordering_then}
 use Rattle.std.specs.Str.{bytes_eq}
 use Rattle.std.proofs.lemmas.Cmp.{nat_list_cmp_total, lists_total}
 use Rattle.std.proofs.lemmas.Map.Lookups.{exact_bytes}
-use Rattle.restrictions.specs.config_lists.proofs.Keys.{same, bytes_eq-itself}
+use Rattle.config_lists.proofs.Keys.{same, bytes_eq-itself}
 use Rattle.row_machine.specs.machine.Rows.{same_names}
 
 -- the order of lists of texts

@@ -9,29 +9,29 @@ use Rattle.std.specs.Str.{bytes_eq}
 use Rattle.std.specs.Str.Parse.{digits_value}
 use Rattle.std.proofs.lemmas.Bool.{leb-false}
 use Rattle.std.proofs.lemmas.List.Elements.{All-nil, All-cons, All-append}
-use Rattle.restrictions.specs.size_values.specs.Amounts.{part, nothing, excess_of}
-use Rattle.restrictions.specs.size_values.specs.Count.{count_of}
-use Rattle.restrictions.specs.size_values.specs.Cpu.{cpu_of, set_of, is_comma, is_dash, may_follow_in_set, is_whole_set, falls}
-use Rattle.restrictions.specs.size_values.specs.MemorySize.{memory_of}
-use Rattle.restrictions.specs.size_values.specs.Reading.{reading, fault_if, stray, is_too_large, is_outside}
-use Rattle.restrictions.specs.size_values.specs.Size.{size_of, factor_of, may_follow_in_size}
-use Rattle.restrictions.specs.size_values.proofs.AmountParts.{part-excess}
-use Rattle.restrictions.specs.size_values.specs.declared.amounts.Amounts.{Amounts}
-use Rattle.restrictions.specs.size_values.specs.declared.amounts.Part.{Part}
-use Rattle.restrictions.specs.size_values.specs.declared.amounts.Part.TheVariants as part_of
-use Rattle.restrictions.specs.size_values.specs.declared.cpu.Cpu.TheVariants as cpu
-use Rattle.restrictions.specs.size_values.specs.declared.fault.ValueFault.{ValueFault}
-use Rattle.restrictions.specs.size_values.specs.declared.fault.ValueFault.TheVariants.{Empty, BadByte, UnknownSuffix, TooLarge, OutOfRange}
-use Rattle.restrictions.specs.size_values.specs.declared.kinds.Kind.{Kind}
-use Rattle.restrictions.specs.size_values.specs.declared.kinds.Kind.TheVariants.{Container, Machine}
-use Rattle.restrictions.specs.size_values.specs.declared.memory_size.Memory.TheVariants as memory
-use Rattle.restrictions.specs.config_lists.specs.Devices.{NamedDevices, root_of}
-use Rattle.restrictions.specs.config_lists.specs.Settings.{Settings, setting}
-use Rattle.row_machine.specs.project_limits.specs.Instance.{processors, bytes, cpu_in, memory_in, processes_in, disk_in, disk_at, instance_amounts, volume_amounts}
-use Rattle.row_machine.specs.project_limits.specs.Limits.{count_in, size_in}
-use Rattle.row_machine.specs.records.specs.declared.rows.Instance.{Instance}
-use Rattle.row_machine.specs.records.specs.declared.rows.Row.{Row}
-use Rattle.row_machine.specs.records.specs.declared.rows.Row.TheVariants as row
+use Rattle.size_values.specs.Amounts.{part, nothing, excess_of}
+use Rattle.size_values.specs.Count.{count_of}
+use Rattle.size_values.specs.Cpu.{cpu_of, set_of, is_comma, is_dash, may_follow_in_set, is_whole_set, falls}
+use Rattle.size_values.specs.MemorySize.{memory_of}
+use Rattle.size_values.specs.Reading.{reading, fault_if, stray, is_too_large, is_outside}
+use Rattle.size_values.specs.Size.{size_of, factor_of, may_follow_in_size}
+use Rattle.size_values.proofs.AmountParts.{part-excess}
+use Rattle.size_values.specs.declared.amounts.Amounts.{Amounts}
+use Rattle.size_values.specs.declared.amounts.Part.{Part}
+use Rattle.size_values.specs.declared.amounts.Part.TheVariants as part_of
+use Rattle.size_values.specs.declared.cpu.Cpu.TheVariants as cpu
+use Rattle.size_values.specs.declared.fault.ValueFault.{ValueFault}
+use Rattle.size_values.specs.declared.fault.ValueFault.TheVariants.{Empty, BadByte, UnknownSuffix, TooLarge, OutOfRange}
+use Rattle.size_values.specs.declared.kinds.Kind.{Kind}
+use Rattle.size_values.specs.declared.kinds.Kind.TheVariants.{Container, Machine}
+use Rattle.size_values.specs.declared.memory_size.Memory.TheVariants as memory
+use Rattle.config_lists.specs.Devices.{NamedDevices, root_of}
+use Rattle.config_lists.specs.Settings.{Settings, setting}
+use Rattle.project_limits.specs.Instance.{processors, bytes, cpu_in, memory_in, processes_in, disk_in, disk_at, instance_amounts, volume_amounts}
+use Rattle.project_limits.specs.Limits.{count_in, size_in}
+use Rattle.records.specs.declared.rows.Instance.{Instance}
+use Rattle.records.specs.declared.rows.Row.{Row}
+use Rattle.records.specs.declared.rows.Row.TheVariants as row
 use Rattle.row_machine.specs.machine.Task.{Task}
 use Rattle.row_machine.specs.machine.State.{State}
 use Rattle.row_machine.specs.machine.Claims.{amounts_of_instance, amounts_of, project_of_row, replaced_instance, share_over, share_of}

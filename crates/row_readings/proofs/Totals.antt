@@ -6,8 +6,8 @@ use Rattle.std.specs.Str.{bytes_eq}
 use Rattle.std.proofs.lemmas.List.{take_more}
 use Rattle.std.proofs.lemmas.List.Elements.{All-weaker, filter_map-append}
 use Rattle.std.proofs.lemmas.List.Sums.{sum_by-le}
-use Rattle.restrictions.specs.size_values.specs.Amounts.{part}
-use Rattle.restrictions.specs.size_values.specs.declared.amounts.Part.{Part}
+use Rattle.size_values.specs.Amounts.{part}
+use Rattle.size_values.specs.declared.amounts.Part.{Part}
 use Rattle.row_machine.specs.machine.Usage.{Load, amount_for}
 use Rattle.row_readings.specs.Loads.{IsSmall, AreSmall}
 

@@ -1,7 +1,7 @@
 -- What counts for limits is small, so that sums of it stay in range.
 use Rattle.std.specs.Prelude.{◌<◌, ◌^◌, List, All}
-use Rattle.restrictions.specs.size_values.specs.Amounts.{part}
-use Rattle.restrictions.specs.size_values.specs.declared.amounts.Part.{Part}
+use Rattle.size_values.specs.Amounts.{part}
+use Rattle.size_values.specs.declared.amounts.Part.{Part}
 use Rattle.row_machine.specs.machine.Usage.{Load}
 
 -- no part of it reaches 2^63, as no value of a setting does

@@ -2,8 +2,8 @@
 ghost use Rattle.std.specs.Prelude.{◌≡◌, ◌<◌, ◌^◌, ◌++◌, IfOk, OnOk, map};
 ghost use Rattle.std.specs.List.{filter_map, sum_by};
 ghost use Rattle.std.specs.Option.{option_copied, option_to_list};
-ghost use Rattle.restrictions.specs.size_values.specs.Amounts.{part};
-ghost use Rattle.restrictions.specs.size_values.specs.declared.amounts.Part.{Part};
+ghost use Rattle.size_values.specs.Amounts.{part};
+ghost use Rattle.size_values.specs.declared.amounts.Part.{Part};
 ghost use Rattle.row_machine.specs.machine.Claims.{amounts_of_instance, amounts_of, project_of_row, share_over};
 ghost use Rattle.row_machine.specs.machine.Claims.{share_of, of_live};
 ghost use Rattle.row_machine.specs.machine.Usage.{loads, instance_load, volume_load, claim_load, amount_for};
@@ -11,10 +11,10 @@ ghost use Rattle.row_readings.specs.Loads.{AreSmall};
 
 use crate::claims::replaced_instance;
 use crate::view::View;
-use restrictions::from_size_values::{Amounts, Boxed, NoMemory, Text};
+use operations::Operation;
+use records::{Instance, Row, Volume};
 use row_machine::Work;
-use row_machine::from_operations::Operation;
-use row_machine::from_records::{Instance, Row, Volume};
+use size_values::{Amounts, Boxed, NoMemory, Text};
 use std::alloc::Global;
 use std::marker::Model;
 
@@ -56,11 +56,7 @@ pub fn amounts_of_instance(
     ensures { IfOk result (λ a. a ≡ amounts_of_instance view.now row.now) }
 {
     let expanded = view.expansion(alloc, row)?;
-    let amounts = row_machine::from_project_limits::amounts_of(
-        row.kind,
-        &expanded.config,
-        &expanded.devices,
-    );
+    let amounts = project_limits::amounts_of(row.kind, &expanded.config, &expanded.devices);
     drop(expanded);
     Ok(amounts)
 }
@@ -71,7 +67,7 @@ fn amounts_of(alloc: Global, view: &View<'_>, row: &Row) -> Result<Amounts, NoMe
 {
     match row {
         Row::Instance(row) => amounts_of_instance(alloc, view, row),
-        Row::Volume(row) => Ok(row_machine::from_project_limits::volume_amounts(&row.config)),
+        Row::Volume(row) => Ok(project_limits::volume_amounts(&row.config)),
         Row::Project(_) | Row::Profile(_) | Row::Network(_) | Row::Pool(_) | Row::Snapshot(_) => Ok(
             Amounts::zero(),
         ),
@@ -159,7 +155,7 @@ fn add_volumes(alloc: Global, rows: &[Boxed<Volume>], all: &mut Vec<Load>) -> Re
     for row in rows {
         all.push(Load {
             project: row.project.copy(alloc)?,
-            amounts: row_machine::from_project_limits::volume_amounts(&row.config),
+            amounts: project_limits::volume_amounts(&row.config),
         })?;
     }
     Ok(())

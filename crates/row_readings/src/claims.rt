@@ -5,8 +5,8 @@ ghost use Rattle.row_machine.specs.machine.Claims.{claimed_instance, claimed_vol
 ghost use Rattle.row_machine.specs.machine.Claims.{replaced_instance};
 
 use crate::view::View;
+use records::{Instance, Row, Snapshot, Volume};
 use row_machine::Work;
-use row_machine::from_records::{Instance, Row, Snapshot, Volume};
 
 /// The instance that a live operation would put.
 pub fn claimed_instance(work: &Work) -> Option<&Instance>

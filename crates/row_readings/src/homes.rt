@@ -1,12 +1,12 @@
 //! Settings that read as true, and the home of a project for the objects of a kind.
 ghost use Rattle.std.specs.Prelude.{◌≡◌};
-ghost use Rattle.restrictions.specs.size_values.specs.declared.kinds.ObjectKind.TheVariants as kind;
+ghost use Rattle.size_values.specs.declared.kinds.ObjectKind.TheVariants as kind;
 ghost use Rattle.restrictions.specs.Words.{is_true};
 ghost use Rattle.row_machine.specs.machine.Homes.{is_on, has_feature, home_by, home_of};
 
 use crate::view::View;
-use restrictions::from_config_lists::Config;
-use restrictions::from_size_values::{ObjectKind, read_boolean};
+use config_lists::Config;
+use size_values::{ObjectKind, read_boolean};
 
 /// Whether a text reads as true.
 #[tactic(auto, unfolding(restrictions::specs::Words::is_true))]

@@ -1,7 +1,7 @@
 //! Rows and statuses by their names, found by binary search, and operations by their numbers.
 ghost use Rattle.std.specs.Prelude.{◌≡◌, find};
 ghost use Rattle.std.specs.Option.{option_copied};
-ghost use Rattle.row_machine.specs.operations.specs.Kept.{has_number, kept_at};
+ghost use Rattle.operations.specs.Kept.{has_number, kept_at};
 ghost use Rattle.row_machine.specs.machine.Rows.{project_named, profile_named, network_named, pool_named, volume_named};
 ghost use Rattle.row_machine.specs.machine.Rows.{instance_named, snapshot_named};
 ghost use Rattle.row_machine.specs.machine.StandingRules.{power_of};
@@ -9,10 +9,10 @@ ghost use Rattle.row_machine.specs.machine.StandingRules.{power_of};
 use crate::named::Names;
 use crate::places::{boxed_row_named, row_named};
 use crate::view::View;
-use restrictions::from_size_values::Power;
+use operations::Operation;
+use records::{Instance, Network, Pool, Profile, Project, Snapshot, Volume};
 use row_machine::Work;
-use row_machine::from_operations::Operation;
-use row_machine::from_records::{Instance, Network, Pool, Profile, Project, Snapshot, Volume};
+use size_values::Power;
 
 impl<'x> View<'x> {
     /// The project of a name.

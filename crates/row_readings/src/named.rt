@@ -7,8 +7,8 @@ ghost use Rattle.row_machine.specs.machine.Rows.{instance_names, snapshot_names,
 ghost use Rattle.row_readings.specs.Rising.{begins_with, comes_before, names_in};
 
 use crate::view::InstancePower;
-use restrictions::from_size_values::Boxed;
-use row_machine::from_records::{Instance, Network, Pool, Profile, Project, Snapshot, Volume};
+use records::{Instance, Network, Pool, Profile, Project, Snapshot, Volume};
+use size_values::Boxed;
 use std::cmp::Ordering;
 
 /// The names of a row, from that of its project on, lent.

@@ -8,7 +8,7 @@ ghost use Rattle.row_machine.specs.machine.Rows.{same_names};
 ghost use Rattle.row_readings.specs.Rising.{begins_with, comes_before, names_in, rows_at_home, FindsPlace};
 
 use crate::named::{Named, Names};
-use restrictions::from_size_values::Boxed;
+use size_values::Boxed;
 
 /// Whether rows rise by their names.
 pub fn rises<T: Named>(rows: &[T]) -> bool

@@ -1,15 +1,15 @@
 ghost use Rattle.std.specs.Prelude.{◌≡◌, IfOk, OnOk, map};
 ghost use Rattle.std.specs.Option.{option_copied};
-ghost use Rattle.row_machine.specs.expansion.specs.Layers.{laid, expanded};
+ghost use Rattle.expansion.specs.Layers.{laid, expanded};
 ghost use Rattle.row_machine.specs.machine.Rows.{profile_named};
 ghost use Rattle.row_machine.specs.machine.Expansions.{layer_of, expanded_of};
 ghost use Rattle.row_machine.specs.machine.Usage.{usage_of};
 
 use crate::amounts::{loads, usage_in};
 use crate::view::View;
-use restrictions::from_size_values::{Amounts, NoMemory, Text};
-use row_machine::from_expansion::Expanded;
-use row_machine::from_records::{Instance, Profile};
+use expansion::Expanded;
+use records::{Instance, Profile};
+use size_values::{Amounts, NoMemory, Text};
 use std::alloc::Global;
 
 impl View<'_> {

@@ -1,15 +1,15 @@
 //! The name that a new snapshot gets.
 ghost use Rattle.std.specs.Prelude.{◌≡◌, IfOk, codes, filter, fold, unwrap_or, if◌then◌else◌, false};
 ghost use Rattle.std.specs.Str.{bytes_eq};
-ghost use Rattle.restrictions.specs.config_lists.specs.Settings.{setting};
-ghost use Rattle.row_machine.specs.instance_states.specs.Numbers.{next_name, seen, unseen};
+ghost use Rattle.config_lists.specs.Settings.{setting};
+ghost use Rattle.instance_states.specs.Numbers.{next_name, seen, unseen};
 ghost use Rattle.row_machine.specs.machine.Asked.{next_snapshot};
 
 use crate::view::View;
-use restrictions::from_config_lists::Config;
-use restrictions::from_size_values::{Boxed, NoMemory, Text};
-use row_machine::from_instance_states::SnapshotNumbers;
-use row_machine::from_records::{Instance, Snapshot};
+use config_lists::Config;
+use instance_states::SnapshotNumbers;
+use records::{Instance, Snapshot};
+use size_values::{Boxed, NoMemory, Text};
 use std::alloc::Global;
 
 /// The pattern of an instance's snapshot names, by its expanded settings.

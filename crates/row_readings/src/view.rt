@@ -1,8 +1,8 @@
-use restrictions::from_size_values::{Boxed, Power, Text};
+use operations::Operation;
+use records::{Instance, Network, Pool, Profile, Project, Snapshot, Volume};
+use reservations::{Books, Hold};
 use row_machine::Work;
-use row_machine::from_operations::Operation;
-use row_machine::from_records::{Instance, Network, Pool, Profile, Project, Snapshot, Volume};
-use row_machine::from_reservations::{Books, Hold};
+use size_values::{Boxed, Power, Text};
 use std::marker::Model;
 
 /// The status of the instance of a project and name.

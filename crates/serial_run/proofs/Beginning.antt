@@ -1,25 +1,25 @@
 -- A run, from what it does once its words are read.
 use Rattle.std.proofs.Common.{◌≡◌, ℕ, List, [], Bool, true, false, Some, None, refl, ap, sym, ◌∙◌, subst, inl, inr}
 use Rattle.std.specs.Option.{is_some, option_and_then, option_map_or, unwrap_or}
-use Rattle.serial_commands.specs.http_front.specs.Clocks.{Readings, standing_still}
-use Rattle.start_faults.specs.record_keeper.specs.Store.{Store}
-use Rattle.start_faults.specs.row_machine.specs.opening.Opening.{damaged, broken}
+use Rattle.http_front.specs.Clocks.{Readings, standing_still}
+use Rattle.record_keeper.specs.Store.{Store}
+use Rattle.row_machine.specs.opening.Opening.{damaged, broken}
 use Rattle.start_faults.specs.core_rows.specs.Opening.{OpensTo, Refuses}
 use Rattle.start_faults.specs.core_rows.specs.declared.opening.OpenFault.{OpenFault}
 use Rattle.start_faults.specs.core_rows.specs.declared.opening.OpenFault.TheVariants as fault
-use Rattle.serial_commands.specs.serial_steps.specs.Steps.{Hosted, Serial}
-use Rattle.serial_commands.specs.run_words.specs.declared.words.RunWords.{RunWords}
-use Rattle.serial_commands.specs.run_words.specs.Words.{as_run, boot_of, is_run, now_of, pace_of, words_of}
-use Rattle.serial_commands.specs.run_words.specs.declared.words.CommandWords.TheVariants.{Run}
-use Rattle.serial_commands.specs.run_words.specs.declared.words.Pace.{Pace}
-use Rattle.serial_commands.specs.run_words.specs.declared.words.Pace.TheVariants.{All}
+use Rattle.serial_steps.specs.Steps.{Hosted, Serial}
+use Rattle.command_words.specs.declared.run_words.RunWords.{RunWords}
+use Rattle.command_words.specs.RunWords.{as_run, boot_of, is_run, now_of, pace_of, words_of}
+use Rattle.command_words.specs.declared.run_words.CommandWords.TheVariants.{Run}
+use Rattle.command_words.specs.declared.run_words.Pace.{Pace}
+use Rattle.command_words.specs.declared.run_words.Pace.TheVariants.{All}
 use Rattle.serial_run.specs.Runs.{HasCauseToRefuse, IsUnread, Opened, Refused, Runs, RunsOver, Unopened, boot_with}
-use Rattle.serial_commands.specs.serial_sessions.specs.Inputs.{status_of}
+use Rattle.serial_run.specs.Inputs.{status_of}
 use Rattle.start_faults.specs.Starts.{start_fault}
 use Rattle.serial_run.specs.Runs.{SessionFrom, begun, clock_of}
-use Rattle.serial_commands.specs.serial_sessions.specs.declared.session.SessionEnd.{SessionEnd}
-use Rattle.serial_commands.specs.serial_sessions.specs.Worlds.{Inlet, Outlet, Outside, outside, world}
-use Rattle.serial_commands.specs.serial_sessions.proofs.Served.{session_still}
+use Rattle.serial_run.specs.declared.session.SessionEnd.{SessionEnd}
+use Rattle.serial_run.specs.Worlds.{Inlet, Outlet, Outside, outside, world}
+use Rattle.serial_run.proofs.Served.{session_still}
 
 -- what was read is what the words say
 pub record AreSaid (words : List (List ℕ)) (said : RunWords) : Type 0 where

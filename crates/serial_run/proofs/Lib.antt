@@ -1,3 +1,11 @@
+pub mod Along
+mod Answering
+pub mod Quiet
+pub mod Served
+pub mod Turning
+pub mod Whole
+pub mod Drilled
+pub mod Books
 pub mod Beginning
 pub mod Others
 pub mod Tops

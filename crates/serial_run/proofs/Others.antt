@@ -3,26 +3,26 @@ use Rattle.std.proofs.Common.{◌≡◌, ◌≢◌, ◌<◌, ◌⊎◌, ℕ, Lis
 use Rattle.std.proofs.Common.{IfSome, refl, ap, sym, ◌∙◌, subst, arith, inl, inr}
 use Rattle.std.proofs.lemmas.Bool.{false≢true}
 use Rattle.std.specs.Option.{is_some, option_and_then}
-use Rattle.start_faults.specs.size_values.specs.Causes.{Rose}
-use Rattle.start_faults.specs.size_values.specs.declared.entry.Entry.{Entry}
-use Rattle.serial_commands.specs.http_heads.specs.Messages.{Ending, Splits, ended}
-use Rattle.serial_commands.specs.http_heads.specs.declared.request.Request.{Request}
-use Rattle.start_faults.specs.record_keeper.specs.Store.{Store, after_calls}
-use Rattle.start_faults.specs.row_machine.specs.machine.State.{State}
-use Rattle.start_faults.specs.row_machine.specs.opening.Opening.{Opening, opened, opening_of, damaged, broken}
+use Rattle.size_values.specs.Causes.{Rose}
+use Rattle.size_values.specs.declared.entry.Entry.{Entry}
+use Rattle.http_heads.specs.Messages.{Ending, Splits, ended}
+use Rattle.http_heads.specs.declared.request.Request.{Request}
+use Rattle.record_keeper.specs.Store.{Store, after_calls}
+use Rattle.row_machine.specs.machine.State.{State}
+use Rattle.row_machine.specs.opening.Opening.{Opening, opened, opening_of, damaged, broken}
 use Rattle.start_faults.specs.core_rows.specs.Opening.{OpensToNone, Refuses, is_refused}
 use Rattle.start_faults.specs.core_rows.specs.declared.opening.OpenFault.{OpenFault}
 use Rattle.start_faults.specs.core_rows.specs.declared.opening.OpenFault.TheVariants as fault
-use Rattle.serial_commands.specs.run_words.specs.Words.{as_run, is_run, now_of, pace_of, words_of}
-use Rattle.serial_commands.specs.run_words.specs.declared.words.CommandWords.{CommandWords}
-use Rattle.serial_commands.specs.run_words.specs.declared.words.CommandWords.TheVariants.{Check, Drill, Make, Run}
-use Rattle.serial_commands.specs.Commands.{Checks, Drills, DrillsOver, Tells, TellsDrill, Unopened, drilled_text, open_status}
-use Rattle.serial_commands.specs.serial_steps.specs.Steps.{Site, serial, site}
-use Rattle.serial_commands.specs.workload.specs.Stream.{stream_of}
-use Rattle.serial_commands.specs.serial_sessions.specs.Most.{most_requests}
-use Rattle.serial_commands.specs.serial_sessions.specs.Worlds.{Outlet, Outside}
-use Rattle.serial_commands.specs.serial_sessions.specs.declared.session.SessionEnd.{SessionEnd}
-use Rattle.serial_commands.specs.serial_sessions.specs.declared.session.SessionEnd.TheVariants as end
+use Rattle.command_words.specs.RunWords.{as_run, is_run, now_of, pace_of, words_of}
+use Rattle.command_words.specs.declared.run_words.CommandWords.{CommandWords}
+use Rattle.command_words.specs.declared.run_words.CommandWords.TheVariants.{Check, Drill, Make, Run}
+use Rattle.serial_run.specs.Commands.{Checks, Drills, DrillsOver, Tells, TellsDrill, Unopened, drilled_text, open_status}
+use Rattle.serial_steps.specs.Steps.{Site, serial, site}
+use Rattle.workload.specs.Stream.{stream_of}
+use Rattle.serial_run.specs.Most.{most_requests}
+use Rattle.serial_run.specs.Worlds.{Outlet, Outside}
+use Rattle.serial_run.specs.declared.session.SessionEnd.{SessionEnd}
+use Rattle.serial_run.specs.declared.session.SessionEnd.TheVariants as end
 use Rattle.serial_run.specs.Does.{Carried, Does, DoesOther}
 use Rattle.serial_run.specs.Runs.{Runs, boot_with, seen_with}
 use Rattle.serial_run.specs.Texts.{RunsText, is_fault}

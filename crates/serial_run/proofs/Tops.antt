@@ -5,38 +5,38 @@ use Rattle.std.proofs.lemmas.List.{length-take}
 use Rattle.std.proofs.lemmas.Bool.{false≢true}
 use Rattle.std.specs.Io.KnownBytes.{Appends, prepend_known}
 use Rattle.std.specs.Option.{is_some, option_and_then}
-use Rattle.start_faults.specs.size_values.specs.Causes.{Rose}
-use Rattle.start_faults.specs.size_values.specs.declared.entry.Entry.{Entry}
-use Rattle.serial_commands.specs.http_heads.specs.Messages.{Splits, Ending, ended}
-use Rattle.serial_commands.specs.http_heads.specs.declared.request.Request.{Request}
-use Rattle.start_faults.specs.row_machine.specs.machine.State.{State}
-use Rattle.start_faults.specs.row_machine.specs.opening.Opening.{Opening, opened, opening_of}
+use Rattle.size_values.specs.Causes.{Rose}
+use Rattle.size_values.specs.declared.entry.Entry.{Entry}
+use Rattle.http_heads.specs.Messages.{Splits, Ending, ended}
+use Rattle.http_heads.specs.declared.request.Request.{Request}
+use Rattle.row_machine.specs.machine.State.{State}
+use Rattle.row_machine.specs.opening.Opening.{Opening, opened, opening_of}
 use Rattle.start_faults.specs.core_rows.specs.Opening.{OpensToNone, Refuses, is_refused}
 use Rattle.start_faults.specs.core_rows.specs.declared.opening.OpenFault.TheVariants as fault
-use Rattle.start_faults.specs.record_keeper.specs.Store.{Store, after_calls}
-use Rattle.serial_commands.specs.serial_steps.specs.Steps.{Serial}
-use Rattle.serial_commands.specs.run_words.specs.Words.{as_run, is_run, now_of, pace_of, words_of}
-use Rattle.serial_commands.specs.run_words.specs.declared.words.Pace.{Pace}
-use Rattle.serial_commands.specs.rest_service.specs.Exchanges.{LeadTo, moments_of, printed_replies, keeper_failures_of, host_failures_of}
-use Rattle.serial_commands.specs.rest_service.proofs.Along.{IsAlong}
+use Rattle.record_keeper.specs.Store.{Store, after_calls}
+use Rattle.serial_steps.specs.Steps.{Serial}
+use Rattle.command_words.specs.RunWords.{as_run, is_run, now_of, pace_of, words_of}
+use Rattle.command_words.specs.declared.run_words.Pace.{Pace}
+use Rattle.serial_run.specs.Exchanges.{LeadTo, moments_of, printed_replies, keeper_failures_of, host_failures_of}
+use Rattle.serial_run.proofs.Along.{IsAlong}
 use Rattle.start_faults.specs.declared.fault.StartFault.{StartFault}
 use Rattle.start_faults.specs.declared.fault.StartFault.TheVariants as start
-use Rattle.serial_commands.specs.serial_sessions.specs.declared.session.SessionEnd.{SessionEnd}
-use Rattle.serial_commands.specs.serial_sessions.specs.declared.session.SessionEnd.TheVariants as end
-use Rattle.serial_commands.specs.serial_sessions.specs.Most.{most_requests}
-use Rattle.serial_commands.specs.serial_sessions.specs.Inputs.{status_of}
+use Rattle.serial_run.specs.declared.session.SessionEnd.{SessionEnd}
+use Rattle.serial_run.specs.declared.session.SessionEnd.TheVariants as end
+use Rattle.serial_run.specs.Most.{most_requests}
+use Rattle.serial_run.specs.Inputs.{status_of}
 use Rattle.start_faults.specs.Starts.{start_status}
 use Rattle.serial_run.specs.Runs.{begun, boot_with, seen_with, IsUnread, Ran, Runs}
 use Rattle.serial_run.specs.Runs.{HasCauseToRefuse, Opened}
-use Rattle.serial_commands.specs.serial_sessions.specs.Sessions.{Session, Stops, StopsAfterFinal, AllGoOn, OnlyFinalEnds}
-use Rattle.serial_commands.specs.serial_sessions.specs.Inputs.{answered, end_due}
-use Rattle.serial_commands.specs.rest_answers.specs.Lasts.{has_last, through_last}
+use Rattle.serial_run.specs.Sessions.{Session, Stops, StopsAfterFinal, AllGoOn, OnlyFinalEnds}
+use Rattle.serial_run.specs.Inputs.{answered, end_due}
+use Rattle.rest_answers.specs.Lasts.{has_last, through_last}
 use Rattle.serial_run.specs.Texts.{RunsText, is_fault}
-use Rattle.serial_commands.specs.serial_sessions.specs.Worlds.{Outside, World, within, world}
-use Rattle.serial_commands.specs.rest_answers.proofs.Linking.{appends_nothing, appends_twice}
-use Rattle.serial_commands.specs.serial_sessions.proofs.Served.{Together, together}
-use Rattle.serial_commands.specs.serial_sessions.proofs.Quiet.{StopsQuietly, session_quietly}
-use Rattle.serial_commands.specs.serial_sessions.proofs.Whole.{IsSettled, IsDue, session_due, text_at, not_full}
+use Rattle.serial_run.specs.Worlds.{Outside, World, within, world}
+use Rattle.rest_answers.proofs.Linking.{appends_nothing, appends_twice}
+use Rattle.serial_run.proofs.Served.{Together, together}
+use Rattle.serial_run.proofs.Quiet.{StopsQuietly, session_quietly}
+use Rattle.serial_run.proofs.Whole.{IsSettled, IsDue, session_due, text_at, not_full}
 
 -- ---- what a settled session did
 

@@ -1,13 +1,13 @@
 -- What the program does by its words: a run, or another command.
 use Rattle.std.specs.Prelude.{◌≡◌, ◌⊎◌, ℕ, List, Some}
-use Rattle.serial_commands.specs.http_heads.specs.Messages.{Splits, ended}
-use Rattle.serial_commands.specs.http_heads.specs.declared.request.Request.{Request}
-use Rattle.serial_commands.specs.run_words.specs.Words.{words_of}
-use Rattle.serial_commands.specs.run_words.specs.declared.words.CommandWords.{CommandWords}
-use Rattle.serial_commands.specs.run_words.specs.declared.words.CommandWords.TheVariants.{Check, Drill, Make, Run}
-use Rattle.serial_commands.specs.Commands.{Checks, Drills, DrillsText, Tells}
-use Rattle.serial_commands.specs.serial_sessions.specs.Worlds.{Outside}
-use Rattle.serial_commands.specs.workload.specs.Stream.{stream_of}
+use Rattle.http_heads.specs.Messages.{Splits, ended}
+use Rattle.http_heads.specs.declared.request.Request.{Request}
+use Rattle.command_words.specs.RunWords.{words_of}
+use Rattle.command_words.specs.declared.run_words.CommandWords.{CommandWords}
+use Rattle.command_words.specs.declared.run_words.CommandWords.TheVariants.{Check, Drill, Make, Run}
+use Rattle.serial_run.specs.Commands.{Checks, Drills, DrillsText, Tells}
+use Rattle.serial_run.specs.Worlds.{Outside}
+use Rattle.workload.specs.Stream.{stream_of}
 use Rattle.serial_run.specs.Runs.{Runs}
 
 -- requests were written, and nothing else of the outside was called

@@ -1,25 +1,25 @@
 -- A run of the program: its words are read, the rows are opened, and one session follows.
 use Rattle.std.specs.Prelude.{◌≡◌, ◌≤◌, ◌⊎◌, ℕ, List, [], length, true, false, Option, Some, None, IfSome, unwrap_or}
-use Rattle.serial_commands.specs.http_front.specs.Clocks.{Readings, standing_still}
-use Rattle.serial_commands.specs.http_front.specs.Held.{most_held}
-use Rattle.start_faults.specs.size_values.specs.declared.entry.Entry.{Entry}
-use Rattle.start_faults.specs.record_keeper.specs.Store.{Store}
-use Rattle.start_faults.specs.row_machine.specs.machine.State.{State}
-use Rattle.start_faults.specs.row_machine.specs.opening.Opening.{Opening, opened, opening_of}
+use Rattle.http_front.specs.Clocks.{Readings, standing_still}
+use Rattle.http_front.specs.Held.{most_held}
+use Rattle.size_values.specs.declared.entry.Entry.{Entry}
+use Rattle.record_keeper.specs.Store.{Store}
+use Rattle.row_machine.specs.machine.State.{State}
+use Rattle.row_machine.specs.opening.Opening.{Opening, opened, opening_of}
 use Rattle.start_faults.specs.core_rows.specs.Opening.{AreTold, OpensTo, OpensToNone, Refuses, is_refused, opened_store}
 use Rattle.start_faults.specs.core_rows.specs.declared.opening.OpenFault.{OpenFault}
 use Rattle.start_faults.specs.core_rows.specs.declared.opening.OpenFault.TheVariants as fault
-use Rattle.serial_commands.specs.serial_steps.specs.Steps.{Serial, serial}
+use Rattle.serial_steps.specs.Steps.{Serial, serial}
 use Rattle.start_faults.specs.Starts.{IsUnopened, start_fault, start_status}
-use Rattle.serial_commands.specs.run_words.specs.Words.{boot_of, is_run, now_of, pace_of, words_of}
-use Rattle.serial_commands.specs.run_words.specs.declared.words.Pace.{Pace}
+use Rattle.command_words.specs.RunWords.{boot_of, is_run, now_of, pace_of, words_of}
+use Rattle.command_words.specs.declared.run_words.Pace.{Pace}
 use Rattle.start_faults.specs.declared.fault.StartFault.{StartFault}
 use Rattle.start_faults.specs.declared.fault.StartFault.TheVariants as start
-use Rattle.serial_commands.specs.serial_sessions.specs.declared.session.SessionEnd.{SessionEnd}
-use Rattle.serial_commands.specs.serial_sessions.specs.declared.session.SessionEnd.TheVariants as end
-use Rattle.serial_commands.specs.serial_sessions.specs.Inputs.{status_of}
-use Rattle.serial_commands.specs.serial_sessions.specs.Sessions.{Session}
-use Rattle.serial_commands.specs.serial_sessions.specs.Worlds.{Outside, World, world}
+use Rattle.serial_run.specs.declared.session.SessionEnd.{SessionEnd}
+use Rattle.serial_run.specs.declared.session.SessionEnd.TheVariants as end
+use Rattle.serial_run.specs.Inputs.{status_of}
+use Rattle.serial_run.specs.Sessions.{Session}
+use Rattle.serial_run.specs.Worlds.{Outside, World, world}
 
 -- the readings of the clock of a run: one that stands still at the moment that the words say, or the one that is
 -- handed in

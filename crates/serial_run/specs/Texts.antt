@@ -4,23 +4,23 @@ use Rattle.std.specs.Prelude.{◌≡◌, ◌<◌, ◌++◌, ◌==◌, ℕ, List,
 use Rattle.std.specs.Prelude.{if◌then◌else◌}
 use Rattle.std.specs.List.{All, list_any}
 use Rattle.std.specs.Io.KnownBytes.{Appends}
-use Rattle.serial_commands.specs.http_front.specs.Clocks.{Reads}
-use Rattle.serial_commands.specs.http_heads.specs.Messages.{Ending, ended, cut, malformed}
-use Rattle.serial_commands.specs.http_heads.specs.declared.request.Request.{Request}
-use Rattle.start_faults.specs.size_values.specs.Causes.{RoseBy}
-use Rattle.start_faults.specs.size_values.specs.Moments.{moment_limit}
-use Rattle.start_faults.specs.size_values.specs.declared.entry.Entry.{Entry}
-use Rattle.start_faults.specs.row_machine.specs.machine.State.{State}
-use Rattle.start_faults.specs.row_machine.specs.opening.Opening.{opened, opening_of}
-use Rattle.start_faults.specs.row_machine.specs.opening.Records.{records_of}
+use Rattle.http_front.specs.Clocks.{Reads}
+use Rattle.http_heads.specs.Messages.{Ending, ended, cut, malformed}
+use Rattle.http_heads.specs.declared.request.Request.{Request}
+use Rattle.size_values.specs.Causes.{RoseBy}
+use Rattle.size_values.specs.Moments.{moment_limit}
+use Rattle.size_values.specs.declared.entry.Entry.{Entry}
+use Rattle.row_machine.specs.machine.State.{State}
+use Rattle.row_machine.specs.opening.Opening.{opened, opening_of}
+use Rattle.row_machine.specs.opening.Records.{records_of}
 use Rattle.start_faults.specs.core_rows.specs.Opening.{AreTold, opened_store}
-use Rattle.serial_commands.specs.serial_steps.specs.Steps.{Serial, serial}
-use Rattle.serial_commands.specs.run_words.specs.declared.words.Pace.{Pace}
-use Rattle.serial_commands.specs.rest_service.specs.Exchanges.{Exchange, LeadTo, moments_of, printed_replies}
-use Rattle.serial_commands.specs.rest_service.specs.Exchanges.{host_failures_of, keeper_failures_of}
-use Rattle.serial_commands.specs.serial_sessions.specs.Most.{most_requests}
-use Rattle.serial_commands.specs.serial_sessions.specs.Inputs.{requests_of, answered, end_due}
-use Rattle.serial_commands.specs.serial_sessions.specs.Worlds.{Outside, within}
+use Rattle.serial_steps.specs.Steps.{Serial, serial}
+use Rattle.command_words.specs.declared.run_words.Pace.{Pace}
+use Rattle.serial_run.specs.Exchanges.{Exchange, LeadTo, moments_of, printed_replies}
+use Rattle.serial_run.specs.Exchanges.{host_failures_of, keeper_failures_of}
+use Rattle.serial_run.specs.Most.{most_requests}
+use Rattle.serial_run.specs.Inputs.{requests_of, answered, end_due}
+use Rattle.serial_run.specs.Worlds.{Outside, within}
 
 -- The run did what its input asks, and nothing else. The requests that are answered, each with its moment, its outcome,
 -- its reply and the steps of the worker, lead from the rows that the keeper's entries open to, with no call in hand, to

@@ -1,36 +1,26 @@
-//! All that the program does: its words are read, the rows are opened, and one session follows.
+//! One thread: requests of a source are answered on a sink, one after the other, with the steps of the
+//! worker after each; the commands of `incus_run`, and its top call `run_main`.
 #![tactic(auto)]
 
-/// Of `host_model`, for the crates above.
-pub mod from_host_model {
-    pub use start_faults::from_host_model::ModelHost;
-}
-
-/// Of `http_front`, for the crates above.
-pub mod from_http_front {
-    pub use serial_commands::from_http_front::{ByteSink, ByteSource, StillClock};
-}
-
-/// Of `record_keeper`, for the crates above.
-pub mod from_record_keeper {
-    pub use start_faults::from_record_keeper::{Keeper, MapKeeper};
-}
-
-/// Of `run_words`, for the crates above.
-pub mod from_run_words {
-    pub use serial_commands::from_run_words::{Setup, setup_of, usage};
-}
-
-/// Of `size_values`, for the crates above.
-pub mod from_size_values {
-    pub use start_faults::from_size_values::{Boxed, Entry, EntryChange, NoMemory, Or, Seq};
-}
-
-/// Of `start_faults`, for the crates above.
-pub mod from_start_faults {
-    pub use start_faults::StartFault;
-}
-
+mod asking;
+mod checking;
+mod drilling;
+mod making;
+mod report;
 mod running;
+mod service;
+mod session;
+mod session_loop;
+mod telling;
+mod turn;
 
+pub use checking::check;
+pub use drilling::drill;
+pub use making::make;
+pub use report::check_report;
 pub use running::run_main;
+pub use serial_steps::do_object;
+pub use service::Service;
+pub use session::{MOST_REQUESTS, SessionEnd, Turn, sessions_end_after_a_million_requests};
+pub use session_loop::serve;
+pub use start_faults::{Estate, OpenFault, default_profile, entry_changes, load_rows};

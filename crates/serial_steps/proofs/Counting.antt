@@ -3,17 +3,17 @@ use Rattle.std.proofs.Common.{◌≡◌, ◌<◌, ◌≤◌, ◌+◌, ℕ, List,
 use Rattle.std.proofs.lemmas.List.Elements.{All-cons, All-nil}
 use Rattle.std.proofs.lemmas.List.Sums.{sum_by-cons}
 use Rattle.std.specs.List.{cons_option}
-use Rattle.http_front.specs.size_values.specs.Causes.{RoseBy}
-use Rattle.http_front.specs.size_values.specs.Moments.{moment_limit}
-use Rattle.core_turns.specs.host_model.specs.declared.call.HostCall.{HostCall}
-use Rattle.core_turns.specs.host_model.specs.declared.report.Report.{Report}
-use Rattle.core_turns.specs.host_model.specs.declared.report.Report.TheVariants as report
-use Rattle.core_turns.specs.host_model.specs.declared.root.HostRoot.{HostRoot}
+use Rattle.size_values.specs.Causes.{RoseBy}
+use Rattle.size_values.specs.Moments.{moment_limit}
+use Rattle.host_model.specs.declared.call.HostCall.{HostCall}
+use Rattle.host_model.specs.declared.report.Report.{Report}
+use Rattle.host_model.specs.declared.report.Report.TheVariants as report
+use Rattle.host_model.specs.declared.root.HostRoot.{HostRoot}
 use Rattle.http_front.specs.Clocks.{Reads}
-use Rattle.core_turns.specs.record_keeper.specs.Store.{Store}
-use Rattle.core_turns.specs.row_machine.specs.machine.State.{State}
-use Rattle.core_turns.specs.row_machine.specs.machine.Step.{Outcome, well, keeper_failed, no_memory}
-use Rattle.core_turns.specs.work_reports.specs.Stores.{IsCaused, KeepsRecords}
+use Rattle.record_keeper.specs.Store.{Store}
+use Rattle.row_machine.specs.machine.State.{State}
+use Rattle.row_machine.specs.machine.Step.{Outcome, well, keeper_failed, no_memory}
+use Rattle.core_turns.specs.core_reports.specs.Stores.{IsCaused, KeepsRecords}
 use Rattle.serial_steps.specs.Steps.{Hosted, Site, Step, took, reported, Steps, StepsWhile, HasCause}
 use Rattle.serial_steps.specs.Counts.{moment_of, moments_in, report_of, reports_in, failed_calls, host_failure, host_failures_in, failed_commits, keeper_failure, keeper_failures_in, roots_by, Makes, ComesTo, StepsComeTo}
 

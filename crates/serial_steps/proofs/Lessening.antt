@@ -1,9 +1,9 @@
 -- A server that works alone has few steps to do.
 use Rattle.std.proofs.Common.{◌≤◌, arith}
-use Rattle.core_turns.specs.plain_lists.proofs.Elements.{Each-map}
-use Rattle.core_turns.specs.row_machine.specs.machine.State.{State}
-use Rattle.core_turns.specs.row_machine.specs.facts.Whole.{IsWhole}
-use Rattle.core_turns.specs.machine_laws.proofs.WaitsEnding.{steps_of, steps-few, sum-few}
+use Rattle.plain_lists.proofs.Elements.{Each-map}
+use Rattle.row_machine.specs.machine.State.{State}
+use Rattle.row_machine.specs.facts.Whole.{IsWhole}
+use Rattle.machine_laws.proofs.WaitsEnding.{steps_of, steps-few, sum-few}
 use Rattle.serial_steps.specs.Steps.{most_steps}
 
 -- never more than four for each of the most operations that can be live

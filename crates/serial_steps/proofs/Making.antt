@@ -3,12 +3,12 @@ use Rattle.std.proofs.Common.{◌≡◌, ◌≢◌, ◌≤◌, ◌+◌, ◌++◌
 use Rattle.std.specs.List.{find}
 use Rattle.std.specs.Option.{is_some}
 use Rattle.std.proofs.lemmas.List.{length-append}
-use Rattle.core_turns.specs.operations.specs.Kept.{has_number, live_at}
-use Rattle.core_turns.specs.row_machine.specs.machine.State.{State}
-use Rattle.core_turns.specs.row_machine.specs.facts.Whole.{IsWhole}
-use Rattle.core_turns.specs.machine_laws.specs.Waits.{IsAlone}
+use Rattle.operations.specs.Kept.{has_number, live_at}
+use Rattle.row_machine.specs.machine.State.{State}
+use Rattle.row_machine.specs.facts.Whole.{IsWhole}
+use Rattle.machine_laws.specs.Waits.{IsAlone}
 use Rattle.serial_steps.specs.Steps.{Site, Step, Steps, StepsWhile, Finishes, WaitsFor, most_steps, number_in}
-use Rattle.core_turns.specs.machine_laws.proofs.WaitsEnding.{steps_of, none-left}
+use Rattle.machine_laws.proofs.WaitsEnding.{steps_of, none-left}
 use Rattle.serial_steps.proofs.Lessening.{few-left}
 use Rattle.serial_steps.proofs.Stepping.{step-lessens}
 

@@ -5,39 +5,39 @@ use Rattle.std.specs.Option.{option_or}
 use Rattle.std.proofs.lemmas.Bool.{eq-eqb, eqb-true, ne_eqb}
 use Rattle.std.proofs.lemmas.Bool.Decides.{eqb_tells}
 use Rattle.std.proofs.lemmas.List.Folds.{find-append}
-use Rattle.core_turns.specs.plain_lists.specs.Members.{Each}
-use Rattle.core_turns.specs.plain_lists.specs.Edits.{changed_first}
-use Rattle.core_turns.specs.plain_lists.proofs.Elements.{Each-push}
-use Rattle.core_turns.specs.plain_lists.proofs.EditLemmas.{Each-dropped, find-changed, find-changed_other}
-use Rattle.core_turns.specs.plain_lists.proofs.Searches.{find-some}
-use Rattle.core_turns.specs.operations.specs.declared.operation.Operation.{Operation}
-use Rattle.core_turns.specs.operations.specs.declared.status.Status.{Status}
-use Rattle.core_turns.specs.operations.specs.declared.status.Status.TheVariants as status
-use Rattle.core_turns.specs.operations.specs.declared.status.Status.TheVariants.{Pending, Running, Cancelling}
-use Rattle.core_turns.specs.operations.specs.Statuses.{is_live, cancel_of}
-use Rattle.core_turns.specs.operations.specs.Kept.{Kept, has_number, live_at, kept_at, cancel_answer}
-use Rattle.core_turns.specs.operations.proofs.KeptLemmas.{live-from_kept}
-use Rattle.core_turns.specs.records.specs.declared.commands.Command.{Command}
-use Rattle.core_turns.specs.records.specs.declared.commands.What.{What}
-use Rattle.core_turns.specs.records.specs.declared.commands.What.TheVariants as what
-use Rattle.core_turns.specs.records.specs.declared.notices.Untold.{Untold}
-use Rattle.core_turns.specs.records.specs.declared.refusals.Refusal.{Refusal}
-use Rattle.core_turns.specs.row_machine.specs.declared.events.Event.TheVariants as event
-use Rattle.core_turns.specs.row_machine.specs.machine.Task.{Task}
-use Rattle.core_turns.specs.row_machine.specs.machine.State.{State}
-use Rattle.core_turns.specs.row_machine.specs.machine.Changes.{applied}
-use Rattle.core_turns.specs.row_machine.specs.machine.Plans.{Plan, nothing, changes, starts, plan_of}
-use Rattle.core_turns.specs.row_machine.specs.machine.Work.{entered, moved, cancelled}
-use Rattle.core_turns.specs.row_machine.specs.shown.Notices.{telling, operation_notice, change_notices}
-use Rattle.core_turns.specs.row_machine.specs.machine.Rules.{broken}
-use Rattle.core_turns.specs.row_machine.specs.machine.Accept.{After, accepted, carried_out, after_cancel, cancel_or_read}
-use Rattle.core_turns.specs.row_machine.specs.machine.Step.{Outcome, well, keeper_failed, no_memory, step, after_command, unavailable}
-use Rattle.core_turns.specs.row_machine.specs.facts.Whole.{IsWhole}
-use Rattle.core_turns.specs.machine_laws.specs.Waits.{IsAlone}
-use Rattle.core_turns.specs.machine_laws.proofs.Base.{Each-found}
-use Rattle.core_turns.specs.machine_laws.proofs.BooksSteps.{applied-same}
-use Rattle.core_turns.specs.machine_laws.proofs.EndsLive.{live-apart}
-use Rattle.core_turns.specs.machine_laws.proofs.EndsShares.{told-same, cancelled-left}
+use Rattle.plain_lists.specs.Members.{Each}
+use Rattle.plain_lists.specs.Edits.{changed_first}
+use Rattle.plain_lists.proofs.Elements.{Each-push}
+use Rattle.plain_lists.proofs.EditLemmas.{Each-dropped, find-changed, find-changed_other}
+use Rattle.plain_lists.proofs.Searches.{find-some}
+use Rattle.operations.specs.declared.operation.Operation.{Operation}
+use Rattle.operations.specs.declared.status.Status.{Status}
+use Rattle.operations.specs.declared.status.Status.TheVariants as status
+use Rattle.operations.specs.declared.status.Status.TheVariants.{Pending, Running, Cancelling}
+use Rattle.operations.specs.Statuses.{is_live, cancel_of}
+use Rattle.operations.specs.Kept.{Kept, has_number, live_at, kept_at, cancel_answer}
+use Rattle.operations.proofs.KeptLemmas.{live-from_kept}
+use Rattle.records.specs.declared.commands.Command.{Command}
+use Rattle.records.specs.declared.commands.What.{What}
+use Rattle.records.specs.declared.commands.What.TheVariants as what
+use Rattle.records.specs.declared.notices.Untold.{Untold}
+use Rattle.records.specs.declared.refusals.Refusal.{Refusal}
+use Rattle.row_machine.specs.declared.events.Event.TheVariants as event
+use Rattle.row_machine.specs.machine.Task.{Task}
+use Rattle.row_machine.specs.machine.State.{State}
+use Rattle.row_machine.specs.machine.Changes.{applied}
+use Rattle.row_machine.specs.machine.Plans.{Plan, nothing, changes, starts, plan_of}
+use Rattle.row_machine.specs.machine.Work.{entered, moved, cancelled}
+use Rattle.row_machine.specs.shown.Notices.{telling, operation_notice, change_notices}
+use Rattle.row_machine.specs.machine.Rules.{broken}
+use Rattle.row_machine.specs.machine.Accept.{After, accepted, carried_out, after_cancel, cancel_or_read}
+use Rattle.row_machine.specs.machine.Step.{Outcome, well, keeper_failed, no_memory, step, after_command, unavailable}
+use Rattle.row_machine.specs.facts.Whole.{IsWhole}
+use Rattle.machine_laws.specs.Waits.{IsAlone}
+use Rattle.machine_laws.proofs.Base.{Each-found}
+use Rattle.machine_laws.proofs.BooksSteps.{applied-same}
+use Rattle.machine_laws.proofs.EndsLive.{live-apart}
+use Rattle.machine_laws.proofs.EndsShares.{told-same, cancelled-left}
 
 -- ---- the same operations
 

@@ -2,28 +2,28 @@
 use Rattle.std.proofs.Common.{◌≡◌, ◌<◌, ◌≤◌, ◌-◌, ℕ, [], ◌∷◌, Option, Some, None, refl, ap, sym, ◌∙◌, subst, arith}
 use Rattle.std.specs.List.{sum_by}
 use Rattle.std.specs.Option.{option_map}
-use Rattle.http_front.specs.size_values.specs.Moments.{moment_limit}
-use Rattle.core_turns.specs.host_model.specs.declared.call.HostCall.{HostCall}
-use Rattle.core_turns.specs.host_model.specs.declared.report.Report.{Report}
-use Rattle.core_turns.specs.host_model.specs.declared.report.Report.TheVariants as report
-use Rattle.core_turns.specs.host_model.specs.Reports.{roots_after, CarriesCounts}
+use Rattle.size_values.specs.Moments.{moment_limit}
+use Rattle.host_model.specs.declared.call.HostCall.{HostCall}
+use Rattle.host_model.specs.declared.report.Report.{Report}
+use Rattle.host_model.specs.declared.report.Report.TheVariants as report
+use Rattle.host_model.specs.Reports.{roots_after, CarriesCounts}
 use Rattle.http_front.specs.Clocks.{Readings, Reads}
-use Rattle.core_turns.specs.operations.specs.Kept.{Kept}
-use Rattle.core_turns.specs.record_keeper.specs.Store.{Store}
-use Rattle.core_turns.specs.records.specs.declared.commands.Command.{Command}
-use Rattle.core_turns.specs.row_machine.specs.declared.events.Answer.{Answer}
-use Rattle.core_turns.specs.row_machine.specs.declared.events.Answer.TheVariants as answer
-use Rattle.core_turns.specs.row_machine.specs.declared.events.Event.TheVariants as event
-use Rattle.core_turns.specs.row_machine.specs.machine.State.{State}
-use Rattle.core_turns.specs.row_machine.specs.machine.Task.{Task}
-use Rattle.core_turns.specs.row_machine.specs.machine.Accept.{After}
-use Rattle.core_turns.specs.row_machine.specs.machine.Step.{Outcome, well, keeper_failed, no_memory, step}
-use Rattle.core_turns.specs.row_machine.specs.facts.Whole.{IsWhole}
+use Rattle.operations.specs.Kept.{Kept}
+use Rattle.record_keeper.specs.Store.{Store}
+use Rattle.records.specs.declared.commands.Command.{Command}
+use Rattle.row_machine.specs.declared.events.Answer.{Answer}
+use Rattle.row_machine.specs.declared.events.Answer.TheVariants as answer
+use Rattle.row_machine.specs.declared.events.Event.TheVariants as event
+use Rattle.row_machine.specs.machine.State.{State}
+use Rattle.row_machine.specs.machine.Task.{Task}
+use Rattle.row_machine.specs.machine.Accept.{After}
+use Rattle.row_machine.specs.machine.Step.{Outcome, well, keeper_failed, no_memory, step}
+use Rattle.row_machine.specs.facts.Whole.{IsWhole}
 use Rattle.core_turns.specs.Turns.{IsTurn, Turns}
-use Rattle.core_turns.specs.machine_laws.specs.Waits.{Round, Served, served, event_of, hand_of, IsAlone}
-use Rattle.core_turns.specs.machine_laws.proofs.WaitsSteps.{served-does}
+use Rattle.machine_laws.specs.Waits.{Round, Served, served, event_of, hand_of, IsAlone}
+use Rattle.machine_laws.proofs.WaitsSteps.{served-does}
 use Rattle.serial_steps.specs.Steps.{Site, site, serial, Hosted, Step, took, reported, Steps, HasCause, job_of, number_in}
-use Rattle.core_turns.specs.machine_laws.proofs.WaitsEnding.{Lessens, lessens, steps, steps_of}
+use Rattle.machine_laws.proofs.WaitsEnding.{Lessens, lessens, steps, steps_of}
 use Rattle.serial_steps.proofs.Requests.{same-alone, request-alone}
 use Rattle.serial_steps.proofs.Turning.{IsStep, turned-step}
 

@@ -1,10 +1,10 @@
 -- The step of the machine that a turn is.
 use Rattle.std.proofs.Common.{◌≡◌, Some, refl}
-use Rattle.core_turns.specs.row_machine.specs.declared.events.Answer.{Answer}
-use Rattle.core_turns.specs.row_machine.specs.declared.events.Event.{Event}
-use Rattle.core_turns.specs.row_machine.specs.machine.State.{State}
-use Rattle.core_turns.specs.row_machine.specs.machine.Accept.{After, and_then}
-use Rattle.core_turns.specs.row_machine.specs.machine.Step.{Outcome, step}
+use Rattle.row_machine.specs.declared.events.Answer.{Answer}
+use Rattle.row_machine.specs.declared.events.Event.{Event}
+use Rattle.row_machine.specs.machine.State.{State}
+use Rattle.row_machine.specs.machine.Accept.{After, and_then}
+use Rattle.row_machine.specs.machine.Step.{Outcome, step}
 
 pub record IsStep (s : State) (e : Event) (outcome : Outcome) (answer : Answer) (s' : State) : Type 0 where
   pub after : After

@@ -2,16 +2,16 @@
 -- failed.
 use Rattle.std.specs.Prelude.{◌≡◌, ◌<◌, ◌≤◌, ℕ, List, [], ◌∷◌, map, Option, Some, None}
 use Rattle.std.specs.List.{All, filter_map, sum_by}
-use Rattle.http_front.specs.size_values.specs.Causes.{RoseBy}
-use Rattle.http_front.specs.size_values.specs.Moments.{moment_limit}
-use Rattle.core_turns.specs.host_model.specs.declared.call.HostCall.{HostCall}
-use Rattle.core_turns.specs.host_model.specs.declared.report.Report.{Report}
-use Rattle.core_turns.specs.host_model.specs.declared.report.Report.TheVariants as report
-use Rattle.core_turns.specs.host_model.specs.declared.root.HostRoot.{HostRoot}
-use Rattle.core_turns.specs.host_model.specs.Reports.{roots_after}
+use Rattle.size_values.specs.Causes.{RoseBy}
+use Rattle.size_values.specs.Moments.{moment_limit}
+use Rattle.host_model.specs.declared.call.HostCall.{HostCall}
+use Rattle.host_model.specs.declared.report.Report.{Report}
+use Rattle.host_model.specs.declared.report.Report.TheVariants as report
+use Rattle.host_model.specs.declared.root.HostRoot.{HostRoot}
+use Rattle.host_model.specs.Reports.{roots_after}
 use Rattle.http_front.specs.Clocks.{Reads}
-use Rattle.core_turns.specs.row_machine.specs.machine.Step.{Outcome, well, keeper_failed, no_memory}
-use Rattle.core_turns.specs.work_reports.specs.Stores.{KeepsRecords}
+use Rattle.row_machine.specs.machine.Step.{Outcome, well, keeper_failed, no_memory}
+use Rattle.core_turns.specs.core_reports.specs.Stores.{KeepsRecords}
 use Rattle.serial_steps.specs.Steps.{Site, Step, took, reported, StepsTo}
 
 -- ---- of one step

@@ -1,22 +1,22 @@
 -- The steps of the one worker of a serial server. It asks for a call where it has none in hand, and else makes the call
 -- that it has on the host and reports of it.
 use Rattle.std.specs.Prelude.{◌≡◌, ◌≢◌, ◌<◌, ◌≤◌, ℕ, List, [], ◌∷◌, Option, Some, None, option_map}
-use Rattle.http_front.specs.size_values.specs.Causes.{Rose}
-use Rattle.http_front.specs.size_values.specs.Moments.{moment_limit}
-use Rattle.core_turns.specs.host_model.specs.declared.call.HostCall.{HostCall}
-use Rattle.core_turns.specs.host_model.specs.declared.report.Report.{Report}
-use Rattle.core_turns.specs.host_model.specs.declared.report.Report.TheVariants as report
-use Rattle.core_turns.specs.host_model.specs.declared.root.HostRoot.{HostRoot}
-use Rattle.core_turns.specs.host_model.specs.Reports.{roots_after, CarriesCounts}
+use Rattle.size_values.specs.Causes.{Rose}
+use Rattle.size_values.specs.Moments.{moment_limit}
+use Rattle.host_model.specs.declared.call.HostCall.{HostCall}
+use Rattle.host_model.specs.declared.report.Report.{Report}
+use Rattle.host_model.specs.declared.report.Report.TheVariants as report
+use Rattle.host_model.specs.declared.root.HostRoot.{HostRoot}
+use Rattle.host_model.specs.Reports.{roots_after, CarriesCounts}
 use Rattle.http_front.specs.Clocks.{Readings, Reads}
-use Rattle.core_turns.specs.operations.specs.Kept.{live_at}
-use Rattle.core_turns.specs.record_keeper.specs.Store.{Store}
-use Rattle.core_turns.specs.row_machine.specs.declared.events.Answer.{Answer}
-use Rattle.core_turns.specs.row_machine.specs.declared.events.Answer.TheVariants as answer
-use Rattle.core_turns.specs.row_machine.specs.declared.events.Event.TheVariants as event
-use Rattle.core_turns.specs.row_machine.specs.machine.State.{State}
-use Rattle.core_turns.specs.row_machine.specs.machine.Step.{Outcome, well}
-use Rattle.core_turns.specs.work_reports.specs.Stores.{IsCaused, KeepsRecords}
+use Rattle.operations.specs.Kept.{live_at}
+use Rattle.record_keeper.specs.Store.{Store}
+use Rattle.row_machine.specs.declared.events.Answer.{Answer}
+use Rattle.row_machine.specs.declared.events.Answer.TheVariants as answer
+use Rattle.row_machine.specs.declared.events.Event.TheVariants as event
+use Rattle.row_machine.specs.machine.State.{State}
+use Rattle.row_machine.specs.machine.Step.{Outcome, well}
+use Rattle.core_turns.specs.core_reports.specs.Stores.{IsCaused, KeepsRecords}
 use Rattle.core_turns.specs.Turns.{Turns}
 
 -- the rows and operations of a serial server, and the call that its worker has in hand, with the number of its

@@ -1,5 +1,5 @@
 -- What contracts see of a serial server, and what is true of its fields.
-use Rattle.core_turns.specs.machine_laws.specs.Waits.{IsAlone}
+use Rattle.machine_laws.specs.Waits.{IsAlone}
 use Rattle.serial_steps.specs.Steps.{Serial, number_in}
 use Rattle.serial_steps.specs.declared.serial.SerialDaemon.TheInside.{Inside}
 

@@ -1,15 +1,15 @@
 //! The worker of a serial server: the call that it has in hand, and what it does with it.
 ghost use Rattle.std.specs.Prelude.{◌≡◌, None, Some};
-ghost use Rattle.core_turns.specs.host_model.specs.declared.call.HostCall.{HostCall as HostCallValue};
-ghost use Rattle.core_turns.specs.record_keeper.specs.Store.{Store};
-ghost use Rattle.core_turns.specs.row_machine.specs.facts.Whole.{IsWhole};
+ghost use Rattle.host_model.specs.declared.call.HostCall.{HostCall as HostCallValue};
+ghost use Rattle.record_keeper.specs.Store.{Store};
+ghost use Rattle.row_machine.specs.facts.Whole.{IsWhole};
 ghost use Rattle.serial_steps.specs.Steps.{Hosted, Step, Steps, hosted, job_of, serial, site};
 
 use core_turns::Daemon;
-use core_turns::from_host_model::{Host, HostCall, perform};
-use core_turns::from_record_keeper::Keeper;
-use core_turns::from_row_machine::Answer;
+use host_model::{Host, HostCall, perform};
 use http_front::Clock;
+use record_keeper::Keeper;
+use row_machine::Answer;
 use std::alloc::Global;
 
 /// The facts of the rows hold at all times: this does nothing.

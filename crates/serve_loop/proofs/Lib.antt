@@ -1,2 +1,11 @@
+mod Answering
+mod Reaching
+mod Waiting
+mod Working
+mod ExampleLemmas
+mod FilterLemmas
+mod SubscriptionLemmas
+mod Hearing
+mod Taking
 mod Linking
 mod Served

@@ -1,28 +1,28 @@
 -- A link, from what its parts ensure.
 use Rattle.std.proofs.Common.{◌≡◌, ◌≢◌, ◌≤◌, ◌⊎◌, ◌++◌, ℕ, List, [], ◌∷◌, length, Bool, true, false, refl, ap, sym, subst}
 use Rattle.std.proofs.Common.{None, inl, inr, arith}
-use Rattle.event_texts.specs.size_values.specs.Causes.{Rose}
-use Rattle.event_texts.specs.http_heads.specs.declared.request.HeadFault.{HeadFault}
-use Rattle.event_texts.specs.http_heads.specs.declared.request.Request.{Request}
-use Rattle.gate_replies.specs.http_front.specs.Held.{most_held}
-use Rattle.gate_replies.specs.http_front.specs.declared.read.Got.TheVariants as got
-use Rattle.event_texts.specs.records.specs.declared.replies.Reply.{Reply}
-use Rattle.event_texts.specs.records.specs.declared.replies.Reply.TheVariants as reply
-use Rattle.gate_replies.specs.gate_trails.specs.Gates.{Between}
-use Rattle.gate_replies.specs.gate_trails.specs.Trails.{Item}
-use Rattle.gate_replies.specs.gate_trails.proofs.Trailing.{between-append, between-none}
-use Rattle.gate_replies.specs.rest_answers.specs.Links.{BreaksOff, Takes}
-use Rattle.gate_replies.specs.rest_answers.specs.Texts.{HasText, IsUnprinted, printed, text_for}
-use Rattle.gate_replies.specs.rest_answers.specs.Writing.{RefusesPlace, WritesAnswer}
-use Rattle.gate_replies.specs.rest_answers.specs.declared.answers.Answered.{Answered}
-use Rattle.gate_replies.specs.rest_answers.specs.declared.writing.Written.{Written}
-use Rattle.gate_replies.specs.rest_answers.specs.declared.writing.Written.TheVariants as ended
-use Rattle.gate_replies.specs.rest_answers.proofs.Printing.{takes_memory, text_is}
-use Rattle.gate_replies.specs.rest_routes.specs.Commands.{command_of}
-use Rattle.gate_replies.specs.Replying.{Reaches}
+use Rattle.size_values.specs.Causes.{Rose}
+use Rattle.http_heads.specs.declared.request.HeadFault.{HeadFault}
+use Rattle.http_heads.specs.declared.request.Request.{Request}
+use Rattle.http_front.specs.Held.{most_held}
+use Rattle.http_front.specs.declared.read.Got.TheVariants as got
+use Rattle.records.specs.declared.replies.Reply.{Reply}
+use Rattle.records.specs.declared.replies.Reply.TheVariants as reply
+use Rattle.gates.specs.Gates.{Between}
+use Rattle.gates.specs.Trails.{Item}
+use Rattle.gates.proofs.Trailing.{between-append, between-none}
+use Rattle.gates.specs.rest_answers.specs.Links.{BreaksOff, Takes}
+use Rattle.gates.specs.rest_answers.specs.Texts.{HasText, IsUnprinted, printed, text_for}
+use Rattle.gates.specs.rest_answers.specs.Writing.{RefusesPlace, WritesAnswer}
+use Rattle.gates.specs.rest_answers.specs.declared.answers.Answered.{Answered}
+use Rattle.gates.specs.rest_answers.specs.declared.writing.Written.{Written}
+use Rattle.gates.specs.rest_answers.specs.declared.writing.Written.TheVariants as ended
+use Rattle.gates.specs.rest_answers.proofs.Printing.{takes_memory, text_is}
+use Rattle.rest_routes.specs.Commands.{command_of}
+use Rattle.serve_loop.specs.Replying.{Reaches}
 use Rattle.serve_loop.specs.Serving.{Asks, CarriesOut, Exchange, KeepsGate, Line, Serves, ServesAll}
 use Rattle.serve_loop.specs.Serving.{Meets, Serving, Stops, Turns, end_after, turn_after}
-use Rattle.event_texts.specs.Subscriptions.{subscription_of}
+use Rattle.serve_loop.specs.Subscriptions.{subscription_of}
 use Rattle.serve_loop.specs.declared.link.LinkEnd.{LinkEnd}
 use Rattle.serve_loop.specs.declared.link.LinkEnd.TheVariants as end
 use Rattle.serve_loop.specs.declared.link.Turn.{Turn}

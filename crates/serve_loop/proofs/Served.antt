@@ -3,17 +3,17 @@ use Rattle.std.proofs.Common.{◌≡◌, ◌⊎◌, ◌++◌, ℕ, List, [], ◌
 use Rattle.std.proofs.Common.{IfSome, if◌then◌else◌, refl, ap, sym, ◌∙◌, subst, inl, inr, append_assoc}
 use Rattle.std.proofs.lemmas.List.{append-nil}
 use Rattle.std.specs.Io.KnownBytes.{Appends, prepend_known}
-use Rattle.event_texts.specs.http_heads.specs.Messages.{Begins, Splits, Ending, ended, cut, malformed, EndsAs}
-use Rattle.event_texts.specs.http_heads.specs.declared.request.Request.{Request}
-use Rattle.gate_replies.specs.http_front.specs.Reading.{ReadsNext}
-use Rattle.gate_replies.specs.http_front.specs.declared.read.Got.TheVariants as got
-use Rattle.gate_replies.specs.gate_trails.specs.Gates.{Between}
-use Rattle.gate_replies.specs.gate_trails.proofs.Trailing.{between-append, between-none}
-use Rattle.event_texts.specs.Subscriptions.{subscription_of}
-use Rattle.event_texts.specs.declared.subscriptions.Subscription.{Subscription}
-use Rattle.gate_replies.specs.rest_answers.specs.Texts.{printed}
-use Rattle.gate_replies.specs.rest_answers.proofs.Linking.{appends_nothing, appends_twice}
-use Rattle.gate_replies.specs.rest_answers.proofs.Splitting.{GoesOn, none_more, splits_after}
+use Rattle.http_heads.specs.Messages.{Begins, Splits, Ending, ended, cut, malformed, EndsAs}
+use Rattle.http_heads.specs.declared.request.Request.{Request}
+use Rattle.http_front.specs.Reading.{ReadsNext}
+use Rattle.http_front.specs.declared.read.Got.TheVariants as got
+use Rattle.gates.specs.Gates.{Between}
+use Rattle.gates.proofs.Trailing.{between-append, between-none}
+use Rattle.serve_loop.specs.Subscriptions.{subscription_of}
+use Rattle.serve_loop.specs.declared.subscriptions.Subscription.{Subscription}
+use Rattle.gates.specs.rest_answers.specs.Texts.{printed}
+use Rattle.gates.specs.rest_answers.proofs.Linking.{appends_nothing, appends_twice}
+use Rattle.gates.specs.rest_answers.proofs.Splitting.{GoesOn, none_more, splits_after}
 use Rattle.serve_loop.specs.Serving.{Exchange, Line, Serves, ServesAll, Serving, Stops, Turns}
 use Rattle.serve_loop.specs.Texts.{HandlesAll, IsFault, ServesText, Sides, answered, answered_by, end_at, end_by}
 use Rattle.serve_loop.specs.Texts.{end_due, printed_replies}

@@ -1,7 +1,19 @@
 -- The libraries whose words crates above name through this one.
-pub use Rattle.event_texts as event_texts
-pub use Rattle.gate_replies.specs.gate_trails as gate_trails
-pub use Rattle.gate_replies.specs.http_front as http_front
-pub use Rattle.gate_replies.specs.rest_answers as rest_answers
+pub use Rattle.gates.specs.core_turns as core_turns
+pub use Rattle.gates as gates
+pub mod Moments
+pub mod Replying
+pub mod Waits
+pub mod Work
+pub mod Accepting
+pub mod SubscriptionExamples
+pub mod Filters
+pub mod Subscriptions
+pub mod FrameExamples
+pub mod Frames
+pub mod Listening
+pub mod Sending
+pub mod Sessions
+pub mod Connections
 pub mod Serving
 pub mod Texts

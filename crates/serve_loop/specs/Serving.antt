@@ -1,26 +1,26 @@
 -- A link: its requests are taken one after the other, each comes to its reply at a gate, and then the link ends for one
 -- reason. The boot word is that of the ids of operations.
 use Rattle.std.specs.Prelude.{◌≡◌, ◌≢◌, ◌≤◌, ◌⊎◌, ℕ, List, [], ◌∷◌, Bool, true, false, length, Some, None}
-use Rattle.event_texts.specs.http_heads.specs.declared.request.HeadFault.{HeadFault}
-use Rattle.event_texts.specs.http_heads.specs.declared.request.Request.{Request}
-use Rattle.gate_replies.specs.http_front.specs.Clocks.{Readings}
-use Rattle.gate_replies.specs.http_front.specs.Held.{most_held}
-use Rattle.gate_replies.specs.http_front.specs.declared.read.Got.{Got}
-use Rattle.gate_replies.specs.http_front.specs.declared.read.Got.TheVariants as got
-use Rattle.event_texts.specs.records.specs.declared.replies.Reply.{Reply}
-use Rattle.event_texts.specs.records.specs.declared.replies.Reply.TheVariants as reply
-use Rattle.gate_replies.specs.gate_trails.specs.Gates.{Between, Seen}
-use Rattle.gate_replies.specs.gate_trails.specs.Trails.{Item}
-use Rattle.gate_replies.specs.rest_answers.specs.Links.{BreaksOff, Inlet, Outlet, ReadsFrom, Takes}
-use Rattle.gate_replies.specs.rest_answers.specs.Texts.{HasText, malformed_text, printed}
-use Rattle.gate_replies.specs.rest_answers.specs.Writing.{WritesAnswer}
-use Rattle.gate_replies.specs.rest_answers.specs.declared.answers.Answered.{Answered}
-use Rattle.gate_replies.specs.rest_answers.specs.declared.writing.Written.{Written}
-use Rattle.gate_replies.specs.rest_answers.specs.declared.writing.Written.TheVariants as ended
-use Rattle.gate_replies.specs.rest_routes.specs.Commands.{command_of}
-use Rattle.gate_replies.specs.Replying.{Handles, Reaches}
-use Rattle.event_texts.specs.Subscriptions.{subscription_of}
-use Rattle.event_texts.specs.declared.subscriptions.Subscription.{Subscription}
+use Rattle.http_heads.specs.declared.request.HeadFault.{HeadFault}
+use Rattle.http_heads.specs.declared.request.Request.{Request}
+use Rattle.http_front.specs.Clocks.{Readings}
+use Rattle.http_front.specs.Held.{most_held}
+use Rattle.http_front.specs.declared.read.Got.{Got}
+use Rattle.http_front.specs.declared.read.Got.TheVariants as got
+use Rattle.records.specs.declared.replies.Reply.{Reply}
+use Rattle.records.specs.declared.replies.Reply.TheVariants as reply
+use Rattle.gates.specs.Gates.{Between, Seen}
+use Rattle.gates.specs.Trails.{Item}
+use Rattle.gates.specs.rest_answers.specs.Links.{BreaksOff, Inlet, Outlet, ReadsFrom, Takes}
+use Rattle.gates.specs.rest_answers.specs.Texts.{HasText, malformed_text, printed}
+use Rattle.gates.specs.rest_answers.specs.Writing.{WritesAnswer}
+use Rattle.gates.specs.rest_answers.specs.declared.answers.Answered.{Answered}
+use Rattle.gates.specs.rest_answers.specs.declared.writing.Written.{Written}
+use Rattle.gates.specs.rest_answers.specs.declared.writing.Written.TheVariants as ended
+use Rattle.rest_routes.specs.Commands.{command_of}
+use Rattle.serve_loop.specs.Replying.{Handles, Reaches}
+use Rattle.serve_loop.specs.Subscriptions.{subscription_of}
+use Rattle.serve_loop.specs.declared.subscriptions.Subscription.{Subscription}
 use Rattle.serve_loop.specs.declared.link.LinkEnd.{LinkEnd}
 use Rattle.serve_loop.specs.declared.link.LinkEnd.TheVariants as end
 use Rattle.serve_loop.specs.declared.link.Turn.{Turn}

@@ -3,17 +3,17 @@
 use Rattle.std.specs.Prelude.{◌≡◌, ◌++◌, ℕ, List, [], ◌∷◌, map, Option, Some, None, if◌then◌else◌}
 use Rattle.std.specs.List.{flat_map}
 use Rattle.std.specs.Io.KnownBytes.{Appends}
-use Rattle.event_texts.specs.http_heads.specs.Messages.{Ending, ended, cut, malformed}
-use Rattle.event_texts.specs.http_heads.specs.declared.request.Request.{Request}
-use Rattle.gate_replies.specs.http_front.specs.Clocks.{Readings}
-use Rattle.gate_replies.specs.gate_trails.specs.Gates.{Between, Seen}
-use Rattle.gate_replies.specs.gate_trails.specs.Trails.{Item}
-use Rattle.gate_replies.specs.rest_answers.specs.Links.{Outlet}
-use Rattle.gate_replies.specs.rest_answers.specs.Texts.{malformed_text, printed}
-use Rattle.gate_replies.specs.rest_routes.specs.Commands.{command_of}
-use Rattle.gate_replies.specs.Replying.{Handles}
-use Rattle.event_texts.specs.Subscriptions.{subscription_of}
-use Rattle.event_texts.specs.declared.subscriptions.Subscription.{Subscription}
+use Rattle.http_heads.specs.Messages.{Ending, ended, cut, malformed}
+use Rattle.http_heads.specs.declared.request.Request.{Request}
+use Rattle.http_front.specs.Clocks.{Readings}
+use Rattle.gates.specs.Gates.{Between, Seen}
+use Rattle.gates.specs.Trails.{Item}
+use Rattle.gates.specs.rest_answers.specs.Links.{Outlet}
+use Rattle.gates.specs.rest_answers.specs.Texts.{malformed_text, printed}
+use Rattle.rest_routes.specs.Commands.{command_of}
+use Rattle.serve_loop.specs.Replying.{Handles}
+use Rattle.serve_loop.specs.Subscriptions.{subscription_of}
+use Rattle.serve_loop.specs.declared.subscriptions.Subscription.{Subscription}
 use Rattle.serve_loop.specs.Serving.{Exchange}
 use Rattle.serve_loop.specs.declared.link.LinkEnd.{LinkEnd}
 use Rattle.serve_loop.specs.declared.link.LinkEnd.TheVariants as end

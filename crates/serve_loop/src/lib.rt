@@ -1,32 +1,34 @@
-//! A link: its requests are answered one after the other at a gate to the server, until it ends or
-//! asks for events.
+//! Links, sessions of events and workers over any gate: how a request comes to its reply there, and how
+//! a wait is held.
 #![tactic(auto)]
 
-/// Of `event_texts`, for the crates above.
-pub mod from_event_texts {
-    pub use event_texts::Subscription;
-}
-
-/// Of `gate_trails`, for the crates above.
-pub mod from_gate_trails {
-    pub use gate_replies::from_gate_trails::Gate;
-}
-
-/// Of `http_front`, for the crates above.
-pub mod from_http_front {
-    pub use gate_replies::from_http_front::{Clock, Sink, Source};
-}
-
-/// Of `http_heads`, for the crates above.
-pub mod from_http_heads {
-    pub use event_texts::from_http_heads::Request;
-}
-
-/// Of `rest_routes`, for the crates above.
-pub mod from_rest_routes {
-    pub use gate_replies::from_rest_routes::Router;
-}
-
+mod accepting;
+mod connection;
+mod filters;
+mod frame_laws;
+mod frames;
 mod link;
+mod listening;
+mod reply;
+mod session;
+mod subscription_laws;
+mod subscriptions;
+mod wait;
+mod worker;
 
+pub use accepting::accept_text;
+pub use connection::{ConnectionEnd, serve_connection};
+pub use filters::event_filter;
+pub use frame_laws::{a_close_frame_has_two_bytes, a_short_text_frame, notices_by_example};
+pub use frames::{send_close, send_text};
+pub use gates::{AloneGate, Daemon, DaemonMachine, Gate, LockedGate};
 pub use link::{LinkEnd, serve_link};
+pub use reply::reply_to;
+pub use session::{SessionEnd, event_session};
+pub use subscription_laws::{
+    accepts_the_example, filters_by_example, no_filter_where_none_is_asked,
+    subscribes_by_the_filter,
+};
+pub use subscriptions::{Subscription, subscription_of};
+pub use wait::{MOST_RESTS, waits_end_after_a_million_rests};
+pub use worker::work;

@@ -1,24 +1,21 @@
 //! A link: its requests are answered one after the other.
 ghost use Rattle.std.specs.Prelude.{◌≡◌, ◌⊎◌, ℕ, List, [], true, IfSome};
-ghost use Rattle.event_texts.specs.http_heads.specs.Messages.{Ending, Splits};
-ghost use Rattle.event_texts.specs.http_heads.specs.declared.request.Request.{Request as RequestValue};
-ghost use Rattle.event_texts.specs.size_values.specs.Causes.{Rose};
-ghost use Rattle.gate_replies.specs.rest_answers.specs.Links.{inlet, outlet};
-ghost use Rattle.gate_replies.specs.gate_trails.specs.Gates.{Between, seen};
-ghost use Rattle.gate_replies.specs.gate_trails.specs.Trails.{Item};
+ghost use Rattle.http_heads.specs.Messages.{Ending, Splits};
+ghost use Rattle.http_heads.specs.declared.request.Request.{Request as RequestValue};
+ghost use Rattle.size_values.specs.Causes.{Rose};
+ghost use Rattle.gates.specs.rest_answers.specs.Links.{inlet, outlet};
+ghost use Rattle.gates.specs.Gates.{Between, seen};
+ghost use Rattle.gates.specs.Trails.{Item};
 ghost use Rattle.serve_loop.specs.Serving.{Meets, Replies, Serving, ServingFrom, Turns, end_after, line, turn_after};
 ghost use Rattle.serve_loop.specs.Texts.{IsFault, ServesText, sides};
 ghost use Rattle.serve_loop.specs.declared.link.LinkEnd.TheVariants as end;
 
-use event_texts::from_size_values::NoMemory;
-use event_texts::{Subscription, subscription_of};
-use gate_replies::from_gate_trails::Gate;
-use gate_replies::from_http_front::{
-    Buffer, Clock, Got, HeadFault, Request, Sink, Source, read_request,
-};
-use gate_replies::from_rest_answers::{Written, answer_for, write_answer, write_refusal};
-use gate_replies::from_rest_routes::Router;
-use gate_replies::reply_to;
+use crate::reply::reply_to;
+use crate::subscriptions::{Subscription, subscription_of};
+use gates::{Gate, Written, answer_for, write_answer, write_refusal};
+use http_front::{Buffer, Clock, Got, HeadFault, Request, Sink, Source, read_request};
+use rest_routes::Router;
+use size_values::NoMemory;
 use std::alloc::Global;
 use std::sync::Wait;
 

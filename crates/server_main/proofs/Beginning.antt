@@ -3,17 +3,17 @@ use Rattle.std.proofs.Common.{◌≡◌, ℕ, true, List, [], Option, Some, None
 use Rattle.std.proofs.Common.{refl, ap, sym, inl, inr}
 use Rattle.std.proofs.lemmas.Iterator.Adapters.{option_map_id}
 use Rattle.std.specs.Option.{is_some}
-use Rattle.start_faults.specs.record_keeper.specs.Store.{Store}
-use Rattle.start_faults.specs.row_machine.specs.machine.State.{State}
-use Rattle.start_faults.specs.row_machine.specs.opening.Opening.{damaged, broken}
+use Rattle.record_keeper.specs.Store.{Store}
+use Rattle.row_machine.specs.machine.State.{State}
+use Rattle.row_machine.specs.opening.Opening.{damaged, broken}
 use Rattle.start_faults.specs.core_rows.specs.Opening.{OpensTo, Refuses}
 use Rattle.start_faults.specs.core_rows.specs.declared.opening.OpenFault.{OpenFault}
 use Rattle.start_faults.specs.core_rows.specs.declared.opening.OpenFault.TheVariants as fault
-use Rattle.server_jobs.specs.serving.specs.Serves.{GivesFirst, IsServed}
-use Rattle.server_jobs.specs.serving.specs.Troubles.{IsCaused, status_of}
-use Rattle.server_jobs.specs.serving.specs.declared.trouble.Trouble.{Trouble}
-use Rattle.serve_words.specs.Words.{serve_words_of}
-use Rattle.serve_words.specs.declared.words.ServeWords.{ServeWords}
+use Rattle.serving.specs.Serves.{GivesFirst, IsServed}
+use Rattle.serving.specs.Troubles.{IsCaused, status_of}
+use Rattle.serving.specs.declared.trouble.Trouble.{Trouble}
+use Rattle.command_words.specs.ServeWords.{serve_words_of}
+use Rattle.command_words.specs.declared.serve_words.ServeWords.{ServeWords}
 use Rattle.start_faults.specs.Starts.{start_fault, start_status}
 use Rattle.start_faults.specs.declared.fault.StartFault.TheVariants as start
 use Rattle.server_main.specs.Servers.{EndsBy, HasCauseToRefuse, Outside, Serves}

@@ -3,17 +3,17 @@ use Rattle.std.proofs.Common.{◌≡◌, ◌<◌, ◌⊎◌, ℕ, List, true, fa
 use Rattle.std.proofs.Common.{Result, Ok, Err, refl, ap, sym, ◌∙◌, subst, arith, inl, inr}
 use Rattle.std.proofs.lemmas.Bool.{false≢true}
 use Rattle.std.specs.Option.{is_some}
-use Rattle.serve_words.specs.size_values.specs.Causes.{Rose}
-use Rattle.serve_words.specs.size_values.specs.declared.entry.Entry.{Entry}
-use Rattle.start_faults.specs.record_keeper.specs.Store.{Store}
-use Rattle.start_faults.specs.row_machine.specs.machine.State.{State}
-use Rattle.start_faults.specs.row_machine.specs.opening.Opening.{Opening, opened, opening_of}
+use Rattle.size_values.specs.Causes.{Rose}
+use Rattle.size_values.specs.declared.entry.Entry.{Entry}
+use Rattle.record_keeper.specs.Store.{Store}
+use Rattle.row_machine.specs.machine.State.{State}
+use Rattle.row_machine.specs.opening.Opening.{Opening, opened, opening_of}
 use Rattle.start_faults.specs.core_rows.specs.Opening.{OpensToNone, Refuses, is_refused}
 use Rattle.start_faults.specs.core_rows.specs.declared.opening.OpenFault.TheVariants as fault
-use Rattle.server_jobs.specs.serving.specs.Troubles.{status_of}
-use Rattle.server_jobs.specs.serving.specs.declared.trouble.Trouble.{Trouble}
-use Rattle.server_jobs.specs.serving.specs.declared.trouble.Trouble.TheVariants as trouble
-use Rattle.serve_words.specs.Words.{serve_words_of}
+use Rattle.serving.specs.Troubles.{status_of}
+use Rattle.serving.specs.declared.trouble.Trouble.{Trouble}
+use Rattle.serving.specs.declared.trouble.Trouble.TheVariants as trouble
+use Rattle.command_words.specs.ServeWords.{serve_words_of}
 use Rattle.start_faults.specs.Starts.{IsUnopened, start_status}
 use Rattle.start_faults.specs.declared.fault.StartFault.{StartFault}
 use Rattle.start_faults.specs.declared.fault.StartFault.TheVariants as start

@@ -1,16 +1,16 @@
 -- What a server comes to, from its words on.
 use Rattle.std.specs.Prelude.{◌≡◌, ◌⊎◌, ℕ, true, List, Option, Some, None, is_some, Result, Ok, Err}
-use Rattle.start_faults.specs.record_keeper.specs.Store.{Store}
-use Rattle.start_faults.specs.row_machine.specs.machine.State.{State}
+use Rattle.record_keeper.specs.Store.{Store}
+use Rattle.row_machine.specs.machine.State.{State}
 use Rattle.start_faults.specs.core_rows.specs.Opening.{OpensTo, Refuses}
 use Rattle.start_faults.specs.core_rows.specs.declared.opening.OpenFault.TheVariants as fault
-use Rattle.server_jobs.specs.doors.specs.Accepts.{Seen}
-use Rattle.server_jobs.specs.spawners.specs.Counts.{Counts}
-use Rattle.server_jobs.specs.serving.specs.Serves.{IsServed}
-use Rattle.server_jobs.specs.serving.specs.Troubles.{IsCaused, status_of}
-use Rattle.server_jobs.specs.serving.specs.declared.trouble.Trouble.{Trouble}
-use Rattle.serve_words.specs.Words.{serve_words_of}
-use Rattle.serve_words.specs.declared.words.ServeWords.{ServeWords}
+use Rattle.serving.specs.Accepts.{Seen}
+use Rattle.serving.specs.Counts.{Counts}
+use Rattle.serving.specs.Serves.{IsServed}
+use Rattle.serving.specs.Troubles.{IsCaused, status_of}
+use Rattle.serving.specs.declared.trouble.Trouble.{Trouble}
+use Rattle.command_words.specs.ServeWords.{serve_words_of}
+use Rattle.command_words.specs.declared.serve_words.ServeWords.{ServeWords}
 use Rattle.start_faults.specs.Starts.{IsUnopened, start_status}
 use Rattle.start_faults.specs.declared.fault.StartFault.{StartFault}
 use Rattle.start_faults.specs.declared.fault.StartFault.TheVariants as start

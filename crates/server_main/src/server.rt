@@ -1,27 +1,25 @@
 ghost use Rattle.std.specs.Prelude.{◌≡◌, ℕ, ◌+◌, ◌⊎◌, ◌≤◌, List, map, option_map, Some, None, IfSome};
 ghost use Rattle.std.specs.Prelude.{is_some, string_bytes, true, false};
-ghost use Rattle.serve_words.specs.size_values.specs.Causes.{Rose};
-ghost use Rattle.start_faults.specs.row_machine.specs.machine.State.{State};
-ghost use Rattle.start_faults.specs.row_machine.specs.opening.Opening.{opened, opening_of};
+ghost use Rattle.size_values.specs.Causes.{Rose};
+ghost use Rattle.row_machine.specs.machine.State.{State};
+ghost use Rattle.row_machine.specs.opening.Opening.{opened, opening_of};
 ghost use Rattle.start_faults.specs.core_rows.specs.Opening.{is_refused};
 ghost use Rattle.start_faults.specs.Starts.{IsUnopened};
-ghost use Rattle.server_jobs.specs.spawners.specs.Counts.{none_begun};
-ghost use Rattle.server_jobs.specs.serving.specs.Serves.{GivesFirst};
-ghost use Rattle.serve_words.specs.Words.{serve_setup_of, serve_words_of};
+ghost use Rattle.serving.specs.Counts.{none_begun};
+ghost use Rattle.serving.specs.Serves.{GivesFirst};
+ghost use Rattle.command_words.specs.ServeWords.{serve_setup_of, serve_words_of};
 ghost use Rattle.server_main.specs.Servers.{EndsBy, GivesBack, Serves, ServesAll, outside};
 
-use serve_words::from_size_values::NoMemory;
-use serve_words::{ServeWords, read_serve_words};
-use server_jobs::from_core_turns::Daemon;
-use server_jobs::from_doors::Doors;
-use server_jobs::from_gates::DaemonMachine;
-use server_jobs::from_http_front::Clock;
-use server_jobs::from_serving::{Trouble, serve, status_of};
-use server_jobs::from_spawners::Spawner;
-use server_jobs::{ServerJob, ServerSeats};
+use crate::jobs::ServerJob;
+use crate::slots::JobSlots;
+use command_words::{ServeWords, read_serve_words};
+use host_model::Host;
+use http_front::Clock;
+use record_keeper::Keeper;
+use serve_loop::{Daemon, DaemonMachine};
+use serving::{Doors, Spawner, Trouble, serve, status_of};
+use size_values::NoMemory;
 use start_faults::StartFault;
-use start_faults::from_host_model::Host;
-use start_faults::from_record_keeper::Keeper;
 use std::alloc::Global;
 use std::sync::Wait;
 use std::sync::ledger::{Blank, Ledger};
@@ -63,16 +61,16 @@ where
     ensures beside { (P.counts spawner.new).late ≡ false }
     ensures out { (P.counts spawner.new).out ≡ 0 }
 {
-    let passes = said.connections + said.workers + 1;
-    let seats = ServerSeats::<R, H, C, L, T>::new(
-        rt, alloc, machine, host, clock, boot, passes, blank,
+    let tickets = said.connections + said.workers + 1;
+    let slots = JobSlots::<R, H, C, L, T>::new(
+        rt, alloc, machine, host, clock, boot, tickets, blank,
     );
-    let Ok(mut seats) = seats else {
+    let Ok(mut slots) = slots else {
         return Err(Trouble::NoMemory);
     };
     serve(
         alloc,
-        &mut seats,
+        &mut slots,
         doors,
         spawner,
         said.connections,
@@ -154,7 +152,7 @@ where
     P: Spawner<ServerJob<D::Source, D::Sink, R, H, C, L, T>>,
     requires name { blank.name ≡ L.name }
     requires parts { (blank.parts ≡ L.parts)
-        × (blank.parts ≡ (serve_setup_of (map (λ w. string_bytes w) words.now)).passes) }
+        × (blank.parts ≡ (serve_setup_of (map (λ w. string_bytes w) words.now)).tickets) }
     requires doors { (D.seen doors.old).given ≡ 0 }
     requires idle { P.counts spawner.old ≡ none_begun }
     requires ready { P.ready spawner.old }
@@ -201,10 +199,10 @@ where
     T: Wait + time::Clock + Copy + Drop,
     D: Doors,
     P: Spawner<ServerJob<D::Source, D::Sink, R, H, C, L, T>>,
-    // The ledger counts the turns of the server, in a part for each pass that the words ask for.
+    // The ledger counts the turns of the server, in a part for each ticket that the words ask for.
     requires name { blank.name ≡ L.name }
     requires parts { (blank.parts ≡ L.parts)
-        × (blank.parts ≡ (serve_setup_of (map (λ w. string_bytes w) words.now)).passes) }
+        × (blank.parts ≡ (serve_setup_of (map (λ w. string_bytes w) words.now)).tickets) }
     // Nothing was begun yet.
     requires doors { (D.seen doors.old).given ≡ 0 }
     requires idle { P.counts spawner.old ≡ none_begun }

@@ -3,12 +3,12 @@ use Rattle.std.proofs.Common.{◌≡◌, ℕ, ◌+◌, ◌≤◌, ◌<◌, List,
 use Rattle.std.specs.Option.{option_map}
 use Rattle.std.proofs.lemmas.Iterator.Adapters.{option_map_id}
 use Rattle.std.specs.Prelude.{Err}
-use Rattle.spawners.specs.size_values.specs.declared.memory.Or.{Or}
-use Rattle.spawners.specs.size_values.specs.declared.memory.Or.TheVariants as or
-use Rattle.spawners.specs.size_values.specs.Causes.{OnWhy, Rose}
-use Rattle.doors.specs.declared.door.DoorsFailed.{DoorsFailed}
-use Rattle.spawners.specs.declared.spawner.StartFailed.{StartFailed}
-use Rattle.spawners.specs.Counts.{Counts, AreSmall, none_begun}
+use Rattle.size_values.specs.declared.memory.Or.{Or}
+use Rattle.size_values.specs.declared.memory.Or.TheVariants as or
+use Rattle.size_values.specs.Causes.{OnWhy, Rose}
+use Rattle.serving.specs.declared.door.DoorsFailed.{DoorsFailed}
+use Rattle.serving.specs.declared.spawner.StartFailed.{StartFailed}
+use Rattle.serving.specs.Counts.{Counts, AreSmall, none_begun}
 use Rattle.serving.specs.Serves.{HasRoom, StartsWorkers, BeginsLinks, BeginsAll, GivesFirst}
 use Rattle.serving.specs.Troubles.{IsCaused, of_doors, of_spawner}
 

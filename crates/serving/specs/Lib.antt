@@ -1,5 +1,5 @@
--- The libraries whose words crates above name through this one.
-pub use Rattle.doors as doors
-pub use Rattle.spawners as spawners
+pub mod Counts
+pub mod Accepts
+pub mod Passing
 pub mod Serves
 pub mod Troubles

@@ -1,8 +1,8 @@
 -- What a server does with the links that its doors give, and with its workers.
 use Rattle.std.specs.Prelude.{◌≡◌, ℕ, ◌+◌, ◌^◌, ◌≤◌, ◌⊎◌, Bool, true, false}
 use Rattle.std.specs.Prelude.{List, ◌++◌, length, Option, option_map, Result, Ok, Err}
-use Rattle.spawners.specs.Counts.{Counts}
-use Rattle.doors.specs.Accepts.{Seen}
+use Rattle.serving.specs.Counts.{Counts}
+use Rattle.serving.specs.Accepts.{Seen}
 
 -- there is room in the counts for n more jobs
 pub record HasRoom (counts : Counts) (n : ℕ) : Type 0 where

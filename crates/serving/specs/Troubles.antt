@@ -1,10 +1,10 @@
 -- Why a server stops before all of its links have come.
 use Rattle.std.specs.Prelude.{ℕ, Result, Ok, Err}
-use Rattle.spawners.specs.size_values.specs.Causes.{Rose}
-use Rattle.spawners.specs.size_values.specs.declared.memory.Or.{Or}
-use Rattle.spawners.specs.size_values.specs.declared.memory.Or.TheVariants as or
-use Rattle.doors.specs.declared.door.DoorsFailed.{DoorsFailed}
-use Rattle.spawners.specs.declared.spawner.StartFailed.{StartFailed}
+use Rattle.size_values.specs.Causes.{Rose}
+use Rattle.size_values.specs.declared.memory.Or.{Or}
+use Rattle.size_values.specs.declared.memory.Or.TheVariants as or
+use Rattle.serving.specs.declared.door.DoorsFailed.{DoorsFailed}
+use Rattle.serving.specs.declared.spawner.StartFailed.{StartFailed}
 use Rattle.serving.specs.declared.trouble.Trouble.{Trouble}
 use Rattle.serving.specs.declared.trouble.Trouble.TheVariants as trouble
 

@@ -1,31 +1,35 @@
-//! A server's links and workers, over any doors, any spawner and any jobs: the workers are started, each link that
-//! comes is served by a job of its own, and all that was started is taken in at the end.
+//! Doors, jobs on threads, and a server that starts its links and workers and joins them; a host under a
+//! lock of its own.
 #![tactic(auto)]
 
-/// Of `doors`, for the crates above.
-pub mod from_doors {
-    pub use doors::{Doors, Link, ListDoors, NetDoors, listen};
-}
-
-/// Of `http_front`, for the crates above.
-pub mod from_http_front {
-    pub use doors::from_http_front::{ByteSink, ByteSource, Clock, Sink, Source};
-}
-
-/// Of `spawners`, for the crates above.
-pub mod from_spawners {
-    pub use spawners::{
-        Job, RefusingSpawner, Spawner, ThreadSpawner, start_thread, start_thread_or_run,
-    };
-}
-
+mod door;
 mod ends;
+mod job;
 mod jobs;
+mod link;
 mod links;
+mod list;
+mod locked;
+mod net;
+mod passing;
+mod refusing;
 mod server;
+mod spawner;
+mod tally;
+mod threads;
 mod trouble;
 mod workers;
 
+pub use door::{Doors, DoorsFailed};
+pub use job::Job;
 pub use jobs::Jobs;
+pub use link::Link;
+pub use list::ListDoors;
+pub use locked::LockedHost;
+pub use net::{NetDoors, listen};
+pub use passing::pass_on;
+pub use refusing::{Kept, RefusingSpawner};
 pub use server::serve;
+pub use spawner::{Spawner, StartFailed};
+pub use threads::{ThreadSpawner, start_thread, start_thread_or_run};
 pub use trouble::{Trouble, status_of};

@@ -1,11 +1,12 @@
 ghost use Rattle.std.specs.Prelude.{◌≡◌, ◌+◌, ◌<◌, ◌≤◌, ◌^◌, true, OnOk, vec_len, vec_capacity};
-ghost use Rattle.spawners.specs.size_values.specs.Causes.{HasCauseOrMemory};
+ghost use Rattle.size_values.specs.Causes.{HasCauseOrMemory};
 ghost use Rattle.serving.specs.Serves.{AcceptsOne, BeginsLinks, GivesFirst, HasRoom, IsEnough};
 
+use crate::door::{Doors, DoorsFailed};
+use crate::job::Job;
 use crate::jobs::Jobs;
-use doors::{Doors, DoorsFailed};
-use spawners::from_size_values::Or;
-use spawners::{Job, Spawner};
+use crate::spawner::Spawner;
+use size_values::Or;
 
 /// Accepts so many links, or all that there are, and begins a job for each.
 #[tactic(auto, using(crate::proofs::Beginning::links_more, crate::proofs::Beginning::room_for_link, crate::proofs::Beginning::first_more))]
@@ -21,7 +22,7 @@ pub(crate) fn accept_links<
     tasks: &mut Vec<P::Task>,
     connections: u32,
 ) -> Result<(), Or<DoorsFailed>>
-    requires seats { connections ≤ B.seats jobs.old }
+    requires slots { connections ≤ B.slots jobs.old }
     requires room { HasRoom (P.counts spawner.old) connections }
     requires few { (D.seen doors.old).given + connections ≤ 2 ^ 62 }
     requires ready { P.ready spawner.old }
@@ -32,7 +33,7 @@ pub(crate) fn accept_links<
     ensures first { GivesFirst (D.seen doors.old).given (D.seen doors.new).given (D.left doors.old) (D.left doors.new) }
     ensures cause { HasCauseOrMemory (D.seen doors.old).failed (D.seen doors.new).failed result }
     ensures later { P.failures spawner.old ≤ P.failures spawner.new }
-    ensures seats { B.seats jobs.old ≤ B.seats jobs.new + connections }
+    ensures slots { B.slots jobs.old ≤ B.slots jobs.new + connections }
     ensures ready { P.ready spawner.new }
 {
     for _i in 0..connections {
@@ -54,7 +55,7 @@ fn accept_one<J: Job, B: Jobs<J>, D: Doors<Source = B::Source, Sink = B::Sink>, 
     spawner: &mut P,
     tasks: &mut Vec<P::Task>,
 ) -> Result<bool, Or<DoorsFailed>>
-    requires seats { 1 ≤ B.seats jobs.old }
+    requires slots { 1 ≤ B.slots jobs.old }
     requires room { HasRoom (P.counts spawner.old) 1 }
     requires few { (D.seen doors.old).given < 2 ^ 63 }
     requires ready { P.ready spawner.old }
@@ -64,14 +65,14 @@ fn accept_one<J: Job, B: Jobs<J>, D: Doors<Source = B::Source, Sink = B::Sink>, 
     ensures first { GivesFirst (D.seen doors.old).given (D.seen doors.new).given (D.left doors.old) (D.left doors.new) }
     ensures cause { HasCauseOrMemory (D.seen doors.old).failed (D.seen doors.new).failed result }
     ensures later { P.failures spawner.old ≤ P.failures spawner.new }
-    ensures seats { B.seats jobs.old ≤ B.seats jobs.new + 1 }
+    ensures slots { B.slots jobs.old ≤ B.slots jobs.new + 1 }
     ensures ready { P.ready spawner.new }
 {
     tasks.reserve(1)?;
-    let seat = jobs.seat()?;
+    let slot = jobs.slot()?;
     match doors.accept() {
         Ok(Some(link)) => {
-            let job = jobs.link_job(seat, link.source, link.sink);
+            let job = jobs.link_job(slot, link.source, link.sink);
             begin(jobs, spawner, tasks, job);
             Ok(true)
         }
@@ -95,7 +96,7 @@ fn begin<J: Job, B: Jobs<J>, P: Spawner<J>>(
     ensures begun { BeginsLinks (P.counts spawner.old) (P.counts spawner.new) (vec_len tasks.old) (vec_len tasks.new)
         0 1 }
     ensures later { P.failures spawner.old ≤ P.failures spawner.new }
-    ensures seats { B.seats jobs.old ≤ B.seats jobs.new }
+    ensures slots { B.slots jobs.old ≤ B.slots jobs.new }
     ensures ready { P.ready spawner.new }
 {
     match spawner.start_or_run(job) {

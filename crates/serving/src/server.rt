@@ -1,15 +1,16 @@
 ghost use Rattle.std.specs.Prelude.{◌≡◌, ◌+◌, ◌≤◌, ◌^◌, true, false, OnOk, IfErr, vec_len};
-ghost use Rattle.spawners.specs.Counts.{none_begun};
+ghost use Rattle.serving.specs.Counts.{none_begun};
 ghost use Rattle.serving.specs.Serves.{BeginsAll, GivesFirst, IsServed, IsEnough};
 ghost use Rattle.serving.specs.Troubles.{IsCaused};
 
+use crate::door::Doors;
 use crate::ends::take_in;
+use crate::job::Job;
 use crate::jobs::Jobs;
 use crate::links::accept_links;
+use crate::spawner::Spawner;
 use crate::trouble::Trouble;
 use crate::workers::start_workers;
-use doors::Doors;
-use spawners::{Job, Spawner};
 use std::alloc::Global;
 
 /// Starts the workers, serves so many links, or all that there are, each by a job of its own, and takes in all that was
@@ -22,7 +23,7 @@ pub fn serve<J: Job, B: Jobs<J>, D: Doors<Source = B::Source, Sink = B::Sink>, P
     connections: u32,
     workers: u32,
 ) -> Result<(), Trouble>
-    requires seats { connections + workers + 1 ≤ B.seats jobs.old }
+    requires slots { connections + workers + 1 ≤ B.slots jobs.old }
     requires doors { (D.seen doors.old).given ≡ 0 }
     requires idle { P.counts spawner.old ≡ none_begun }
     requires ready { P.ready spawner.old }
@@ -68,7 +69,7 @@ fn begin_all<J: Job, B: Jobs<J>, D: Doors<Source = B::Source, Sink = B::Sink>, P
     connections: u32,
     workers: u32,
 ) -> Result<(), Trouble>
-    requires seats { connections + workers + 1 ≤ B.seats jobs.old }
+    requires slots { connections + workers + 1 ≤ B.slots jobs.old }
     requires doors { (D.seen doors.old).given ≡ 0 }
     requires idle { P.counts spawner.old ≡ none_begun }
     requires empty { (vec_len links.old ≡ 0) × (vec_len others.old ≡ 0) }
@@ -79,7 +80,7 @@ fn begin_all<J: Job, B: Jobs<J>, D: Doors<Source = B::Source, Sink = B::Sink>, P
     ensures first { GivesFirst 0 (D.seen doors.new).given (D.left doors.old) (D.left doors.new) }
     ensures cause { IfErr result (λ t. IsCaused t (D.seen doors.old).failed (D.seen doors.new).failed
         (P.failures spawner.old) (P.failures spawner.new)) }
-    ensures seats { 1 ≤ B.seats jobs.new }
+    ensures slots { 1 ≤ B.slots jobs.new }
     ensures ready { P.ready spawner.new }
 {
     start_workers(jobs, spawner, others, workers)?;

@@ -1,12 +1,12 @@
 ghost use Rattle.std.specs.Prelude.{◌≡◌};
 ghost use Rattle.serving.specs.Troubles.{status_of};
 
-use doors::DoorsFailed;
-use spawners::StartFailed;
-use spawners::from_size_values::Or;
+use crate::door::DoorsFailed;
+use crate::spawner::StartFailed;
+use size_values::Or;
 
 /// Why a server stopped before all of its links had come.
-#[derive(Clone, Copy, Debug, PartialEq, Eq)]
+#[derive(Clone, Copy, PartialEq, Eq)]
 pub enum Trouble {
     NoMemory,
     /// An accept failed.

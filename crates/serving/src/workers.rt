@@ -1,10 +1,11 @@
 ghost use Rattle.std.specs.Prelude.{◌≡◌, ◌+◌, ◌≤◌, IfOk, OnOk, vec_len};
-ghost use Rattle.spawners.specs.size_values.specs.Causes.{HasCauseOrMemory};
+ghost use Rattle.size_values.specs.Causes.{HasCauseOrMemory};
 ghost use Rattle.serving.specs.Serves.{HasRoom, StartsWorkers};
 
+use crate::job::Job;
 use crate::jobs::Jobs;
-use spawners::from_size_values::Or;
-use spawners::{Job, Spawner, StartFailed};
+use crate::spawner::{Spawner, StartFailed};
+use size_values::Or;
 
 /// Starts so many workers, one after the other, and holds their tasks.
 #[tactic(auto, using(crate::proofs::Beginning::workers_more, crate::proofs::Beginning::room_for_worker,))]
@@ -14,7 +15,7 @@ pub(crate) fn start_workers<J: Job, B: Jobs<J>, P: Spawner<J>>(
     tasks: &mut Vec<P::Task>,
     workers: u32,
 ) -> Result<(), Or<StartFailed>>
-    requires seats { workers ≤ B.seats jobs.old }
+    requires slots { workers ≤ B.slots jobs.old }
     requires room { HasRoom (P.counts spawner.old) workers }
     requires ready { P.ready spawner.old }
     ensures started { StartsWorkers (P.counts spawner.old) (P.counts spawner.new) (vec_len tasks.old)
@@ -22,7 +23,7 @@ pub(crate) fn start_workers<J: Job, B: Jobs<J>, P: Spawner<J>>(
     ensures all { OnOk result (vec_len tasks.new ≡ vec_len tasks.old + workers) }
     ensures few { vec_len tasks.new ≤ vec_len tasks.old + workers }
     ensures cause { HasCauseOrMemory (P.failures spawner.old) (P.failures spawner.new) result }
-    ensures seats { B.seats jobs.old ≤ B.seats jobs.new + workers }
+    ensures slots { B.slots jobs.old ≤ B.slots jobs.new + workers }
     ensures ready { P.ready spawner.new }
 {
     for _i in 0..workers {
@@ -41,7 +42,7 @@ fn start_worker<J: Job, B: Jobs<J>, P: Spawner<J>>(
     spawner: &mut P,
     tasks: &mut Vec<P::Task>,
 ) -> Result<(), Or<StartFailed>>
-    requires seats { 1 ≤ B.seats jobs.old }
+    requires slots { 1 ≤ B.slots jobs.old }
     requires room { HasRoom (P.counts spawner.old) 1 }
     requires ready { P.ready spawner.old }
     ensures started { StartsWorkers (P.counts spawner.old) (P.counts spawner.new) (vec_len tasks.old)
@@ -49,12 +50,12 @@ fn start_worker<J: Job, B: Jobs<J>, P: Spawner<J>>(
     ensures one { OnOk result (vec_len tasks.new ≡ vec_len tasks.old + 1) }
     ensures few { vec_len tasks.new ≤ vec_len tasks.old + 1 }
     ensures cause { HasCauseOrMemory (P.failures spawner.old) (P.failures spawner.new) result }
-    ensures seats { B.seats jobs.old ≤ B.seats jobs.new + 1 }
+    ensures slots { B.slots jobs.old ≤ B.slots jobs.new + 1 }
     ensures ready { P.ready spawner.new }
 {
     tasks.reserve(1)?;
-    let seat = jobs.seat()?;
-    let job = jobs.worker_job(seat)?;
+    let slot = jobs.slot()?;
+    let job = jobs.worker_job(slot)?;
     match spawner.start(job) {
         Ok(task) => {
             tasks.push_reserved(task);

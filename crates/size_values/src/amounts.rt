@@ -4,7 +4,7 @@ ghost use Rattle.size_values.specs.Amounts.{nothing, part, plus_of, minus_of, ex
 
 /// What a project has or is asked for, part by part: numbers of instances, containers and virtual machines,
 /// processors, bytes of memory, processes, and bytes of disk.
-#[derive(Clone, Copy, Debug, PartialEq, Eq)]
+#[derive(Clone, Copy, PartialEq, Eq)]
 pub struct Amounts {
     pub instances: u128,
     pub containers: u128,

@@ -8,7 +8,7 @@ use std::marker::Model;
 
 /// Numbers the calls of an object from 1 and knows which of them are to fail. The number of a call and the
 /// count of failures stop at 2^64 - 1, and no call after the one of that number fails.
-#[derive(Debug, Drop)]
+#[derive(Drop)]
 pub struct FailingCalls {
     fails: Seq<u64>,
     made: u64,

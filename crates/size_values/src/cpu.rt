@@ -11,7 +11,7 @@ use crate::number::Number;
 const MOST: u64 = 1_000_000;
 
 /// The processors that an instance may use, as `limits.cpu` of the Incus documentation's "Instance options" says it.
-#[derive(Clone, Copy, Debug, PartialEq, Eq)]
+#[derive(Clone, Copy, PartialEq, Eq)]
 pub enum Cpu {
     /// Any so many processors, from 1 to 1,000,000.
     Count(u32),

@@ -11,7 +11,7 @@ const MOST: u64 = 9_999;
 
 /// How long a snapshot is kept, as `snapshots.expiry` of the Incus documentation's "Instance options" says it. A unit
 /// that is not named has 0.
-#[derive(Clone, Copy, Debug, PartialEq, Eq)]
+#[derive(Clone, Copy, PartialEq, Eq)]
 pub struct Expiry {
     pub minutes: u32,
     pub hours: u32,

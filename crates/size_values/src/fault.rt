@@ -3,7 +3,7 @@ ghost use Rattle.size_values.specs.Fault.{fault_number};
 
 /// Why a text is no value. Where several faults stand over one text, a reader answers the first of them in
 /// the order of this list. A place counts bytes from 0.
-#[derive(Clone, Copy, Debug, PartialEq, Eq)]
+#[derive(Clone, Copy, PartialEq, Eq)]
 pub enum ValueFault {
     /// The text is empty.
     Empty,

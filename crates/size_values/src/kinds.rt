@@ -1,12 +1,12 @@
 /// What an instance is: a system container or a virtual machine.
-#[derive(Clone, Copy, Debug, PartialEq, Eq)]
+#[derive(Clone, Copy, PartialEq, Eq)]
 pub enum Kind {
     Container,
     Machine,
 }
 
 /// The status of an instance, as `GET /1.0/instances/{name}/state` shows it.
-#[derive(Clone, Copy, Debug, PartialEq, Eq)]
+#[derive(Clone, Copy, PartialEq, Eq)]
 pub enum Power {
     Stopped,
     Running,
@@ -41,7 +41,7 @@ pub enum Deed {
 }
 
 /// The kinds of objects that have names, in the order in which refusals name them.
-#[derive(Clone, Copy, Debug, PartialEq, Eq)]
+#[derive(Clone, Copy, PartialEq, Eq)]
 pub enum ObjectKind {
     Project,
     Profile,

@@ -4,11 +4,11 @@ ghost use Rattle.size_values.specs.declared.memory.Or.TheVariants as or;
 use std::alloc::{AllocError, AllocFailed};
 
 /// Out of memory. It is the one answer that any call which takes memory may give at any time.
-#[derive(Clone, Copy, Debug, PartialEq, Eq)]
+#[derive(Clone, Copy, PartialEq, Eq)]
 pub struct NoMemory;
 
 /// A reason to refuse, or out of memory in place of it.
-#[derive(Debug, Drop, PartialEq, Eq)]
+#[derive(Drop, PartialEq, Eq)]
 pub enum Or<E> {
     NoMemory,
     Why(E),

@@ -6,7 +6,7 @@ use crate::fault::ValueFault;
 use crate::size::size_in;
 
 /// The memory that an instance may take, as `limits.memory` of the Incus documentation's "Instance options" says it.
-#[derive(Clone, Copy, Debug, PartialEq, Eq)]
+#[derive(Clone, Copy, PartialEq, Eq)]
 pub enum Memory {
     /// So many bytes.
     Bytes(u64),

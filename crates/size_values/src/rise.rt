@@ -3,7 +3,7 @@ ghost use Rattle.size_values.specs.Causes.{Rose};
 
 /// Two readings of a count of faults between which it rose. A count stops at 2^64 - 1, and there it counts
 /// as risen though both readings are equal.
-#[derive(Clone, Copy, Debug, PartialEq, Eq)]
+#[derive(Clone, Copy, PartialEq, Eq)]
 pub struct Rise {
     pub before: u64,
     pub after: u64,

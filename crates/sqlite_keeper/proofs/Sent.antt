@@ -3,8 +3,8 @@ use denote.RattleType.{RattleType}
 use denote.Param.Send.{IsSend, sendable}
 use denote.Param.SendFields.{declared_send}
 use denote.Struct.Declared.{row}
-use Rattle.sqlite_rows.specs.size_values.proofs.text.Text.TheSendSync as text_crosses
-use Rattle.sqlite_rows.specs.sqlite_tables.proofs.trouble.Trouble.TheSendSync as trouble_crosses
+use Rattle.size_values.proofs.text.Text.TheSendSync as text_crosses
+use Rattle.sqlite_keeper.proofs.trouble.Trouble.TheSendSync as trouble_crosses
 use Rattle.sqlite.proofs.connection.Connection.TheSendSync as connection_crosses
 use Rattle.sqlite.below.sqlite_store.proofs.store.FileStore.TheSendSync as store_crosses
 use Rattle.sqlite.below.sqlite_disk.proofs.modelled.Modelled.TheSendSync as disk_crosses

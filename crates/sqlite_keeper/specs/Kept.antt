@@ -1,8 +1,8 @@
 use Rattle.std.specs.Prelude.{ℕ, List, Bool, Option, ◌+◌, ◌≡◌, min, Some, IsSome, Result, Ok, Err}
-use Rattle.sqlite_rows.specs.size_values.specs.declared.memory.Or.{Or}
-use Rattle.sqlite_rows.specs.size_values.specs.declared.memory.Or.TheVariants as or
-use Rattle.sqlite_rows.specs.size_values.specs.Calls.{last_number}
-use Rattle.sqlite_rows.specs.sqlite_tables.specs.declared.trouble.Trouble.{Trouble}
+use Rattle.size_values.specs.declared.memory.Or.{Or}
+use Rattle.size_values.specs.declared.memory.Or.TheVariants as or
+use Rattle.size_values.specs.Calls.{last_number}
+use Rattle.sqlite_keeper.specs.declared.trouble.Trouble.{Trouble}
 
 -- What is seen of a keeper of a file: the path of the file; whether it has its file open; how many calls were made,
 -- and how many of them failed, both up to 2^64 - 1; and why the last of those failed.

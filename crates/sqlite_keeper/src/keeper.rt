@@ -1,15 +1,15 @@
 ghost use Rattle.std.specs.Prelude.{◌≡◌, ◌≢◌, true, false, None, Some, option_copied};
 ghost use Rattle.std.specs.Prelude.{IfOk, OnOk, IsErr, IsErrOf};
-ghost use Rattle.sqlite_rows.specs.size_values.specs.CallCounts.{CountsFailure, called};
-ghost use Rattle.sqlite_rows.specs.size_values.specs.Calls.{has_failed};
-ghost use Rattle.sqlite_rows.specs.record_keeper.specs.Entries.{IsOrderedEntries};
+ghost use Rattle.size_values.specs.CallCounts.{CountsFailure, called};
+ghost use Rattle.size_values.specs.Calls.{has_failed};
+ghost use Rattle.record_keeper.specs.Entries.{IsOrderedEntries};
 ghost use Rattle.sqlite_keeper.specs.Kept.{SaysWhy, after_refusal};
-ghost use Rattle.sqlite_rows.specs.sqlite_tables.specs.declared.trouble.Trouble.TheVariants.{NotLoaded};
+ghost use Rattle.sqlite_keeper.specs.declared.trouble.Trouble.TheVariants.{NotLoaded};
 
 use crate::rows_file::RowsFile;
-use sqlite_rows::from_record_keeper::{Keeper, KeeperFailed};
-use sqlite_rows::from_size_values::{Entry, EntryChange, Or, Seq, Text};
-use sqlite_rows::from_sqlite_tables::Trouble;
+use crate::trouble::Trouble;
+use record_keeper::{Keeper, KeeperFailed};
+use size_values::{Entry, EntryChange, Or, Seq, Text};
 use std::marker::Model;
 
 /// A keeper whose entries are the rows of the table `records` of an SQLite file. It tells no entries.

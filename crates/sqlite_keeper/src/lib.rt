@@ -1,19 +1,17 @@
-//! Entries that outlive a run: a keeper whose entries are rows of an SQLite file, which a person can
-//! read with the sqlite3 shell.
+//! A keeper whose entries are rows of an SQLite file: its tables and version, why a file is refused, and
+//! all changes of a commit in one transaction.
 #![tactic(auto)]
 
-/// Of `record_keeper`, for the crates above.
-pub mod from_record_keeper {
-    pub use sqlite_rows::from_record_keeper::{Keeper, KeeperFailed, MapKeeper};
-}
-
-/// Of `size_values`, for the crates above.
-pub mod from_size_values {
-    pub use sqlite_rows::from_size_values::{Boxed, Entry, EntryChange, NoMemory, Or, Seq, Text};
-}
-
+mod changes;
+mod content;
+mod entries;
 mod keeper;
+mod order;
 mod rows_file;
+mod trouble;
 
+pub use changes::change_all;
+pub use content::admit;
+pub use entries::entries_in;
 pub use keeper::SqliteKeeper;
-pub use sqlite_rows::from_sqlite_tables::Trouble;
+pub use trouble::{Trouble, trouble_of};

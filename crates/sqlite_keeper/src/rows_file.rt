@@ -1,18 +1,20 @@
 //! The database file that keeps the rows.
 ghost use Rattle.std.specs.Prelude.{◌≡◌, true, false, IsTrue, IfOk, IfErr, OnOk, OnErr};
-ghost use Rattle.sqlite_rows.specs.record_keeper.specs.Entries.{IsOrderedEntries};
+ghost use Rattle.record_keeper.specs.Entries.{IsOrderedEntries};
 ghost use Rattle.sqlite.specs.Effect.{Database as Whole};
 ghost use Rattle.sqlite.specs.Files.{file_state, over_files};
 ghost use Rattle.sqlite.specs.State.{HasCleanDisk, Survives};
-ghost use Rattle.sqlite_rows.specs.sqlite_tables.specs.Guarded.{StaysGuarded};
-ghost use Rattle.sqlite_rows.specs.sqlite_tables.specs.Troubles.{is_failure, is_refusal};
-ghost use Rattle.sqlite_rows.specs.Changes.{Leaves};
-ghost use Rattle.sqlite_rows.specs.Entries.{AreKept};
+ghost use Rattle.sqlite_keeper.specs.Guarded.{StaysGuarded};
+ghost use Rattle.sqlite_keeper.specs.Troubles.{is_failure, is_refusal};
+ghost use Rattle.sqlite_keeper.specs.Changes.{Leaves};
+ghost use Rattle.sqlite_keeper.specs.Entries.{AreKept};
 
+use crate::changes::change_all;
+use crate::content::admit;
+use crate::entries::entries_in;
+use crate::trouble::{Trouble, trouble_of};
+use size_values::{Entry, EntryChange, Or, Seq, Text};
 use sqlite::{Connection, File, FileStore};
-use sqlite_rows::from_size_values::{Entry, EntryChange, Or, Seq, Text};
-use sqlite_rows::from_sqlite_tables::{Trouble, admit, trouble_of};
-use sqlite_rows::{change_all, entries_in};
 use std::alloc::Global;
 use std::io::Read;
 use std::{fs, io};

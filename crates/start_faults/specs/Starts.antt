@@ -1,8 +1,8 @@
 -- Why a server is not begun.
 use Rattle.std.specs.Prelude.{◌≡◌, ℕ, true, Option, Some, None}
-use Rattle.core_rows.specs.record_keeper.specs.Store.{Store}
-use Rattle.core_rows.specs.row_machine.specs.machine.State.{State}
-use Rattle.core_rows.specs.row_machine.specs.opening.Opening.{Opening}
+use Rattle.record_keeper.specs.Store.{Store}
+use Rattle.row_machine.specs.machine.State.{State}
+use Rattle.row_machine.specs.opening.Opening.{Opening}
 use Rattle.core_rows.specs.Opening.{OpensTo, OpensToNone, Refuses, is_refused}
 use Rattle.core_rows.specs.declared.opening.OpenFault.{OpenFault}
 use Rattle.core_rows.specs.declared.opening.OpenFault.TheVariants as fault

@@ -1,12 +1,12 @@
 ghost use Rattle.std.specs.Prelude.{◌≡◌};
 ghost use Rattle.start_faults.specs.Starts.{Explains, start_fault, start_status};
 
-use core_rows::from_record_keeper::Keeper;
 use core_rows::{OpenFault, load_rows};
+use record_keeper::Keeper;
 use std::alloc::Global;
 
 /// Why a server is not begun.
-#[derive(Clone, Copy, Debug, PartialEq, Eq)]
+#[derive(Clone, Copy, PartialEq, Eq)]
 pub enum StartFault {
     /// The words of the command line are not read.
     Words,

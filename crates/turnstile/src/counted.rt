@@ -1,7 +1,7 @@
 ghost use Rattle.std.specs.Prelude.{◌≡◌, ◌+◌, ◌-◌, ◌^◌, ◌<◌, ◌≤◌};
 
 use crate::machine::Machine;
-use crate::pass::Pass;
+use crate::ticket::Ticket;
 use std::sync::ledger::{Book, Ledger, Share};
 
 /// What lies under the lock: the machine, and how many turns it made.
@@ -39,7 +39,7 @@ impl<M, L: Ledger> Counted<M, L> {
         self.woken > turn
     }
 
-    /// How many turns were made. It is what all passes made, whose share is handed in.
+    /// How many turns were made. It is what all tickets made, whose share is handed in.
     pub(crate) fn total(&mut self, all: &mut Share<L>) -> u64
         requires { all.old.parts ≡ L.parts }
         ensures { result ≡ all.old.amount }
@@ -50,31 +50,31 @@ impl<M, L: Ledger> Counted<M, L> {
 }
 
 impl<M: Machine, L: Ledger> Counted<M, L> {
-    /// One turn of the machine by this pass.
-    pub(crate) fn step(&mut self, pass: &mut Pass<L>, event: M::Event, wakes: bool) -> M::Answer
+    /// One turn of the machine by this ticket.
+    pub(crate) fn step(&mut self, ticket: &mut Ticket<L>, event: M::Event, wakes: bool) -> M::Answer
         requires room { self.old.turns < 2 ^ 64 - 1 }
         requires takes { M.takes event }
         ensures answer { M.may_answer event result }
-        ensures made { pass.new.made ≡ pass.old.made + 1 }
-        ensures seen { pass.new.made ≤ pass.new.seen }
+        ensures made { ticket.new.made ≡ ticket.old.made + 1 }
+        ensures seen { ticket.new.made ≤ ticket.new.seen }
     {
         let answer = self.machine.turn(event);
-        self.count(pass);
+        self.count(ticket);
         if wakes {
             self.woken = self.turns;
         }
         answer
     }
 
-    /// Counts a turn of this pass.
-    fn count(&mut self, pass: &mut Pass<L>)
+    /// Counts a turn of this ticket.
+    fn count(&mut self, ticket: &mut Ticket<L>)
         requires room { self.old.turns < 2 ^ 64 - 1 }
-        ensures made { pass.new.made ≡ pass.old.made + 1 }
-        ensures seen { pass.new.made ≤ pass.new.seen }
+        ensures made { ticket.new.made ≡ ticket.old.made + 1 }
+        ensures seen { ticket.new.made ≤ ticket.new.seen }
     {
         let Counted { turns, book, .. } = self;
-        let Pass { made, seen, share } = pass;
-        // The pass made no more turns than there were, so that neither count leaves its type.
+        let Ticket { made, seen, share } = ticket;
+        // The ticket made no more turns than there were, so that neither count leaves its type.
         book.audit(share);
         book.add(share, 1);
         book.audit(share);

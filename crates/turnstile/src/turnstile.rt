@@ -2,13 +2,13 @@ ghost use Rattle.std.specs.Prelude.{◌≡◌, ◌+◌, ◌≤◌, All, IfErr, I
 
 use crate::counted::Counted;
 use crate::machine::Machine;
-use crate::pass::{Pass, gathered, passes_of};
+use crate::ticket::{Ticket, gathered, tickets_of};
 use std::alloc::Global;
 use std::sync::ledger::{Blank, Ledger};
 use std::sync::{Condvar, Mutex, Wait};
 use std::time::{Clock, Duration};
 
-/// One machine under one lock. It is turned by passes alone, which `new` gives once and for all.
+/// One machine under one lock. It is turned by tickets alone, which `new` gives once and for all.
 #[derive(Drop)]
 pub struct Turnstile<M, L: Ledger> {
     counted: Mutex<Counted<M, L>>,
@@ -16,21 +16,21 @@ pub struct Turnstile<M, L: Ledger> {
 }
 
 impl<M: Machine, L: Ledger> Turnstile<M, L> {
-    /// A turnstile for this machine, and its passes. Where memory is refused, the machine comes back.
+    /// A turnstile for this machine, and its tickets. Where memory is refused, the machine comes back.
     pub fn new(
         alloc: Global,
         machine: M,
-        passes: u32,
+        tickets: u32,
         blank: Blank,
-    ) -> Result<(Turnstile<M, L>, Vec<Pass<L>>), M>
-        requires passes { 1 ≤ passes }
+    ) -> Result<(Turnstile<M, L>, Vec<Ticket<L>>), M>
+        requires tickets { 1 ≤ tickets }
         requires name { blank.name ≡ L.name }
-        requires parts { (blank.parts ≡ L.parts) × (blank.parts ≡ passes) }
-        ensures ok { IfOk result (λ r. (length r.1.items ≡ passes) × All (λ p. p.made ≡ 0) r.1.items) }
+        requires parts { (blank.parts ≡ L.parts) × (blank.parts ≡ tickets) }
+        ensures ok { IfOk result (λ r. (length r.1.items ≡ tickets) × All (λ p. p.made ≡ 0) r.1.items) }
         ensures err { IfErr result (λ m. m ≡ machine) }
     {
         let (book, share) = blank.open::<L>();
-        let Ok(all) = passes_of(alloc, passes, share) else {
+        let Ok(all) = tickets_of(alloc, tickets, share) else {
             return Err(machine);
         };
         let turnstile = Turnstile {
@@ -41,11 +41,11 @@ impl<M: Machine, L: Ledger> Turnstile<M, L> {
     }
 
     /// One turn of the machine, under the lock. After 2^64 - 1 turns it doesn't return.
-    pub fn turn<R: Wait>(&self, rt: &R, pass: &mut Pass<L>, event: M::Event) -> M::Answer
+    pub fn turn<R: Wait>(&self, rt: &R, ticket: &mut Ticket<L>, event: M::Event) -> M::Answer
         requires { M.takes event }
         ensures answer { M.may_answer event result }
-        ensures made { pass.new.made ≡ pass.old.made + 1 }
-        ensures seen { pass.new.made ≤ pass.new.seen }
+        ensures made { ticket.new.made ≡ ticket.old.made + 1 }
+        ensures seen { ticket.new.made ≤ ticket.new.seen }
     {
         let wakes = M::wakes(&event);
         let mut counted = self.counted.lock(rt);
@@ -53,7 +53,7 @@ impl<M: Machine, L: Ledger> Turnstile<M, L> {
             for _ in rt.forever() {}
             unreachable!();
         }
-        let answer = counted.step(pass, event, wakes);
+        let answer = counted.step(ticket, event, wakes);
         drop(counted);
         if wakes {
             self.woken.notify_all();
@@ -61,23 +61,23 @@ impl<M: Machine, L: Ledger> Turnstile<M, L> {
         answer
     }
 
-    /// Waits until the machine has taken an event that wakes since this pass last turned it, or for so many
+    /// Waits until the machine has taken an event that wakes since this ticket last turned it, or for so many
     /// milliseconds, or less.
-    pub fn rest<R: Wait + Clock>(&self, rt: &R, pass: &Pass<L>, ticks: u32) {
+    pub fn rest<R: Wait + Clock>(&self, rt: &R, ticket: &Ticket<L>, ticks: u32) {
         let counted = self.counted.lock(rt);
-        if counted.has_woken_since(pass.seen()) {
+        if counted.has_woken_since(ticket.seen()) {
             return;
         }
         let most = Duration::from_millis(u64::from(ticks));
         let _ = self.woken.wait_timeout(rt, counted, most);
     }
 
-    /// How many turns the machine made, which is what all of its passes made. All that `new` gave are handed in.
-    pub fn close<R: Wait>(&self, rt: &R, passes: Vec<Pass<L>>) -> u64
-        requires { length passes.items ≡ L.parts }
-        ensures { result ≡ sum_by (λ p. p.made) passes.items }
+    /// How many turns the machine made, which is what all of its tickets made. All that `new` gave are handed in.
+    pub fn close<R: Wait>(&self, rt: &R, tickets: Vec<Ticket<L>>) -> u64
+        requires { length tickets.items ≡ L.parts }
+        ensures { result ≡ sum_by (λ p. p.made) tickets.items }
     {
-        let mut others = passes;
+        let mut others = tickets;
         let Some(first) = others.pop() else {
             return 0;
         };

@@ -10,10 +10,10 @@ use Rattle.row_machine.specs.Words.what
 use Rattle.row_machine.specs.Words.life
 use Rattle.row_machine.specs.Words.rule
 use Rattle.row_machine.specs.Words.kind
-use Rattle.reservations.specs.size_values.specs.Amounts.{nothing}
-use Rattle.row_codec.specs.operations.specs.declared.operation.Operation.{Operation}
-use Rattle.row_codec.specs.operations.specs.declared.operation.OpFault.TheVariants as fault
-use Rattle.row_codec.specs.records.specs.declared.notices.Told.TheVariants as told
+use Rattle.size_values.specs.Amounts.{nothing}
+use Rattle.operations.specs.declared.operation.Operation.{Operation}
+use Rattle.operations.specs.declared.operation.OpFault.TheVariants as fault
+use Rattle.records.specs.declared.notices.Told.TheVariants as told
 use Rattle.row_machine.specs.declared.events.Event.TheVariants as event
 use Rattle.row_machine.specs.declared.events.Answer.{Answer}
 use Rattle.row_machine.specs.declared.events.Answer.TheVariants as answer

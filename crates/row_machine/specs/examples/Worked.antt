@@ -12,10 +12,10 @@ use Rattle.row_machine.specs.Words.what
 use Rattle.row_machine.specs.Words.rule
 use Rattle.row_machine.specs.Words.reply
 use Rattle.row_machine.specs.Words.view
-use Rattle.reservations.specs.size_values.specs.Amounts.{nothing}
-use Rattle.row_codec.specs.operations.specs.declared.operation.Operation.{Operation}
-use Rattle.row_codec.specs.records.specs.declared.rows.Instance.{Instance}
-use Rattle.row_codec.specs.records.specs.declared.rows.Profile.{Profile}
+use Rattle.size_values.specs.Amounts.{nothing}
+use Rattle.operations.specs.declared.operation.Operation.{Operation}
+use Rattle.records.specs.declared.rows.Instance.{Instance}
+use Rattle.records.specs.declared.rows.Profile.{Profile}
 use Rattle.row_machine.specs.declared.events.Answer.{Answer}
 use Rattle.row_machine.specs.declared.events.Answer.TheVariants as answer
 use Rattle.row_machine.specs.machine.Task.{Task}

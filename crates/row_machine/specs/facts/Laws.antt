@@ -3,7 +3,7 @@ use Rattle.std.specs.Prelude.{◌≡◌, ◌≢◌, ℕ, List, [], ◌++◌, map
 use Rattle.row_machine.specs.Words.{Mem, Distinct, HostCall, Status, kept_at, AreKept, Command, Target, Untold, Refusal}
 use Rattle.row_machine.specs.Words.kind
 use Rattle.row_machine.specs.Words.reply
-use Rattle.row_codec.specs.operations.specs.declared.operation.Operation.{Operation}
+use Rattle.operations.specs.declared.operation.Operation.{Operation}
 use Rattle.row_machine.specs.declared.events.Event.{Event}
 use Rattle.row_machine.specs.declared.events.Event.TheVariants as event
 use Rattle.row_machine.specs.declared.events.Answer.TheVariants as answer

@@ -10,9 +10,9 @@ use Rattle.row_machine.specs.Words.kind
 use Rattle.row_machine.specs.Words.status
 use Rattle.row_machine.specs.machine.Deeds.{keeps_name, has_target, claim_kind, replaces_target, target_kind}
 use Rattle.row_machine.specs.machine.Deeds.{has_source}
-use Rattle.row_codec.specs.operations.specs.declared.operation.Operation.{Operation}
-use Rattle.row_codec.specs.records.specs.declared.rows.Project.{Project}
-use Rattle.row_codec.specs.records.specs.declared.rows.Instance.{Instance}
+use Rattle.operations.specs.declared.operation.Operation.{Operation}
+use Rattle.records.specs.declared.rows.Project.{Project}
+use Rattle.records.specs.declared.rows.Instance.{Instance}
 use Rattle.row_machine.specs.machine.Task.{Task}
 use Rattle.reservations.specs.declared.books.Hold.{Hold}
 use Rattle.row_machine.specs.machine.State.{State}
@@ -111,7 +111,7 @@ pub record IsPlaced (state : State) (task : Task) : Type 0 where
   pub renamed : IsRenamed state task
 
 -- all that rows, claims and operations name exists
-pub record AreLinked (state : State) : Type 0 where
+pub record ReferencesExist (state : State) : Type 0 where
   pub homes : Each (λ row. home_missing state row ≡ None) (rows_of state)
   pub volumes : Each (λ volume. is_some (pool_named state.pools volume.pool) ≡ true) state.volumes
   pub snapshots : Each (λ snapshot. is_some (instance_named state.instances snapshot.project snapshot.instance) ≡ true)
@@ -247,7 +247,7 @@ pub record AreFew (state : State) : Type 0 where
 -- its policy; the books balance; and nothing is too large.
 pub record IsWhole (state : State) : Type 0 where
   pub names : AreNamed state
-  pub links : AreLinked state
+  pub links : ReferencesExist state
   pub defaults : HasDefaults state
   pub settings : AreSettled state
   pub operations : AreOperations state

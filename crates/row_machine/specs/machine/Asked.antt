@@ -45,11 +45,11 @@ with_name state project of =
     else of
 
 -- the object under the name that a creation or a rename gives it
-abbrev pub named_anew : State → List ℕ → What → Option Target
-named_anew state project (what.Create of body) =
+abbrev pub new_name_of : State → List ℕ → What → Option Target
+new_name_of state project (what.Create of body) =
     Some (if is_of_kind kind.Snapshot of then with_name state project of else of)
-named_anew state project (what.Move of to) = Some (record of { name = to })
-named_anew state project other = None
+new_name_of state project (what.Move of to) = Some (record of { name = to })
+new_name_of state project other = None
 
 abbrev pub copied_from : ObjectKind → Origin → Option (List ℕ)
 copied_from kind.Instance (origin.Copy from snapshot pool) = Some from
@@ -82,7 +82,7 @@ instance_changed (what.Restore of snapshot) = Some of.name
 instance_changed other = None
 
 -- whether a command renames or deletes the object of its path
-abbrev pub is_parting : What → Bool
-is_parting (what.Move of to) = true
-is_parting (what.Delete of) = true
-is_parting other = false
+abbrev pub renames_or_deletes : What → Bool
+renames_or_deletes (what.Move of to) = true
+renames_or_deletes (what.Delete of) = true
+renames_or_deletes other = false

@@ -2,7 +2,7 @@
 use Rattle.std.specs.Prelude.{◌∷◌}
 use Rattle.row_machine.specs.Words.{ℕ, List, [], Option, None, option_and_then, first, Refusal, Row, Command}
 use Rattle.row_machine.specs.Estate.{State}
-use Rattle.row_machine.specs.Readings.{applied, named_anew}
+use Rattle.row_machine.specs.Readings.{applied, new_name_of}
 use Rattle.row_machine.specs.Doings.{Plan, nothing, changes, starts, plan_of, rows_of_plan, claiming}
 use Rattle.row_machine.specs.machine.NameRules.{project_missing, what_is_missing, name_broken}
 use Rattle.row_machine.specs.machine.StandingRules.{instance_busy, wrong_state, object_protected, object_used}
@@ -18,7 +18,7 @@ unfoldable pub names_broken : State → Command → Option Refusal
 names_broken state command = first
     (project_missing state command
     ∷ what_is_missing state command.project command.what
-    ∷ option_and_then (name_broken state command.project) (named_anew state command.project command.what)
+    ∷ option_and_then (name_broken state command.project) (new_name_of state command.project command.what)
     ∷ [])
 
 -- Rules on what stands in the way: the instance is busy (B1) or in the wrong state (B2), the object is protected (B3)

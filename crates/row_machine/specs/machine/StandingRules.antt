@@ -7,7 +7,7 @@ use Rattle.row_machine.specs.Words.{Target, Command, What, Deed as deed, ObjectK
 use Rattle.row_machine.specs.Words.{Project}
 use Rattle.row_machine.specs.Estate.{State, default_name, project_named, instance_named, is_standing, home_of, is_on}
 use Rattle.row_machine.specs.Estate.{expanded_of, kind_text, nothing_told, on_name, on_object, is_of_kind}
-use Rattle.row_machine.specs.Readings.{power_line, busy_with, holder_of, first_user_of, instance_changed, is_parting}
+use Rattle.row_machine.specs.Readings.{power_line, busy_with, holder_of, first_user_of, instance_changed, renames_or_deletes}
 use Rattle.row_machine.specs.machine.NewRows.{put_project, patched_project}
 
 abbrev pub named_instance_busy : State → List ℕ → List ℕ → Option Refusal
@@ -96,8 +96,8 @@ abbrev pub is_protected : State → Command → Target → Bool
 is_protected state command of = protected of.kind where
   protected : ObjectKind → Bool
   protected kind.Project =
-      bytes_eq of.name default_name && (is_parting command.what || asks_for_features state command.what)
-  protected kind.Profile = bytes_eq of.name default_name && is_parting command.what
+      bytes_eq of.name default_name && (renames_or_deletes command.what || asks_for_features state command.what)
+  protected kind.Profile = bytes_eq of.name default_name && renames_or_deletes command.what
   protected kind.Instance = is_deletion command.what && protects_itself state command.project of.name
   protected other = false
 
@@ -124,7 +124,7 @@ used_by_first state command of =
 -- B4: the object that a command renames or deletes has a user.
 unfoldable pub object_used : State → Command → Option Refusal
 object_used state command =
-    if is_parting command.what then option_and_then (used_by_first state command) (object_changed command.what)
+    if renames_or_deletes command.what then option_and_then (used_by_first state command) (object_changed command.what)
     else None
 
 -- It has an instance, a network, a volume, a profile other than `default`, or a live operation.
@@ -137,7 +137,7 @@ is_occupied state name =
     || list_any (λ operation. bytes_eq operation.work.project name) state.operations.live
 
 abbrev pub must_be_empty : State → What → Target → Bool
-must_be_empty state asked of = is_of_kind kind.Project of && (is_parting asked || asks_for_features state asked)
+must_be_empty state asked of = is_of_kind kind.Project of && (renames_or_deletes asked || asks_for_features state asked)
 
 -- B5: the project that a command needs empty is not.
 unfoldable pub project_occupied : State → Command → Option Refusal

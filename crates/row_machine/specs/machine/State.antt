@@ -1,15 +1,15 @@
 -- The state of the server: plain lists.
 use Rattle.std.specs.Prelude.{ℕ, List, [], Bool, false}
 use Rattle.row_machine.specs.Words.{Power, no_operations, Books, no_books, Notice}
-use Rattle.row_codec.specs.operations.specs.Kept.{Kept}
+use Rattle.operations.specs.Kept.{Kept}
 use Rattle.reservations.specs.declared.books.Hold.{Hold}
-use Rattle.row_codec.specs.records.specs.declared.rows.Project.{Project}
-use Rattle.row_codec.specs.records.specs.declared.rows.Profile.{Profile}
-use Rattle.row_codec.specs.records.specs.declared.rows.Network.{Network}
-use Rattle.row_codec.specs.records.specs.declared.rows.Pool.{Pool}
-use Rattle.row_codec.specs.records.specs.declared.rows.Volume.{Volume}
-use Rattle.row_codec.specs.records.specs.declared.rows.Instance.{Instance}
-use Rattle.row_codec.specs.records.specs.declared.rows.Snapshot.{Snapshot}
+use Rattle.records.specs.declared.rows.Project.{Project}
+use Rattle.records.specs.declared.rows.Profile.{Profile}
+use Rattle.records.specs.declared.rows.Network.{Network}
+use Rattle.records.specs.declared.rows.Pool.{Pool}
+use Rattle.records.specs.declared.rows.Volume.{Volume}
+use Rattle.records.specs.declared.rows.Instance.{Instance}
+use Rattle.records.specs.declared.rows.Snapshot.{Snapshot}
 use Rattle.row_machine.specs.machine.Task.{Task}
 
 -- the status of the instance of this project and name

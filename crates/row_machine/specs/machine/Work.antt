@@ -8,7 +8,7 @@ use Rattle.row_machine.specs.Words.{Status as status, Row as row, no_amounts, Op
 use Rattle.row_machine.specs.Words.{RowChange, RowChange as change}
 use Rattle.row_machine.specs.Estate.{breaks_instance, Task, instance_named, snapshot_named, is_standing}
 use Rattle.row_machine.specs.Readings.{share_of, project_of_row, claimed_instance, applied, removal, snapshots_of}
-use Rattle.row_codec.specs.operations.specs.Kept as kept
+use Rattle.operations.specs.Kept as kept
 use Rattle.reservations.specs.declared.books.Hold.{Hold}
 use Rattle.row_machine.specs.machine.State.{State}
 

@@ -10,7 +10,7 @@ use Rattle.row_machine.specs.Words.kind
 use Rattle.row_machine.specs.Words.scope
 use Rattle.row_machine.specs.Words.rule
 use Rattle.row_machine.specs.Words.row
-use Rattle.row_codec.specs.records.specs.declared.rows.Project.{Project}
+use Rattle.records.specs.declared.rows.Project.{Project}
 use Rattle.row_codec.specs.Spelling.{key_of, kind_of}
 use Rattle.row_codec.specs.Reading.{row_of}
 use Rattle.row_machine.specs.machine.State.{State, empty_state}

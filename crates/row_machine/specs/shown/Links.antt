@@ -3,9 +3,9 @@ use Rattle.std.specs.Prelude.{ℕ, List, [], ◌∷◌, ◌++◌, if◌then◌el
 use Rattle.std.specs.Str.{bytes_eq}
 use Rattle.row_machine.specs.Words.{inserted, ObjectKind, Row, Target}
 use Rattle.row_machine.specs.Words.row
-use Rattle.reservations.specs.size_values.specs.declared.kinds.ObjectKind.TheVariants.{Project, Profile}
-use Rattle.reservations.specs.size_values.specs.declared.kinds.ObjectKind.TheVariants.{Network, Pool, Volume, Instance}
-use Rattle.reservations.specs.size_values.specs.declared.kinds.ObjectKind.TheVariants.{Snapshot, Operation}
+use Rattle.size_values.specs.declared.kinds.ObjectKind.TheVariants.{Project, Profile}
+use Rattle.size_values.specs.declared.kinds.ObjectKind.TheVariants.{Network, Pool, Volume, Instance}
+use Rattle.size_values.specs.declared.kinds.ObjectKind.TheVariants.{Snapshot, Operation}
 use Rattle.row_machine.specs.machine.Rows.{default_name, text_before}
 
 -- the query that names a project; `default` needs none

@@ -10,8 +10,8 @@ use Rattle.row_machine.specs.Words.deed
 use Rattle.row_machine.specs.Words.kind
 use Rattle.row_machine.specs.Words.life
 use Rattle.row_machine.specs.Words.what
-use Rattle.row_codec.specs.operations.specs.declared.operation.Operation.{Operation}
-use Rattle.row_codec.specs.records.specs.declared.notices.Told.TheVariants as told
+use Rattle.operations.specs.declared.operation.Operation.{Operation}
+use Rattle.records.specs.declared.notices.Told.TheVariants as told
 use Rattle.row_machine.specs.declared.events.Fetched.{Fetched}
 use Rattle.row_machine.specs.declared.events.Fetched.TheVariants.{Notices, Lagged}
 use Rattle.row_machine.specs.machine.Task.{Task}

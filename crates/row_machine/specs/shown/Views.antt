@@ -12,11 +12,11 @@ use Rattle.row_machine.specs.Words.view
 use Rattle.row_machine.specs.Words.reply
 use Rattle.row_machine.specs.Words.row
 use Rattle.row_machine.specs.Words.what
-use Rattle.row_codec.specs.operations.specs.declared.operation.Operation.{Operation}
-use Rattle.row_codec.specs.operations.specs.declared.status.Status.TheVariants.{Running}
-use Rattle.row_codec.specs.records.specs.declared.replies.LimitKeyName.TheVariants as line
-use Rattle.row_codec.specs.records.specs.declared.rows.Project.{Project}
-use Rattle.row_codec.specs.records.specs.declared.rows.Instance.{Instance}
+use Rattle.operations.specs.declared.operation.Operation.{Operation}
+use Rattle.operations.specs.declared.status.Status.TheVariants.{Running}
+use Rattle.records.specs.declared.replies.LimitKeyName.TheVariants as line
+use Rattle.records.specs.declared.rows.Project.{Project}
+use Rattle.records.specs.declared.rows.Instance.{Instance}
 use Rattle.row_machine.specs.machine.Task.{Task}
 use Rattle.row_machine.specs.machine.State.{State}
 use Rattle.row_machine.specs.machine.Homes.{home_of}

@@ -1,7 +1,7 @@
 use Rattle.std.proofs.Common.{◌≡◌, sym, subst, ap, ◌∙◌}
-use Rattle.task_plans.specs.size_values.specs.declared.memory.Or.TheVariants as or
-use Rattle.task_plans.specs.row_machine.specs.machine.Plans.{plan_of}
-use Rattle.task_plans.specs.Begun.{task_in}
+use Rattle.size_values.specs.declared.memory.Or.TheVariants as or
+use Rattle.row_machine.specs.machine.Plans.{plan_of}
+use Rattle.plans_tasks.specs.Begun.{task_in}
 use Rattle.core_objects.specs.core_rows.proofs.Following.{follows-why}
 use Rattle.core_objects.proofs.FirstRules.{both-free}
 use Rattle.core_instances.proofs.Planned.{is-planned, plan-starts}

@@ -1,8 +1,8 @@
 use Rattle.std.proofs.Common.{◌≡◌, ◌∷◌, [], ◌∙◌, sym, subst, None}
-use Rattle.task_plans.specs.plain_lists.specs.Firsts.{first}
-use Rattle.task_plans.specs.size_values.specs.Causes.{Refuses}
-use Rattle.task_plans.specs.row_machine.specs.machine.Rules.{names_broken, standing_broken}
-use Rattle.task_plans.specs.row_machine.specs.shown.Views.{read}
+use Rattle.plain_lists.specs.Firsts.{first}
+use Rattle.size_values.specs.Causes.{Refuses}
+use Rattle.row_machine.specs.machine.Rules.{names_broken, standing_broken}
+use Rattle.row_machine.specs.shown.Views.{read}
 use Rattle.core_objects.specs.core_rows.specs.Planned.{Follows}
 use Rattle.core_objects.specs.core_rows.proofs.Following.{follows-why}
 use Rattle.core_objects.specs.Answers.{IsAnswer}

@@ -1,8 +1,8 @@
 use Rattle.std.proofs.Common.{◌≡◌, subst, sym, ap, ◌∙◌, None}
-use Rattle.name_rules.specs.size_values.specs.declared.memory.Or.TheVariants as or
-use Rattle.name_rules.specs.row_machine.specs.shown.Notices.{change_notices}
-use Rattle.name_rules.specs.row_machine.specs.machine.Plans.{plan_of}
-use Rattle.object_plans.specs.Planning.{IsPlanned, changes_in}
+use Rattle.size_values.specs.declared.memory.Or.TheVariants as or
+use Rattle.row_machine.specs.shown.Notices.{change_notices}
+use Rattle.row_machine.specs.machine.Plans.{plan_of}
+use Rattle.plans_objects.specs.Planning.{IsPlanned, changes_in}
 use Rattle.core_rows.proofs.Following.{follows-why}
 use Rattle.core_objects.proofs.FirstRules.{both-free}
 use Rattle.core_objects.proofs.objects.change_at_once.Goals as goal

@@ -1,9 +1,9 @@
 use Rattle.std.proofs.Common.{◌≡◌, ◌∷◌, [], ◌∙◌, sym, subst, None}
-use Rattle.name_rules.specs.plain_lists.specs.Firsts.{first}
-use Rattle.name_rules.specs.size_values.specs.Causes.{Refuses}
-use Rattle.name_rules.specs.row_machine.specs.machine.Rules.{names_broken}
-use Rattle.name_rules.specs.row_machine.specs.machine.Rules.{standing_broken}
-use Rattle.name_rules.specs.row_machine.specs.shown.Views.{read}
+use Rattle.plain_lists.specs.Firsts.{first}
+use Rattle.size_values.specs.Causes.{Refuses}
+use Rattle.row_machine.specs.machine.Rules.{names_broken}
+use Rattle.row_machine.specs.machine.Rules.{standing_broken}
+use Rattle.row_machine.specs.shown.Views.{read}
 use Rattle.core_rows.specs.Planned.{Follows}
 use Rattle.core_rows.proofs.Following.{follows-why}
 use Rattle.core_objects.specs.Answers.{IsAnswer}

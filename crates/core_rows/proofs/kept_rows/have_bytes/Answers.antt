@@ -1,8 +1,8 @@
 use Rattle.std.proofs.Common.{[], ◌∷◌, ◌++◌, take, ap, sym, subst, ◌∙◌, arith}
 use Rattle.std.proofs.lemmas.List.{take_more, take_all}
-use Rattle.opening_rules.specs.plain_lists.specs.Members.{Each}
-use Rattle.opening_rules.specs.plain_lists.proofs.Elements.{Each-none, Each-push}
-use Rattle.judged_changes.specs.machine_laws.specs.Openings.{HasBytes}
+use Rattle.plain_lists.specs.Members.{Each}
+use Rattle.plain_lists.proofs.Elements.{Each-none, Each-push}
+use Rattle.machine_laws.specs.Openings.{HasBytes}
 use Rattle.core_rows.proofs.kept_rows.have_bytes.Goals as goal
 
 pub loop-entry-init : goal.loop-entry-init

@@ -1,6 +1,6 @@
 use Rattle.std.proofs.Common.{take}
-use Rattle.opening_rules.specs.plain_lists.specs.Members.{Each}
-use Rattle.judged_changes.specs.machine_laws.specs.Openings.{HasBytes}
+use Rattle.plain_lists.specs.Members.{Each}
+use Rattle.machine_laws.specs.Openings.{HasBytes}
 use Rattle.core_rows.proofs.kept_rows.have_bytes.Given as goal
 
 -- those before have bytes

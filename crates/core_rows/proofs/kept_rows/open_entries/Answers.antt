@@ -1,5 +1,5 @@
 use Rattle.std.proofs.Common.{ap, arith}
-use Rattle.judged_changes.specs.machine_laws.proofs.OpeningKept.{opening-whole}
+use Rattle.machine_laws.proofs.OpeningKept.{opening-whole}
 use Rattle.core_rows.proofs.Opened.{opened-idle}
 use Rattle.core_rows.proofs.kept_rows.open_entries.Goals as goal
 

@@ -1,6 +1,6 @@
 use Rattle.std.proofs.Common.{sym, subst}
 use Rattle.std.specs.List.{AllByRecursion}
-use Rattle.judged_changes.specs.work_reports.specs.Entries.{HasEntry}
+use Rattle.core_judging.specs.core_reports.specs.Entries.{HasEntry}
 use Rattle.core_rows.proofs.FirstEntries.{first-entries}
 use Rattle.core_rows.proofs.opening.first_entries.Goals as goal
 

@@ -1,12 +1,12 @@
 use Rattle.std.proofs.Common.{arith, refl, ◌∙◌, ap, sym, subst}
-use Rattle.opening_rules.specs.row_machine.specs.machine.State.{empty_state}
-use Rattle.opening_rules.specs.row_machine.specs.machine.Changes.{applied}
-use Rattle.opening_rules.specs.row_machine.specs.facts.Whole.{IsWhole}
-use Rattle.opening_rules.specs.row_machine.proofs.Beginning.{new-whole}
-use Rattle.opening_rules.specs.row_machine.specs.machine.State.{State}
-use Rattle.judged_changes.specs.row_drafts.specs.Background.{Backing}
-use Rattle.judged_changes.specs.machine_laws.proofs.NamesApplied.{applied-operations}
-use Rattle.judged_changes.specs.work_reports.specs.Waiting.{IsSilent}
+use Rattle.row_machine.specs.machine.State.{empty_state}
+use Rattle.row_machine.specs.machine.Changes.{applied}
+use Rattle.row_machine.specs.facts.Whole.{IsWhole}
+use Rattle.row_machine.proofs.PreparedStart.{new-whole}
+use Rattle.row_machine.specs.machine.State.{State}
+use Rattle.core_drafts.specs.Background.{Backing}
+use Rattle.machine_laws.proofs.NamesApplied.{applied-operations}
+use Rattle.core_judging.specs.core_reports.specs.Waiting.{IsSilent}
 use Rattle.core_rows.specs.Opening.{first_state}
 use Rattle.core_rows.proofs.opening.first_estate.Goals as goal
 

@@ -1,5 +1,5 @@
 use Rattle.std.proofs.Common.{◌∙◌, ap, sym, subst}
-use Rattle.notice_laws.specs.row_machine.specs.declared.events.Event.TheVariants as event
+use Rattle.row_machine.specs.declared.events.Event.TheVariants as event
 use Rattle.core_turns.specs.Commands.{held_for}
 use Rattle.core_turns.specs.Turns.{Comes}
 use Rattle.core_turns.proofs.Holding.{hold-comes, unheld}

@@ -1,7 +1,7 @@
 use Rattle.std.proofs.Common.{◌∙◌, ap, sym, true, false}
 use Rattle.std.specs.Option.{is_some}
-use Rattle.notice_laws.specs.operations.specs.Kept.{live_at}
-use Rattle.notice_laws.specs.row_machine.specs.machine.State.{State}
+use Rattle.operations.specs.Kept.{live_at}
+use Rattle.row_machine.specs.machine.State.{State}
 use Rattle.core_turns.proofs.Workers.{look-comes}
 use Rattle.core_turns.proofs.asking.look.Goals as goal
 

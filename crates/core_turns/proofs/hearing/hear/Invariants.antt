@@ -1,5 +1,5 @@
 use Rattle.std.proofs.Common.{◌≡◌, ℕ, length}
-use Rattle.notice_laws.specs.event_hub.specs.Recent.{all_pushed}
+use Rattle.event_hub.specs.Recent.{all_pushed}
 use Rattle.core_turns.proofs.hearing.hear.Given as goal
 
 -- the rows stay, and what still waits comes after what was told

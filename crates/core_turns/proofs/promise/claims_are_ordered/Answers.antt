@@ -1,8 +1,8 @@
 use Rattle.std.proofs.Common.{subst}
 use Rattle.std.specs.Prelude.{IfSome}
-use Rattle.notice_laws.specs.operations.specs.declared.operation.Operation.{Operation}
-use Rattle.notice_laws.specs.row_machine.specs.machine.Task.{Task}
-use Rattle.notice_laws.specs.machine_laws.specs.Sorted.{IsSortedRow}
+use Rattle.operations.specs.declared.operation.Operation.{Operation}
+use Rattle.row_machine.specs.machine.Task.{Task}
+use Rattle.machine_laws.specs.Sorted.{IsSortedRow}
 use Rattle.core_turns.proofs.Ordered.{each-next}
 use Rattle.core_turns.proofs.promise.claims_are_ordered.Goals as goal
 

@@ -1,6 +1,6 @@
 use Rattle.std.proofs.Common.{subst}
-use Rattle.notice_laws.specs.machine_laws.specs.Sorted.{AreSortedRows}
-use Rattle.notice_laws.specs.machine_laws.proofs.HeadlineStands.{stands}
+use Rattle.machine_laws.specs.Sorted.{AreSortedRows}
+use Rattle.machine_laws.proofs.HeadlineStands.{stands}
 use Rattle.core_turns.proofs.promise.no_project_is_above_its_limits.Goals as goal
 
 pub returns : goal.returns

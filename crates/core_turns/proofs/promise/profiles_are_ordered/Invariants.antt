@@ -1,8 +1,8 @@
 use Rattle.std.proofs.Common.{take}
-use Rattle.notice_laws.specs.plain_lists.specs.Members.{Each}
-use Rattle.notice_laws.specs.records.specs.declared.rows.Profile.{Profile}
-use Rattle.notice_laws.specs.records.specs.declared.rows.Row.TheVariants as row
-use Rattle.notice_laws.specs.machine_laws.specs.Sorted.{IsSortedRow}
+use Rattle.plain_lists.specs.Members.{Each}
+use Rattle.records.specs.declared.rows.Profile.{Profile}
+use Rattle.records.specs.declared.rows.Row.TheVariants as row
+use Rattle.machine_laws.specs.Sorted.{IsSortedRow}
 use Rattle.core_turns.proofs.promise.profiles_are_ordered.Given as goal
 
 abbrev pub invariant-loop-profile : goal.invariant-loop-profile

@@ -1,6 +1,6 @@
 use Rattle.std.proofs.Common.{subst}
-use Rattle.core_instances.specs.row_readings.specs.Lent.{state_in}
-use Rattle.notice_laws.specs.machine_laws.specs.Sorted.{AreSortedRows}
+use Rattle.row_readings.specs.Lent.{state_in}
+use Rattle.machine_laws.specs.Sorted.{AreSortedRows}
 use Rattle.core_turns.proofs.Ordered.{all-ordered}
 use Rattle.core_turns.proofs.promise.rows_are_ordered.Goals as goal
 

@@ -1,6 +1,6 @@
-use Rattle.notice_laws.specs.records.specs.declared.rows.Snapshot.{Snapshot}
-use Rattle.notice_laws.specs.records.specs.declared.rows.Row.TheVariants as row
-use Rattle.notice_laws.specs.machine_laws.specs.Sorted.{IsSortedRow}
+use Rattle.records.specs.declared.rows.Snapshot.{Snapshot}
+use Rattle.records.specs.declared.rows.Row.TheVariants as row
+use Rattle.machine_laws.specs.Sorted.{IsSortedRow}
 use Rattle.core_turns.proofs.Ordered.{each-all, each-next}
 use Rattle.core_turns.proofs.promise.snapshots_are_ordered.Goals as goal
 

@@ -1,7 +1,7 @@
 use Rattle.std.proofs.Common.{◌∙◌, ap, sym, subst, cond}
-use Rattle.notice_laws.specs.row_machine.specs.declared.events.Answer.TheVariants as answer
-use Rattle.notice_laws.specs.row_machine.specs.declared.events.Event.TheVariants as event
-use Rattle.notice_laws.specs.row_machine.specs.machine.State.{State}
+use Rattle.row_machine.specs.declared.events.Answer.TheVariants as answer
+use Rattle.row_machine.specs.declared.events.Event.TheVariants as event
+use Rattle.row_machine.specs.machine.State.{State}
 use Rattle.core_turns.specs.Turns.{Comes}
 use Rattle.core_turns.proofs.Workers.{job-comes, no-job-comes}
 use Rattle.core_turns.proofs.working.take.Goals as goal

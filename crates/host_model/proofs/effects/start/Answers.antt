@@ -1,6 +1,6 @@
 use Rattle.std.proofs.Common.{◌≡◌, ◌∙◌, ap, subst}
 use Rattle.std.specs.Prelude.{OnOk}
-use Rattle.config_lists.specs.size_values.specs.declared.kinds.Power.TheVariants.{Running}
+use Rattle.size_values.specs.declared.kinds.Power.TheVariants.{Running}
 use Rattle.host_model.specs.declared.root.Spec.{Spec}
 use Rattle.host_model.specs.declared.root.HostRoot.{HostRoot}
 use Rattle.host_model.specs.Roots.{root_at, with_root}

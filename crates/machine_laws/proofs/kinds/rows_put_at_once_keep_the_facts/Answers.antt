@@ -1,4 +1,4 @@
-use Rattle.record_keeper.specs.size_values.specs.declared.kinds.ObjectKind.TheVariants as kind
+use Rattle.size_values.specs.declared.kinds.ObjectKind.TheVariants as kind
 use Rattle.machine_laws.proofs.ChangeKinds.{rows-keep}
 use Rattle.machine_laws.proofs.kinds.rows_put_at_once_keep_the_facts.Goals as goal
 

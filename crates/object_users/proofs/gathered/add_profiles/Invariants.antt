@@ -1,5 +1,5 @@
 use Rattle.std.proofs.Common.{◌≡◌, ◌++◌, map, take}
-use Rattle.row_machine.specs.records.specs.declared.rows.Row.TheVariants as row
+use Rattle.records.specs.declared.rows.Row.TheVariants as row
 use Rattle.object_users.proofs.gathered.add_profiles.Given as goal
 
 abbrev pub invariant-loop-row : goal.invariant-loop-row

@@ -1,6 +1,6 @@
 use Rattle.std.proofs.Common.{◌≡◌, ◌++◌, map, take, filter}
 use Rattle.std.specs.Str.{bytes_eq}
-use Rattle.row_machine.specs.records.specs.declared.rows.Row.TheVariants as row
+use Rattle.records.specs.declared.rows.Row.TheVariants as row
 use Rattle.object_users.proofs.gathered.add_snapshots.Given as goal
 
 abbrev pub invariant-loop-row : goal.invariant-loop-row

@@ -1,5 +1,5 @@
 use Rattle.std.proofs.Common.{◌≡◌, ◌++◌, OnOk, map, filter, ap, subst, ◌∙◌}
-use Rattle.row_machine.specs.records.specs.declared.rows.Row.TheVariants as row
+use Rattle.records.specs.declared.rows.Row.TheVariants as row
 use Rattle.row_machine.specs.machine.Holders.{instance_uses}
 use Rattle.row_machine.specs.machine.State.{State}
 use Rattle.object_users.proofs.AtHome.{using-instances}

@@ -1,5 +1,5 @@
 use Rattle.std.proofs.Common.{◌++◌, map, sym, ap, ◌∙◌, append-nil}
-use Rattle.row_machine.specs.records.specs.declared.rows.Row.TheVariants as row
+use Rattle.records.specs.declared.rows.Row.TheVariants as row
 use Rattle.object_users.proofs.Idle.{no-volume-uses}
 use Rattle.object_users.proofs.users.add_using_volumes.Goals as goal
 

@@ -1,5 +1,5 @@
 use Rattle.std.proofs.Common.{◌≡◌, IfOk, map, filter, ap, subst, ◌∙◌}
-use Rattle.row_machine.specs.records.specs.declared.rows.Row.TheVariants as row
+use Rattle.records.specs.declared.rows.Row.TheVariants as row
 use Rattle.row_machine.specs.machine.Holders.{names_profile}
 use Rattle.row_machine.specs.machine.State.{State}
 use Rattle.object_users.proofs.AtHome.{naming-at_home}

@@ -1,4 +1,4 @@
-use Rattle.config_lists.specs.size_values.specs.declared.amounts.Part.TheVariants.{Instances, Containers, Machines, Cpu, Memory, Processes, Disk}
+use Rattle.size_values.specs.declared.amounts.Part.TheVariants.{Instances, Containers, Machines, Cpu, Memory, Processes, Disk}
 use Rattle.project_limits.proofs.admission.admit.Goals as goal
 
 pub refuse_over-requires : goal.refuse_over-requires

@@ -2,9 +2,9 @@ use Rattle.std.proofs.Common.{◌≡◌, true, refl, sym, ◌∙◌}
 use Rattle.std.specs.Fmt.{digits}
 use Rattle.json.specs.Print.{escape_byte}
 use Rattle.http_front.specs.Replies.{reply_text}
-use Rattle.reply_views.specs.Views.{server_data}
-use Rattle.reply_views.specs.records.specs.declared.replies.View.{View}
-use Rattle.reply_views.specs.records.specs.declared.replies.View.TheVariants as view
+use Rattle.rest_json.specs.Views.{server_data}
+use Rattle.records.specs.declared.replies.View.{View}
+use Rattle.records.specs.declared.replies.View.TheVariants as view
 use Rattle.rest_replies.specs.Replies.{printed_of, success_data, is_server}
 use Rattle.rest_replies.proofs.known.known_reply.Goals as goal
 

@@ -2,7 +2,7 @@ use Rattle.std.proofs.Common.{refl}
 use Rattle.std.specs.Fmt.{digits}
 use Rattle.json.specs.Print.{escape_byte}
 use Rattle.http_front.specs.Replies.{reply_text}
-use Rattle.reply_views.specs.Views.{server_data}
+use Rattle.rest_json.specs.Views.{server_data}
 use Rattle.rest_replies.specs.Replies.{printed_of, success_data}
 use Rattle.rest_replies.proofs.known.server_text.Goals as goal
 

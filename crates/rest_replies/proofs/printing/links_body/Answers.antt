@@ -2,8 +2,8 @@ use Rattle.std.proofs.Common.{[], ◌∷◌, codes, ◌∙◌}
 use Rattle.std.specs.Fmt.{digits}
 use Rattle.json.specs.Print.{escape_byte}
 use Rattle.serde_json.specs.Written.{compact_text}
-use Rattle.reply_views.proofs.Gathered.{more, all_followed}
-use Rattle.reply_views.specs.reply_parts.specs.Settings.{texts_data}
+use Rattle.rest_json.proofs.Gathered.{more, all_followed}
+use Rattle.rest_json.specs.Settings.{texts_data}
 use Rattle.rest_replies.specs.Replies.{success_data}
 use Rattle.rest_replies.proofs.printing.links_body.Goals as goal
 

@@ -1,7 +1,7 @@
 use Rattle.std.proofs.Common.{◌≡◌, ◌++◌, ℕ, map, drop}
 use Rattle.serde_json.specs.Data.{string}
 use Rattle.serde_json.specs.View.{view}
-use Rattle.reply_views.specs.reply_parts.specs.Ids.{operation_link}
+use Rattle.rest_json.specs.Ids.{operation_link}
 use Rattle.rest_replies.proofs.printing.links_value.Given as goal
 
 abbrev pub invariant-loop-number : goal.invariant-loop-number

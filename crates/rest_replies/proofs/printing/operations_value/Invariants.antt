@@ -1,6 +1,6 @@
 use Rattle.std.proofs.Common.{◌≡◌, ◌++◌, map, drop}
 use Rattle.serde_json.specs.View.{view}
-use Rattle.reply_views.specs.Operations.{operation_data}
+use Rattle.rest_json.specs.Operations.{operation_data}
 use Rattle.rest_replies.proofs.printing.operations_value.Given as goal
 
 abbrev pub invariant-loop-operation : goal.invariant-loop-operation

@@ -2,10 +2,10 @@ use Rattle.std.proofs.Common.{[], ◌∷◌, codes, ◌∙◌}
 use Rattle.std.specs.Fmt.{digits}
 use Rattle.json.specs.Print.{escape_byte}
 use Rattle.serde_json.specs.Written.{compact_text}
-use Rattle.reply_views.proofs.Gathered.{more, all_followed}
+use Rattle.rest_json.proofs.Gathered.{more, all_followed}
 use Rattle.json.specs.Print.{quoted}
-use Rattle.reply_views.specs.reply_parts.specs.Ids.{operation_link}
-use Rattle.reply_views.specs.Operations.{operation_data}
+use Rattle.rest_json.specs.Ids.{operation_link}
+use Rattle.rest_json.specs.Operations.{operation_data}
 use Rattle.rest_replies.specs.Replies.{started_data}
 use Rattle.rest_replies.proofs.printing.started_body.Goals as goal
 

@@ -1,6 +1,6 @@
 use Rattle.std.proofs.Common.{◌≡◌, drop}
 use Rattle.serde_json.specs.Data.{no_members}
-use Rattle.reply_views.specs.reply_parts.specs.Objects.{members_in}
+use Rattle.rest_json.specs.Objects.{members_in}
 use Rattle.rest_replies.specs.Replies.{put_operations}
 use Rattle.rest_replies.proofs.printing.whole_by_status.Given as goal
 

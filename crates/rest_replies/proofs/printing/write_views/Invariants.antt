@@ -1,7 +1,7 @@
 use Rattle.std.proofs.Common.{◌≡◌, ◌∷◌, ◌++◌, map, drop, false}
 use Rattle.serde_json.specs.View.{items_of}
 use Rattle.serde_json.specs.Written.{items_text}
-use Rattle.reply_views.specs.Views.{view_data}
+use Rattle.rest_json.specs.Views.{view_data}
 use Rattle.rest_replies.proofs.printing.write_views.Given as goal
 
 abbrev pub invariant-loop-shown : goal.invariant-loop-shown

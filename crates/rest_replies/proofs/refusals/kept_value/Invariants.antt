@@ -1,6 +1,6 @@
 use Rattle.std.proofs.Common.{◌≡◌, drop, codes}
 use Rattle.serde_json.specs.Data.{no_members, string, put}
-use Rattle.reply_views.specs.reply_parts.specs.Objects.{members_in}
+use Rattle.rest_json.specs.Objects.{members_in}
 use Rattle.rest_replies.specs.Refusals.{put_parts, rule_name}
 use Rattle.rest_replies.proofs.refusals.kept_value.Given as goal
 

@@ -2,7 +2,7 @@ use Rattle.std.proofs.Common.{ℕ, ◌+◌, map, drop, ap, ◌∙◌, arith}
 use Rattle.std.specs.List.{enumerate_from}
 use Rattle.std.specs.Map.{values_of}
 use Rattle.std.proofs.lemmas.List.{length-map}
-use Rattle.option_tables.specs.config_lists.specs.Settings.{Settings}
+use Rattle.config_lists.specs.Settings.{Settings}
 use Rattle.restrictions.specs.Policies.{seen}
 use Rattle.restrictions.specs.Forbids.{forbidden_at, earlier, lowest, device_rule, broken_devices}
 use Rattle.restrictions.proofs.Lowest.{lowest-next, lowest-all}

@@ -1,7 +1,7 @@
 use Rattle.std.proofs.Common.{◌≡◌, ℕ, map, drop}
 use Rattle.std.specs.List.{enumerate_from}
 use Rattle.std.specs.Map.{values_of}
-use Rattle.option_tables.specs.config_lists.specs.Settings.{Settings}
+use Rattle.config_lists.specs.Settings.{Settings}
 use Rattle.restrictions.specs.Policies.{seen}
 use Rattle.restrictions.specs.Forbids.{forbidden_at, earlier, lowest, device_rule}
 use Rattle.restrictions.proofs.forbidden.lowest_device.Given as goal

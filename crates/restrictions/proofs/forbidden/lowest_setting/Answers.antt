@@ -1,6 +1,6 @@
 use Rattle.std.proofs.Common.{ℕ, ◌+◌, List, map, drop, ap, ◌∙◌, arith}
 use Rattle.std.specs.List.{enumerate_from}
-use Rattle.option_tables.specs.config_lists.proofs.Walks.{slice_get-read}
+use Rattle.config_lists.proofs.Walks.{slice_get-read}
 use Rattle.restrictions.specs.Policies.{seen}
 use Rattle.restrictions.specs.Forbids.{forbidden_at, earlier, lowest, setting_rule, broken_settings}
 use Rattle.restrictions.proofs.Lowest.{lowest-next, lowest-all}

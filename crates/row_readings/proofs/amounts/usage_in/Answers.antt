@@ -1,7 +1,7 @@
 use Rattle.std.proofs.Common.{◌≡◌, ◌+◌, get_or, sym, ap, ap₂, ◌∙◌, arith}
 use Rattle.std.proofs.lemmas.List.Sums.{sum_by_more_le, sum_by_more, sum_by-take-le}
-use Rattle.restrictions.specs.size_values.specs.Amounts.{part}
-use Rattle.restrictions.specs.size_values.proofs.AmountParts.{part-plus}
+use Rattle.size_values.specs.Amounts.{part}
+use Rattle.size_values.proofs.AmountParts.{part-plus}
 use Rattle.row_machine.specs.machine.Usage.{amount_for}
 use Rattle.row_readings.proofs.Totals.{sum-small}
 use Rattle.row_readings.proofs.amounts.usage_in.Goals as goal

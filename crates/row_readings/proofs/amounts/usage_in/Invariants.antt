@@ -1,7 +1,7 @@
 use Rattle.std.proofs.Common.{◌≡◌, take}
 use Rattle.std.specs.List.{sum_by}
-use Rattle.restrictions.specs.size_values.specs.Amounts.{part}
-use Rattle.restrictions.specs.size_values.specs.declared.amounts.Part.{Part}
+use Rattle.size_values.specs.Amounts.{part}
+use Rattle.size_values.specs.declared.amounts.Part.{Part}
 use Rattle.row_machine.specs.machine.Usage.{amount_for}
 use Rattle.row_readings.proofs.amounts.usage_in.Given as goal
 

@@ -1,5 +1,5 @@
 use Rattle.std.proofs.Common.{sym, ap, ◌∙◌, Some}
-use Rattle.restrictions.specs.plain_lists.proofs.Places.{find-at, none-position}
+use Rattle.plain_lists.proofs.Places.{find-at, none-position}
 use Rattle.row_machine.specs.machine.Rows.{same_names}
 use Rattle.row_readings.specs.Rising.{names_in}
 use Rattle.row_readings.proofs.places.row_named.Goals as goal

@@ -1,6 +1,6 @@
 use Rattle.std.proofs.Common.{sym, ap, ◌∙◌}
 use Rattle.std.specs.Option.{option_copied}
-use Rattle.row_machine.specs.expansion.specs.Layers.{laid}
+use Rattle.expansion.specs.Layers.{laid}
 use Rattle.row_machine.specs.machine.Expansions.{layer_of}
 use Rattle.row_readings.proofs.Layered.{laid-nothing}
 use Rattle.row_readings.proofs.readings.lay_profile.Goals as goal

@@ -1,6 +1,6 @@
 use Rattle.std.proofs.Common.{◌≡◌, fold, filter, if◌then◌else◌, false, take}
 use Rattle.std.specs.Str.{bytes_eq}
-use Rattle.row_machine.specs.instance_states.specs.Numbers.{seen, unseen}
+use Rattle.instance_states.specs.Numbers.{seen, unseen}
 use Rattle.row_readings.proofs.snapshots.next_of.Given as goal
 
 abbrev pub invariant-loop-snapshot : goal.invariant-loop-snapshot

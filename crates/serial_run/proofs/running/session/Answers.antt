@@ -1,5 +1,5 @@
 use Rattle.std.proofs.Common.{arith}
-use Rattle.serial_commands.specs.serial_sessions.proofs.Served.{session_few}
+use Rattle.serial_run.proofs.Served.{session_few}
 use Rattle.serial_run.proofs.running.session.Goals as goal
 
 pub returns : goal.returns

@@ -1,5 +1,5 @@
-use Rattle.gate_replies.specs.rest_answers.specs.Links.{inlet, outlet}
-use Rattle.gate_replies.specs.gate_trails.specs.Gates.{seen}
+use Rattle.gates.specs.rest_answers.specs.Links.{inlet, outlet}
+use Rattle.gates.specs.Gates.{seen}
 use Rattle.serve_loop.specs.Serving.{line}
 use Rattle.serve_loop.proofs.Linking.{ServesSoFar}
 use Rattle.serve_loop.proofs.link.serve.Given as goal

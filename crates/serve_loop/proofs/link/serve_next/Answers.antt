@@ -1,6 +1,6 @@
 use Rattle.std.proofs.Common.{refl, inl, inr}
-use Rattle.gate_replies.specs.rest_answers.specs.Links.{inlet}
-use Rattle.gate_replies.specs.rest_answers.proofs.Linking.{unread}
+use Rattle.gates.specs.rest_answers.specs.Links.{inlet}
+use Rattle.gates.specs.rest_answers.proofs.Linking.{unread}
 use Rattle.serve_loop.proofs.Linking.{turn_meets, turn_refuses}
 use Rattle.serve_loop.proofs.link.serve_next.Goals as goal
 

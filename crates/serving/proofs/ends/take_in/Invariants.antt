@@ -11,7 +11,7 @@ invariant-loop-task g l = record {
   late : (g.P.Spawner.counts l.spawner).late ≡ (g.P.Spawner.counts l.fn.spawner).late;
   held : vec_len l.tasks ≤ vec_len l.fn.tasks;
   failures : g.P.Spawner.failures l.spawner ≡ g.P.Spawner.failures l.fn.spawner;
-  seats : g.B.Jobs.seats l.fn.jobs ≤ g.B.Jobs.seats l.jobs;
+  slots : g.B.Jobs.slots l.fn.jobs ≤ g.B.Jobs.slots l.jobs;
   closed : g.B.Jobs.closed l.jobs ≡ g.B.Jobs.closed l.fn.jobs;
   ready : g.P.Spawner.ready l.spawner;
 }

@@ -11,6 +11,6 @@ invariant-loop-i g l = record {
   first : GivesFirst (g.D.Doors.seen l.fn.doors).given (g.D.Doors.seen l.doors).given (g.D.Doors.left l.fn.doors) (g.D.Doors.left l.doors);
   failed : (g.D.Doors.seen l.fn.doors).failed ≤ (g.D.Doors.seen l.doors).failed;
   later : g.P.Spawner.failures l.fn.spawner ≤ g.P.Spawner.failures l.spawner;
-  seats : g.B.Jobs.seats l.fn.jobs ≤ g.B.Jobs.seats l.jobs + l._i;
+  slots : g.B.Jobs.slots l.fn.jobs ≤ g.B.Jobs.slots l.jobs + l._i;
   ready : g.P.Spawner.ready l.spawner;
 }

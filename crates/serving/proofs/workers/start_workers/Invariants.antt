@@ -8,6 +8,6 @@ invariant-loop-i g l = record {
   started : StartsWorkers (g.P.Spawner.counts l.fn.spawner) (g.P.Spawner.counts l.spawner) (vec_len l.fn.tasks) (vec_len l.tasks);
   all : vec_len l.tasks ≡ vec_len l.fn.tasks + l._i;
   later : g.P.Spawner.failures l.fn.spawner ≤ g.P.Spawner.failures l.spawner;
-  seats : g.B.Jobs.seats l.fn.jobs ≤ g.B.Jobs.seats l.jobs + l._i;
+  slots : g.B.Jobs.slots l.fn.jobs ≤ g.B.Jobs.slots l.jobs + l._i;
   ready : g.P.Spawner.ready l.spawner;
 }

@@ -1,13 +1,13 @@
 use Rattle.std.proofs.Common.{None, length, map, ap, sym, subst, ◌≡◌, ◌∙◌, arith}
-use Rattle.config_lists.specs.size_values.specs.Causes.{Refuses}
-use Rattle.opening_rules.specs.records.specs.declared.replies.Reply.TheVariants as reply
-use Rattle.opening_rules.specs.row_machine.specs.machine.Rules.{names_broken, standing_broken}
-use Rattle.opening_rules.specs.row_machine.specs.machine.TableRules.{cancel_broken}
+use Rattle.size_values.specs.Causes.{Refuses}
+use Rattle.records.specs.declared.replies.Reply.TheVariants as reply
+use Rattle.row_machine.specs.machine.Rules.{names_broken, standing_broken}
+use Rattle.row_machine.specs.machine.TableRules.{cancel_broken}
 use Rattle.core_rows.specs.Kept.{Kept}
 use Rattle.core_rows.specs.Planned.{Follows}
-use Rattle.judged_changes.specs.work_reports.specs.Waiting.{told_by}
-use Rattle.judged_changes.specs.work_reports.proofs.Failing.{live-holds}
-use Rattle.judged_changes.specs.kept_totals.specs.Totals.{AreTotals}
+use Rattle.core_judging.specs.core_reports.specs.Waiting.{told_by}
+use Rattle.core_judging.specs.core_reports.proofs.Failing.{live-holds}
+use Rattle.core_judging.specs.core_totals.specs.Totals.{AreTotals}
 use Rattle.core_rows.specs.Counted.{counted_out}
 use Rattle.core_rows.proofs.KnownTotals.{stopped-totals}
 use Rattle.core_rows.proofs.Silent.{none-wait}

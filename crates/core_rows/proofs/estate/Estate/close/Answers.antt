@@ -1,9 +1,9 @@
 use Rattle.std.proofs.Common.{true, ◌∙◌, ap, sym, subst, arith}
-use Rattle.judged_changes.specs.row_drafts.specs.Background.{Backing}
-use Rattle.opening_rules.specs.row_machine.specs.machine.State.{State}
-use Rattle.opening_rules.specs.row_machine.specs.facts.Whole.{IsWhole}
-use Rattle.judged_changes.specs.machine_laws.proofs.ChangeKinds.{closing-keeps}
-use Rattle.judged_changes.specs.work_reports.specs.Waiting.{IsSilent}
+use Rattle.core_drafts.specs.Background.{Backing}
+use Rattle.row_machine.specs.machine.State.{State}
+use Rattle.row_machine.specs.facts.Whole.{IsWhole}
+use Rattle.machine_laws.proofs.ChangeKinds.{closing-keeps}
+use Rattle.core_judging.specs.core_reports.specs.Waiting.{IsSilent}
 use Rattle.core_rows.specs.Kept.{Kept}
 use Rattle.core_rows.proofs.Silent.{still-quiet, closed-silent}
 use Rattle.core_rows.proofs.KnownTotals.{closed-totals}

@@ -1,11 +1,11 @@
 use Rattle.std.proofs.Common.{map, ap, sym, subst, ◌∙◌, arith}
-use Rattle.opening_rules.specs.operations.specs.Kept.{kept_at}
-use Rattle.opening_rules.specs.row_machine.specs.machine.State.{State}
-use Rattle.judged_changes.specs.work_reports.specs.Jobs.{IsReported}
+use Rattle.operations.specs.Kept.{kept_at}
+use Rattle.row_machine.specs.machine.State.{State}
+use Rattle.core_judging.specs.core_reports.specs.Jobs.{IsReported}
 use Rattle.core_rows.specs.Kept.{Kept}
-use Rattle.judged_changes.specs.work_reports.specs.Waiting.{told_by}
-use Rattle.judged_changes.specs.kept_totals.specs.Ends.{IsCounted}
-use Rattle.judged_changes.specs.kept_totals.specs.Totals.{AreTotals}
+use Rattle.core_judging.specs.core_reports.specs.Waiting.{told_by}
+use Rattle.core_judging.specs.core_totals.specs.Ends.{IsCounted}
+use Rattle.core_judging.specs.core_totals.specs.Totals.{AreTotals}
 use Rattle.core_rows.specs.Counted.{after_turn}
 use Rattle.core_rows.proofs.KnownTotals.{turned-totals}
 use Rattle.core_rows.proofs.Silent.{none-wait}

@@ -1,20 +1,20 @@
 use Rattle.std.proofs.Common.{[], ◌∷◌, map, length, refl, ap, sym, subst, ◌∙◌, arith}
-use Rattle.config_lists.specs.size_values.specs.Amounts.{part}
-use Rattle.config_lists.specs.size_values.specs.Causes.{Refuses}
-use Rattle.config_lists.specs.size_values.specs.declared.memory.Or.TheVariants as or
-use Rattle.opening_rules.specs.records.specs.declared.replies.Reply.TheVariants as reply
-use Rattle.opening_rules.specs.row_machine.specs.machine.State.{State}
-use Rattle.opening_rules.specs.row_machine.specs.machine.Work.{claiming}
-use Rattle.opening_rules.specs.row_machine.specs.facts.Whole.{IsWhole}
-use Rattle.judged_changes.specs.row_drafts.specs.Steps.{before_changes}
-use Rattle.opening_rules.specs.row_readings.proofs.Small.{low-share_of}
-use Rattle.judged_changes.specs.machine_laws.proofs.WholeKept.{whole-entered}
+use Rattle.size_values.specs.Amounts.{part}
+use Rattle.size_values.specs.Causes.{Refuses}
+use Rattle.size_values.specs.declared.memory.Or.TheVariants as or
+use Rattle.records.specs.declared.replies.Reply.TheVariants as reply
+use Rattle.row_machine.specs.machine.State.{State}
+use Rattle.row_machine.specs.machine.Work.{claiming}
+use Rattle.row_machine.specs.facts.Whole.{IsWhole}
+use Rattle.core_drafts.specs.Steps.{before_changes}
+use Rattle.row_readings.proofs.Small.{low-share_of}
+use Rattle.machine_laws.proofs.WholeKept.{whole-entered}
 use Rattle.core_rows.specs.Asked.{IsAsked}
-use Rattle.judged_changes.specs.work_reports.specs.Waiting.{IsSilent}
+use Rattle.core_judging.specs.core_reports.specs.Waiting.{IsSilent}
 use Rattle.core_rows.specs.Kept.{Kept}
 use Rattle.core_rows.specs.Planned.{IsToStart}
-use Rattle.judged_changes.specs.work_reports.specs.Waiting.{told_by}
-use Rattle.judged_changes.specs.kept_totals.specs.Totals.{AreTotals}
+use Rattle.core_judging.specs.core_reports.specs.Waiting.{told_by}
+use Rattle.core_judging.specs.core_totals.specs.Totals.{AreTotals}
 use Rattle.core_rows.proofs.KnownTotals.{begin-totals, roomy-totals}
 use Rattle.core_rows.proofs.Silent.{still-quiet, only-one, none-wait}
 use Rattle.core_rows.proofs.Started.{judged-claim, start-refused, start-accepted, start-made, entered-from, number-left, entered-silent}
@@ -23,9 +23,9 @@ use Rattle.core_rows.proofs.estate.Estate.start.Goals as goal
 pub returns-in_default : goal.returns-in_default
 returns-in_default c = λ store.
     let is = ap (λ (k : Kept). k.state) c.self.view_is in
-    subst (λ t. IsAsked t c.args.command.now c.args.moment c.make_beginning.new.draft.state (map (told_by c.make_beginning.new.draft.state.operations) c.self.inside.untold.items) reply.NoMemory store store) is
-    (start-refused c.self.inside.draft.state c.args.command.now c.args.moment c.make_beginning.new.draft.state (map (told_by c.make_beginning.new.draft.state.operations) c.self.inside.untold.items) or.NoMemory reply.NoMemory store tt
-    c.make_beginning.ensures.state (still-quiet _ _ c.self.inside.untold.items (ap (λ (k : Kept). k.untold) c.self.view_is ∙ c.requires.quiet)) refl)
+    subst (λ t. IsAsked t c.args.command.now c.args.moment c.prepare_start.new.draft.state (map (told_by c.prepare_start.new.draft.state.operations) c.self.inside.untold.items) reply.NoMemory store store) is
+    (start-refused c.self.inside.draft.state c.args.command.now c.args.moment c.prepare_start.new.draft.state (map (told_by c.prepare_start.new.draft.state.operations) c.self.inside.untold.items) or.NoMemory reply.NoMemory store tt
+    c.prepare_start.ensures.state (still-quiet _ _ c.self.inside.untold.items (ap (λ (k : Kept). k.untold) c.self.view_is ∙ c.requires.quiet)) refl)
 
 pub returns-in-Err : goal.returns-in-Err
 returns-in-Err c = λ store.
@@ -35,55 +35,55 @@ returns-in-Err c = λ store.
     let task = c.args.work in
     let is = ap (λ (k : Kept). k.state) c.self.view_is in
     let planned = subst (λ t. IsToStart t command moment task) (sym is) c.requires.planned in
-    let claimed = c.claim-number.ensures.state ∙ ap (λ t. claiming t task moment) c.make_beginning.ensures.state in
+    let claimed = c.claim-number.ensures.state ∙ ap (λ t. claiming t task moment) c.prepare_start.ensures.state in
     let same = judged-claim old command moment task c.view.result c.in-Ok.beginning.fault c.claim-number.result
     c.in-Ok.beginning.project c.in-Ok.beginning.used c.in-Ok.beginning.share c.self.invariant.whole planned
     (c.view.ensures ∙ claimed) c.in-Ok.ensures.fault
-    (c.claim-number.ensures.number ∙ ap (λ (t : State). t.operations.next) c.make_beginning.ensures.state)
+    (c.claim-number.ensures.number ∙ ap (λ (t : State). t.operations.next) c.prepare_start.ensures.state)
     c.in-Ok.ensures.project c.in-Ok.ensures.share c.in-Ok.ensures.used in
-    subst (λ t. IsAsked t command moment c.give_up.new.draft.state (map (told_by c.give_up.new.draft.state.operations) c.self.inside.untold.items) c.give_up.result store store) is
-    (start-refused old command moment c.give_up.new.draft.state (map (told_by c.give_up.new.draft.state.operations) c.self.inside.untold.items) c.in-Err.why c.give_up.result store
+    subst (λ t. IsAsked t command moment c.roll_back.new.draft.state (map (told_by c.roll_back.new.draft.state.operations) c.self.inside.untold.items) c.roll_back.result store store) is
+    (start-refused old command moment c.roll_back.new.draft.state (map (told_by c.roll_back.new.draft.state.operations) c.self.inside.untold.items) c.in-Err.why c.roll_back.result store
     (subst (Refuses c.in-Err.why) same c.in-Err.ensures)
-    (c.give_up.ensures.state
+    (c.roll_back.ensures.state
     ∙ c.claim-number.ensures.former
-    ∙ ap (λ us. before_changes us c.make_beginning.new.draft.state) c.make_beginning.ensures.log
-    ∙ c.make_beginning.ensures.state)
-    (still-quiet _ _ c.self.inside.untold.items (ap (λ (k : Kept). k.untold) c.self.view_is ∙ c.requires.quiet)) c.give_up.ensures.reply)
+    ∙ ap (λ us. before_changes us c.prepare_start.new.draft.state) c.prepare_start.ensures.log
+    ∙ c.prepare_start.ensures.state)
+    (still-quiet _ _ c.self.inside.untold.items (ap (λ (k : Kept). k.untold) c.self.view_is ∙ c.requires.quiet)) c.roll_back.ensures.reply)
 
 pub judge_claim-judged-requires-clause-share : goal.judge_claim-judged-requires-clause-share
 judge_claim-judged-requires-clause-share c = λ k.
     omega (arith, low-share_of c.self.inside.draft.state c.args.work k, ap (part k) c.in-Ok.ensures.share)
 
-pub settle_beginning-requires-clause-limit : goal.settle_beginning-requires-clause-limit
-settle_beginning-requires-clause-limit c =
+pub commit_start-requires-clause-limit : goal.commit_start-requires-clause-limit
+commit_start-requires-clause-limit c =
     let old = c.self.inside.draft.state in
     let command = c.args.command.now in
     let moment = c.args.moment in
     let task = c.args.work in
     let is = ap (λ (k : Kept). k.state) c.self.view_is in
     let planned = subst (λ t. IsToStart t command moment task) (sym is) c.requires.planned in
-    let claimed = c.claim-number.ensures.state ∙ ap (λ t. claiming t task moment) c.make_beginning.ensures.state in
+    let claimed = c.claim-number.ensures.state ∙ ap (λ t. claiming t task moment) c.prepare_start.ensures.state in
     let same = judged-claim old command moment task c.view.result c.in-Ok.beginning.fault c.claim-number.result
     c.in-Ok.beginning.project c.in-Ok.beginning.used c.in-Ok.beginning.share c.self.invariant.whole planned
     (c.view.ensures ∙ claimed) c.in-Ok.ensures.fault
-    (c.claim-number.ensures.number ∙ ap (λ (t : State). t.operations.next) c.make_beginning.ensures.state)
+    (c.claim-number.ensures.number ∙ ap (λ (t : State). t.operations.next) c.prepare_start.ensures.state)
     c.in-Ok.ensures.project c.in-Ok.ensures.share c.in-Ok.ensures.used in
     let accepted = start-accepted old command moment task c.self.invariant.whole planned
     (sym same ∙ c.in_default-judged.ensures) in
     omega (arith, number-left old task moment (whole-entered accepted), ap (λ (t : State). t.operations.next) claimed)
 
-pub settle_beginning-requires-clause-room : goal.settle_beginning-requires-clause-room
-settle_beginning-requires-clause-room c =
+pub commit_start-requires-clause-room : goal.commit_start-requires-clause-room
+commit_start-requires-clause-room c =
     omega (arith, c.self.invariant.room, ap length (none-wait _ c.self.inside.untold.items (ap (λ (k : Kept). k.untold) c.self.view_is ∙ c.requires.quiet)))
 
-pub settle_beginning-requires-clause-small : goal.settle_beginning-requires-clause-small
-settle_beginning-requires-clause-small c = λ k.
+pub commit_start-requires-clause-small : goal.commit_start-requires-clause-small
+commit_start-requires-clause-small c = λ k.
     omega (arith, low-share_of c.self.inside.draft.state c.args.work k, ap (part k) c.in-Ok.ensures.share)
 
 pub grow-requires : goal.grow-requires
 grow-requires c =
-    roomy-totals c.self.inside.draft.state c.make_beginning.new.totals c.view-2.result.now c.in-Ok.beginning.share c.self.invariant.whole
-    c.make_beginning.ensures.totals
+    roomy-totals c.self.inside.draft.state c.prepare_start.new.totals c.view-2.result.now c.in-Ok.beginning.share c.self.invariant.whole
+    c.prepare_start.ensures.totals
     (λ k. omega (arith, low-share_of c.self.inside.draft.state c.args.work k, ap (part k) c.in-Ok.ensures.share))
 
 pub invariant_of-self-2 : goal.invariant_of-self-2
@@ -94,31 +94,31 @@ invariant_of-self-2 c =
     let task = c.args.work in
     let is = ap (λ (k : Kept). k.state) c.self.view_is in
     let planned = subst (λ t. IsToStart t command moment task) (sym is) c.requires.planned in
-    let claimed = c.claim-number.ensures.state ∙ ap (λ t. claiming t task moment) c.make_beginning.ensures.state in
+    let claimed = c.claim-number.ensures.state ∙ ap (λ t. claiming t task moment) c.prepare_start.ensures.state in
     let same = judged-claim old command moment task c.view.result c.in-Ok.beginning.fault c.claim-number.result
     c.in-Ok.beginning.project c.in-Ok.beginning.used c.in-Ok.beginning.share c.self.invariant.whole planned
     (c.view.ensures ∙ claimed) c.in-Ok.ensures.fault
-    (c.claim-number.ensures.number ∙ ap (λ (t : State). t.operations.next) c.make_beginning.ensures.state)
+    (c.claim-number.ensures.number ∙ ap (λ (t : State). t.operations.next) c.prepare_start.ensures.state)
     c.in-Ok.ensures.project c.in-Ok.ensures.share c.in-Ok.ensures.used in
     let accepted = start-accepted old command moment task c.self.invariant.whole planned
     (sym same ∙ c.in_default-judged.ensures) in
-    let made = entered-from old task moment c.settle_beginning.new.draft.state c.claim-number.new.self.state c.in-Ok.beginning.project c.in-Ok.beginning.share
-    claimed c.in-Ok.ensures.project c.in-Ok.ensures.share c.settle_beginning.ensures.state in
+    let made = entered-from old task moment c.commit_start.new.draft.state c.claim-number.new.self.state c.in-Ok.beginning.project c.in-Ok.beginning.share
+    claimed c.in-Ok.ensures.project c.in-Ok.ensures.share c.commit_start.ensures.state in
     record {
       whole = subst IsWhole (sym made) (whole-entered accepted);
       silent = subst IsSilent (sym made) (entered-silent old task moment c.self.invariant.silent);
-      settled = c.settle_beginning.ensures.log;
-      room = omega (arith, c.self.invariant.room, c.settle_beginning.ensures.capacity);
+      settled = c.commit_start.ensures.log;
+      room = omega (arith, c.self.invariant.room, c.commit_start.ensures.capacity);
       above =
           omega (
             arith,
-            c.settle_beginning.ensures.greatest,
-            ap (λ (t : State). t.operations.next) c.settle_beginning.ensures.state,
+            c.commit_start.ensures.greatest,
+            ap (λ (t : State). t.operations.next) c.commit_start.ensures.state,
             ap (λ (t : State). t.operations.next) claimed,
           );
-      totals = subst (AreTotals c.settle_beginning.new.draft.state) (sym c.grow.ensures)
-          (begin-totals old c.settle_beginning.new.draft.state task moment c.make_beginning.new.totals c.view-2.result.now c.in-Ok.beginning.share
-          made (c.view-2.ensures.value ∙ c.in-Ok.ensures.project) c.in-Ok.ensures.share c.make_beginning.ensures.totals);
+      totals = subst (AreTotals c.commit_start.new.draft.state) (sym c.grow.ensures)
+          (begin-totals old c.commit_start.new.draft.state task moment c.prepare_start.new.totals c.view-2.result.now c.in-Ok.beginning.share
+          made (c.view-2.ensures.value ∙ c.in-Ok.ensures.project) c.in-Ok.ensures.share c.prepare_start.ensures.totals);
     }
 
 pub returns : goal.returns
@@ -129,18 +129,18 @@ returns c = λ store.
     let task = c.args.work in
     let is = ap (λ (k : Kept). k.state) c.self.view_is in
     let planned = subst (λ t. IsToStart t command moment task) (sym is) c.requires.planned in
-    let claimed = c.claim-number.ensures.state ∙ ap (λ t. claiming t task moment) c.make_beginning.ensures.state in
+    let claimed = c.claim-number.ensures.state ∙ ap (λ t. claiming t task moment) c.prepare_start.ensures.state in
     let same = judged-claim old command moment task c.view.result c.in-Ok.beginning.fault c.claim-number.result
     c.in-Ok.beginning.project c.in-Ok.beginning.used c.in-Ok.beginning.share c.self.invariant.whole planned
     (c.view.ensures ∙ claimed) c.in-Ok.ensures.fault
-    (c.claim-number.ensures.number ∙ ap (λ (t : State). t.operations.next) c.make_beginning.ensures.state)
+    (c.claim-number.ensures.number ∙ ap (λ (t : State). t.operations.next) c.prepare_start.ensures.state)
     c.in-Ok.ensures.project c.in-Ok.ensures.share c.in-Ok.ensures.used in
     let accepted = start-accepted old command moment task c.self.invariant.whole planned
     (sym same ∙ c.in_default-judged.ensures) in
-    let made = entered-from old task moment c.settle_beginning.new.draft.state c.claim-number.new.self.state c.in-Ok.beginning.project c.in-Ok.beginning.share
-    claimed c.in-Ok.ensures.project c.in-Ok.ensures.share c.settle_beginning.ensures.state in
+    let made = entered-from old task moment c.commit_start.new.draft.state c.claim-number.new.self.state c.in-Ok.beginning.project c.in-Ok.beginning.share
+    claimed c.in-Ok.ensures.project c.in-Ok.ensures.share c.commit_start.ensures.state in
     let none = ap (λ (k : Kept). k.untold) c.self.view_is ∙ c.requires.quiet in
-    subst (λ t. IsAsked t command moment c.settle_beginning.new.draft.state (map (told_by c.settle_beginning.new.draft.state.operations) c.settle_beginning.new.untold.items) c.settle_beginning.result store store) is
-    (start-made old command moment task c.settle_beginning.new.draft.state (map (told_by c.settle_beginning.new.draft.state.operations) c.settle_beginning.new.untold.items) c.settle_beginning.result store accepted made
-    (only-one _ _ c.self.inside.untold.items _ _ none c.settle_beginning.ensures.untold ∙ ap (λ n. n ∷ []) c.in-Ok.ensures.notice)
-    (c.settle_beginning.ensures.reply ∙ ap reply.Started c.in-Ok.ensures.shown))
+    subst (λ t. IsAsked t command moment c.commit_start.new.draft.state (map (told_by c.commit_start.new.draft.state.operations) c.commit_start.new.untold.items) c.commit_start.result store store) is
+    (start-made old command moment task c.commit_start.new.draft.state (map (told_by c.commit_start.new.draft.state.operations) c.commit_start.new.untold.items) c.commit_start.result store accepted made
+    (only-one _ _ c.self.inside.untold.items _ _ none c.commit_start.ensures.untold ∙ ap (λ n. n ∷ []) c.in-Ok.ensures.notice)
+    (c.commit_start.ensures.reply ∙ ap reply.Started c.in-Ok.ensures.shown))

@@ -1,10 +1,10 @@
 use Rattle.std.proofs.Common.{◌∙◌, ◌++◌, map, Some, ap, subst, refl, arith}
-use Rattle.opening_rules.specs.row_machine.specs.machine.State.{State}
-use Rattle.judged_changes.specs.work_reports.specs.Jobs.{IsTaken}
+use Rattle.row_machine.specs.machine.State.{State}
+use Rattle.core_judging.specs.core_reports.specs.Jobs.{IsTaken}
 use Rattle.core_rows.specs.Kept.{Kept}
-use Rattle.judged_changes.specs.work_reports.specs.Turns.{shown_at}
-use Rattle.judged_changes.specs.work_reports.specs.Waiting.{told_by}
-use Rattle.judged_changes.specs.work_reports.proofs.Begun.{begun-whole, begun-silent, begun-taken}
+use Rattle.core_judging.specs.core_reports.specs.Turns.{shown_at}
+use Rattle.core_judging.specs.core_reports.specs.Waiting.{told_by}
+use Rattle.core_judging.specs.core_reports.proofs.Begun.{begun-whole, begun-silent, begun-taken}
 use Rattle.core_rows.proofs.KnownTotals.{begun-totals}
 use Rattle.core_rows.proofs.estate.Estate.take_job.Goals as goal
 

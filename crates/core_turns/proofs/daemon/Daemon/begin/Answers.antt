@@ -1,5 +1,5 @@
 use Rattle.std.proofs.Common.{◌≡◌, [], sym, subst}
-use Rattle.notice_laws.specs.event_hub.specs.Recent.{nothing_told}
+use Rattle.event_hub.specs.Recent.{nothing_told}
 use Rattle.core_instances.specs.core_rows.specs.Opening.{OpensTo}
 use Rattle.core_turns.proofs.Turning.{opening-invariant}
 use Rattle.core_turns.proofs.daemon.Daemon.begin.Goals as goal

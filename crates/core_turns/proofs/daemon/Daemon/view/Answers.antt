@@ -1,5 +1,5 @@
 use Rattle.std.proofs.Common.{◌∙◌, sym, ap, subst}
-use Rattle.notice_laws.specs.row_machine.specs.facts.Whole.{IsWhole}
+use Rattle.row_machine.specs.facts.Whole.{IsWhole}
 use Rattle.core_turns.specs.Turns.{without_notices}
 use Rattle.core_turns.proofs.Turning.{as-untold}
 use Rattle.core_turns.proofs.daemon.Daemon.view.Goals as goal

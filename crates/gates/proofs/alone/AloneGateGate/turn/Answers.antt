@@ -1,4 +1,4 @@
-use Rattle.gate_trails.proofs.Telling.{may-answer, turn-told}
+use Rattle.gates.proofs.Telling.{may-answer, turn-told}
 use Rattle.gates.proofs.alone.AloneGateGate.turn.Goals as goal
 
 pub returns-clause-told : goal.returns-clause-told

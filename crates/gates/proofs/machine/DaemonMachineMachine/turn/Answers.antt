@@ -1,4 +1,4 @@
-use Rattle.gate_trails.proofs.Telling.{may-answer}
+use Rattle.gates.proofs.Telling.{may-answer}
 use Rattle.gates.proofs.machine.DaemonMachineMachine.turn.Goals as goal
 
 pub returns : goal.returns

@@ -1,7 +1,7 @@
 use Rattle.std.proofs.Common.{ℕ, List, map, take, ap, ◌∙◌}
 use Rattle.std.specs.Option.{option_copied}
-use Rattle.row_machine.specs.expansion.specs.declared.expanded.Expanded.{Expanded}
-use Rattle.row_machine.specs.expansion.specs.Layers.{laid, expanded}
+use Rattle.expansion.specs.declared.expanded.Expanded.{Expanded}
+use Rattle.expansion.specs.Layers.{laid, expanded}
 use Rattle.row_machine.specs.machine.Rows.{profile_named}
 use Rattle.row_machine.specs.machine.Expansions.{layer_of}
 use Rattle.row_readings.proofs.Layered.{expanded-next}

@@ -1,5 +1,5 @@
 use Rattle.std.proofs.Common.{◌≡◌, map, take}
-use Rattle.row_machine.specs.expansion.specs.Layers.{expanded}
+use Rattle.expansion.specs.Layers.{expanded}
 use Rattle.row_machine.specs.machine.Rows.{profile_named}
 use Rattle.row_machine.specs.machine.Expansions.{layer_of}
 use Rattle.row_readings.proofs.view.View.profiles_laid.Given as goal

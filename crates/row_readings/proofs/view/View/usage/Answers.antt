@@ -1,8 +1,8 @@
 use Rattle.std.proofs.Common.{◌≡◌, ap, ◌∙◌}
 use Rattle.std.specs.List.{sum_by}
-use Rattle.restrictions.specs.size_values.specs.Amounts.{part}
-use Rattle.restrictions.specs.size_values.specs.declared.amounts.Part.{Part}
-use Rattle.restrictions.specs.size_values.specs.declared.amounts.Part.TheVariants as part_of
+use Rattle.size_values.specs.Amounts.{part}
+use Rattle.size_values.specs.declared.amounts.Part.{Part}
+use Rattle.size_values.specs.declared.amounts.Part.TheVariants as part_of
 use Rattle.row_machine.specs.machine.Usage.{amount_for, used, usage_of}
 use Rattle.row_readings.proofs.view.View.usage.Goals as goal
 

@@ -1,0 +1,25 @@
+use Rattle.std.proofs.Common.{refl}
+use Rattle.clap.proofs.OnLiterals.{clap_on_literals}
+use Rattle.command_words.specs.ServeExamples.{AreWorked}
+use Rattle.command_words.specs.ServeWords.{parsed_options, options_of, serve_program}
+use Rattle.command_words.proofs.serve_laws.serve_examples.Goals as goal
+
+worked : AreWorked
+unfolding options_of parsed_options serve_program clap_on_literals
+worked = record {
+  plain = refl;
+  plain_setup = refl;
+  all = refl;
+  nothing = refl;
+  no_port = refl;
+  no_connections = refl;
+  port_0 = refl;
+  workers_9 = refl;
+  no_path = refl;
+  twice = refl;
+  help = refl;
+  word = refl;
+}
+
+pub returns : goal.returns
+returns c = worked

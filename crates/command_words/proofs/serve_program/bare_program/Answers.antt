@@ -1,0 +1,12 @@
+use Rattle.std.proofs.Common.{ap, codes, true}
+use Rattle.clap.specs.Simple.{app_of_fields}
+use Rattle.command_words.proofs.Making.{new_command, set}
+use Rattle.command_words.proofs.serve_program.bare_program.Goals as goal
+
+pub returns : goal.returns
+returns c =
+    let made = new_command (codes "incusd") _ c.new.ensures.app c.new.ensures.local in
+    let binary = set (λ s. record s { no_binary_name = true }) _ _ _ (ap app_of_fields c.no_binary_name.ensures)
+    (ap (λ f. f.has_globals) c.no_binary_name.ensures) made in
+    set (λ s. record s { disable_help_flag = true }) _ _ _ (ap app_of_fields c.disable_help_flag.ensures)
+    (ap (λ f. f.has_globals) c.disable_help_flag.ensures) binary

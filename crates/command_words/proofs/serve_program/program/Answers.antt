@@ -1,0 +1,9 @@
+use Rattle.std.proofs.lemmas.Result.{IfOk-weaker}
+use Rattle.command_words.proofs.Making.{more}
+use Rattle.command_words.proofs.ServeGiven.{program_is}
+use Rattle.command_words.proofs.serve_program.program.Goals as goal
+
+pub returns : goal.returns
+returns c =
+    let before = more _ _ _ _ (more _ _ _ _ (more _ _ _ _ c.bare_program-program.ensures c.in_ok-program.ensures) c.in_ok-program-2.ensures) c.in_ok-program-3.ensures in
+    IfOk-weaker c.with_option-2.result _ _ (λ made adds. program_is made (more _ _ _ made before adds)) c.with_option-2.ensures

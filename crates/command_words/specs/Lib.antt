@@ -1,0 +1,7 @@
+pub mod Commands
+pub mod Numbers
+pub mod Values
+pub mod RunWords
+pub mod RunExamples
+pub mod ServeWords
+pub mod ServeExamples

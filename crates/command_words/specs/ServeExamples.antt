@@ -1,0 +1,30 @@
+-- Lists of words, each with what it says, or with nothing where it is not read.
+use Rattle.std.specs.Prelude.{◌≡◌, ℕ, List, [], ◌∷◌, Option, Some, None, codes}
+use Rattle.command_words.specs.ServeWords.{serve_setup_of, serve_words_of}
+use Rattle.command_words.specs.declared.serve_setup.ServeSetup.{ServeSetup}
+
+-- nothing to make a server of
+abbrev pub not_read : ServeSetup
+not_read = record { port = 0; db = []; passes = 0 }
+
+-- the two options that have to be given
+abbrev pub both : List (List ℕ)
+both = codes "--port" ∷ codes "8443" ∷ codes "--connections" ∷ codes "4" ∷ []
+
+pub record AreWorked : Type 0 where
+  -- the two options that have to be given, and all four
+  pub plain : serve_words_of both ≡ Some (record { connections = 4; workers = 2 })
+  pub plain_setup : serve_setup_of both ≡ record { port = 8443; db = []; passes = 7 }
+  pub all : serve_setup_of
+      (codes "--db=f" ∷ codes "--workers=8" ∷ codes "--connections=1000000" ∷ codes "--port=1" ∷ [])
+      ≡ record { port = 1; db = codes "f"; passes = 1000009 }
+  -- one of the two is missing, a number is out of range, or there is a word more
+  pub nothing : serve_setup_of [] ≡ not_read
+  pub no_port : serve_words_of (codes "--connections=4" ∷ []) ≡ None
+  pub no_connections : serve_words_of (codes "--port=8443" ∷ []) ≡ None
+  pub port_0 : serve_setup_of (codes "--port" ∷ codes "0" ∷ codes "--connections" ∷ codes "4" ∷ []) ≡ not_read
+  pub workers_9 : serve_words_of (codes "--workers=9" ∷ both) ≡ None
+  pub no_path : serve_setup_of (codes "--db=" ∷ both) ≡ not_read
+  pub twice : serve_words_of (codes "--port=8443" ∷ both) ≡ None
+  pub help : serve_words_of (codes "--help" ∷ both) ≡ None
+  pub word : serve_words_of (codes "serve" ∷ both) ≡ None

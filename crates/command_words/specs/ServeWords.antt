@@ -1,0 +1,95 @@
+-- The words of the command line: the options of the program that serves connections.
+use Rattle.std.specs.Prelude.{ℕ, ◌+◌, ◌==◌, ◌≤◌, Bool, true, false, not}
+use Rattle.std.specs.Prelude.{if◌then◌else◌, List, [], ◌∷◌, length, Option, Some}
+use Rattle.std.specs.Prelude.{None, option_map, codes}
+use Rattle.std.specs.Option.{option_and_then, option_map_or, unwrap_or}
+use Rattle.clap.specs.Simple.{new_shape}
+use Rattle.clap.specs.Words.{App, Row, Rule, Shape, first_of, matches_of}
+use Rattle.command_words.specs.Commands.{are_taken, option_of, required_option_of}
+use Rattle.command_words.specs.Numbers.{number_said}
+use Rattle.command_words.specs.declared.serve_setup.ServeSetup.{ServeSetup}
+use Rattle.command_words.specs.declared.serve_words.Options.{Options}
+use Rattle.command_words.specs.declared.serve_words.ServeWords.{ServeWords}
+
+-- ---- the options
+
+-- the program without its options: there is no help
+abbrev pub bare_program : Shape
+bare_program = record (new_shape (codes "incusd")) { no_binary_name = true; disable_help_flag = true }
+
+-- the options, two of which have to be given
+abbrev pub serve_options : List Rule
+serve_options =
+    required_option_of (codes "port")
+    ∷ required_option_of (codes "connections")
+    ∷ option_of (codes "workers")
+    ∷ option_of (codes "db")
+    ∷ []
+
+-- the program as `clap` reads it
+unfoldable pub serve_program : App
+serve_program = record { top = record bare_program { rules = serve_options }; subs = [] }
+
+-- what the words give to the options, where the program takes them
+unfoldable pub parsed_options : List (List ℕ) → Option (List Row)
+parsed_options words = if are_taken serve_program words then Some (matches_of serve_program words) else None
+
+-- ---- values
+
+-- a port of TCP
+abbrev pub port_said : List ℕ → Option ℕ
+port_said value = number_said 1 65535 value
+
+-- how many connections are taken, one after the other or at once
+abbrev pub connections_said : List ℕ → Option ℕ
+connections_said value = number_said 1 1000000 value
+
+-- how many workers make the calls of background operations
+abbrev pub workers_said : List ℕ → Option ℕ
+workers_said value = number_said 1 8 value
+
+-- a path is any text but the empty one
+abbrev pub is_path : List ℕ → Bool
+is_path value = not (length value == 0)
+
+-- ---- what they say
+
+-- two workers, where the words say no number of them
+abbrev pub worker_count : List Row → Option ℕ
+worker_count given = option_map_or workers_said (first_of (codes "workers") given) (Some 2)
+
+-- the numbers that the options say, where each is one that its option takes
+abbrev pub option_numbers : List Row → Option Options
+option_numbers given =
+    option_and_then (λ port. option_and_then (λ connections. option_map
+    (λ workers. record { port = port; connections = connections; workers = workers }) (worker_count given))
+    (option_and_then connections_said (first_of (codes "connections") given)))
+    (option_and_then port_said (first_of (codes "port") given))
+
+-- the same, where the path of a file is one too
+abbrev pub options_from : List Row → Option Options
+options_from given =
+    if option_map_or is_path (first_of (codes "db") given) true then option_numbers given else None
+
+-- what the words say, where they are read
+unfoldable pub options_of : List (List ℕ) → Option Options
+options_of words = option_and_then options_from (parsed_options words)
+
+-- how many connections and workers the words say, where they are read
+abbrev pub serve_words_of : List (List ℕ) → Option ServeWords
+serve_words_of words =
+    option_map (λ options. record { connections = options.connections; workers = options.workers }) (options_of words)
+
+-- the path of the file that keeps the rows, and the empty text where they are kept in memory
+abbrev pub db_in : List (List ℕ) → List ℕ
+db_in words = unwrap_or (option_and_then (first_of (codes "db")) (parsed_options words)) []
+
+-- one pass through the lock for each connection, one for each worker, and one to close
+abbrev pub setup_with : Option Options → List ℕ → ServeSetup
+setup_with (Some options) db =
+    record { port = options.port; db = db; passes = options.connections + options.workers + 1 }
+setup_with None db = record { port = 0; db = []; passes = 0 }
+
+-- what the words say of the outside: port 0, no file and no passes where they are not read
+abbrev pub serve_setup_of : List (List ℕ) → ServeSetup
+serve_setup_of words = setup_with (options_of words) (db_in words)

@@ -1,0 +1,66 @@
+//! Commands, put together from options, places and commands below them.
+ghost use Rattle.std.specs.Prelude.{◌≡◌, false, IfOk, IsErr, MatchResult};
+ghost use Rattle.clap.specs.Words.{app_of, shape_of, with_subcommand};
+ghost use Rattle.clap.specs.declared.builder.command.Command.TheViews.{out-Command as fields_of};
+ghost use Rattle.command_words.specs.Commands.{AddsRule, option_of, place_of, required_option_of};
+
+use clap::{Arg, ArgAction, Command};
+use size_values::NoMemory;
+use std::alloc::Global;
+
+/// Adds an option with one value, `--name VALUE` or `--name=VALUE`.
+pub fn with_option<'a>(
+    alloc: Global,
+    command: Command<'a>,
+    name: &'a str,
+) -> Result<Command<'a>, NoMemory>
+    ensures { IfOk result (AddsRule (option_of name.entry.now) command.entry) }
+{
+    let option = Arg::new(alloc, name).long(name).action(ArgAction::Set);
+    Ok(command.arg(option)?)
+}
+
+/// Adds an option with one value, which the words have to give.
+pub fn with_required_option<'a>(
+    alloc: Global,
+    command: Command<'a>,
+    name: &'a str,
+) -> Result<Command<'a>, NoMemory>
+    ensures { IfOk result (AddsRule (required_option_of name.entry.now) command.entry) }
+{
+    let option = Arg::new(alloc, name)
+        .long(name)
+        .action(ArgAction::Set)
+        .required(true);
+    Ok(command.arg(option)?)
+}
+
+/// Adds a word that has to stand in its place.
+pub fn with_place<'a>(
+    alloc: Global,
+    command: Command<'a>,
+    name: &'a str,
+) -> Result<Command<'a>, NoMemory>
+    ensures { IfOk result (AddsRule (place_of name.entry.now) command.entry) }
+{
+    let place = Arg::new(alloc, name).action(ArgAction::Set).required(true);
+    Ok(command.arg(place)?)
+}
+
+/// Adds a command below a program, if there was memory to make it.
+pub fn with_command<'a>(
+    program: Command<'a>,
+    command: Result<Command<'a>, NoMemory>,
+) -> Result<Command<'a>, NoMemory>
+    ensures { MatchResult command.entry (λ below. (fields_of below).has_globals ≡ false
+        → IfOk result (λ whole. app_of whole ≡ with_subcommand (app_of program.entry) (shape_of below)))
+        (λ _. IsErr result) }
+{
+    match command {
+        Ok(command) => Ok(program.subcommand(command)?),
+        Err(fault) => {
+            drop(program);
+            Err(fault)
+        }
+    }
+}

@@ -1,0 +1,61 @@
+//! What the values of options say.
+ghost use Rattle.std.specs.Prelude.{◌≡◌, ◌≤◌, option_map, true, IfSome};
+ghost use Rattle.std.specs.Option.{option_map_or};
+ghost use Rattle.command_words.specs.Numbers.{number_said};
+ghost use Rattle.command_words.specs.ServeWords.{connections_said, is_path, port_said, workers_said};
+
+use crate::numbers::number_said;
+
+/// The greatest number of a port.
+const LAST_PORT: u64 = 65_535;
+
+/// The greatest number of connections that one run takes.
+const MOST_CONNECTIONS: u64 = 1_000_000;
+
+/// The greatest number of workers.
+const MOST_WORKERS: u64 = 8;
+
+/// The number from 1 to `most` that a text says.
+fn small_said(most: u64, value: &str) -> Option<u32>
+    requires { most ≤ 1000000 }
+    ensures said { result ≡ number_said 1 most value.now }
+    ensures within { IfSome result (λ number. number ≤ most) }
+{
+    match number_said(1, most, value) {
+        Some(number) => Some(number as u32),
+        None => None,
+    }
+}
+
+/// The port that a value of `--port` says.
+pub(crate) fn port_said(value: &str) -> Option<u32>
+    ensures { result ≡ port_said value.now }
+{
+    small_said(LAST_PORT, value)
+}
+
+/// How many connections a value of `--connections` says.
+pub(crate) fn connections_said(value: &str) -> Option<u32>
+    ensures said { result ≡ connections_said value.now }
+    ensures few { IfSome result (λ number. number ≤ 1000000) }
+{
+    small_said(MOST_CONNECTIONS, value)
+}
+
+/// How many workers a value of `--workers` says.
+pub(crate) fn workers_said(value: &str) -> Option<u32>
+    ensures said { result ≡ workers_said value.now }
+    ensures few { IfSome result (λ number. number ≤ 8) }
+{
+    small_said(MOST_WORKERS, value)
+}
+
+/// Whether the option `--db` has a value that may be the path of a file, if it is given.
+pub(crate) fn takes_path(value: Option<&str>) -> bool
+    ensures { result ≡ option_map_or is_path (option_map (λ v. v.now) value.entry) true }
+{
+    match value {
+        Some(value) => !value.is_empty(),
+        None => true,
+    }
+}

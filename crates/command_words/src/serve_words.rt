@@ -1,0 +1,97 @@
+//! What the words say.
+ghost use Rattle.std.specs.Prelude.{◌≡◌, ◌≤◌, map, option_map, IfOk, IfSome, string_bytes};
+ghost use Rattle.std.specs.Option.{option_and_then};
+ghost use Rattle.clap.specs.Words.{found_of, rows_of};
+ghost use Rattle.command_words.specs.ServeWords.{option_numbers, options_from, serve_words_of, worker_count};
+
+use crate::reading::value_of;
+use crate::serve_program::parsed_options;
+use crate::serve_values::{connections_said, port_said, takes_path, workers_said};
+use clap::ArgMatches;
+use size_values::NoMemory;
+use std::alloc::Global;
+
+/// How many workers there are, where the words say no number of them.
+const WORKERS: u32 = 2;
+
+/// What the words say of the server: how many connections it takes, from 1 to 1,000,000, and how many workers it has,
+/// from 1 to 8.
+#[derive(Clone, Copy, PartialEq, Eq)]
+pub struct ServeWords {
+    pub connections: u32,
+    pub workers: u32,
+}
+
+/// The numbers that the options say.
+#[derive(Clone, Copy)]
+pub(crate) struct Options {
+    pub port: u32,
+    pub connections: u32,
+    pub workers: u32,
+}
+
+fn worker_count(given: &ArgMatches<'_>) -> Option<u32>
+    ensures says { result ≡ worker_count (rows_of (found_of given.now)) }
+    ensures few { IfSome result (λ workers. workers ≤ 8) }
+{
+    match value_of(given, "workers") {
+        Some(value) => workers_said(value),
+        None => Some(WORKERS),
+    }
+}
+
+/// The numbers that the options say, where each is one that its option takes.
+fn option_numbers(given: &ArgMatches<'_>) -> Option<Options>
+    ensures says { result ≡ option_numbers (rows_of (found_of given.now)) }
+    ensures few { IfSome result (λ o. (o.connections ≤ 1000000) × (o.workers ≤ 8)) }
+{
+    let port = value_of(given, "port").and_then(port_said)?;
+    let connections = value_of(given, "connections").and_then(connections_said)?;
+    let workers = worker_count(given)?;
+    Some(Options {
+        port,
+        connections,
+        workers,
+    })
+}
+
+fn options_from(given: &ArgMatches<'_>) -> Option<Options>
+    ensures says { result ≡ options_from (rows_of (found_of given.now)) }
+    ensures few { IfSome result (λ o. (o.connections ≤ 1000000) × (o.workers ≤ 8)) }
+{
+    if takes_path(value_of(given, "db")) {
+        option_numbers(given)
+    } else {
+        None
+    }
+}
+
+/// The same, where the words are taken.
+pub(crate) fn options_of_matches(given: &Option<ArgMatches<'_>>) -> Option<Options>
+    ensures says { result ≡ option_and_then options_from (option_map (λ m. rows_of (found_of m)) given.now) }
+    ensures few { IfSome result (λ o. (o.connections ≤ 1000000) × (o.workers ≤ 8)) }
+{
+    match given {
+        Some(given) => options_from(given),
+        None => None,
+    }
+}
+
+/// What the words say, where they are read: the options `--port`, `--connections`, `--workers` and `--db` in any order,
+/// each at most once, as `--name VALUE` or `--name=VALUE`. The first two have to be given.
+#[tactic(auto, unfolding(crate::specs::ServeWords::options_of))]
+pub fn read_serve_words(alloc: Global, words: &[String]) -> Result<Option<ServeWords>, NoMemory>
+    ensures says { IfOk result (λ said. said ≡ serve_words_of (map (λ w. string_bytes w) words.now)) }
+    ensures few { IfOk result (λ said. IfSome said (λ s. (s.connections ≤ 1000000) × (s.workers ≤ 8))) }
+{
+    let given = parsed_options(alloc, words)?;
+    let said = options_of_matches(&given);
+    drop(given);
+    match said {
+        Some(options) => Ok(Some(ServeWords {
+            connections: options.connections,
+            workers: options.workers,
+        })),
+        None => Ok(None),
+    }
+}

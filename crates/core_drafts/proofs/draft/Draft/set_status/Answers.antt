@@ -1,0 +1,10 @@
+use Rattle.std.proofs.Common.{◌∙◌, ap, sym, subst}
+use Rattle.row_readings.specs.Rising.{AreRising}
+use Rattle.core_drafts.specs.Drafted.{Drafted}
+use Rattle.core_drafts.proofs.Settled.{settled_is}
+use Rattle.core_drafts.proofs.draft.Draft.set_status.Goals as goal
+
+pub invariant_of-self : goal.invariant_of-self
+invariant_of-self c =
+    settled_is _ (ap (λ (d : Drafted). d.log) c.self.view_is ∙ c.requires.settled)
+    (subst AreRising (sym c.set_status.ensures.state) c.self.invariant.rises)

@@ -1,0 +1,6 @@
+pub mod Background
+pub mod Drafted
+pub mod Inside
+pub mod InsideBackground
+pub mod Keys
+pub mod Steps

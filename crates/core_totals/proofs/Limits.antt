@@ -1,0 +1,173 @@
+-- A new operation adds its share to what its project uses, and that alone can exceed a limit.
+use Rattle.std.proofs.Common.{◌≡◌, ℕ, ◌+◌, ◌≤◌, Bool, true, false, cond, Option, Some, None, List, [], ◌++◌, refl, sym, ◌∙◌, ap, subst, arith}
+use Rattle.std.specs.Prelude.{IfSome, map, nat_lt}
+use Rattle.std.specs.List.{sum_by}
+use Rattle.std.specs.Option.{option_map, option_map_or, option_or, option_to_list}
+use Rattle.std.specs.Str.{bytes_eq}
+use Rattle.std.proofs.lemmas.Bool.Decides.{nat_tests}
+use Rattle.std.proofs.lemmas.List.Sums.{sum_by-append, sum_by-cons}
+use Rattle.plain_lists.specs.Firsts.{first_of}
+use Rattle.plain_lists.proofs.Elements.{Each-map}
+use Rattle.plain_lists.proofs.FirstLemmas.{none-first_of, first_of-same}
+use Rattle.config_lists.proofs.Keys.{same, bytes_eq-itself}
+use Rattle.size_values.specs.Amounts.{part, nothing, amount_above, fits_in}
+use Rattle.size_values.specs.declared.amounts.Amounts.{Amounts}
+use Rattle.size_values.specs.declared.amounts.Part.{Part}
+use Rattle.size_values.proofs.AmountParts.{fits-part, same-parts}
+use Rattle.project_limits.specs.Admission.{limit_on, key_of, parts}
+use Rattle.project_limits.specs.Limits.{limits_of}
+use Rattle.project_limits.specs.declared.admission.LimitKey.{LimitKey}
+use Rattle.project_limits.specs.declared.admission.LimitKey.TheVariants as limit_key
+use Rattle.project_limits.specs.declared.admission.Over.{Over}
+use Rattle.records.specs.declared.refusals.Refusal.{Refusal}
+use Rattle.records.specs.declared.rows.Project.{Project}
+use Rattle.records.specs.declared.rows.Row.{Row}
+use Rattle.row_machine.specs.machine.Claims.{of_live, share_of, share_over as share_above, replaced_instance, amounts_of_instance, project_of_row}
+use Rattle.row_machine.specs.machine.LimitRules.{limit_exceeded, over_refusal, part_exceeds, networks_exceed, limits_broken}
+use Rattle.row_machine.specs.machine.State.{State}
+use Rattle.row_machine.specs.machine.Task.{Task}
+use Rattle.row_machine.specs.machine.Usage.{Load, loads, used, usage_of, networks_of, amount_for, instance_load, volume_load, claim_load}
+use Rattle.row_machine.specs.machine.Work.{claiming, project_of_task}
+use Rattle.row_machine.specs.facts.Whole.{IsWithin, AreWithin}
+use Rattle.machine_laws.proofs.Base.{claiming-reads}
+use Rattle.row_readings.proofs.Parts.{none-of, part-of_usage}
+use Rattle.rules_limits.specs.Alone.{share_over, share_exceeds, share_broken}
+use Rattle.row_readings.proofs.Ranges.{apart}
+use Rattle.core_totals.proofs.Own.{or-none}
+
+-- ---- parts
+
+-- ---- one more operation
+
+-- one part of its share, for the project that it counts for
+abbrev pub share_for : State → Task → List ℕ → Part → ℕ
+share_for s task name k = amount_for name k (record { project = project_of_task task; amounts = share_of s task })
+
+-- what it adds to the sum is its share, and that is nothing where it claims nothing
+claim-adds : (s : State) (task : Task) (name : List ℕ) (k : Part) → sum_by (amount_for name k) (option_to_list (claim_load s task)) ≡ share_for s task name k
+unfolding share_of
+claim-adds s task name k = at task.claim where
+  shared : Option Row → Amounts
+  shared claim = option_map_or (λ new. share_above s new (replaced_instance s task)) claim nothing
+
+  nothing-for : (b : Bool) → 0 ≡ cond b (part k nothing) 0
+  nothing-for true = sym (none-of k)
+  nothing-for false = refl
+
+  at : (claim : Option Row)
+      → sum_by (amount_for name k) (option_to_list (option_map (λ new. record { project = project_of_row new; amounts = shared claim }) claim))
+      ≡ amount_for name k (record { project = option_map_or project_of_row claim task.project; amounts = shared claim })
+  at None = nothing-for (bytes_eq task.project name)
+  at (Some r) = omega (arith, sum_by-cons (amount_for name k) (record { project = project_of_row r; amounts = shared (Some r) }) [])
+
+pub used-after : (s : State) (task : Task) (moment : ℕ) (name : List ℕ) (k : Part) → used (claiming s task moment) name k ≡ used s name k + share_for s task name k
+unfolding loads share_of amounts_of_instance
+used-after s task moment name k =
+    let after : used (claiming s task moment) name k ≡ sum_by amount (rows ++ (claims ++ new)) =
+    ap (λ xs. sum_by amount (rows ++ xs)) (claiming-reads (claim_load s) s task moment) in
+    let before : used s name k ≡ sum_by amount (rows ++ claims) = refl in
+    omega (arith, after, before, sum_by-append amount rows (claims ++ new), sum_by-append amount claims new, sum_by-append amount rows claims, claim-adds s task name k)
+  where
+    amount : Load → ℕ
+    amount = amount_for name k
+
+    rows : List Load
+    rows = map (instance_load s) s.instances ++ map volume_load s.volumes
+
+    claims : List Load
+    claims = of_live (claim_load s) s
+
+    new : List Load
+    new = option_to_list (claim_load s task)
+
+-- ---- one project
+
+-- a share is nothing where it fits in nothing
+nothing-fits : (share : Amounts) → fits_in share nothing ≡ true → share ≡ nothing
+nothing-fits share is =
+    same-parts share nothing (λ k. let low = fits-part share nothing is k in omega (arith, low, none-of k))
+
+-- a limit within which what is used stays is not exceeded
+pub unexceeded : (p : Project) (key : LimitKey) (limit : Option ℕ) (n : ℕ) → IfSome limit (λ l. n ≤ l) → limit_exceeded p key limit n n ≡ None
+unexceeded p key None n h = refl
+unexceeded p key (Some l) n h =
+    let within : nat_lt l (n + amount_above n n) ≡ false = grind (arith, nat_tests, h) in
+    ap (option_map (over_refusal p)) (ap (λ b. cond {A = Option Over} b (Some (record { key = key; used = n; asked = amount_above n n; limit = l })) None) within)
+
+module _ (s : State) (task : Task) (p : Project) (h : IsWithin s p) where
+  -- the project that it counts for, and what that uses and its share
+  abbrev name : List ℕ
+  name = project_of_task task
+
+  abbrev before : Part → ℕ
+  before k = part k (usage_of s name)
+
+  abbrev share : Part → ℕ
+  share k = part k (share_of s task)
+
+  abbrev exceeded : Part → ℕ → ℕ → Option Refusal
+  exceeded k = limit_exceeded p (key_of k) (limit_on k (limits_of p.config))
+
+  before-own : (k : Part) → p.name ≡ name → used s p.name k ≡ before k
+  before-own k own = ap (λ n. used s n k) own ∙ sym (part-of_usage s name k)
+
+  part-alone : (moment : ℕ) (k : Part) → part_exceeds s (claiming s task moment) k p ≡ share_over name (usage_of s name) (share_of s task) k p
+  unfolding part_exceeds
+  part-alone moment k = ap (exceeded k (used s p.name k)) (used-after s task moment p.name k) ∙ at (bytes_eq p.name name) refl where
+    at : (b : Bool) → bytes_eq p.name name ≡ b
+        → exceeded k (used s p.name k) (used s p.name k + share_for s task p.name k) ≡ cond b (exceeded k (before k) (before k + share k)) None
+    at true is =
+        let own : p.name ≡ name = same p.name name is in
+        ap (λ b. exceeded k (used s p.name k) (used s p.name k + cond b (share k) 0)) (ap (bytes_eq name) own ∙ bytes_eq-itself name)
+        ∙ ap (λ n. exceeded k n (n + share k)) (before-own k own)
+    at false is =
+        let none : used s p.name k + 0 ≡ used s p.name k = omega arith in
+        ap (λ b. exceeded k (used s p.name k) (used s p.name k + cond b (share k) 0)) (apart p.name name is)
+        ∙ ap (exceeded k (used s p.name k)) none
+        ∙ unexceeded p (key_of k) (limit_on k (limits_of p.config)) (used s p.name k) (h.parts k)
+
+  -- where it has no share nothing is exceeded
+  part-none : (k : Part) → share_over name (usage_of s name) nothing k p ≡ None
+  part-none k = at (bytes_eq p.name name) refl where
+    at : (b : Bool) → bytes_eq p.name name ≡ b → cond b (exceeded k (before k) (before k + part k nothing)) None ≡ None
+    at true is =
+        let none : before k + part k nothing ≡ before k = omega (arith, none-of k) in
+        ap (exceeded k (before k)) none
+        ∙ unexceeded p (key_of k) (limit_on k (limits_of p.config)) (before k)
+        (subst (λ n. IfSome (limit_on k (limits_of p.config)) (λ l. n ≤ l)) (before-own k (same p.name name is)) (h.parts k))
+    at false is = refl
+
+  networks-none : (moment : ℕ) → networks_exceed s (claiming s task moment) p ≡ None
+  unfolding networks_exceed networks_of
+  networks-none moment = unexceeded p limit_key.Networks (limits_of p.config).networks (networks_of s p.name) h.networks
+
+-- ---- all projects
+
+module _ (s : State) (task : Task) (moment : ℕ) (h : AreWithin s) where
+  exceeds-alone : limits_broken s (claiming s task moment) ≡ share_exceeds s.projects (project_of_task task) (usage_of s (project_of_task task)) (share_of s task)
+  unfolding limits_broken
+  exceeds-alone =
+      let of_parts = first_of (λ k. first_of (part_exceeds s (claiming s task moment) k) s.projects) parts in
+      ap (λ o. option_or of_parts (option_or o None))
+      (none-first_of (networks_exceed s (claiming s task moment)) s.projects (Each-map (λ p w. networks-none s task p w moment) h.limits))
+      ∙ or-none of_parts
+      ∙ first_of-same (λ k. first_of (part_exceeds s (claiming s task moment) k) s.projects) _ parts
+      (record { at = λ k m. first_of-same (part_exceeds s (claiming s task moment) k) _ s.projects (Each-map (λ p w. part-alone s task p w moment k) h.limits) })
+
+  none-alone : share_of s task ≡ nothing → limits_broken s (claiming s task moment) ≡ None
+  none-alone none =
+      exceeds-alone
+      ∙ ap (share_exceeds s.projects (project_of_task task) (usage_of s (project_of_task task))) none
+      ∙ none-first_of (λ k. first_of (share_over (project_of_task task) (usage_of s (project_of_task task)) nothing k) s.projects) parts
+      (record {
+        at = λ k m. none-first_of (share_over (project_of_task task) (usage_of s (project_of_task task)) nothing k) s.projects
+            (Each-map (λ p w. part-none s task p w k) h.limits);
+      })
+
+  pub limits-alone : limits_broken s (claiming s task moment)
+      ≡ share_broken s.projects (project_of_task task) (usage_of s (project_of_task task)) (share_of s task)
+  limits-alone = at (fits_in (share_of s task) nothing) refl where
+    at : (b : Bool) → fits_in (share_of s task) nothing ≡ b → limits_broken s (claiming s task moment)
+        ≡ cond b None (share_exceeds s.projects (project_of_task task) (usage_of s (project_of_task task)) (share_of s task))
+    at true is = none-alone (nothing-fits (share_of s task) is)
+    at false is = exceeds-alone

@@ -1,0 +1,15 @@
+use Rattle.std.proofs.Common.{find, sym, ap, ◌∙◌}
+use Rattle.std.specs.Option.{option_copied, option_map_or}
+use Rattle.size_values.specs.Amounts.{nothing}
+use Rattle.reservations.specs.declared.books.Hold.{Hold}
+use Rattle.row_machine.specs.machine.State.{State}
+use Rattle.row_machine.specs.machine.Work.{is_held_by}
+use Rattle.core_totals.proofs.ends.held_share.Goals as goal
+
+pub returns-in-Some : goal.returns-in-Some
+returns-in-Some c = ap (λ x. option_map_or (λ (h : Hold). h.share) x nothing)
+    (ap option_copied (sym c.in-Some.is) ∙ c.hold_of.ensures ∙ ap (λ (t : State). find (is_held_by c.args.number) t.held) c.view.view_is)
+
+pub returns-in-None : goal.returns-in-None
+returns-in-None c = c.zero.ensures ∙ ap (λ x. option_map_or (λ (h : Hold). h.share) x nothing)
+    (ap option_copied (sym c.in-None.is) ∙ c.hold_of.ensures ∙ ap (λ (t : State). find (is_held_by c.args.number) t.held) c.view.view_is)

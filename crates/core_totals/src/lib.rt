@@ -1,0 +1,15 @@
+//! What projects use of their limits, kept from one request to the next; with the laws that what is
+//! known is what is used, and that a new operation is judged by what it claims alone.
+#![tactic(auto)]
+
+mod ends;
+mod laws;
+mod totals;
+
+pub use core_reports::{
+    Shown, Turned, Waiting, begin, cancel, default_profile, entry_changes, first_pending,
+    is_pending, live_at, take_report, tell, told_by,
+};
+pub use ends::{Counted, count, follow_end, give_back, held_share};
+pub use laws::{claims_are_judged_alone, new_profiles_are_judged_alone, projects_are_judged_alone};
+pub use totals::{Total, Totals};

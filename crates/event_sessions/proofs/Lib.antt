@@ -1,2 +1,0 @@
-mod Hearing
-mod Taking

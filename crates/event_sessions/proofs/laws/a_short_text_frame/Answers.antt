@@ -1,8 +1,0 @@
-use Rattle.std.proofs.Common.{refl}
-use Rattle.websocket.specs.FrameHeader.{encode_header}
-use Rattle.event_sessions.specs.Frames.{text_frame}
-use Rattle.event_sessions.proofs.laws.a_short_text_frame.Goals as goal
-
-pub returns : goal.returns
-unfolding text_frame encode_header
-returns c = refl

@@ -1,5 +1,0 @@
-pub mod Examples
-pub mod Frames
-pub mod Listening
-pub mod Sending
-pub mod Sessions

@@ -1,3 +1,0 @@
-mod ExampleLemmas
-mod FilterLemmas
-mod SubscriptionLemmas

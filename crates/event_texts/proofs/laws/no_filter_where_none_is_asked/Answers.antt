@@ -1,5 +1,0 @@
-use Rattle.event_texts.proofs.FilterLemmas.{none_where_none}
-use Rattle.event_texts.proofs.laws.no_filter_where_none_is_asked.Goals as goal
-
-pub returns : goal.returns
-returns c = none_where_none

@@ -1,3 +1,0 @@
-mod Answering
-mod Reaching
-mod Waiting

@@ -1,0 +1,124 @@
+//! A server over TCP, whose jobs run on threads.
+ghost use Rattle.std.specs.Prelude.{◌≡◌, map, string_bytes};
+ghost use Rattle.command_words.specs.ServeWords.{serve_setup_of};
+
+use crate::telling::tell_address;
+use crate::threads::{Spawning, on_threads};
+use host_model::ModelHost;
+use http_front::{Clock, ReaderSource, SystemClock, WriterSink};
+use record_keeper::Keeper;
+use server_main::{ServerJob, serve_main};
+use serving::{Doors, Spawner, listen};
+use size_values::Seq;
+use std::alloc::Global;
+use std::marker::{Brand, PhantomData};
+use std::net::{Net, TcpListener, TcpStream};
+use std::sync::Wait;
+use std::sync::ledger::{Blank, Ledger};
+use std::thread::Threads;
+use std::time;
+
+/// What a server is begun with, but for its spawner.
+struct Beginning<'a, D, R, L, T> {
+    system: T,
+    alloc: Global,
+    words: &'a [String],
+    doors: D,
+    keeper: R,
+    blank: Blank,
+    ledger: PhantomData<L>,
+}
+
+/// The jobs of a server over these doors.
+type Job<D, R, L, T> = ServerJob<
+    <D as Doors>::Source,
+    <D as Doors>::Sink,
+    R,
+    ModelHost,
+    SystemClock<T>,
+    L,
+    T,
+>;
+
+impl<'a, D, R, L, T> Spawning<Job<D, R, L, T>> for Beginning<'a, D, R, L, T>
+where
+    D: Doors + Drop,
+    R: Keeper + Drop,
+    L: Ledger,
+    T: Wait + time::Clock + Copy + Drop,
+{
+    type Out = (u8, Option<R>);
+
+    ghost is_sound = { λ b. ((D.seen b.doors).given ≡ 0) × (b.blank.name ≡ L.name) × (b.blank.parts ≡ L.parts)
+        × (b.blank.parts ≡ (serve_setup_of (map (λ w. string_bytes w) b.words.now)).passes) };
+
+    fn run<P: Spawner<Job<D, R, L, T>>>(self, spawner: &mut P) -> (u8, Option<R>) {
+        let Beginning {
+            system,
+            alloc,
+            words,
+            mut doors,
+            keeper,
+            blank,
+            ledger: _,
+        } = self;
+        let host = ModelHost::new(alloc, Seq::new(alloc));
+        let mut clock = SystemClock::new(system);
+        let boot = clock.now();
+        serve_main::<R, ModelHost, SystemClock<T>, L, T, D, P>(
+            system, alloc, words, &mut doors, spawner, keeper, host, clock, boot, blank,
+        )
+    }
+}
+
+/// Serves the links of doors, each job on a thread, over a modelled host and by the clock of the system.
+fn serve_at<D, L, R, T>(
+    system: T,
+    alloc: Global,
+    words: &[String],
+    doors: D,
+    keeper: R,
+    blank: Blank,
+) -> (u8, Option<R>)
+where
+    D: Doors<Source = ReaderSource<TcpStream>, Sink = WriterSink<TcpStream>> + Drop,
+    L: Ledger + Send + Sync + 'static,
+    R: Keeper + Drop + Send + 'static,
+    T: Threads + Wait + time::Clock + Copy + Drop + Send + Sync + 'static,
+    requires doors { (D.seen doors).given ≡ 0 }
+    requires name { blank.name ≡ L.name }
+    requires parts { (blank.parts ≡ L.parts)
+        × (blank.parts ≡ (serve_setup_of (map (λ w. string_bytes w) words.now)).passes) }
+{
+    let beginning = Beginning::<'_, D, R, L, T> {
+        system,
+        alloc,
+        words,
+        doors,
+        keeper,
+        blank,
+        ledger: PhantomData,
+    };
+    on_threads(system, beginning)
+}
+
+/// The same over TCP, at a ledger of its own, with a part for each pass.
+pub(crate) fn serve_over<R, T>(
+    rt: HostRuntime,
+    system: T,
+    words: &[String],
+    port: u16,
+    passes: u32,
+    keeper: R,
+) -> (u8, Option<R>)
+where
+    R: Keeper + Drop + Send + 'static,
+    T: Net<Listener = TcpListener, Stream = TcpStream> + Threads + Wait + time::Clock,
+    T: Copy + Drop + Send + Sync + 'static,
+    requires { passes ≡ (serve_setup_of (map (λ w. string_bytes w) words.now)).passes }
+{
+    let doors = listen(&system, port);
+    tell_address(rt, port, doors.is_listening());
+    let blank = Blank::new(u64::from(passes));
+    serve_at::<_, Brand, R, T>(system, rt.alloc(), words, doors, keeper, blank)
+}

@@ -1,0 +1,73 @@
+//! What a server is started with.
+ghost use Rattle.std.specs.Prelude.{◌≡◌, map, string_bytes};
+ghost use Rattle.command_words.specs.ServeWords.{serve_setup_of};
+
+use crate::listening::serve_over;
+use crate::telling::PROGRAM;
+use command_words::serve_setup_of;
+use program_start::{StartFault, tell_why};
+use record_keeper::MapKeeper;
+use size_values::{Seq, Text};
+use sqlite_keeper::SqliteKeeper;
+use std::net::{Net, TcpListener, TcpStream};
+use std::sync::Wait;
+use std::thread::Threads;
+use std::time;
+
+/// The exit status of a server over rows in memory.
+fn serve_in_memory<T>(rt: HostRuntime, system: T, words: &[String], port: u16, passes: u32) -> u8
+where
+    T: Net<Listener = TcpListener, Stream = TcpStream> + Threads + Wait + time::Clock,
+    T: Copy + Drop + Send + Sync + 'static,
+    requires { passes ≡ (serve_setup_of (map (λ w. string_bytes w) words.now)).passes }
+{
+    let keeper = MapKeeper::new(rt.alloc(), Seq::new(rt.alloc()));
+    let (status, back) = serve_over(rt, system, words, port, passes, keeper);
+    drop(back);
+    status
+}
+
+/// The same over the rows of a file. Standard error tells why it was not opened.
+fn serve_file<T>(
+    rt: HostRuntime,
+    system: T,
+    words: &[String],
+    port: u16,
+    passes: u32,
+    path: Text,
+) -> u8
+where
+    T: Net<Listener = TcpListener, Stream = TcpStream> + Threads + Wait + time::Clock,
+    T: Copy + Drop + Send + Sync + 'static,
+    requires { passes ≡ (serve_setup_of (map (λ w. string_bytes w) words.now)).passes }
+{
+    let keeper = SqliteKeeper::at(rt, path);
+    let (status, back) = serve_over(rt, system, words, port, passes, keeper);
+    let Some(mut keeper) = back else {
+        return status;
+    };
+    tell_why(rt, PROGRAM, status, &mut keeper);
+    drop(keeper);
+    status
+}
+
+/// Serves as the words say, and gives the exit status. Where they are not read, nothing is opened.
+pub fn serve<T>(rt: HostRuntime, system: T, words: &[String]) -> u8
+where
+    T: Net<Listener = TcpListener, Stream = TcpStream> + Threads + Wait + time::Clock,
+    T: Copy + Drop + Send + Sync + 'static,
+{
+    let Ok(setup) = serve_setup_of(rt.alloc(), words) else {
+        return StartFault::NoMemory.status();
+    };
+    let port = u16::try_from(setup.port).unwrap_or(0);
+    let passes = setup.passes;
+    let db = setup.db;
+    if port == 0 {
+        StartFault::Words.status()
+    } else if db.is_empty() {
+        serve_in_memory(rt, system, words, port, passes)
+    } else {
+        serve_file(rt, system, words, port, passes, db)
+    }
+}

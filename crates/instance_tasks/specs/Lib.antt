@@ -1,3 +1,0 @@
--- The libraries whose words crates above name through this one.
-pub use Rattle.row_readings as row_readings
-pub mod Planned

@@ -1,9 +1,0 @@
-pub mod Rising
-pub mod Sorting
-pub mod Sections
-pub mod Reading
-pub mod Standings
-pub mod Reopened
-pub mod Unbroken
-pub mod Accepted
-pub mod Opening

@@ -1,6 +1,0 @@
-pub mod Usage
-pub mod Successes
-pub mod Told
-pub mod Shares
-pub mod Few
-pub mod Turns

@@ -1,5 +1,0 @@
--- The libraries whose words crates above name through this one.
-pub use Rattle.row_machine.specs.host_model as host_model
-pub use Rattle.row_machine.specs.records as records
-pub use Rattle.row_machine as row_machine
-pub use Rattle.row_machine.specs.size_values as size_values

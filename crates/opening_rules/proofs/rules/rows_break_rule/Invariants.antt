@@ -1,9 +1,0 @@
-use Rattle.std.proofs.Common.{◌≡◌, None, take, option_map}
-use Rattle.row_machine.specs.plain_lists.specs.Firsts.{first_of}
-use Rattle.row_machine.specs.opening.Opening.{broken_at}
-use Rattle.opening_rules.specs.Rules.{row_rule}
-use Rattle.opening_rules.proofs.rules.rows_break_rule.Given as goal
-
--- those before do not break it
-abbrev pub invariant-loop-row : goal.invariant-loop-row
-invariant-loop-row l = first_of (λ r. option_map (broken_at r) (row_rule l.rule l.view r)) (take l.row-index l.rows) ≡ None

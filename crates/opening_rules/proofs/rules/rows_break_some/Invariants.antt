@@ -1,9 +1,0 @@
-use Rattle.std.proofs.Common.{◌≡◌, None, take}
-use Rattle.row_machine.specs.plain_lists.specs.Firsts.{first_of}
-use Rattle.row_machine.specs.opening.Opening.{row_breaks}
-use Rattle.opening_rules.specs.Rules.{row_rule}
-use Rattle.opening_rules.proofs.rules.rows_break_some.Given as goal
-
--- no row breaks a rule before
-abbrev pub invariant-loop-rule : goal.invariant-loop-rule
-invariant-loop-rule l = first_of (λ rule. row_breaks l.view l.rows (row_rule rule)) (take l.rule-index l.rules) ≡ None

@@ -1,9 +1,0 @@
-use Rattle.std.proofs.Common.{◌≡◌, filter, take}
-use Rattle.std.specs.List.{filter_map}
-use Rattle.object_links.specs.row_machine.specs.shown.Notices.{view_of}
-use Rattle.object_links.specs.row_machine.specs.shown.Views.{if_any}
-use Rattle.operation_views.specs.Statuses.{has_status}
-use Rattle.operation_views.proofs.operations_shown.views_by_status.Given as goal
-
-abbrev pub invariant-loop-status : goal.invariant-loop-status
-invariant-loop-status l = l.groups ≡ filter_map (λ status. if_any view_of status (filter (has_status l.project status) l.operations)) (take l.status-index l.statuses)

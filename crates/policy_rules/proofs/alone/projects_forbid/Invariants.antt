@@ -1,8 +1,0 @@
-use Rattle.std.proofs.Common.{◌≡◌, None, take}
-use Rattle.policy_rules.specs.Within.{own_claim}
-use Rattle.restrictions.specs.plain_lists.specs.Firsts.{first_of}
-use Rattle.policy_rules.proofs.alone.projects_forbid.Given as goal
-
--- those before break nothing
-abbrev pub invariant-loop-project : goal.invariant-loop-project
-invariant-loop-project l = first_of (λ p. own_claim l.view p l.number l.work) (take l.project-index l.projects) ≡ None

@@ -1,8 +1,0 @@
-use Rattle.std.proofs.Common.{◌≡◌, None, take}
-use Rattle.policy_rules.specs.Within.{own_claim}
-use Rattle.restrictions.specs.plain_lists.specs.Firsts.{first_of}
-use Rattle.policy_rules.proofs.policy.claims_forbid.Given as goal
-
--- those before break nothing
-abbrev pub invariant-loop-operation : goal.invariant-loop-operation
-invariant-loop-operation l = first_of (λ o. own_claim l.view l.project l.number o.work) (take l.operation-index l.live) ≡ None

@@ -1,8 +1,0 @@
-use Rattle.std.proofs.Common.{◌≡◌, None, take}
-use Rattle.policy_rules.specs.Within.{own_instance}
-use Rattle.restrictions.specs.plain_lists.specs.Firsts.{first_of}
-use Rattle.policy_rules.proofs.policy.instances_forbid.Given as goal
-
--- those before break nothing
-abbrev pub invariant-loop-row : goal.invariant-loop-row
-invariant-loop-row l = first_of (own_instance l.view l.project l.number) (take l.row-index l.rows) ≡ None

@@ -1,0 +1,2 @@
+-- The libraries whose words crates above name through this one.
+pub use Rattle.start_faults as start_faults

@@ -1,0 +1,32 @@
+use crate::start_messages::{tell_fault, tell_line};
+use size_values::NoMemory;
+use sqlite_keeper::SqliteKeeper;
+use start_faults::StartFault;
+use std::alloc::Global;
+
+/// The line that says why a file keeps no rows.
+fn trouble_line(alloc: Global, program: &str, keeper: &SqliteKeeper) -> Result<String, NoMemory> {
+    match keeper.trouble() {
+        Some(trouble) => Ok(format!(in alloc; "{program}: {}: {trouble}\n", keeper.path())?),
+        None => Ok(format!(in alloc;
+            "{program}: {}: the rows could not be read or written\n",
+            keeper.path()
+        )?),
+    }
+}
+
+/// Why a file keeps no rows.
+fn tell_trouble(rt: HostRuntime, program: &str, keeper: &SqliteKeeper) {
+    tell_line(rt, trouble_line(rt.alloc(), program, keeper));
+}
+
+/// Why a program over the rows of a file ended with this exit status, where the file or its rows are why: it keeps no
+/// rows, or they open to none.
+pub fn tell_why(rt: HostRuntime, program: &str, status: u8, keeper: &mut SqliteKeeper) {
+    if status == StartFault::KeeperFailed.status() {
+        tell_trouble(rt, program, keeper);
+    }
+    if status == StartFault::Unopened.status() {
+        tell_fault(rt, program, keeper);
+    }
+}

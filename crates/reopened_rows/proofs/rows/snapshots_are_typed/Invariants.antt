@@ -1,9 +1,0 @@
-use Rattle.std.proofs.Common.{take}
-use Rattle.kept_laws.specs.plain_lists.specs.Members.{Each}
-use Rattle.kept_laws.specs.records.specs.declared.rows.Snapshot.{Snapshot}
-use Rattle.kept_laws.specs.records.specs.declared.rows.Row.TheVariants as row
-use Rattle.kept_laws.specs.row_codec.specs.Rows.{HasTypedParts}
-use Rattle.reopened_rows.proofs.rows.snapshots_are_typed.Given as goal
-
-abbrev pub invariant-loop-snapshot : goal.invariant-loop-snapshot
-invariant-loop-snapshot l = Each (λ (r : Snapshot). HasTypedParts (row.Snapshot r)) (take l.snapshot-index l.snapshots)

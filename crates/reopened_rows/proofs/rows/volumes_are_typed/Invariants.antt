@@ -1,9 +1,0 @@
-use Rattle.std.proofs.Common.{take}
-use Rattle.kept_laws.specs.plain_lists.specs.Members.{Each}
-use Rattle.kept_laws.specs.records.specs.declared.rows.Volume.{Volume}
-use Rattle.kept_laws.specs.records.specs.declared.rows.Row.TheVariants as row
-use Rattle.kept_laws.specs.row_codec.specs.Rows.{HasTypedParts}
-use Rattle.reopened_rows.proofs.rows.volumes_are_typed.Given as goal
-
-abbrev pub invariant-loop-volume : goal.invariant-loop-volume
-invariant-loop-volume l = Each (λ (r : Volume). HasTypedParts (row.Volume r)) (take l.volume-index l.volumes)

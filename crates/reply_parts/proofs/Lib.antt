@@ -1,5 +1,0 @@
-pub mod Calendar
-pub mod Floatless
-pub mod ReadBack
-pub mod Rising
-pub mod Walked

@@ -1,7 +1,0 @@
-//! Laws: functions that do nothing, whose contracts are the laws.
-ghost use Rattle.reply_parts.specs.Ids.{ReadsBack};
-
-/// The id of an operation names the operation's number again.
-pub fn ids_read_back()
-    ensures { ReadsBack }
-{}

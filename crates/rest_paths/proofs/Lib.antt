@@ -1,7 +1,0 @@
-pub mod Matching
-pub mod Names
-pub mod Rows
-pub mod Taken
-pub mod Timeouts
-mod Events
-pub mod Server

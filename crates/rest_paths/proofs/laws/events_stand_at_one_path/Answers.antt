@@ -1,5 +1,0 @@
-use Rattle.rest_paths.proofs.Events.{events-stand}
-use Rattle.rest_paths.proofs.laws.events_stand_at_one_path.Goals as goal
-
-pub returns : goal.returns
-returns c = events-stand

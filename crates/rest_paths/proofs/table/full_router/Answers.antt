@@ -1,7 +1,0 @@
-use Rattle.rest_paths.specs.Places.{routes}
-use Rattle.rest_paths.proofs.Taken.{routes_are_taken}
-use Rattle.rest_paths.proofs.table.full_router.Goals as goal
-
-pub router_of-requires : goal.router_of-requires
-unfolding routes
-router_of-requires c = routes_are_taken

@@ -1,0 +1,29 @@
+-- Answers that take memory: what they are, and one made from another.
+use Rattle.std.specs.Prelude.{◌≡◌, Result, Ok, Err}
+use Rattle.size_values.specs.declared.memory.Or.{Or}
+use Rattle.size_values.specs.declared.memory.Or.TheVariants as or
+
+-- a refusal is the one that is due, unless memory ran out
+abbrev pub IsDue : {T E : Type 0} → Or E → Result T E → Type 0
+IsDue or.NoMemory due = Unit {0}
+IsDue (or.Why error) due = due ≡ Err error
+
+-- what a function returned is what is due, unless memory ran out
+abbrev pub Gives : {T E : Type 0} → Result T (Or E) → Result T E → Type 0
+Gives (Ok value) due = due ≡ Ok value
+Gives (Err error) due = IsDue error due
+
+-- a refusal that was made is this one, unless memory ran out
+abbrev pub IsRefused : {E : Type 0} → Or E → E → Type 0
+IsRefused or.NoMemory refusal = Unit {0}
+IsRefused (or.Why error) refusal = error ≡ refusal
+
+-- an answer as f makes it; a refusal stays
+abbrev pub mapped : {A B E : Type 0} → (A → B) → Result A E → Result B E
+mapped f (Ok value) = Ok (f value)
+mapped f (Err error) = Err error
+
+-- the next answer, made from this one; a refusal stays
+abbrev pub followed : {A B E : Type 0} → Result A E → (A → Result B E) → Result B E
+followed (Ok value) f = f value
+followed (Err error) f = Err error

@@ -1,0 +1,120 @@
+-- What the query of a target says.
+use Rattle.std.specs.Prelude.{ℕ, ◌==◌, ◌&&◌, ◌||◌, ℤ, pos, negsuc, nat_lt, Bool, true, false, not, List, [], ◌∷◌}
+use Rattle.std.specs.Prelude.{length, slice_index, Option, Some, None, Result, Ok, ok_or, option_map, unwrap_or}
+use Rattle.std.specs.Prelude.{is_some, if◌then◌else◌, codes}
+use Rattle.std.specs.List.{list_all, list_any, slice_split}
+use Rattle.std.specs.Result.{result_ok}
+use Rattle.std.specs.Str.{bytes_eq}
+use Rattle.std.specs.Str.Lossy.{utf8_lossy}
+use Rattle.form_urlencoded.specs.Form.{raw_pairs, decode}
+use Rattle.size_values.specs.Count.{count_of}
+use Rattle.records.specs.Forms.{longest_wait}
+use Rattle.records.specs.declared.refusals.Rule.TheVariants as rule
+use Rattle.records.specs.declared.refusals.Refusal.{Refusal}
+use Rattle.rest_routes.specs.Answers.{followed}
+use Rattle.rest_routes.specs.Refusals.{on_key}
+use Rattle.rest_routes.specs.declared.query.Flags.{Flags}
+use Rattle.rest_routes.specs.declared.query.Query.{Query}
+use Rattle.rest_routes.specs.declared.query.Types.{Types}
+
+-- the text that a key or a value of a query stands for: decoded, and bytes that are no UTF-8 replaced
+abbrev pub text_of : List ℕ → List ℕ
+text_of raw = utf8_lossy (decode raw)
+
+-- `0` lists links, and `1` and `2` list objects
+unfoldable pub recursion_of : List ℕ → Option Bool
+recursion_of value =
+    if bytes_eq value (codes "0") then Some false
+    else (if bytes_eq value (codes "1") || bytes_eq value (codes "2") then Some true
+    else None)
+
+-- a zero before other digits
+unfoldable pub has_leading_zero : List ℕ → Bool
+has_leading_zero value = nat_lt 1 (length value) && slice_index value 0 == 48
+
+-- seconds in decimal, with neither a sign nor leading zeros, and not too many
+unfoldable pub timeout_seconds : List ℕ → Option ℕ
+timeout_seconds value = if has_leading_zero value then None else result_ok (count_of value 0 longest_wait)
+
+-- the time to wait: -1 for no end, or seconds
+unfoldable pub timeout_of : List ℕ → Option ℤ
+timeout_of value = if bytes_eq value (codes "-1") then Some (negsuc 0) else option_map pos (timeout_seconds value)
+
+-- one of the two types of events
+unfoldable pub is_type : List ℕ → Bool
+is_type word = bytes_eq word (codes "lifecycle") || bytes_eq word (codes "operation")
+
+-- types of events with commas between
+unfoldable pub are_types : List ℕ → Bool
+are_types value = list_all is_type (slice_split (λ byte. byte == 44) value)
+
+-- one of the words with commas between is this one
+unfoldable pub lists_word : List ℕ → List ℕ → Bool
+lists_word word value = list_any (λ part. bytes_eq part word) (slice_split (λ byte. byte == 44) value)
+
+-- the types of events that a text lists, if it lists nothing else
+unfoldable pub types_of : List ℕ → Option Types
+types_of value =
+    if are_types value
+    then Some (record {
+      lifecycle = lists_word (codes "lifecycle") value;
+      operation = lists_word (codes "operation") value;
+    })
+    else None
+
+-- a query that says nothing
+abbrev pub no_query : Query
+no_query = record { project = None; flags = record { recursion = None; timeout = None; types = None } }
+
+-- The flags after one more pair, or none if the pair is bad. The first of equal keys counts, and other keys say
+-- nothing.
+unfoldable pub flags_after : Flags → List ℕ → List ℕ → Option Flags
+flags_after flags key value =
+    if bytes_eq key (codes "recursion")
+    && not (is_some flags.recursion)
+    then option_map (λ (recursion : Bool). record flags { recursion = Some recursion }) (recursion_of value)
+    else (if bytes_eq key (codes "timeout")
+    && not (is_some flags.timeout)
+    then option_map (λ (timeout : ℤ). record flags { timeout = Some timeout }) (timeout_of value)
+    else (if bytes_eq key (codes "type")
+    && not (is_some flags.types)
+    then option_map (λ (types : Types). record flags { types = Some types }) (types_of value)
+    else (if bytes_eq key (codes "all-projects") || bytes_eq key (codes "filter") then None
+    else Some flags)))
+
+-- the project after one more pair: the first that is named
+unfoldable pub project_after : Option (List ℕ) → List ℕ → List ℕ → Option (List ℕ)
+project_after project key value =
+    if bytes_eq key (codes "project") && not (is_some project) then Some value else project
+
+-- the query after one more pair; a bad pair is refused by its key
+unfoldable pub query_after : Query → List ℕ → List ℕ → Result Query Refusal
+query_after query key value =
+    followed (ok_or (flags_after query.flags key value) (on_key rule.A3 key)) (λ flags.
+    Ok (record { project = project_after query.project key value; flags = flags }))
+
+-- the query with all these pairs
+abbrev pub query_in : Query → List (List ℕ × List ℕ) → Result Query Refusal
+query_in query [] = Ok query
+query_in query ((key, value) ∷ pairs) =
+    followed (query_after query (text_of key) (text_of value)) (λ next. query_in next pairs)
+
+-- what a query says, or the refusal of its first bad pair
+unfoldable pub query_from_text : List ℕ → Result Query Refusal
+query_from_text text = query_in no_query (raw_pairs text)
+
+-- the project that is asked in, which is `default` where the query names none
+abbrev pub project_of : Query → List ℕ
+project_of query = unwrap_or query.project (codes "default")
+
+-- whether objects are listed, and not their links alone
+abbrev pub wants_objects : Query → Bool
+wants_objects query = unwrap_or query.flags.recursion false
+
+-- the time to wait for an operation, which has no end where the query says nothing
+abbrev pub wait_timeout : Query → ℤ
+wait_timeout query = unwrap_or query.flags.timeout (negsuc 0)
+
+-- the types of events that are wanted, which are both where the query says nothing
+abbrev pub wanted_types : Query → Types
+wanted_types query = unwrap_or query.flags.types (record { lifecycle = true; operation = true })

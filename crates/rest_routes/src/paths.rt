@@ -1,0 +1,95 @@
+ghost use Rattle.std.specs.Prelude.{◌≡◌};
+ghost use Rattle.rest_routes.specs.Paths.{before_slash, after_slash, after_three_slashes, path_of, query_of, name_of};
+ghost use Rattle.rest_routes.specs.Paths.{pool_of, instance_of};
+
+use size_values::ObjectKind;
+
+/// What stands before the first slash, or all where there is none.
+#[tactic(auto, unfolding(crate::specs::Paths::before_slash))]
+fn before_slash(text: &str) -> &str
+    ensures { result.now ≡ before_slash text.now }
+{
+    match text.split_once('/') {
+        Some((before, _)) => before,
+        None => text,
+    }
+}
+
+/// What stands after the first slash, or nothing where there is none.
+#[tactic(auto, unfolding(crate::specs::Paths::after_slash))]
+fn after_slash(text: &str) -> &str
+    ensures { result.now ≡ after_slash text.now }
+{
+    match text.split_once('/') {
+        Some((_, after)) => after,
+        None => "",
+    }
+}
+
+/// The path and the query of a target, neither of them decoded: what stands before its first question mark, and what
+/// stands after it (RFC 3986, section 3.4).
+#[tactic(auto, unfolding(crate::specs::Paths::path_of, crate::specs::Paths::query_of))]
+pub fn split_target(target: &str) -> (&str, &str)
+    ensures path { result.0.now ≡ path_of target.now }
+    ensures query { result.1.now ≡ query_of target.now }
+{
+    match target.split_once('?') {
+        Some(parts) => parts,
+        None => (target, ""),
+    }
+}
+
+/// The path of a target: all before the first question mark.
+pub fn path_of(target: &str) -> &str
+    ensures { result.now ≡ path_of target.now }
+{
+    split_target(target).0
+}
+
+/// The query of a target: all after the first question mark.
+pub fn query_of(target: &str) -> &str
+    ensures { result.now ≡ query_of target.now }
+{
+    split_target(target).1
+}
+
+/// What stands after the first three slashes.
+#[tactic(auto, unfolding(crate::specs::Paths::after_three_slashes))]
+fn after_three_slashes(path: &str) -> &str
+    ensures { result.now ≡ after_three_slashes path.now }
+{
+    after_slash(after_slash(after_slash(path)))
+}
+
+/// The name of the object in a path `/1.0/profiles/NAME`, for volumes
+/// `/1.0/storage-pools/POOL/volumes/custom/NAME`, and for snapshots
+/// `/1.0/instances/INSTANCE/snapshots/NAME`.
+pub fn name_of(kind: ObjectKind, path: &str) -> &str
+    ensures { result.now ≡ name_of kind path.now }
+{
+    match kind {
+        ObjectKind::Volume => before_slash(after_three_slashes(after_three_slashes(path))),
+        ObjectKind::Snapshot => before_slash(after_slash(after_slash(after_three_slashes(path)))),
+        _ => before_slash(after_three_slashes(path)),
+    }
+}
+
+/// The pool in a path of volumes, `/1.0/storage-pools/POOL/volumes`. Other objects stand in none.
+pub fn pool_of(kind: ObjectKind, path: &str) -> &str
+    ensures { result.now ≡ pool_of kind path.now }
+{
+    match kind {
+        ObjectKind::Volume => before_slash(after_three_slashes(path)),
+        _ => "",
+    }
+}
+
+/// The instance in a path of snapshots, `/1.0/instances/INSTANCE/snapshots`. Other objects stand in none.
+pub fn instance_of(kind: ObjectKind, path: &str) -> &str
+    ensures { result.now ≡ instance_of kind path.now }
+{
+    match kind {
+        ObjectKind::Snapshot => before_slash(after_three_slashes(path)),
+        _ => "",
+    }
+}

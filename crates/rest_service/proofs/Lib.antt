@@ -1,2 +1,0 @@
-pub mod Along
-mod Answering

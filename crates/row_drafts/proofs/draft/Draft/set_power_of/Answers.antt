@@ -1,9 +1,0 @@
-use Rattle.std.proofs.Common.{◌∙◌, ap}
-use Rattle.row_drafts.specs.Drafted.{Drafted}
-use Rattle.row_drafts.proofs.Settled.{settled_is}
-use Rattle.row_drafts.proofs.draft.Draft.set_power_of.Goals as goal
-
-pub invariant_of-self : goal.invariant_of-self
-invariant_of-self c =
-    settled_is _ (ap (λ (d : Drafted). d.log) c.self.view_is ∙ c.requires.settled)
-    c.set_power_of.ensures.rises

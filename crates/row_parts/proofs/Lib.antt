@@ -1,4 +1,0 @@
-pub mod Texts
-pub mod Rising
-pub mod Items
-pub mod Written

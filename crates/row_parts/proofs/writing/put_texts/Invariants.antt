@@ -1,7 +1,0 @@
-use Rattle.std.specs.Str.{IsUtf8}
-use Rattle.row_parts.specs.Spelling.{text_bytes}
-use Rattle.row_parts.proofs.Written.{Written}
-use Rattle.row_parts.proofs.writing.put_texts.Given as goal
-
-abbrev pub invariant-loop-text : goal.invariant-loop-text
-invariant-loop-text l = Written text_bytes IsUtf8 l.fn.out.items l.out.items l.text-items l.text-index

@@ -1,8 +1,0 @@
-use Rattle.std.proofs.Common.{◌≡◌, ◌+◌, take, length}
-use Rattle.std.specs.List.{flat_map}
-use Rattle.row_codec.specs.Spelling.{device_bytes}
-use Rattle.row_sizes.specs.Sizes.{capped}
-use Rattle.row_sizes.proofs.sizes.devices_size.Given as goal
-
-abbrev pub invariant-loop-place : goal.invariant-loop-place
-invariant-loop-place l = l.size ≡ capped (4 + length (flat_map device_bytes (take l.place l.devices)))

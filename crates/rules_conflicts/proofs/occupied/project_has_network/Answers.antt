@@ -1,0 +1,16 @@
+use Rattle.std.proofs.Common.{Bool, ap, ◌∙◌}
+use Rattle.std.specs.List.{list_any}
+use Rattle.std.specs.Str.{bytes_eq}
+use Rattle.records.specs.declared.rows.Network.{Network}
+use Rattle.row_machine.specs.machine.State.{State}
+use Rattle.rules_conflicts.proofs.OwnRows.{any-own}
+use Rattle.rules_conflicts.proofs.occupied.project_has_network.Goals as goal
+
+pub returns : goal.returns
+returns c =
+    c.has_network.ensures ∙ ap (list_any test) c.rows_of.ensures
+    ∙ any-own test test c.view.inside.networks.now (λ r other. other)
+    ∙ ap (λ (s : State). list_any test s.networks) c.view.view_is
+  where
+    test : Network → Bool
+    test r = bytes_eq r.project c.args.project.now

@@ -1,0 +1,154 @@
+-- Where a project limits no sum, all is countable; where no project has a limit, none is exceeded.
+use Rattle.std.proofs.Common.{◌≡◌, ℕ, Bool, true, false, ◌||◌, Option, Some, None, List, [], ◌∷◌, refl, ap}
+use Rattle.std.specs.Prelude.{codes, is_some}
+use Rattle.plain_lists.specs.Members.{Each}
+use Rattle.plain_lists.specs.Firsts.{first_of}
+use Rattle.plain_lists.proofs.Elements.{Each-none, Each-cons, Each-map}
+use Rattle.plain_lists.proofs.FirstLemmas.{none-first_of}
+use Rattle.size_values.specs.Amounts.{part}
+use Rattle.size_values.specs.declared.amounts.Part.{Part}
+use Rattle.size_values.specs.declared.amounts.Part.TheVariants as part_of
+use Rattle.size_values.specs.declared.kinds.Kind.{Kind}
+use Rattle.config_lists.specs.Settings.{Settings}
+use Rattle.config_lists.specs.Devices.{NamedDevices}
+use Rattle.project_limits.specs.declared.limits.Limits.{Limits}
+use Rattle.project_limits.specs.declared.sums.SumKey.{SumKey}
+use Rattle.project_limits.specs.declared.sums.SumKey.TheVariants as sum
+use Rattle.project_limits.specs.Admission.{limit_on, parts, key_of}
+use Rattle.project_limits.specs.declared.admission.LimitKey.TheVariants.{Networks}
+use Rattle.project_limits.specs.Countable.{first_uncounted, volume_uncounted, sum_limit, sums, uncounted as sum_uncounted}
+use Rattle.project_limits.specs.Instance.{counted}
+use Rattle.project_limits.specs.Limits.{size_in, limits_of}
+use Rattle.records.specs.declared.rows.Project.{Project}
+use Rattle.records.specs.declared.rows.Volume.{Volume}
+use Rattle.records.specs.declared.rows.Instance.{Instance}
+use Rattle.operations.specs.declared.operation.Operation.{Operation}
+use Rattle.row_machine.specs.machine.Task.{Task}
+use Rattle.row_machine.specs.machine.State.{State}
+use Rattle.row_machine.specs.machine.Usage.{used, networks_of}
+use Rattle.row_machine.specs.machine.Expansions.{expanded_of}
+use Rattle.row_machine.specs.machine.LimitRules.{project_uncounted, claim_uncounted, instance_uncounted, volume_uncounts, limits_broken, part_exceeds, networks_exceed, limit_exceeded, object_uncounted}
+use Rattle.rules_refusals.proofs.Saying.{none-or}
+use Rattle.rules_limits.specs.Exceeding.{limits_sum, limits_any, is_any_limited}
+use Rattle.rules_limits.specs.InUse.{part_use_over, network_use_over, uses_over}
+use Rattle.rules_limits.specs.declared.in_use.InUse.{InUse}
+
+-- ---- limits that are not set
+
+not-set : (o : Option ℕ) → is_some o ≡ false → o ≡ None
+not-set None e = refl
+not-set (Some n) e = cc
+
+pub neither : (a b : Bool) → (a || b) ≡ false → (a ≡ false) × (b ≡ false)
+neither true b e = cc
+neither false b e = (refl, e)
+
+-- no sum is limited
+pub record HasNoSum (l : Limits) : Type 0 where
+  pub none : (k : SumKey) → sum_limit k l ≡ None
+
+pub no-sum : (l : Limits) → limits_sum l ≡ false → HasNoSum l
+no-sum l e =
+    let last = neither (is_some l.cpu || is_some l.memory || is_some l.processes) (is_some l.disk) e in
+    let third = neither (is_some l.cpu || is_some l.memory) (is_some l.processes) last.0 in
+    let first = neither (is_some l.cpu) (is_some l.memory) third.0 in
+    record { none = at (not-set l.cpu first.0) (not-set l.memory first.1) (not-set l.processes third.1) (not-set l.disk last.1) } where
+      at : l.cpu ≡ None → l.memory ≡ None → l.processes ≡ None → l.disk ≡ None → (k : SumKey) → sum_limit k l ≡ None
+      at cpu memory processes disk sum.Cpu = cpu
+      at cpu memory processes disk sum.Memory = memory
+      at cpu memory processes disk sum.Processes = processes
+      at cpu memory processes disk sum.Disk = disk
+
+-- nothing is limited
+pub record HasNone (l : Limits) : Type 0 where
+  pub parts : (k : Part) → limit_on k l ≡ None
+  pub networks : l.networks ≡ None
+
+pub no-limit : (l : Limits) → limits_any l ≡ false → HasNone l
+no-limit l e =
+    let last = neither (is_some l.instances || is_some l.containers || is_some l.machines || is_some l.networks) (limits_sum l) e in
+    let fourth = neither (is_some l.instances || is_some l.containers || is_some l.machines) (is_some l.networks) last.0 in
+    let third = neither (is_some l.instances || is_some l.containers) (is_some l.machines) fourth.0 in
+    let first = neither (is_some l.instances) (is_some l.containers) third.0 in
+    record {
+      parts = at (not-set l.instances first.0) (not-set l.containers first.1) (not-set l.machines third.1) (no-sum l last.1);
+      networks = not-set l.networks fourth.1;
+    } where
+      at : l.instances ≡ None → l.containers ≡ None → l.machines ≡ None → HasNoSum l → (k : Part) → limit_on k l ≡ None
+      at instances containers machines free part_of.Instances = instances
+      at instances containers machines free part_of.Containers = containers
+      at instances containers machines free part_of.Machines = machines
+      at instances containers machines free part_of.Cpu = free.none sum.Cpu
+      at instances containers machines free part_of.Memory = free.none sum.Memory
+      at instances containers machines free part_of.Processes = free.none sum.Processes
+      at instances containers machines free part_of.Disk = free.none sum.Disk
+
+-- ---- what limited sums need
+
+module _ (p : Project) (free : HasNoSum (limits_of p.config)) where
+  first_uncounted-none : (kind : Kind) (config : Settings) (devices : NamedDevices) → first_uncounted (limits_of p.config) kind config devices ≡ None
+  unfolding first_uncounted
+  first_uncounted-none kind config devices =
+      none-first_of (λ k. sum_uncounted k (sum_limit k (limits_of p.config)) (counted k kind config devices)) sums
+      (record { at = λ k m. ap (λ limit. sum_uncounted k limit (counted k kind config devices)) (free.none k) })
+
+  instance-none : (s : State) (i : Instance) → instance_uncounted s p i ≡ None
+  unfolding instance_uncounted
+  instance-none s i =
+      ap (object_uncounted p i.name)
+      (first_uncounted-none i.kind (expanded_of s.projects s.profiles i).config (expanded_of s.projects s.profiles i).devices)
+
+  volume-none : (v : Volume) → volume_uncounts p v ≡ None
+  unfolding volume_uncounts volume_uncounted
+  volume-none v = ap (λ limit. object_uncounted p v.name (sum_uncounted sum.Disk limit (size_in v.config (codes "size")))) (free.none sum.Disk)
+
+  claim-none : (s : State) (task : Task) → claim_uncounted s p task ≡ None
+  claim-none s task =
+      none-or (none-first_of _ _ (record { at = λ i m. instance-none s i }))
+      (none-or (none-first_of _ _ (record { at = λ v m. volume-none v })) refl)
+
+  pub unlimited-counts : (s : State) → project_uncounted s p ≡ None
+  unlimited-counts s =
+      none-or (none-first_of _ _ (record { at = λ i m. instance-none s i }))
+      (none-or (none-first_of _ _ (record { at = λ v m. volume-none v }))
+      (none-or (none-first_of (λ (o : Operation Task). claim_uncounted s p o.work) s.operations.live (record { at = λ o m. claim-none s o.work })) refl))
+
+-- ---- limits
+
+-- none of the projects has a limit
+each-free : (ps : List Project) → is_any_limited ps ≡ false → Each (λ p. HasNone (limits_of p.config)) ps
+each-free [] e = Each-none
+each-free (p ∷ ps) e =
+    let parts = neither (limits_any (limits_of p.config)) (is_any_limited ps) e in
+    Each-cons (λ (q : Project). HasNone (limits_of q.config)) (no-limit (limits_of p.config) parts.0) (each-free ps parts.1)
+
+part-none : (s after : State) (k : Part) (p : Project) → HasNone (limits_of p.config) → part_exceeds s after k p ≡ None
+unfolding part_exceeds
+part-none s after k p free = ap (λ limit. limit_exceeded p (key_of k) limit (used s p.name k) (used after p.name k)) (free.parts k)
+
+networks-none : (s after : State) (p : Project) → HasNone (limits_of p.config) → networks_exceed s after p ≡ None
+unfolding networks_exceed
+networks-none s after p free = ap (λ limit. limit_exceeded p Networks limit (networks_of s p.name) (networks_of after p.name)) free.networks
+
+pub unlimited-fits : (before after : State) → is_any_limited after.projects ≡ false → limits_broken before after ≡ None
+unfolding limits_broken
+unlimited-fits before after e =
+    let free = each-free after.projects e in
+    none-or
+    (none-first_of (λ k. first_of (part_exceeds before after k) after.projects) parts
+    (record { at = λ k m. none-first_of (part_exceeds before after k) after.projects (Each-map (part-none before after k) free) }))
+    (none-or (none-first_of (networks_exceed before after) after.projects (Each-map (networks-none before after) free)) refl)
+
+-- of projects that used so much and use so much
+pub unlimited-uses : (projects : List Project) (before after : InUse) → is_any_limited projects ≡ false → uses_over projects before after ≡ None
+unlimited-uses projects before after e =
+    let free = each-free projects e in
+    none-or
+    (none-first_of (λ k. first_of (part_use_over before.amounts after.amounts k) projects) parts
+    (record { at = λ k m. none-first_of (part_use_over before.amounts after.amounts k) projects (Each-map (part-free k) free) }))
+    (none-or (none-first_of (network_use_over before.networks after.networks) projects (Each-map networks-free free)) refl) where
+      part-free : (k : Part) (p : Project) → HasNone (limits_of p.config) → part_use_over before.amounts after.amounts k p ≡ None
+      part-free k p free = ap (λ limit. limit_exceeded p (key_of k) limit (part k before.amounts) (part k after.amounts)) (free.parts k)
+
+      networks-free : (p : Project) → HasNone (limits_of p.config) → network_use_over before.networks after.networks p ≡ None
+      networks-free p free = ap (λ limit. limit_exceeded p Networks limit before.networks after.networks) free.networks

@@ -1,0 +1,232 @@
+//! L0: that each instance and volume gives a number for each limited sum.
+ghost use Rattle.std.specs.Prelude.{◌≡◌, option_and_then};
+ghost use Rattle.plain_lists.specs.Firsts.{first_of};
+ghost use Rattle.size_values.specs.Causes.{Says};
+ghost use Rattle.row_machine.specs.machine.Claims.{claimed_instance, claimed_volume};
+ghost use Rattle.row_machine.specs.machine.LimitRules.{sum_text, object_uncounted, claim_uncounted, project_uncounted};
+ghost use Rattle.row_machine.specs.machine.LimitRules.{counts_broken};
+ghost use Rattle.rules_limits.specs.Within.{own_instance, own_volume, own_objects};
+
+use crate::parts::limits_sum;
+use operations::Operation;
+use project_limits::{SumKey, countable, limits_of, volume_countable};
+use records::{Instance, Project, Refusal, Rule, Volume};
+use row_machine::Work;
+use row_readings::{View, claimed_instance, claimed_volume, rows_of};
+use rules_refusals::on_key_of;
+use size_values::{Boxed, Or, Text};
+use std::alloc::Global;
+
+fn sum_text(key: SumKey) -> &'static str
+    ensures { result.now ≡ sum_text key }
+{
+    match key {
+        SumKey::Cpu => "limits.cpu",
+        SumKey::Memory => "limits.memory",
+        SumKey::Processes => "limits.processes",
+        SumKey::Disk => "limits.disk",
+    }
+}
+
+/// An object of this name gives no number for this sum.
+fn object_uncounted(
+    alloc: Global,
+    project: &Project,
+    name: &Text,
+    key: Option<SumKey>,
+) -> Result<(), Or<Refusal>>
+    ensures { Says result (object_uncounted project.now name.now key) }
+{
+    let Some(key) = key else {
+        return Ok(());
+    };
+    let key = sum_text(key);
+    Err(Or::Why(on_key_of(alloc, Rule::L0, key, name.view(), project.name.view())?))
+}
+
+/// An instance of the project gives no number for a sum that the project limits.
+#[tactic(auto, unfolding(row_machine::specs::machine::LimitRules::instance_uncounted))]
+fn instance_uncounted(
+    alloc: Global,
+    view: &View<'_>,
+    project: &Project,
+    row: &Instance,
+) -> Result<(), Or<Refusal>>
+    ensures { Says result (own_instance view.now project.now row.now) }
+{
+    if !row.project.is(&project.name) {
+        return Ok(());
+    }
+    let expanded = view.expansion(alloc, row)?;
+    let limits = limits_of(&project.config);
+    let key = countable(&limits, row.kind, &expanded.config, &expanded.devices).err();
+    drop(expanded);
+    object_uncounted(alloc, project, &row.name, key)
+}
+
+fn instances_uncounted(
+    alloc: Global,
+    view: &View<'_>,
+    project: &Project,
+    rows: &[Boxed<Instance>],
+) -> Result<(), Or<Refusal>>
+    ensures { Says result (first_of (own_instance view.now project.now) rows.now) }
+{
+    for row in rows {
+        if let Err(why) = instance_uncounted(alloc, view, project, row) {
+            return Err(why);
+        }
+    }
+    Ok(())
+}
+
+/// A volume of the project has no size although the project limits its disk.
+#[tactic(auto, unfolding(row_machine::specs::machine::LimitRules::volume_uncounts))]
+fn volume_uncounted(alloc: Global, project: &Project, row: &Volume) -> Result<(), Or<Refusal>>
+    ensures { Says result (own_volume project.now row.now) }
+{
+    if !row.project.is(&project.name) {
+        return Ok(());
+    }
+    let key = volume_countable(&limits_of(&project.config), &row.config).err();
+    object_uncounted(alloc, project, &row.name, key)
+}
+
+fn volumes_uncounted(
+    alloc: Global,
+    project: &Project,
+    rows: &[Boxed<Volume>],
+) -> Result<(), Or<Refusal>>
+    ensures { Says result (first_of (own_volume project.now) rows.now) }
+{
+    for row in rows {
+        if let Err(why) = volume_uncounted(alloc, project, row) {
+            return Err(why);
+        }
+    }
+    Ok(())
+}
+
+fn claimed_instance_uncounted(
+    alloc: Global,
+    view: &View<'_>,
+    project: &Project,
+    work: &Work,
+) -> Result<(), Or<Refusal>>
+    ensures { Says result (option_and_then (own_instance view.now project.now) (claimed_instance work.now)) }
+{
+    match claimed_instance(work) {
+        Some(row) => instance_uncounted(alloc, view, project, row),
+        None => Ok(()),
+    }
+}
+
+fn claimed_volume_uncounted(
+    alloc: Global,
+    project: &Project,
+    work: &Work,
+) -> Result<(), Or<Refusal>>
+    ensures { Says result (option_and_then (own_volume project.now) (claimed_volume work.now)) }
+{
+    match claimed_volume(work) {
+        Some(row) => volume_uncounted(alloc, project, row),
+        None => Ok(()),
+    }
+}
+
+/// The row that a live operation would put is not countable.
+pub(crate) fn claim_uncounted(
+    alloc: Global,
+    view: &View<'_>,
+    project: &Project,
+    work: &Work,
+) -> Result<(), Or<Refusal>>
+    ensures { Says result (claim_uncounted view.now project.now work.now) }
+{
+    claimed_instance_uncounted(alloc, view, project, work)?;
+    claimed_volume_uncounted(alloc, project, work)
+}
+
+fn claims_uncounted(
+    alloc: Global,
+    view: &View<'_>,
+    project: &Project,
+    live: &[Operation<Work>],
+) -> Result<(), Or<Refusal>>
+    ensures { Says result (first_of (λ o. claim_uncounted view.now project.now o.work) live.now) }
+{
+    for operation in live {
+        if let Err(why) = claim_uncounted(alloc, view, project, &operation.work) {
+            return Err(why);
+        }
+    }
+    Ok(())
+}
+
+/// The first instance of the project that is not countable. Instances of other projects are not asked.
+fn own_instances_uncounted(
+    alloc: Global,
+    view: &View<'_>,
+    project: &Project,
+) -> Result<(), Or<Refusal>>
+    ensures { Says result (first_of (own_instance view.now project.now) view.now.instances) }
+{
+    let rows = rows_of(view.instances, project.name.view());
+    instances_uncounted(alloc, view, project, rows)
+}
+
+/// The first volume of the project that is not countable. Volumes of other projects are not asked.
+fn own_volumes_uncounted(
+    alloc: Global,
+    view: &View<'_>,
+    project: &Project,
+) -> Result<(), Or<Refusal>>
+    ensures { Says result (first_of (own_volume project.now) view.now.volumes) }
+{
+    let rows = rows_of(view.volumes, project.name.view());
+    volumes_uncounted(alloc, project, rows)
+}
+
+fn objects_uncounted(alloc: Global, view: &View<'_>, project: &Project) -> Result<(), Or<Refusal>>
+    ensures { Says result (own_objects view.now project.now) }
+{
+    own_instances_uncounted(alloc, view, project)?;
+    own_volumes_uncounted(alloc, view, project)?;
+    claims_uncounted(alloc, view, project, view.live)
+}
+
+/// The first instance, volume or claim of a project that is not countable. Where the project limits no sum, none is
+/// asked.
+fn project_uncounted(alloc: Global, view: &View<'_>, project: &Project) -> Result<(), Or<Refusal>>
+    ensures { Says result (project_uncounted view.now project.now) }
+{
+    if !limits_sum(&limits_of(&project.config)) {
+        return Ok(());
+    }
+    objects_uncounted(alloc, view, project)
+}
+
+/// L0 of these projects: the first of them, and there the first instance, volume or claim, that gives no number for a sum
+/// that its project limits.
+pub fn counts_broken_in(
+    alloc: Global,
+    after: &View<'_>,
+    projects: &[Project],
+) -> Result<(), Or<Refusal>>
+    ensures { Says result (first_of (project_uncounted after.now) projects.now) }
+{
+    for project in projects {
+        if let Err(why) = project_uncounted(alloc, after, project) {
+            return Err(why);
+        }
+    }
+    Ok(())
+}
+
+/// L0 of all projects.
+#[tactic(auto, unfolding(row_machine::specs::machine::LimitRules::counts_broken))]
+pub fn counts_broken(alloc: Global, after: &View<'_>) -> Result<(), Or<Refusal>>
+    ensures { Says result (counts_broken after.now) }
+{
+    counts_broken_in(alloc, after, after.projects)
+}

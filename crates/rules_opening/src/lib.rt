@@ -1,0 +1,16 @@
+//! What kept entries open to: the rows that they spell, and the first rule that the rows break, with the row.
+#![tactic(auto)]
+
+mod breach;
+mod counting;
+mod entries;
+mod links;
+mod places;
+mod policies;
+mod rules;
+mod settings;
+mod whole;
+
+pub use breach::Breach;
+pub use entries::rows_in;
+pub use whole::rows_break;

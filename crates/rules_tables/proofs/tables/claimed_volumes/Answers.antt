@@ -1,0 +1,8 @@
+use Rattle.row_machine.specs.machine.Claims.{claimed_volume}
+use Rattle.rules_tables.proofs.Counts.{counted-more}
+use Rattle.rules_tables.proofs.tables.claimed_volumes.Goals as goal
+
+pub loop-operation-preserved : goal.loop-operation-preserved
+loop-operation-preserved c =
+    counted-more (λ o. claimed_volume o.work) c.args.live.now c.loop-operation.operation-index c.loop-operation.count c.volumes_in-count.result c.operation-item.result
+    c.loop-operation-test.true c.operation-item.is c.loop-operation.invariant c.volumes_in-count.ensures.is c.volumes_in-count.ensures.few

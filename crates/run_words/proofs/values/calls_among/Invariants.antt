@@ -1,8 +1,0 @@
-use Rattle.std.specs.Prelude.{◌≡◌, map}
-use Rattle.std.specs.List.{filter_map}
-use Rattle.run_words.specs.Values.{call_number_said}
-use Rattle.run_words.proofs.values.calls_among.Given as goal
-
--- the numbers of the parts so far
-abbrev pub invariant-loop-part : goal.invariant-loop-part
-invariant-loop-part l = l.calls.items ≡ filter_map call_number_said (map (λ part. part.now) l.yielded)

@@ -1,7 +1,0 @@
-//! Laws of the definitions: functions that do nothing, whose contracts are the laws.
-ghost use Rattle.run_words.specs.Examples.{AreWorked};
-
-/// Lists of words with what they say, each computed through the whole definition.
-pub fn examples()
-    ensures { AreWorked }
-{}

@@ -1,0 +1,158 @@
+-- One request comes to its reply, from what its parts ensure.
+use Rattle.std.proofs.Common.{◌≡◌, ◌≤◌, ◌<◌, ℕ, false, List, [], ◌∷◌, length, Some, None, Result, Ok, Err, refl, sym}
+use Rattle.std.proofs.Common.{subst}
+use Rattle.size_values.specs.Moments.{moment_limit}
+use Rattle.size_values.specs.declared.memory.Or.{Or}
+use Rattle.size_values.specs.declared.memory.Or.TheVariants as or
+use Rattle.http_front.specs.Clocks.{Reads}
+use Rattle.http_heads.specs.declared.request.Request.{Request}
+use Rattle.records.specs.declared.commands.Command.{Command}
+use Rattle.records.specs.declared.refusals.Refusal.{Refusal}
+use Rattle.records.specs.declared.replies.Reply.{Reply}
+use Rattle.records.specs.declared.replies.Reply.TheVariants as reply
+use Rattle.records.specs.declared.replies.View.TheVariants as view
+use Rattle.row_machine.specs.declared.events.Answer.{Answer}
+use Rattle.row_machine.specs.declared.events.Answer.TheVariants as answer
+use Rattle.row_machine.specs.declared.events.Event.TheVariants as event
+use Rattle.row_machine.specs.machine.State.{State}
+use Rattle.row_machine.specs.machine.Accept.{and_then}
+use Rattle.row_machine.specs.machine.Step.{well, no_memory}
+use Rattle.start_faults.specs.core_rows.specs.Asked.{answered}
+use Rattle.start_faults.specs.core_judging.specs.Judged.{reply_for}
+use Rattle.serial_steps.specs.core_turns.specs.Turns.{IsTurn}
+use Rattle.serial_steps.specs.Steps.{Site, Step, WaitsFor, most_steps}
+use Rattle.rest_routes.specs.Answers.{IsDue}
+use Rattle.rest_answers.specs.Asked.{showing}
+use Rattle.rest_answers.specs.Texts.{HasText}
+use Rattle.rest_answers.specs.declared.answers.Answered.{Answered}
+use Rattle.rest_routes.specs.Commands.{command_of}
+use Rattle.rest_routes.specs.Known.{server_asked}
+use Rattle.serial_run.specs.Answers.{Answers, Reaches, Shows}
+use Rattle.serial_run.specs.Exchanges.{Carries, carried_out}
+
+-- a command was asked at the next moment of the clock, and was answered so
+pub record Asks (w : Site) (c : Command) (moment : ℕ) (a : Answer) (w' : Site) : Type 0 where
+  pub turn : IsTurn w.serial.state w.store (event.Ask c moment) a w'.serial.state w'.store
+  pub hand : w'.serial.hand ≡ w.serial.hand
+  pub host : w'.host ≡ w.host
+  pub read : Reads w.clock (moment ∷ []) w'.clock
+  pub early : moment < moment_limit
+
+carries : {w w' : Site} {c : Command} {moment : ℕ} {a : Answer} (asks : Asks w c moment a w')
+    → Carries w (Ok c) (Some moment) asks.turn.outcome a w'
+carries {w} {w'} {c} {moment} {a} asks = record {
+  is = asks.turn.turns.is;
+  stored = asks.turn.turns.stored;
+  caused = asks.turn.caused;
+  kept = asks.turn.kept;
+  hand = asks.hand;
+  host = asks.host;
+  clock = record { read = asks.read; early = asks.early };
+}
+
+-- a command that was answered at once
+pub replied : {w w' : Site} {c : Command} {moment : ℕ} {a : Answer} (r : Reply) → Asks w c moment a w'
+    → answered r ≡ a → Reaches w (Ok c) r w'
+replied {w} {w'} {c} {moment} {a} r asks is = record {
+  moment = Some moment;
+  outcome = asks.turn.outcome;
+  held = None;
+  comes = subst (λ b. Carries w (Ok c) (Some moment) asks.turn.outcome b w') (sym is) (carries asks);
+}
+
+-- who asks for the server was told of it, by the text that stands ready where the connection stays open
+pub server-replied : (boot : ℕ) (w w' : Site) (request : Request) (result : Answered) (moment : ℕ)
+    → command_of request boot ≡ Ok server_asked → request.last ≡ false
+    → IsTurn w.serial.state w.store (event.Ask server_asked moment) (answer.Reply (reply.One view.Server)) w'.serial.state w'.store
+    → w'.serial.hand ≡ w.serial.hand → w'.host ≡ w.host → Reads w.clock (moment ∷ []) w'.clock → moment < moment_limit
+    → HasText result (reply.One view.Server) boot false → Answers boot w w' request result
+server-replied boot w w' request result moment asked stays turn hand host read early text = record {
+  reply = reply.One view.Server;
+  reaches =
+      subst (λ asks. Reaches w asks (reply.One view.Server) w') (sym asked)
+      (replied (reply.One view.Server) (record { turn = turn; hand = hand; host = host; read = read; early = early }) refl);
+  text = subst (λ last. HasText result (reply.One view.Server) boot last) (sym stays) text;
+}
+
+-- an operation was asked for in the project of a command
+abbrev shows_asks : (u w' : Site) (c : Command) (op : ℕ) (r : Reply)
+    (shows : Shows c.project op u.serial u.store u.clock r w'.serial w'.store w'.clock)
+    → w'.host ≡ u.host → Asks u (showing op c) shows.moment (answered r) w'
+shows_asks u w' c op r shows host = record {
+  turn = shows.turn;
+  hand = shows.hand;
+  host = host;
+  read = shows.read;
+  early = shows.early;
+}
+
+-- a command whose answer was held back
+pub held_back : {w v u w' : Site} {c : Command} {moment : ℕ} {a : Answer} {op : ℕ} (steps : List Step) (r : Reply)
+    → Asks w c moment a v → answer.Hold op ≡ a
+    → WaitsFor op v steps u → length steps ≤ most_steps
+    → Shows c.project op u.serial u.store u.clock r w'.serial w'.store w'.clock → w'.host ≡ u.host
+    → Reaches w (Ok c) r w'
+held_back {w} {v} {u} {w'} {c} {moment} {a} {op} steps r asks is waits few shows host = record {
+  moment = Some moment;
+  outcome = asks.turn.outcome;
+  held = Some (record { steps = steps; moment = shows.moment; outcome = shows.turn.outcome });
+  comes = record {
+    command = c;
+    op = op;
+    waiting = v;
+    ended = u;
+    asks = refl;
+    holds = subst (λ b. Carries w (Ok c) (Some moment) asks.turn.outcome b v) (sym is) (carries asks);
+    waits = waits;
+    few = few;
+    shows = carries (shows_asks u w' c op r shows host);
+  };
+}
+
+-- ---- requests that ask for no command
+
+-- a request that is refused by its form
+refusal_replies : (w : Site) (refusal : Refusal) → Reaches w (Err refusal) (reply.Refused refusal) w
+refusal_replies w refusal = record {
+  moment = None;
+  outcome = well;
+  held = None;
+  comes = record {
+    is = refl;
+    stored = refl;
+    caused = refl;
+    kept = λ start is. is;
+    hand = refl;
+    host = refl;
+    clock = record { read = refl; early = tt };
+  };
+}
+
+-- memory may be refused before the command of any request is known, and then nothing changes
+refused_memory : (s : State) (asked : Result Command Refusal)
+    → carried_out s None no_memory asked ≡ Some (and_then answer.NoMemory s)
+refused_memory s (Ok c) = refl
+refused_memory s (Err refusal) = refl
+
+memory_replies : (w : Site) (asked : Result Command Refusal) → Reaches w asked reply.NoMemory w
+memory_replies w asked = record {
+  moment = None;
+  outcome = no_memory;
+  held = None;
+  comes = record {
+    is = refused_memory w.serial.state asked;
+    stored = refl;
+    caused = refl;
+    kept = λ start is. is;
+    hand = refl;
+    host = refl;
+    clock = record { read = refl; early = tt };
+  };
+}
+
+-- whatever its reason
+pub unrouted : (w : Site) (asked : Result Command Refusal) (why : Or Refusal) → IsDue why asked
+    → Reaches w asked (reply_for why) w
+unrouted w asked or.NoMemory due = memory_replies w asked
+unrouted w asked (or.Why refusal) due =
+    subst (λ x. Reaches w x (reply.Refused refusal) w) (sym due) (refusal_replies w refusal)

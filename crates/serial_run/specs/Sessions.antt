@@ -1,0 +1,171 @@
+-- A session: it serves requests, and then it stops for one reason. The boot word is that of the ids of operations, and
+-- the pace says how many steps of the worker follow each reply.
+use Rattle.std.specs.Prelude.{◌≡◌, ◌≢◌, ◌<◌, ◌≤◌, ◌⊎◌, ℕ, List, [], ◌∷◌, Bool, true, false, length, take}
+use Rattle.std.specs.Prelude.{Result, Ok, Err, ◌+◌, ◌==◌, if◌then◌else◌}
+use Rattle.http_heads.specs.declared.request.HeadFault.{HeadFault}
+use Rattle.http_front.specs.declared.read.Got.{Got}
+use Rattle.http_front.specs.declared.read.Got.TheVariants as got
+use Rattle.records.specs.declared.replies.Reply.TheVariants as reply
+use Rattle.serial_steps.specs.Steps.{Site, Step}
+use Rattle.command_words.specs.declared.run_words.Pace.{Pace}
+use Rattle.rest_answers.specs.Links.{BreaksOff, Outlet, ReadsFrom, Takes}
+use Rattle.rest_answers.specs.Texts.{IsUnprinted, malformed_text, printed, text_for}
+use Rattle.rest_answers.specs.declared.answers.Answered.{Answered}
+use Rattle.serial_run.specs.Exchanges.{Comes, Exchange, IsPaced, Leads}
+use Rattle.serial_run.specs.declared.session.SessionEnd.{SessionEnd}
+use Rattle.serial_run.specs.declared.session.SessionEnd.TheVariants as end
+use Rattle.serial_run.specs.declared.session.Turn.{Turn}
+use Rattle.serial_run.specs.declared.session.Turn.TheVariants as turn
+use Rattle.serial_run.specs.Most.{most_requests}
+use Rattle.serial_run.specs.Worlds.{World}
+
+-- ---- what one turn does to its parts
+
+-- One call of `read_request` between two worlds answered this of the bytes to come and of the bytes held.
+abbrev pub Asks : World → World → Got → Type 0
+Asks world later answer = ReadsFrom world.held world.source answer later.held later.source
+
+-- the server is as before, and no call of the keeper, of the host or of the clock was made
+abbrev pub KeepsRows : World → World → Type 0
+KeepsRows world later = later.site ≡ world.site
+
+-- The next request was taken and came to its reply. No steps follow it yet.
+pub record CarriesOut (boot : ℕ) (world later : World) (exchange : Exchange) : Type 0 where
+  pub asked : Asks world later (got.Request exchange.request)
+  pub comes : Comes boot world.site exchange later.site
+  pub still : exchange.steps ≡ []
+
+-- The next request was taken and came to its reply, which was written whole, and the steps of the pace followed.
+pub record Serves (boot : ℕ) (pace : Pace) (world later : World) (exchange : Exchange) : Type 0 where
+  pub asked : Asks world later (got.Request exchange.request)
+  pub leads : Leads boot pace world.site exchange later.site
+  pub replied : Takes world.sink later.sink (printed exchange.reply boot exchange.request.last)
+
+-- ---- stops
+
+-- What stands next where a session stops before another request was answered whole, and what was done of it: nothing
+-- after the end of the input and at a failed read; its reply at a malformed place; a part of a reply where a write
+-- failed; and where memory was refused, nothing is written, after a request was carried out or before.
+abbrev pub Stops : ℕ → SessionEnd → World → World → Type 0
+Stops boot end.Ended world later = Asks world later got.End × KeepsRows world later × (later.sink ≡ world.sink)
+Stops boot end.Cut world later =
+    (count : ℕ) × Asks world later (got.Cut count) × KeepsRows world later × (later.sink ≡ world.sink)
+Stops boot (end.Malformed fault) world later = Asks world later (got.Malformed fault) × KeepsRows world later
+    × Takes world.sink later.sink (malformed_text fault)
+Stops boot end.ReadFault world later =
+    Asks world later got.ReadFault × KeepsRows world later × (later.sink ≡ world.sink)
+Stops boot end.WriteFault world later =
+    ((exchange : Exchange) × CarriesOut boot world later exchange
+    × BreaksOff world.sink later.sink (printed exchange.reply boot exchange.request.last))
+    ⊎ ((fault : HeadFault) × Asks world later (got.Malformed fault) × KeepsRows world later
+    × BreaksOff world.sink later.sink (malformed_text fault))
+Stops boot end.Spent world later = later ≡ world
+Stops boot end.NoMemory world later =
+    (Asks world later got.NoMemory × KeepsRows world later × (later.sink ≡ world.sink))
+    ⊎ ((fault : HeadFault) × Asks world later (got.Malformed fault) × KeepsRows world later × (later.sink ≡ world.sink))
+    ⊎ ((exchange : Exchange) × CarriesOut boot world later exchange
+    × (exchange.reply ≢ reply.NoMemory) × (later.sink ≡ world.sink))
+
+-- one turn: the next request was answered, or the session stops
+abbrev pub Turns : ℕ → Pace → Turn → World → World → Type 0
+Turns boot pace turn.GoOn world later =
+    (exchange : Exchange) × Serves boot pace world later exchange × (exchange.request.last ≡ false)
+Turns boot pace turn.Final world later =
+    (exchange : Exchange) × Serves boot pace world later exchange × (exchange.request.last ≡ true)
+Turns boot pace (turn.Stop ends) world later = Stops boot ends world later × (ends ≢ end.Spent)
+
+-- ---- a session
+
+-- requests were answered one after the other
+abbrev pub ServesAll : ℕ → Pace → World → List Exchange → World → Type 0
+ServesAll boot pace world [] later = world ≡ later
+ServesAll boot pace world (exchange ∷ more) later =
+    (next : World) × Serves boot pace world next exchange × ServesAll boot pace next more later
+
+-- no request of these is the last one on its connection
+abbrev pub AllGoOn : List Exchange → Type 0
+AllGoOn [] = Unit {0}
+AllGoOn (exchange ∷ more) = (exchange.request.last ≡ false) × AllGoOn more
+
+-- the final request, and no other one, is the last one on its connection
+abbrev pub OnlyFinalEnds : List Exchange → Type 0
+OnlyFinalEnds [] = ⊥
+OnlyFinalEnds (exchange ∷ []) = exchange.request.last ≡ true
+OnlyFinalEnds (exchange ∷ other ∷ more) = (exchange.request.last ≡ false) × OnlyFinalEnds (other ∷ more)
+
+-- how many requests were answered whole before a stop: fewer than a session may take, but where it took all of them
+abbrev pub CountsAt : SessionEnd → ℕ → Type 0
+CountsAt end.Spent n = n ≡ most_requests
+CountsAt end.Ended n = n < most_requests
+CountsAt end.Cut n = n < most_requests
+CountsAt (end.Malformed fault) n = n < most_requests
+CountsAt end.ReadFault n = n < most_requests
+CountsAt end.WriteFault n = n < most_requests
+CountsAt end.NoMemory n = n < most_requests
+
+-- After a final request a session stops as Ended, or as Spent where it is the one that fills the number, and does
+-- nothing more.
+abbrev pub StopsAfterFinal : SessionEnd → Type 0
+StopsAfterFinal end.Ended = Unit {0}
+StopsAfterFinal end.Spent = Unit {0}
+StopsAfterFinal end.Cut = ⊥
+StopsAfterFinal (end.Malformed fault) = ⊥
+StopsAfterFinal end.ReadFault = ⊥
+StopsAfterFinal end.WriteFault = ⊥
+StopsAfterFinal end.NoMemory = ⊥
+
+-- A session from one world to a later one: the requests that it answered whole, the world after them, and how it
+-- stopped there. Either none of them was the last on its connection, or the final one alone was.
+pub record Session (boot : ℕ) (pace : Pace) (world later : World) (ends : SessionEnd) : Type 0 where
+  pub exchanges : List Exchange
+  pub reached : World
+  pub serves : ServesAll boot pace world exchanges reached
+  pub counted : CountsAt ends (length exchanges)
+  pub stops : (AllGoOn exchanges × Stops boot ends reached later)
+      ⊎ (OnlyFinalEnds exchanges × StopsAfterFinal ends × (later ≡ reached))
+
+-- ---- the parts of a turn, one by one
+
+-- how a request was answered that was answered whole
+abbrev pub turn_after_reply : Bool → Turn
+turn_after_reply true = turn.Final
+turn_after_reply false = turn.GoOn
+
+-- what a turn comes to, from whether its reply was written and whether its request is the last on its connection
+abbrev pub turn_after : {T E : Type 0} → Result T E → Bool → Turn
+turn_after (Ok value) last = turn_after_reply last
+turn_after (Err error) last = turn.Stop end.WriteFault
+
+-- An answer was written whole and the turn goes on as its request says, or some first bytes of it and the write failed;
+-- or nothing was, since memory for it was refused.
+abbrev pub WritesAnswer : Turn → Answered → Bool → Outlet → Outlet → Type 0
+WritesAnswer turn.GoOn answer last sink sink' =
+    (last ≡ false) × ¬ IsUnprinted answer × Takes sink sink' (text_for answer last)
+WritesAnswer turn.Final answer last sink sink' =
+    (last ≡ true) × ¬ IsUnprinted answer × Takes sink sink' (text_for answer last)
+WritesAnswer (turn.Stop end.WriteFault) answer last sink sink' =
+    ¬ IsUnprinted answer × BreaksOff sink sink' (text_for answer last)
+WritesAnswer (turn.Stop end.NoMemory) answer last sink sink' = IsUnprinted answer × (sink' ≡ sink)
+WritesAnswer (turn.Stop other) answer last sink sink' = ⊥
+
+-- After an answer that was written whole the steps of the pace were made, and where the session stops none were.
+abbrev pub GoesOn : Pace → Turn → Site → Site → Type 0
+GoesOn pace turn.GoOn site later = (steps : List Step) × IsPaced pace site steps later
+GoesOn pace turn.Final site later = (steps : List Step) × IsPaced pace site steps later
+GoesOn pace (turn.Stop ends) site later = later ≡ site
+
+-- A malformed place was answered by its rule, or of that reply some first bytes were written, or memory was refused
+-- before it.
+abbrev pub RefusesPlace : HeadFault → SessionEnd → Outlet → Outlet → Type 0
+RefusesPlace fault (end.Malformed other) sink sink' = (other ≡ fault) × Takes sink sink' (malformed_text fault)
+RefusesPlace fault end.WriteFault sink sink' = BreaksOff sink sink' (malformed_text fault)
+RefusesPlace fault end.NoMemory sink sink' = sink' ≡ sink
+RefusesPlace fault end.Ended sink sink' = ⊥
+RefusesPlace fault end.Cut sink sink' = ⊥
+RefusesPlace fault end.ReadFault sink sink' = ⊥
+RefusesPlace fault end.Spent sink sink' = ⊥
+
+-- Where a session stops after a final request, with this many requests answered before it: the number may be full with
+-- it.
+abbrev pub end_after_final : ℕ → SessionEnd
+end_after_final done = if done + 1 == most_requests then end.Spent else end.Ended

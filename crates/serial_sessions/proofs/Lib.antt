@@ -1,4 +1,0 @@
-pub mod Quiet
-pub mod Served
-pub mod Turning
-pub mod Whole

@@ -1,0 +1,45 @@
+-- How what a request asks for comes to its reply, from what the parts ensure.
+use Rattle.std.proofs.Common.{[], refl}
+use Rattle.std.proofs.Common.{inl, inr, Result, Ok}
+use Rattle.size_values.specs.declared.memory.Or.{Or}
+use Rattle.size_values.specs.declared.memory.Or.TheVariants as or
+use Rattle.http_front.specs.Clocks.{Readings}
+use Rattle.records.specs.declared.commands.Command.{Command}
+use Rattle.records.specs.declared.refusals.Refusal.{Refusal}
+use Rattle.records.specs.declared.replies.Reply.{Reply}
+use Rattle.records.specs.declared.replies.Reply.TheVariants as reply
+use Rattle.gates.specs.core_judging.specs.Judged.{reply_for}
+use Rattle.gates.specs.Gates.{Seen, Walk}
+use Rattle.gates.proofs.Trailing.{between-none}
+use Rattle.rest_routes.specs.Answers.{IsDue}
+use Rattle.serve_loop.specs.Replying.{Reaches}
+use Rattle.serve_loop.specs.Waits.{ServeBy, replied, stand, unasked}
+
+-- a command that was asked
+pub asked_reaches : {before after : Seen} {told told' : Readings} {r : Reply} (c : Command)
+    → Walk (ServeBy c) before after (stand unasked told) (stand (replied r) told')
+    → Reaches (Ok c) before after told told' r
+asked_reaches c walk = record {
+  trail = walk.trail;
+  gate = walk.gate;
+  handles = inr (record { command = c; is = refl; due = walk.due });
+}
+
+-- memory was refused before a command was asked
+pub refused_memory : (asks : Result Command Refusal) (s : Seen) (told : Readings)
+    → Reaches asks s s told told reply.NoMemory
+refused_memory asks s told = record {
+  trail = [];
+  gate = between-none s;
+  handles = inl (record { nothing = refl; unread = refl; why = inl refl });
+}
+
+-- a request that asks for no command
+pub unrouted : (asks : Result Command Refusal) (why : Or Refusal) (s : Seen) (told : Readings) → IsDue why asks
+    → Reaches asks s s told told (reply_for why)
+unrouted asks or.NoMemory s told due = refused_memory asks s told
+unrouted asks (or.Why refusal) s told due = record {
+  trail = [];
+  gate = between-none s;
+  handles = inl (record { nothing = refl; unread = refl; why = inr (refusal, due, refl) });
+}

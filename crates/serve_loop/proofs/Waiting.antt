@@ -1,0 +1,210 @@
+-- How a command comes to its reply, from what its parts ensure.
+use Rattle.std.proofs.Common.{◌≡◌, ◌==◌, ◌<◌, ◌≤◌, ◌+◌, ℕ, Bool, true, false, cond, List, [], ◌∷◌, Option, Some}
+use Rattle.std.proofs.Common.{refl, ap, sym, ◌∙◌, subst, arith}
+use Rattle.std.proofs.lemmas.Bool.Decides.{nat_tests}
+use Rattle.size_values.specs.Moments.{moment_limit}
+use Rattle.http_front.specs.Clocks.{Readings, Reads}
+use Rattle.records.specs.declared.commands.Command.{Command}
+use Rattle.records.specs.declared.commands.What.{What}
+use Rattle.records.specs.declared.commands.What.TheVariants as what
+use Rattle.records.specs.declared.replies.Reply.{Reply}
+use Rattle.records.specs.declared.replies.Reply.TheVariants as reply
+use Rattle.row_machine.specs.declared.events.Answer.{Answer}
+use Rattle.row_machine.specs.declared.events.Answer.TheVariants as answer
+use Rattle.row_machine.specs.declared.events.Event.TheVariants as event
+use Rattle.gates.specs.core_rows.specs.Asked.{answered}
+use Rattle.gates.specs.Gates.{Seen, Walk}
+use Rattle.gates.specs.Trails.{RestsTold, TurnsTold, capped}
+use Rattle.gates.proofs.Walking.{walk-append, walk-rest, walk-turn}
+use Rattle.serve_loop.specs.Moments.{IsLate, deadline_by, deadline_of}
+use Rattle.serve_loop.specs.Waits.{Brings, Looked, Place, Sees, ServeBy, Stand, after_rest, due, looking}
+use Rattle.serve_loop.specs.Waits.{most_rests, replied}
+use Rattle.serve_loop.specs.Waits.{stand, unasked, wait_in, wait_of, waiting}
+use Rattle.serve_loop.specs.declared.wait.Waiting.{Waiting}
+
+-- ---- looks
+
+looked_sees : (op : ℕ) (deadline : Option ℕ) (rests : ℕ) (a : Answer) (live : Bool) → Looked a live
+    → Sees op deadline rests a (cond live (waiting op deadline rests) (due op))
+looked_sees op deadline rests (answer.NotYet number) live is = ap (λ b. cond b (waiting op deadline rests) (due op)) is
+looked_sees op deadline rests (answer.Ended number) live is = ap (λ b. cond b (waiting op deadline rests) (due op)) is
+looked_sees op deadline rests (answer.Reply r) live is = absurd is
+looked_sees op deadline rests (answer.Hold number) live is = absurd is
+looked_sees op deadline rests (answer.Job number call) live is = absurd is
+looked_sees op deadline rests answer.NoJob live is = absurd is
+looked_sees op deadline rests (answer.Stray number) live is = absurd is
+looked_sees op deadline rests (answer.Fetched fetched) live is = absurd is
+looked_sees op deadline rests answer.Closed live is = absurd is
+looked_sees op deadline rests answer.NoMemory live is = absurd is
+
+pub looks : {old new : Seen} {op : ℕ} {a : Answer} (c : Command) (deadline : Option ℕ) (rests : ℕ)
+    (clock : Readings) (live : Bool)
+    → TurnsTold old.told (event.Look op) a new.told → new.turned ≡ capped (old.turned + 1)
+    → new.rested ≡ old.rested → Looked a live
+    → Walk (ServeBy c) old new (stand (looking op deadline rests) clock)
+    (stand (cond live (waiting op deadline rests) (due op)) clock)
+looks {old} {new} {op} {a} c deadline rests clock live turn turned rested looked =
+    walk-turn (ServeBy c) (stand (looking op deadline rests) clock)
+    (stand (cond live (waiting op deadline rests) (due op)) clock) turn turned rested (record {
+      looks = refl;
+      clock = refl;
+      sees = looked_sees op deadline rests a live looked;
+    })
+
+-- ---- rests
+
+pub rests : {old new : Seen} {told told' : Readings} {op : ℕ} {deadline : Option ℕ} {made : ℕ}
+    (c : Command) (late : Bool)
+    → RestsTold old.told new.told → new.turned ≡ old.turned → new.rested ≡ capped (old.rested + 1)
+    → IsLate deadline told late told'
+    → Walk (ServeBy c) old new (stand (waiting op deadline made) told)
+    (stand (after_rest op deadline (made + 1) late) told')
+rests {old} {new} {told} {told'} {op} {deadline} {made} c late rest turned rested is =
+    walk-rest (ServeBy c) (stand (waiting op deadline made) told)
+    (stand (after_rest op deadline (made + 1) late) told') rest turned rested
+    (record { late = late; clock = is; place = refl })
+
+-- before the most rests, and with the deadline not reached, the operation is looked at once more
+pub looking_on : (op : ℕ) (deadline : Option ℕ) (rests : ℕ) → rests < most_rests
+    → after_rest op deadline rests false ≡ looking op deadline rests
+looking_on op deadline rests few = ap (λ full. cond full (due op) (looking op deadline rests)) below where
+  below : (rests == most_rests) ≡ false
+  below = grind (arith, nat_tests)
+
+-- ---- one round of a wait
+
+-- the operation was not live
+pub round_ends : {a b d : Seen} {from : Stand} {op : ℕ} {deadline : Option ℕ} {made : ℕ} {clock : Readings}
+    {live : Bool} (c : Command) → made < most_rests
+    → Walk (ServeBy c) a b from (stand (after_rest op deadline made false) clock)
+    → Walk (ServeBy c) b d (stand (looking op deadline made) clock)
+    (stand (cond live (waiting op deadline made) (due op)) clock) → live ≡ false
+    → Walk (ServeBy c) a d from (stand (due op) clock)
+round_ends {a} {b} {d} {from} {op} {deadline} {made} {clock} {live} c few before look is =
+    walk-append (subst (λ p. Walk (ServeBy c) a b from (stand p clock)) (looking_on op deadline made few) before)
+    (subst (λ l. Walk (ServeBy c) b d (stand (looking op deadline made) clock)
+    (stand (cond l (waiting op deadline made) (due op)) clock)) is look)
+
+-- it was live, and a rest followed
+pub round_rests : {a b d e : Seen} {from : Stand} {op : ℕ} {deadline : Option ℕ} {made : ℕ} {clock clock' : Readings}
+    {live : Bool} (c : Command) (late : Bool) → made < most_rests
+    → Walk (ServeBy c) a b from (stand (after_rest op deadline made false) clock)
+    → Walk (ServeBy c) b d (stand (looking op deadline made) clock)
+    (stand (cond live (waiting op deadline made) (due op)) clock) → live ≡ true
+    → Walk (ServeBy c) d e (stand (waiting op deadline made) clock)
+    (stand (after_rest op deadline (made + 1) late) clock')
+    → Walk (ServeBy c) a e from (stand (after_rest op deadline (made + 1) late) clock')
+round_rests {a} {b} {d} {e} {from} {op} {deadline} {made} {clock} {clock'} {live} c late few before look is rest =
+    walk-append (subst (λ p. Walk (ServeBy c) a b from (stand p clock)) (looking_on op deadline made few) before)
+    (walk-append (subst (λ l. Walk (ServeBy c) b d (stand (looking op deadline made) clock)
+    (stand (cond l (waiting op deadline made) (due op)) clock)) is look) rest)
+
+-- after the most rests the wait is over
+spent : (op : ℕ) (deadline : Option ℕ) (rests : ℕ) → most_rests ≤ rests → rests ≤ most_rests
+    → after_rest op deadline rests false ≡ due op
+spent op deadline rests most few =
+    let is : most_rests ≡ rests = omega (arith, most, few) in
+    subst (λ n. after_rest op deadline n false ≡ due op) is refl
+
+pub wait_spent : {a b : Seen} {from : Stand} {clock : Readings} (c : Command) (op : ℕ) (deadline : Option ℕ)
+    (made : ℕ) → most_rests ≤ made → made ≤ most_rests
+    → Walk (ServeBy c) a b from (stand (after_rest op deadline made false) clock)
+    → Walk (ServeBy c) a b from (stand (due op) clock)
+wait_spent {a} {b} {from} {clock} c op deadline made most few walk =
+    subst (λ p. Walk (ServeBy c) a b from (stand p clock)) (spent op deadline made most few) walk
+
+-- ---- the reply after a wait
+
+pub shows : {old new : Seen} {told told' : Readings} {moment op : ℕ} {a : Answer} {r : Reply} {project : List ℕ}
+    (c : Command) → c.project ≡ project
+    → Reads told (moment ∷ []) told' → moment < moment_limit
+    → TurnsTold old.told (event.Ask (record { project = project; what = what.GetOp op }) moment) a new.told
+    → new.turned ≡ capped (old.turned + 1) → new.rested ≡ old.rested → answered r ≡ a
+    → Walk (ServeBy c) old new (stand (due op) told) (stand (replied r) told')
+shows {old} {new} {told} {told'} {moment} {op} {a} {r} {project} c is read early turn turned rested answers =
+    walk-turn (ServeBy c) (stand (due op) told) (stand (replied r) told') turn turned rested (record {
+      moment = moment;
+      reply = r;
+      asks = ap (λ p. event.Ask (record { project = p; what = what.GetOp op }) moment) (sym is);
+      clock = record { read = read; early = early };
+      answers = answers;
+      place = refl;
+    })
+
+-- ---- the first answer
+
+-- a command was asked, and was answered so
+pub asks : {old new : Seen} {told told' : Readings} {moment : ℕ} {a : Answer} {p : Place} (c : Command)
+    → Reads told (moment ∷ []) told' → moment < moment_limit → TurnsTold old.told (event.Ask c moment) a new.told
+    → new.turned ≡ capped (old.turned + 1) → new.rested ≡ old.rested → Brings c.what moment a p
+    → Walk (ServeBy c) old new (stand unasked told) (stand p told')
+asks {old} {new} {told} {told'} {moment} {a} {p} c read early turn turned rested brings =
+    walk-turn (ServeBy c) (stand unasked told) (stand p told') turn turned rested (record {
+      moment = moment;
+      asks = refl;
+      clock = record { read = read; early = early };
+      brings = brings;
+    })
+
+-- a command that has a reply is where its answer brings it
+reply_brings : (c : Command) (moment : ℕ) (r : Reply) → Brings c.what moment (answered r) (replied r)
+reply_brings c moment reply.Empty = refl
+reply_brings c moment (reply.Links xs) = refl
+reply_brings c moment (reply.One v) = refl
+reply_brings c moment (reply.Many vs) = refl
+reply_brings c moment (reply.OpLinks xs) = refl
+reply_brings c moment (reply.OpMany xs) = refl
+reply_brings c moment (reply.Started v) = refl
+reply_brings c moment (reply.Refused x) = refl
+reply_brings c moment reply.NoMemory = refl
+
+pub replies : (c : Command) (moment : ℕ) (r : Reply) (a : Answer) → answered r ≡ a
+    → Brings c.what moment a (replied r)
+replies c moment r a is = subst (λ b. Brings c.what moment b (replied r)) is (reply_brings c moment r)
+
+-- a command whose answer is held back is where its answer brings it
+pub holds : (c : Command) (moment op : ℕ) (a : Answer) → answer.Hold op ≡ a
+    → Brings c.what moment a (looking op (deadline_by moment c.what) 0)
+holds c moment op a is =
+    subst (λ b. Brings c.what moment b (looking op (deadline_by moment c.what) 0)) is refl
+
+-- ---- what is kept of a wait
+
+-- the command has its project, and its deadline at each moment
+pub record IsKept (c : Command) (w : Waiting) : Type 0 where
+  pub project : c.project ≡ w.project
+  pub deadline : (moment : ℕ) → deadline_by moment c.what ≡ deadline_of moment w.timeout
+
+pub kept_is : (c : Command) (w : Waiting) → Some w ≡ wait_of c → IsKept c w
+kept_is c w is = record { project = (by c.what is).0; deadline = (by c.what is).1 } where
+  by : (asks : What) → Some w ≡ wait_in c.project asks
+      → (c.project ≡ w.project) × ((moment : ℕ) → deadline_by moment asks ≡ deadline_of moment w.timeout)
+  by (what.Wait op timeout) is = let same : w ≡ record { project = c.project; timeout = timeout } = cc in
+      (ap (λ (v : Waiting). v.project) (sym same), λ moment. ap (λ (v : Waiting). deadline_of moment v.timeout) (sym same))
+  by what.Root is = cc
+  by what.Server is = cc
+  by (what.List of recursion) is = cc
+  by (what.Get of) is = cc
+  by (what.State of) is = cc
+  by (what.Create of body) is = cc
+  by (what.Put of body) is = cc
+  by (what.Patch of body) is = cc
+  by (what.Move of to) is = cc
+  by (what.Delete of) is = cc
+  by (what.Act of action) is = cc
+  by (what.Restore of snapshot) is = cc
+  by (what.GetOp op) is = cc
+  by (what.Cancel op) is = cc
+
+-- the answer of a wait was held back, and then its operation was asked for
+pub held_back : {a b d : Seen} {told mid told' : Readings} {r : Reply} (c : Command) (w : Waiting) (op moment : ℕ)
+    (deadline : Option ℕ) → Some w ≡ wait_of c → deadline ≡ deadline_of moment w.timeout
+    → Walk (ServeBy c) a b (stand (looking op deadline 0) told) (stand (due op) mid)
+    → (c.project ≡ w.project → Walk (ServeBy c) b d (stand (due op) mid) (stand (replied r) told'))
+    → Walk (ServeBy c) a d (stand (looking op (deadline_by moment c.what) 0) told) (stand (replied r) told')
+held_back {a} {b} {d} {told} {mid} {told'} {r} c w op moment deadline is due_is waits shows =
+    let kept : IsKept c w = kept_is c w is in
+    walk-append
+    (subst (λ at. Walk (ServeBy c) a b (stand (looking op at 0) told) (stand (due op) mid))
+    (due_is ∙ sym (kept.deadline moment)) waits)
+    (shows kept.project)

@@ -1,0 +1,10 @@
+use Rattle.gates.proofs.Answering.{for_looker}
+use Rattle.serve_loop.proofs.Waiting.{looks}
+use Rattle.serve_loop.proofs.wait.look.Goals as goal
+
+pub is_live-requires : goal.is_live-requires
+is_live-requires g c = for_looker _ _ c.turn-answer.ensures.may
+
+pub returns : goal.returns
+returns g c = λ command deadline rests clock. looks command deadline rests clock _ c.turn-answer.ensures.told
+    c.turn-answer.ensures.turned c.turn-answer.ensures.rested c.is_live.ensures

@@ -1,0 +1,33 @@
+-- A connection: a link, and then a session where a request subscribes to events.
+use Rattle.std.specs.Prelude.{ℕ}
+use Rattle.http_front.specs.Clocks.{Readings}
+use Rattle.gates.specs.Gates.{Seen}
+use Rattle.gates.specs.rest_answers.specs.Links.{Inlet, Outlet}
+use Rattle.serve_loop.specs.declared.subscriptions.Subscription.{Subscription}
+use Rattle.serve_loop.specs.Serving.{Line, ServingFrom}
+use Rattle.serve_loop.specs.declared.link.LinkEnd.{LinkEnd}
+use Rattle.serve_loop.specs.declared.link.LinkEnd.TheVariants as end
+use Rattle.serve_loop.specs.Sessions.{Session}
+use Rattle.serve_loop.specs.declared.session.SessionEnd.{SessionEnd}
+use Rattle.serve_loop.specs.declared.connection.ConnectionEnd.{ConnectionEnd}
+use Rattle.serve_loop.specs.declared.connection.ConnectionEnd.TheVariants as ended
+
+-- the link ended at no subscription
+abbrev pub IsNoSubscription : LinkEnd → Type 0
+IsNoSubscription (end.Events wanted) = ⊥
+IsNoSubscription other = Unit {0}
+
+-- a link that ended at a subscription, and then a session of this subscription
+pub record Subscribes (boot : ℕ) (start : Line) (source : Inlet) (sink : Outlet) (gate : Seen) (clock : Readings)
+    (ends : SessionEnd) : Type 0 where
+  pub wanted : Subscription
+  pub sink_between : Outlet
+  pub gate_between : Seen
+  pub link : ServingFrom boot start source sink_between gate_between clock (end.Events wanted)
+  pub session : Session boot wanted.key wanted.filter gate_between sink_between gate sink ends
+
+-- A connection from this line on, with the outside seen so at its end.
+abbrev pub Connects : ℕ → Line → Inlet → Outlet → Seen → Readings → ConnectionEnd → Type 0
+Connects boot start source sink gate clock (ended.Link ends) =
+    IsNoSubscription ends × ServingFrom boot start source sink gate clock ends
+Connects boot start source sink gate clock (ended.Session ends) = Subscribes boot start source sink gate clock ends

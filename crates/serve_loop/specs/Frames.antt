@@ -1,0 +1,23 @@
+-- What an event session writes: the head that accepts its handshake (RFC 6455, section 4.2.2), and WebSocket frames
+-- (section 5.2), which a server doesn't mask.
+use Rattle.std.specs.Prelude.{ℕ, List, [], ◌++◌, None, codes}
+use Rattle.websocket.specs.Connection.{whole_header}
+use Rattle.websocket.specs.Frame.{encode_frame}
+use Rattle.websocket.specs.declared.protocol.frame.coding.OpCode.TheVariants as opcode
+use Rattle.websocket.specs.declared.protocol.frame.coding.Data.TheVariants as message
+use Rattle.websocket.specs.declared.protocol.frame.coding.Control.TheVariants as control
+use Rattle.serve_loop.specs.Accepting.{accept_text}
+
+-- the head that accepts a handshake of this key
+unfoldable pub accepting_head : List ℕ → List ℕ
+accepting_head key =
+    codes "HTTP/1.1 101 Switching Protocols\r\nUpgrade: websocket\r\nConnection: Upgrade\r\nSec-WebSocket-Accept: "
+    ++ accept_text key ++ codes "\r\n\r\n"
+
+-- a text message in one frame
+unfoldable pub text_frame : List ℕ → List ℕ
+text_frame text = encode_frame (whole_header (opcode.Data message.Text) None) text
+
+-- a close frame without a code
+unfoldable pub close_frame : List ℕ
+close_frame = encode_frame (whole_header (opcode.Control control.Close) None) []

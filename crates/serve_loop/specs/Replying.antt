@@ -1,0 +1,39 @@
+-- How what a request asks for comes to its reply at a gate.
+use Rattle.std.specs.Prelude.{◌≡◌, ◌⊎◌, List, [], Result, Err, Ok}
+use Rattle.http_front.specs.Clocks.{Readings}
+use Rattle.records.specs.declared.commands.Command.{Command}
+use Rattle.records.specs.declared.refusals.Refusal.{Refusal}
+use Rattle.records.specs.declared.replies.Reply.{Reply}
+use Rattle.records.specs.declared.replies.Reply.TheVariants as reply
+use Rattle.gates.specs.Chains.{Chain}
+use Rattle.gates.specs.Gates.{Between, Seen}
+use Rattle.gates.specs.Trails.{Item}
+use Rattle.serve_loop.specs.Waits.{ServeBy, replied, stand, unasked}
+
+-- It asks for no command, by its form; or memory was refused before its command was asked. No turn and no rest was
+-- made, and the clock was not read.
+pub record IsUnasked (asks : Result Command Refusal) (told : Readings) (trail : List Item) (a_reply : Reply)
+    (told' : Readings)
+    : Type 0 where
+  pub nothing : trail ≡ []
+  pub unread : told' ≡ told
+  pub why : (a_reply ≡ reply.NoMemory)
+      ⊎ ((refusal : Refusal) × (asks ≡ Err refusal) × (a_reply ≡ reply.Refused refusal))
+
+-- Its command was asked, and came to this reply. Each turn and rest of the trail is the one that was due.
+pub record IsAsked (asks : Result Command Refusal) (told : Readings) (trail : List Item) (reply : Reply)
+    (told' : Readings) : Type 0 where
+  pub command : Command
+  pub is : asks ≡ Ok command
+  pub due : Chain (ServeBy command) trail (stand unasked told) (stand (replied reply) told')
+
+-- What was asked for came to this reply by these turns and rests, between these readings of the clock.
+abbrev pub Handles : Result Command Refusal → Readings → List Item → Reply → Readings → Type 0
+Handles asks told trail reply told' = IsUnasked asks told trail reply told' ⊎ IsAsked asks told trail reply told'
+
+-- between two moments of a gate and of a clock, what was asked for came to this reply
+pub record Reaches (asks : Result Command Refusal) (before after : Seen) (told told' : Readings) (reply : Reply)
+    : Type 0 where
+  pub trail : List Item
+  pub gate : Between trail before after
+  pub handles : Handles asks told trail reply told'

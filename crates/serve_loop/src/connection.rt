@@ -1,0 +1,52 @@
+ghost use Rattle.std.specs.Prelude.{[]};
+ghost use Rattle.gates.specs.Gates.{seen};
+ghost use Rattle.gates.specs.rest_answers.specs.Links.{inlet, outlet};
+ghost use Rattle.serve_loop.specs.Serving.{line};
+ghost use Rattle.serve_loop.specs.Connections.{Connects};
+
+use crate::link::{LinkEnd, serve_link};
+use crate::session::{SessionEnd, event_session};
+use crate::subscriptions::Subscription;
+use gates::Gate;
+use http_front::{Clock, Sink, Source};
+use std::alloc::Global;
+use std::sync::Wait;
+
+/// Why a connection ends.
+#[derive(Drop)]
+pub enum ConnectionEnd {
+    /// As a link, at its requests. Its end is no subscription.
+    Link(LinkEnd),
+    /// As a session of events, to which one of its requests subscribed.
+    Session(SessionEnd),
+}
+
+/// Serves a connection: its requests are answered one after the other (`serve_link`), and one that
+/// subscribes to events becomes a session of these (`event_session`), after which the connection
+/// ends. The boot word is that of the ids of operations.
+pub fn serve_connection<T: Wait, G: Gate, S: Source, K: Sink, C: Clock>(
+    rt: &T,
+    alloc: Global,
+    gate: &mut G,
+    source: &mut S,
+    sink: &mut K,
+    clock: &mut C,
+    boot: u64,
+) -> ConnectionEnd
+    ensures { Connects boot
+        (line [] (inlet S.left S.ended S.failures source.old) (outlet K.held K.failures sink.old)
+        (seen G.told G.turned G.rested gate.old) (C.readings clock.old))
+        (inlet S.left S.ended S.failures source.new) (outlet K.held K.failures sink.new)
+        (seen G.told G.turned G.rested gate.new) (C.readings clock.new) result }
+{
+    match serve_link(rt, alloc, gate, source, sink, clock, boot) {
+        LinkEnd::Events(subscription) => {
+            let Subscription { key, filter } = subscription;
+            let ends = event_session(rt, alloc, gate, sink, key.view(), &filter, boot);
+            drop(key);
+            drop(filter);
+            ConnectionEnd::Session(ends)
+        }
+        ends => ConnectionEnd::Link(ends),
+    }
+}

@@ -1,0 +1,54 @@
+//! How a request comes to its reply at a gate.
+ghost use Rattle.std.specs.Prelude.{◌≡◌, true, Ok};
+ghost use Rattle.records.specs.Forms.{is_formed};
+ghost use Rattle.rest_routes.specs.Commands.{command_of};
+ghost use Rattle.gates.specs.Gates.{seen};
+ghost use Rattle.serve_loop.specs.Replying.{Reaches};
+
+use crate::wait::{ask, wait_of};
+use gates::{Gate, refused_reply};
+use http_front::{Clock, Request};
+use records::{Command, Reply};
+use rest_routes::Router;
+use size_values::NoMemory;
+use std::alloc::Global;
+
+/// Asks for a command. What a wait needs later is taken beforehand.
+fn carry_out<G: Gate, C: Clock>(
+    alloc: Global,
+    gate: &mut G,
+    clock: &mut C,
+    command: Command,
+) -> Reply
+    requires formed { is_formed command ≡ true }
+    ensures { Reaches (Ok command) (seen G.told G.turned G.rested gate.old)
+        (seen G.told G.turned G.rested gate.new) (C.readings clock.old) (C.readings clock.new)
+        result }
+{
+    match wait_of(alloc, &command) {
+        Ok(kept) => ask(gate, clock, command, kept),
+        Err(NoMemory) => {
+            drop(command);
+            Reply::NoMemory
+        }
+    }
+}
+
+/// Routes a request and asks for its command, at the next moment of the clock.
+pub fn reply_to<G: Gate, C: Clock>(
+    alloc: Global,
+    router: &Router,
+    gate: &mut G,
+    clock: &mut C,
+    request: &Request,
+    boot: u64,
+) -> Reply
+    ensures { Reaches (command_of request.now boot) (seen G.told G.turned G.rested gate.old)
+        (seen G.told G.turned G.rested gate.new) (C.readings clock.old) (C.readings clock.new)
+        result }
+{
+    match router.route(alloc, request, boot) {
+        Ok(command) => carry_out(alloc, gate, clock, command),
+        Err(why) => refused_reply(why),
+    }
+}

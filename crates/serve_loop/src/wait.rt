@@ -1,0 +1,207 @@
+//! How a command comes to its reply at a gate: the answer of a wait is held back while its
+//! operation is live.
+ghost use Rattle.std.specs.Prelude.{◌≡◌, ◌≢◌, ◌<◌, ◌+◌, true, IfOk, if◌then◌else◌, None, Some, Option, ℕ};
+ghost use Rattle.size_values.specs.Moments.{moment_limit};
+ghost use Rattle.http_front.specs.Clocks.{Readings};
+ghost use Rattle.records.specs.Forms.{is_formed};
+ghost use Rattle.records.specs.declared.commands.Command.{Command as CommandValue};
+ghost use Rattle.gates.specs.Gates.{Walk, seen};
+ghost use Rattle.serve_loop.specs.Moments.{IsLate, deadline_by, deadline_of};
+ghost use Rattle.gates.specs.Answers.{IsForLooker};
+ghost use Rattle.serve_loop.specs.Waits.{Looked, ServeBy, after_rest, due};
+ghost use Rattle.serve_loop.specs.Waits.{looking, most_rests, replied, stand, unasked, wait_of, waiting};
+
+use gates::{Asked, Gate, asked_of, reply_of};
+use http_front::Clock;
+use records::{Command, Reply, What};
+use row_machine::{Answer, Event};
+use size_values::{NoMemory, Text};
+use std::alloc::Global;
+
+/// The most rests that are made for one wait.
+pub const MOST_RESTS: u32 = 1_000_000;
+
+/// The constant is the number that definitions speak of.
+pub fn waits_end_after_a_million_rests()
+    ensures { MOST_RESTS ≡ most_rests }
+{}
+
+/// What is kept of a wait while its answer is held back: its project, and its seconds, where a
+/// negative number has no end.
+#[derive(Drop)]
+pub struct Waiting {
+    project: Text,
+    timeout: i64,
+}
+
+/// What is kept of a command, if it is a wait.
+pub(crate) fn wait_of(alloc: Global, command: &Command) -> Result<Option<Waiting>, NoMemory>
+    ensures { IfOk result (λ wait. wait ≡ wait_of command.now) }
+{
+    match &command.what {
+        What::Wait { timeout, .. } => {
+            let project = command.project.copy(alloc)?;
+            Ok(Some(Waiting {
+                project,
+                timeout: *timeout,
+            }))
+        }
+        _ => Ok(None),
+    }
+}
+
+/// When a wait ends that was asked for at this moment, in seconds since 1970.
+fn deadline_of(moment: u64, timeout: i64) -> Option<u64>
+    requires { moment < moment_limit }
+    ensures { result ≡ deadline_of moment timeout }
+{
+    match u64::try_from(timeout) {
+        Ok(seconds) => Some(moment + seconds),
+        Err(_) => None,
+    }
+}
+
+/// Whether a deadline is reached. Without one the clock is not read.
+fn is_late<C: Clock>(clock: &mut C, deadline: Option<u64>) -> bool
+    ensures { IsLate deadline (C.readings clock.old) result (C.readings clock.new) }
+{
+    match deadline {
+        Some(deadline) => deadline <= clock.now(),
+        None => false,
+    }
+}
+
+/// Whether the operation that was looked at is live.
+fn is_live(answer: Answer) -> bool
+    requires { IsForLooker answer }
+    ensures { Looked answer result }
+{
+    match answer {
+        Answer::NotYet(_) => true,
+        Answer::Ended(_) => false,
+        _ => unreachable!(),
+    }
+}
+
+/// Looks at an operation, and says whether it is live.
+fn look<G: Gate>(gate: &mut G, number: u64) -> bool
+    ensures { (c : CommandValue) (deadline : Option ℕ) (rests : ℕ) (clock : Readings)
+        → Walk (ServeBy c)
+        (seen G.told G.turned G.rested gate.old) (seen G.told G.turned G.rested gate.new)
+        (stand (looking number deadline rests) clock)
+        (stand (if result then waiting number deadline rests else due number) clock) }
+{
+    let answer = gate.turn(Event::Look(number));
+    is_live(answer)
+}
+
+/// One rest, and then a look at the deadline: whether it is reached.
+fn rest<G: Gate, C: Clock>(gate: &mut G, clock: &mut C, deadline: Option<u64>) -> bool
+    ensures { (c : CommandValue) (op : ℕ) (rests : ℕ) → Walk (ServeBy c)
+        (seen G.told G.turned G.rested gate.old) (seen G.told G.turned G.rested gate.new)
+        (stand (waiting op deadline rests) (C.readings clock.old))
+        (stand (after_rest op deadline (rests + 1) result) (C.readings clock.new)) }
+{
+    gate.rest();
+    is_late(clock, deadline)
+}
+
+/// Looks at an operation until it has ended, and rests once after each look that shows it live:
+/// until the deadline, and at most so often.
+fn wait_for<G: Gate, C: Clock>(gate: &mut G, clock: &mut C, number: u64, deadline: Option<u64>)
+    ensures { (c : CommandValue) → Walk (ServeBy c)
+        (seen G.told G.turned G.rested gate.old) (seen G.told G.turned G.rested gate.new)
+        (stand (looking number deadline 0) (C.readings clock.old))
+        (stand (due number) (C.readings clock.new)) }
+{
+    for rests in 0..MOST_RESTS {
+        if !look(gate, number) {
+            return;
+        }
+        if rest(gate, clock, deadline) {
+            return;
+        }
+    }
+}
+
+/// Asks for an operation in a project.
+fn show<G: Gate, C: Clock>(gate: &mut G, clock: &mut C, project: Text, number: u64) -> Reply
+    ensures { (c : CommandValue) → c.project ≡ project → Walk (ServeBy c)
+        (seen G.told G.turned G.rested gate.old) (seen G.told G.turned G.rested gate.new)
+        (stand (due number) (C.readings clock.old))
+        (stand (replied result) (C.readings clock.new)) }
+{
+    let command = Command {
+        project,
+        what: What::GetOp { op: number },
+    };
+    let moment = clock.now();
+    let answer = gate.turn(Event::Ask(command, moment));
+    reply_of(answer)
+}
+
+/// Holds the answer of a wait back, and then asks for its operation.
+fn wait_and_show<G: Gate, C: Clock>(
+    gate: &mut G,
+    clock: &mut C,
+    wait: Waiting,
+    moment: u64,
+    number: u64,
+) -> Reply
+    requires early { moment < moment_limit }
+    ensures { (c : CommandValue) → Some wait ≡ wait_of c → Walk (ServeBy c)
+        (seen G.told G.turned G.rested gate.old) (seen G.told G.turned G.rested gate.new)
+        (stand (looking number (deadline_by moment c.what) 0) (C.readings clock.old))
+        (stand (replied result) (C.readings clock.new)) }
+{
+    let Waiting { project, timeout } = wait;
+    wait_for(gate, clock, number, deadline_of(moment, timeout));
+    show(gate, clock, project, number)
+}
+
+/// The same for what was kept of a command whose answer is held back: it is a wait.
+fn hold<G: Gate, C: Clock>(
+    gate: &mut G,
+    clock: &mut C,
+    kept: Option<Waiting>,
+    moment: u64,
+    number: u64,
+) -> Reply
+    requires early { moment < moment_limit }
+    requires kept { kept ≢ None }
+    ensures { (c : CommandValue) → kept ≡ wait_of c → Walk (ServeBy c)
+        (seen G.told G.turned G.rested gate.old) (seen G.told G.turned G.rested gate.new)
+        (stand (looking number (deadline_by moment c.what) 0) (C.readings clock.old))
+        (stand (replied result) (C.readings clock.new)) }
+{
+    match kept {
+        Some(wait) => wait_and_show(gate, clock, wait, moment, number),
+        None => unreachable!(),
+    }
+}
+
+/// Asks for a command, of which this was kept. The answer of a wait is held back until its
+/// operation has ended, its time is over, or the most rests were made, and is then what is told of
+/// that operation.
+pub(crate) fn ask<G: Gate, C: Clock>(
+    gate: &mut G,
+    clock: &mut C,
+    command: Command,
+    kept: Option<Waiting>,
+) -> Reply
+    requires formed { is_formed command ≡ true }
+    requires kept { kept ≡ wait_of command }
+    ensures { Walk (ServeBy command)
+        (seen G.told G.turned G.rested gate.old) (seen G.told G.turned G.rested gate.new)
+        (stand unasked (C.readings clock.old)) (stand (replied result) (C.readings clock.new)) }
+{
+    let moment = clock.now();
+    let answer = gate.turn(Event::Ask(command, moment));
+    match asked_of(answer) {
+        Asked::Reply(reply) => {
+            drop(kept);
+            reply
+        }
+        Asked::Hold(number) => hold(gate, clock, kept, moment, number),
+    }
+}

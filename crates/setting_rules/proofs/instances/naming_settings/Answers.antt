@@ -1,6 +1,0 @@
-use Rattle.rule_refusals.proofs.Saying.{says-as}
-use Rattle.setting_rules.proofs.Naming.{naming-split}
-use Rattle.setting_rules.proofs.instances.naming_settings.Goals as goal
-
-pub returns : goal.returns
-returns c = says-as c.named_broken.result (naming-split c.args.view.now c.args.profile.now) c.named_broken.ensures

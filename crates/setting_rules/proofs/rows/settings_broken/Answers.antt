@@ -1,8 +1,0 @@
-use Rattle.row_machine.specs.machine.SettingRules.{row_settings, settings_broken}
-use Rattle.rule_refusals.proofs.RowsPut.{rows-put}
-use Rattle.rule_refusals.proofs.Saying.{says-as}
-use Rattle.setting_rules.proofs.rows.settings_broken.Goals as goal
-
-pub returns : goal.returns
-unfolding settings_broken
-returns c = says-as c.changes_break.result (rows-put (row_settings c.args.after.now) c.args.changes.now) c.changes_break.ensures

@@ -1,6 +1,0 @@
-use Rattle.std.proofs.Common.{take}
-use Rattle.sqlite_rows.specs.Entries.{SayEach}
-use Rattle.sqlite_rows.proofs.entries.push_rows.Given as goal
-
-abbrev pub invariant-rows : goal.invariant-rows
-invariant-rows l = SayEach (take l.row-index l.rows) l.found.items

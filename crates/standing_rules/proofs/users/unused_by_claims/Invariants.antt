@@ -1,8 +1,0 @@
-use Rattle.std.proofs.Common.{◌≡◌, None, take}
-use Rattle.row_machine.specs.plain_lists.specs.Firsts.{first_of}
-use Rattle.standing_rules.specs.Users.{claim_link}
-use Rattle.standing_rules.proofs.users.unused_by_claims.Given as goal
-
--- those before name it not
-abbrev pub invariant-loop-operation : goal.invariant-loop-operation
-invariant-loop-operation l = first_of (claim_link l.view l.home l.of l.project) (take l.operation-index l.live) ≡ None

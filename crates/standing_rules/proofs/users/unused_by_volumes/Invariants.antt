@@ -1,8 +1,0 @@
-use Rattle.std.proofs.Common.{◌≡◌, None, take}
-use Rattle.row_machine.specs.plain_lists.specs.Firsts.{first_of}
-use Rattle.standing_rules.specs.Users.{volume_link}
-use Rattle.standing_rules.proofs.users.unused_by_volumes.Given as goal
-
--- those before name it not
-abbrev pub invariant-loop-row : goal.invariant-loop-row
-invariant-loop-row l = first_of (volume_link l.of) (take l.row-index l.rows) ≡ None

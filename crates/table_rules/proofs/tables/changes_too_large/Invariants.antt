@@ -1,9 +1,0 @@
-use Rattle.std.proofs.Common.{◌≡◌, None, take, [], ◌∷◌}
-use Rattle.row_machine.specs.machine.Changes.{rows_put}
-use Rattle.row_machine.specs.machine.TableRules.{too_large}
-use Rattle.row_sizes.specs.plain_lists.specs.Firsts.{first_of}
-use Rattle.table_rules.proofs.tables.changes_too_large.Given as goal
-
--- those before break nothing
-abbrev pub invariant-loop-change : goal.invariant-loop-change
-invariant-loop-change l = first_of (λ c. first_of too_large (rows_put (c ∷ []))) (take l.change-index l.changes) ≡ None

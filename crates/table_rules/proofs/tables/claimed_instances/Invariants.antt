@@ -1,6 +1,0 @@
-use Rattle.row_machine.specs.machine.Claims.{claimed_instance}
-use Rattle.table_rules.proofs.Counts.{Counted}
-use Rattle.table_rules.proofs.tables.claimed_instances.Given as goal
-
-abbrev pub invariant-loop-operation : goal.invariant-loop-operation
-invariant-loop-operation l = Counted (λ o. claimed_instance o.work) l.live l.operation-index l.count

@@ -1,7 +1,0 @@
-use Rattle.row_machine.specs.machine.TableRules.{too_large}
-use Rattle.rule_refusals.proofs.RowsPut.{rows-put}
-use Rattle.rule_refusals.proofs.Saying.{says-as}
-use Rattle.table_rules.proofs.tables.put_too_large.Goals as goal
-
-pub returns : goal.returns
-returns c = says-as c.changes_too_large.result (rows-put too_large c.args.changes.now) c.changes_too_large.ensures

@@ -1,8 +1,0 @@
-use Rattle.std.proofs.Common.{◌≡◌, None, take}
-use Rattle.row_sizes.specs.plain_lists.specs.Firsts.{first_of}
-use Rattle.row_machine.specs.machine.TableRules.{too_many}
-use Rattle.table_rules.proofs.tables.tables_full.Given as goal
-
--- those before are not full
-abbrev pub invariant-loop-kind : goal.invariant-loop-kind
-invariant-loop-kind l = first_of (too_many l.view) (take l.kind-index l.kind-items) ≡ None

@@ -1,0 +1,395 @@
+ghost use Rattle.std.specs.Prelude.{◌+◌, ◌≤◌, ◌^◌, IfOk};
+ghost use Rattle.size_values.specs.Amounts.{part};
+ghost use Rattle.size_values.specs.declared.amounts.Part.{Part};
+
+use operations::{OpFault, Operation, Status};
+use plans_tasks::instance_creation;
+use records::{Body, Command, Driver, Origin, Pool, Project, Refusal, Row, Rule, Target, What};
+use row_machine::Work;
+use row_readings::{View, rows_of, usage_of};
+use rules_conflicts::standing_broken;
+use rules_limits::{
+    InUse, claim_uncounts, counts_broken, counts_broken_in, is_any_limited, limits_broken,
+    needs_usage, share_broken, usage_before, uses_exceed,
+};
+use rules_names::names_broken;
+use rules_policy::{claim_forbidden, policy_broken, policy_broken_in};
+use rules_settings::claim_settings_broken;
+use rules_tables::{claim_tables_broken, entry_broken};
+use size_values::{Amounts, NoMemory, ObjectKind, Or, Seq, Text};
+use std::alloc::Global;
+use tests_given::{Rows, both, config, device};
+
+/// The creation of an instance from nothing, and the rule that it breaks first.
+#[derive(Clone, Copy)]
+struct Creation {
+    project: &'static str,
+    name: &'static str,
+    rooted: bool,
+    next: u64,
+    rule: Option<Rule>,
+    of: &'static str,
+}
+
+const CREATIONS: &[Creation] = &[
+    Creation {
+        project: "web",
+        name: "c1",
+        rooted: false,
+        next: 1,
+        rule: Some(Rule::N1),
+        of: "a project that is missing",
+    },
+    Creation {
+        project: "default",
+        name: "-c1",
+        rooted: false,
+        next: 1,
+        rule: Some(Rule::N3),
+        of: "a malformed name",
+    },
+    Creation {
+        project: "default",
+        name: "c1",
+        rooted: false,
+        next: 1,
+        rule: Some(Rule::V4),
+        of: "no root disk",
+    },
+    Creation {
+        project: "default",
+        name: "c1",
+        rooted: true,
+        next: 1,
+        rule: None,
+        of: "a root disk",
+    },
+    Creation {
+        project: "full",
+        name: "c1",
+        rooted: true,
+        next: 1,
+        rule: Some(Rule::L1),
+        of: "a project that may have no instances",
+    },
+    Creation {
+        project: "default",
+        name: "c1",
+        rooted: true,
+        next: 1_099_511_627_776,
+        rule: Some(Rule::O5),
+        of: "no number for its operation",
+    },
+];
+
+/// By what the rules are judged that are judged with the claim.
+#[derive(Clone, Copy)]
+enum Judged {
+    /// By all rows.
+    Wholly,
+    /// By the rows of its project.
+    InItsProject,
+    /// By what it claims.
+    Alone,
+}
+
+/// What each of these instances counts for.
+const SHARE: Amounts = Amounts {
+    instances: 1,
+    containers: 1,
+    machines: 0,
+    cpu: 0,
+    memory: 0,
+    processes: 0,
+    disk: 0,
+};
+
+/// A project, with a limit on its instances where one is given.
+fn add_project(
+    alloc: Global,
+    projects: &mut Vec<Project>,
+    name: &str,
+    limit: &str,
+) -> Result<(), NoMemory> {
+    let name = Text::from_text(alloc, name)?;
+    let config = config(alloc, &[("limits.instances", limit)])?;
+    projects.push(Project {
+        name,
+        description: Text::new(alloc),
+        config,
+    })?;
+    Ok(())
+}
+
+/// The pool `p0`.
+fn add_pool(alloc: Global, pools: &mut Vec<Pool>) -> Result<(), NoMemory> {
+    let name = Text::from_text(alloc, "p0")?;
+    let config = config(alloc, &[])?;
+    pools.push(Pool {
+        name,
+        driver: Driver::Dir,
+        description: Text::new(alloc),
+        config,
+    })?;
+    Ok(())
+}
+
+fn fill(alloc: Global, rows: &mut Rows) -> Result<(), NoMemory> {
+    add_project(alloc, &mut rows.projects, "default", "")?;
+    add_project(alloc, &mut rows.projects, "full", "0")?;
+    add_pool(alloc, &mut rows.pools)
+}
+
+/// A body without fields.
+fn bare_body() -> Body {
+    Body {
+        description: None,
+        config: None,
+        devices: None,
+        profiles: None,
+        kind: None,
+        ephemeral: None,
+        driver: None,
+        origin: Origin::None,
+    }
+}
+
+/// A body that gives a root disk in the pool, and no profiles.
+fn rooted_body(alloc: Global) -> Result<Body, NoMemory> {
+    let settings = [("type", "disk"), ("path", "/"), ("pool", "p0")];
+    let devices = device(alloc, "root", &settings)?;
+    Ok(Body {
+        description: None,
+        config: None,
+        devices: Some(devices),
+        profiles: Some(Seq::new(alloc)),
+        kind: None,
+        ephemeral: None,
+        driver: None,
+        origin: Origin::None,
+    })
+}
+
+fn body(alloc: Global, rooted: bool) -> Result<Body, NoMemory> {
+    if rooted {
+        rooted_body(alloc)
+    } else {
+        Ok(bare_body())
+    }
+}
+
+fn target(alloc: Global, name: &str) -> Result<Target, NoMemory> {
+    let name = Text::from_text(alloc, name)?;
+    Ok(Target {
+        kind: ObjectKind::Instance,
+        pool: Text::new(alloc),
+        instance: Text::new(alloc),
+        name,
+    })
+}
+
+/// The command of a creation.
+fn command(alloc: Global, case: Creation) -> Result<Command, NoMemory> {
+    let about = both(
+        Text::from_text(alloc, case.project),
+        target(alloc, case.name),
+    );
+    let ((project, of), body) = both(about, body(alloc, case.rooted))?;
+    Ok(Command {
+        project,
+        what: What::Create { of, body },
+    })
+}
+
+/// The rules before those that are judged with the claim.
+fn asked_broken(alloc: Global, view: &View<'_>, command: &Command) -> Result<(), Or<Refusal>> {
+    names_broken(alloc, view, command)?;
+    standing_broken(alloc, view, command)
+}
+
+/// The rules that are judged with the claim of the last operation.
+fn claim_broken(alloc: Global, rows: &Rows, judged: Judged) -> Result<(), Or<Refusal>> {
+    match judged {
+        Judged::Wholly => later_broken(alloc, rows)?,
+        Judged::InItsProject => project_broken(alloc, rows)?,
+        Judged::Alone => alone_broken(alloc, rows)?,
+    }
+    entry_broken(alloc, &rows.before_last())?;
+    let after = rows.view();
+    claim_tables_broken(alloc, &after, last_claim(&after))
+}
+
+/// Settings, policy and limits.
+fn later_broken(alloc: Global, rows: &Rows) -> Result<(), Or<Refusal>> {
+    let after = rows.view();
+    claim_settings_broken(alloc, &after, last_claim(&after))?;
+    policy_broken(alloc, &after)?;
+    counts_broken(alloc, &after)?;
+    let before = usage_before(alloc, &rows.before_last())?;
+    let broken = limits_broken(alloc, &before, &after);
+    drop(before);
+    broken
+}
+
+/// What a project uses of its limits.
+fn in_use(alloc: Global, view: &View<'_>, project: &str) -> Result<InUse, NoMemory> {
+    let amounts = usage_of(alloc, view, project)?;
+    let networks = rows_of(view.networks, project).len();
+    Ok(InUse { amounts, networks })
+}
+
+/// Settings, and policy and limits of the project of the last claim.
+fn project_broken(alloc: Global, rows: &Rows) -> Result<(), Or<Refusal>> {
+    let after = rows.view();
+    claim_settings_broken(alloc, &after, last_claim(&after))?;
+    let Some(operation) = after.live.last() else {
+        return Ok(());
+    };
+    let project = operation.work.project.view();
+    let projects = rows_of(after.projects, project);
+    policy_broken_in(alloc, &after, projects)?;
+    counts_broken_in(alloc, &after, projects)?;
+    if !is_any_limited(projects) {
+        return Ok(());
+    }
+    let before = in_use(alloc, &rows.before_last(), project)?;
+    let later = in_use(alloc, &after, project)?;
+    uses_exceed(alloc, projects, &before, &later)
+}
+
+/// What a project uses, where its share is judged by it.
+fn used_beside(alloc: Global, view: &View<'_>, project: &str) -> Result<Amounts, NoMemory>
+    ensures { IfOk result (λ used. (k : Part) → part k used ≤ 2 ^ 127 + 2 ^ 126) }
+{
+    if !needs_usage(view, project, &SHARE) {
+        return Ok(Amounts::zero());
+    }
+    usage_of(alloc, view, project)
+}
+
+/// The same by what the last operation claims alone.
+fn alone_broken(alloc: Global, rows: &Rows) -> Result<(), Or<Refusal>> {
+    let after = rows.view();
+    claim_settings_broken(alloc, &after, last_claim(&after))?;
+    let Some(operation) = after.live.last() else {
+        return Ok(());
+    };
+    let work = &operation.work;
+    let project = work.project.view();
+    claim_forbidden(alloc, &after, work)?;
+    claim_uncounts(alloc, &after, work)?;
+    let used = used_beside(alloc, &rows.before_last(), project)?;
+    share_broken(alloc, &after, project, &used, &SHARE)
+}
+
+/// An operation that waits for its first call.
+fn pending(number: u64, work: Work) -> Operation<Work> {
+    Operation {
+        number,
+        created: 9,
+        updated: 9,
+        status: Status::Pending,
+        may_cancel: true,
+        fault: OpFault::None,
+        work,
+    }
+}
+
+/// What the creation begins, where it begins something.
+fn begun(alloc: Global, view: &View<'_>, command: &Command) -> Result<Option<Work>, NoMemory> {
+    match &command.what {
+        What::Create { of, body } => instance_creation(alloc, view, &command.project, of, body, 9),
+        _ => Ok(None),
+    }
+}
+
+/// The claim of the last operation.
+fn last_claim<'x>(view: &View<'x>) -> Option<&'x Row> {
+    match view.live.last() {
+        Some(operation) => operation.work.claim.as_ref(),
+        None => None,
+    }
+}
+
+/// Enters what the creation begins, where it begins something.
+fn enter(alloc: Global, rows: &mut Rows, command: &Command) -> Result<bool, NoMemory> {
+    let Some(work) = begun(alloc, &rows.view(), command)? else {
+        return Ok(false);
+    };
+    let operation = pending(rows.next, work);
+    rows.live.push(operation)?;
+    Ok(true)
+}
+
+/// The first rule that a creation breaks.
+fn creation_broken(
+    alloc: Global,
+    rows: &mut Rows,
+    command: &Command,
+    judged: Judged,
+) -> Result<(), Or<Refusal>> {
+    asked_broken(alloc, &rows.view(), command)?;
+    if !enter(alloc, rows, command)? {
+        return Ok(());
+    }
+    claim_broken(alloc, rows, judged)
+}
+
+/// Whether the answer is this rule, or none.
+pub(crate) fn is_rule(answer: Result<(), Or<Refusal>>, rule: Option<Rule>) -> bool {
+    match answer {
+        Ok(()) => rule.is_none(),
+        Err(Or::NoMemory) => false,
+        Err(Or::Why(refusal)) => {
+            let told = refusal.rule;
+            drop(refusal);
+            rule == Some(told)
+        }
+    }
+}
+
+fn answers(alloc: Global, rows: &mut Rows, case: Creation, judged: Judged) -> bool {
+    match command(alloc, case) {
+        Ok(command) => {
+            let answer = creation_broken(alloc, rows, &command, judged);
+            drop(command);
+            is_rule(answer, case.rule)
+        }
+        Err(_) => false,
+    }
+}
+
+/// Whether the creation breaks its rule first.
+fn breaks(alloc: Global, case: Creation, judged: Judged) -> bool {
+    let mut rows = Rows::empty(alloc);
+    rows.next = case.next;
+    let filled = fill(alloc, &mut rows);
+    let right = filled.is_ok() && answers(alloc, &mut rows, case, judged);
+    drop(rows);
+    right
+}
+
+#[test]
+fn creations_break_the_first_rule(rt: HostRuntime) {
+    for case in CREATIONS {
+        assert!(rt; breaks(rt.alloc(), *case, Judged::Wholly), "{}", case.of);
+    }
+}
+
+#[test]
+fn creations_are_judged_alone(rt: HostRuntime) {
+    for case in CREATIONS {
+        assert!(rt; breaks(rt.alloc(), *case, Judged::Alone), "{}", case.of);
+    }
+}
+
+#[test]
+fn creations_are_judged_in_their_project(rt: HostRuntime) {
+    for case in CREATIONS {
+        assert!(rt;
+            breaks(rt.alloc(), *case, Judged::InItsProject),
+            "{}",
+            case.of
+        );
+    }
+}

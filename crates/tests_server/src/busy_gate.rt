@@ -1,0 +1,69 @@
+//! A gate whose rests are busy: other links have their turns at the server in them.
+ghost use Rattle.std.specs.Prelude.{None};
+
+use crate::links::{OwnGate, requests};
+use row_machine::{Answer, Event};
+use serve_loop::Gate;
+use std::alloc::Global;
+use std::sync::Wait;
+
+/// In the first rest a link makes its requests. In the next ones the worker goes on; and after so many of them another
+/// link changes a project again and again, so that events are lost. Where there are no requests, that begins at once.
+const WORKED: u64 = 20;
+
+/// One change more than there are events that the server keeps.
+const CHANGES: u32 = 1025;
+
+const CHANGE: &str =
+    "PATCH /1.0/projects/default HTTP/1.1\r\nHost: localhost\r\nContent-Length: 25\r\n\r\n{\"description\":\"touched\"}";
+
+/// Changes a project more often than events are kept.
+fn change<T: Wait, G: Gate>(rt: &T, alloc: Global, gate: &mut G) {
+    for _ in 0..CHANGES {
+        requests(rt, alloc, gate, CHANGE);
+    }
+}
+
+/// A gate beside whose turns a link makes these requests.
+#[derive(Drop)]
+pub(crate) struct BusyGate<T> {
+    pub(crate) rt: T,
+    pub(crate) alloc: Global,
+    pub(crate) inner: OwnGate,
+    pub(crate) requests: &'static str,
+    pub(crate) made: u64,
+    pub(crate) rests: u64,
+}
+
+impl<T: Wait> Gate for BusyGate<T> {
+    ghost told = { λ _. None };
+
+    ghost turned = { λ g. g.made };
+
+    ghost rested = { λ g. g.rests };
+
+    fn turn(&mut self, event: Event) -> Answer {
+        let answer = self.inner.turn(event);
+        self.made = self.made.saturating_add(1);
+        answer
+    }
+
+    fn rest(&mut self) {
+        if self.requests.is_empty() || self.rests >= WORKED {
+            change(&self.rt, self.alloc, &mut self.inner);
+        } else if self.rests == 0 {
+            requests(&self.rt, self.alloc, &mut self.inner, self.requests);
+        } else {
+            self.inner.rest();
+        }
+        self.rests = self.rests.saturating_add(1);
+    }
+
+    fn made(&self) -> u64 {
+        self.made
+    }
+
+    fn rests(&self) -> u64 {
+        self.rests
+    }
+}

@@ -1,0 +1,178 @@
+//! What has to stand after each turn.
+
+use crate::server::{LIMITS, Said, Server, Usage};
+use operations::Operation;
+use records::{LimitKeyName, Project};
+use reservations::Hold;
+use row_machine::Work;
+use row_readings::View;
+use size_values::{Amounts, read_count, read_size};
+use tests_given::{Sums, claim_sums, project_named, sums_of};
+
+/// The projects of a random run.
+pub(crate) const PROJECTS: [&str; 4] = ["default", "lab", "off", "shop"];
+
+/// How many rows of each kind there are, how many operations are live and ended, the next number,
+/// and what each project uses.
+pub(crate) type Mark = ([usize; 9], u64, [Sums; 4]);
+
+/// A mark of what the server shows.
+pub(crate) fn mark_of(view: &View<'_>) -> Mark {
+    let counts = [
+        view.projects.len(),
+        view.profiles.len(),
+        view.networks.len(),
+        view.pools.len(),
+        view.volumes.len(),
+        view.instances.len(),
+        view.snapshots.len(),
+        view.live.len(),
+        view.ended.len(),
+    ];
+    let sums = PROJECTS.map(|project| sums_of(view, project));
+    (counts, view.next, sums)
+}
+
+/// Whether an answer is to a request that may change something: it was carried out at once, or began in the
+/// background. It was not refused, by its form either, nor was memory.
+pub(crate) fn may_change(said: Said) -> bool {
+    matches!(said, Said::Done | Said::Begun(_))
+}
+
+/// What is used, as a share counts it.
+fn share_of(sums: Sums) -> [u128; 7] {
+    [
+        sums.instances,
+        sums.containers,
+        sums.machines,
+        sums.cpu,
+        sums.memory,
+        sums.processes,
+        sums.disk,
+    ]
+}
+
+/// The key of a limit among the settings of a project.
+fn key_of(key: LimitKeyName) -> &'static str {
+    match key {
+        LimitKeyName::Instances => "limits.instances",
+        LimitKeyName::Containers => "limits.containers",
+        LimitKeyName::Machines => "limits.virtual-machines",
+        LimitKeyName::Cpu => "limits.cpu",
+        LimitKeyName::Memory => "limits.memory",
+        LimitKeyName::Processes => "limits.processes",
+        LimitKeyName::Disk => "limits.disk",
+        LimitKeyName::Networks => "limits.networks",
+    }
+}
+
+/// The limit that a project sets.
+fn limit_of(project: &Project, key: LimitKeyName) -> Option<u64> {
+    let value = project.config.get(key_of(key))?;
+    match key {
+        LimitKeyName::Memory | LimitKeyName::Disk => read_size(value).ok(),
+        _ => read_count(value, 0, u64::MAX).ok(),
+    }
+}
+
+/// Whether this is what the rows and operations of a project use, and its limits, and it is within them. The last
+/// limit, that of networks, is in no share.
+fn is_right(project: &Project, sums: Sums, usage: Usage) -> bool {
+    let share = share_of(sums);
+    let mut is_so = true;
+    for place in 0..8 {
+        let (used, limit) = usage[place];
+        let most = match limit {
+            Some(limit) => u128::from(limit),
+            None => u128::MAX,
+        };
+        is_so = is_so
+            && used == share.get(place).copied().unwrap_or(sums.networks)
+            && limit == limit_of(project, LIMITS[place])
+            && used <= most;
+    }
+    is_so
+}
+
+/// Whether the server tells what a project uses, within its limits.
+fn stands(server: &mut Server, name: &str) -> bool {
+    let Ok(line) = format!(in server.alloc; "GET /1.0/projects/{name}/state") else {
+        return false;
+    };
+    let usage = server.usage(line.as_str());
+    drop(line);
+    let view = server.view();
+    match (project_named(&view, name), usage) {
+        (Some(project), Some(usage)) => is_right(project, sums_of(&view, name), usage),
+        _ => false,
+    }
+}
+
+/// The parts of an amount.
+fn parts_of(amounts: &Amounts) -> [u128; 7] {
+    [
+        amounts.instances,
+        amounts.containers,
+        amounts.machines,
+        amounts.cpu,
+        amounts.memory,
+        amounts.processes,
+        amounts.disk,
+    ]
+}
+
+/// One part of all shares that are held.
+fn held_in(held: &[Hold], place: usize) -> u128 {
+    let mut sum = 0u128;
+    for hold in held {
+        let part = parts_of(&hold.share).get(place).copied().unwrap_or(0);
+        sum = sum.saturating_add(part);
+    }
+    sum
+}
+
+/// Whether all that was ever granted was converted, returned or is held.
+fn books_balance(view: &View<'_>) -> bool {
+    let granted = parts_of(&view.books.granted);
+    let converted = parts_of(&view.books.converted);
+    let returned = parts_of(&view.books.returned);
+    let mut balance = true;
+    for place in 0..7 {
+        let sum = converted[place].saturating_add(returned[place]);
+        let sum = sum.saturating_add(held_in(view.held, place));
+        balance = balance && granted[place] == sum;
+    }
+    balance
+}
+
+/// Whether an operation holds what the row needs that it would put, above what that row replaces,
+/// by the profiles as they are now. Where it would put none, it holds nothing.
+fn holds_its_share(view: &View<'_>, operation: &Operation<Work>) -> bool {
+    match view.held.iter().find(|hold| hold.op == operation.number) {
+        Some(hold) => parts_of(&hold.share) == share_of(claim_sums(view, &operation.work)),
+        None => false,
+    }
+}
+
+/// Whether the books balance, and each live operation, of which there are not too many, holds its
+/// share.
+fn shares_stand(view: &View<'_>) -> bool {
+    view.held.len() == view.live.len()
+        && view.live.len() <= 1_024
+        && view.ended.len() <= 256
+        && view
+            .live
+            .iter()
+            .all(|operation| holds_its_share(view, operation))
+        && books_balance(view)
+}
+
+/// Whether all stands as it should: what the server tells of each project, and what its operations
+/// hold.
+pub(crate) fn all_stands(server: &mut Server) -> bool {
+    let mut is_so = true;
+    for project in PROJECTS {
+        is_so = is_so && stands(server, project);
+    }
+    is_so && shares_stand(&server.view())
+}

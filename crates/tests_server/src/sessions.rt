@@ -1,0 +1,163 @@
+//! What a session of events sends.
+use crate::busy_gate::BusyGate;
+use crate::links::{OwnGate, POOL, new_gate, requests};
+use crate::server::text;
+use http_front::ByteSink;
+use records::Filter;
+use serve_loop::{SessionEnd, event_session};
+use size_values::Seq;
+use std::alloc::Global;
+use std::sync::Wait;
+
+/// The head that accepts the key of RFC 6455, section 1.3.
+const HEAD: &str =
+    "HTTP/1.1 101 Switching Protocols\r\nUpgrade: websocket\r\nConnection: Upgrade\r\nSec-WebSocket-Accept: s3pPLMBiTxaQ9kYGzzhZRbK+xOo=\r\n\r\n";
+
+/// A close frame.
+const CLOSE: &[u8] = &[0x88, 0];
+
+const KEY: &str = "dGhlIHNhbXBsZSBub25jZQ==";
+
+const NOTHING: &str = "";
+
+const CREATION: &str =
+    "POST /1.0/instances HTTP/1.1\r\nHost: localhost\r\nContent-Length: 37\r\n\r\n{\"name\":\"a\",\"source\":{\"type\":\"none\"}}";
+
+const CANCELLED_CREATION: &str =
+    "POST /1.0/instances HTTP/1.1\r\nHost: localhost\r\nContent-Length: 37\r\n\r\n{\"name\":\"a\",\"source\":{\"type\":\"none\"}}DELETE /1.0/operations/00000000-0001-8000-8000-000000000001 HTTP/1.1\r\nHost: localhost\r\n\r\n";
+
+const PENDING: &str =
+    "{\"metadata\":{\"class\":\"task\",\"created_at\":\"1970-01-01T00:00:00Z\",\"err\":\"\",\"id\":\"00000000-0001-8000-8000-000000000001\",\"may_cancel\":true,\"metadata\":null,\"resources\":{\"instances\":[\"/1.0/instances/a\"]},\"status\":\"Pending\",\"status_code\":105,\"updated_at\":\"1970-01-01T00:00:00Z\"},\"project\":\"default\",\"timestamp\":\"1970-01-01T00:00:00Z\",\"type\":\"operation\"}";
+
+const RUNNING: &str =
+    "{\"metadata\":{\"class\":\"task\",\"created_at\":\"1970-01-01T00:00:00Z\",\"err\":\"\",\"id\":\"00000000-0001-8000-8000-000000000001\",\"may_cancel\":true,\"metadata\":null,\"resources\":{\"instances\":[\"/1.0/instances/a\"]},\"status\":\"Running\",\"status_code\":103,\"updated_at\":\"1970-01-01T00:00:00Z\"},\"project\":\"default\",\"timestamp\":\"1970-01-01T00:00:00Z\",\"type\":\"operation\"}";
+
+const SUCCESS: &str =
+    "{\"metadata\":{\"class\":\"task\",\"created_at\":\"1970-01-01T00:00:00Z\",\"err\":\"\",\"id\":\"00000000-0001-8000-8000-000000000001\",\"may_cancel\":false,\"metadata\":null,\"resources\":{\"instances\":[\"/1.0/instances/a\"]},\"status\":\"Success\",\"status_code\":200,\"updated_at\":\"1970-01-01T00:00:00Z\"},\"project\":\"default\",\"timestamp\":\"1970-01-01T00:00:00Z\",\"type\":\"operation\"}";
+
+const CANCELLED: &str =
+    "{\"metadata\":{\"class\":\"task\",\"created_at\":\"1970-01-01T00:00:00Z\",\"err\":\"operation was cancelled\",\"id\":\"00000000-0001-8000-8000-000000000001\",\"may_cancel\":false,\"metadata\":null,\"resources\":{\"instances\":[\"/1.0/instances/a\"]},\"status\":\"Cancelled\",\"status_code\":401,\"updated_at\":\"1970-01-01T00:00:00Z\"},\"project\":\"default\",\"timestamp\":\"1970-01-01T00:00:00Z\",\"type\":\"operation\"}";
+
+const CREATED: &str =
+    "{\"metadata\":{\"action\":\"instance-created\",\"source\":\"/1.0/instances/a\"},\"project\":\"default\",\"timestamp\":\"1970-01-01T00:00:00Z\",\"type\":\"lifecycle\"}";
+
+/// What was requested before a session listens, and what is while it does; whether it takes lifecycle events and
+/// whether operation events; and what it sends before it lags, with the number that it asks for then. The oldest
+/// event that is kept is then the next one.
+type Session = (
+    &'static str,
+    &'static str,
+    bool,
+    bool,
+    &'static [&'static str],
+    u64,
+);
+
+const SESSIONS: &[Session] = &[
+    (NOTHING, NOTHING, false, true, &[], 1),
+    (NOTHING, NOTHING, true, true, &[], 1),
+    (POOL, NOTHING, true, true, &[], 3),
+    (POOL, CREATION, false, true, &[PENDING, RUNNING, SUCCESS], 7),
+    (
+        POOL,
+        CREATION,
+        true,
+        true,
+        &[PENDING, RUNNING, CREATED, SUCCESS],
+        7,
+    ),
+    (POOL, CREATION, true, false, &[CREATED], 7),
+    (
+        POOL,
+        CANCELLED_CREATION,
+        false,
+        true,
+        &[PENDING, CANCELLED],
+        5,
+    ),
+];
+
+/// What stands after this part at the beginning of bytes; none where they do not begin so.
+fn after<'x>(bytes: Option<&'x [u8]>, part: &[u8]) -> Option<&'x [u8]> {
+    match bytes {
+        Some(bytes) => bytes.strip_prefix(part),
+        None => None,
+    }
+}
+
+/// The head of the frame of a text message of 126 to 65,535 bytes, by hand (RFC 6455, section 5.2).
+fn frame_head(length: usize) -> [u8; 4] {
+    [0x81, 126, (length / 256 % 256) as u8, (length % 256) as u8]
+}
+
+/// Whether bytes are the head, these messages, and a close frame.
+fn are_sent(bytes: &[u8], texts: &[&str]) -> bool {
+    let mut rest = after(Some(bytes), HEAD.as_bytes());
+    for text in texts {
+        rest = after(rest, &frame_head(text.len()));
+        rest = after(rest, text.as_bytes());
+    }
+    rest == Some(CLOSE)
+}
+
+/// A gate to a server of which this was requested before.
+fn gate_after<T: Wait>(rt: &T, alloc: Global, before: &str) -> Option<OwnGate> {
+    let mut gate = new_gate(alloc)?;
+    if requests(rt, alloc, &mut gate, before) {
+        Some(gate)
+    } else {
+        drop(gate);
+        None
+    }
+}
+
+/// How a session at a gate ends, and what it sends, while a link makes these requests.
+fn listened<T: Wait + Copy>(
+    rt: T,
+    alloc: Global,
+    inner: OwnGate,
+    requests: &'static str,
+    filter: Filter,
+) -> (SessionEnd, ByteSink) {
+    let mut gate = BusyGate {
+        rt,
+        alloc,
+        inner,
+        requests,
+        made: 0,
+        rests: 0,
+    };
+    let mut sink = ByteSink::new(alloc, Seq::new(alloc));
+    let ends = event_session(&rt, alloc, &mut gate, &mut sink, KEY, &filter, 1);
+    drop(filter);
+    drop(gate);
+    (ends, sink)
+}
+
+/// Whether a session that takes these events sends these messages and then lags so.
+fn is_told<T: Wait + Copy>(rt: T, alloc: Global, session: &Session) -> bool {
+    let (before, requests, life, op, texts, cursor) = *session;
+    let Some(inner) = gate_after(&rt, alloc, before) else {
+        return false;
+    };
+    let project = text(alloc, "default");
+    let (ends, sink) = listened(rt, alloc, inner, requests, Filter { life, op, project });
+    let oldest = cursor.wrapping_add(1);
+    let is_so = ends == SessionEnd::Lagged { cursor, oldest } && are_sent(sink.bytes(), texts);
+    drop(sink);
+    is_so
+}
+
+#[test]
+fn sessions_send_what_is_told(rt: HostRuntime) {
+    for session in SESSIONS {
+        assert!(rt;
+            is_told(rt, rt.alloc(), session),
+            "{} {} {} {}",
+            session.0,
+            session.1,
+            session.2,
+            session.3
+        );
+    }
+}

@@ -1,0 +1,203 @@
+//! What a keeper in memory keeps, and which of its calls fail.
+use crate::given::{bytes_of, numbers_of, text_of};
+use record_keeper::{Keeper, KeeperFailed, MapKeeper};
+use size_values::{Boxed, Entry, EntryChange, NoMemory, Or, Seq};
+use std::alloc::Global;
+
+/// An entry as a kind, a key and a body of one byte. As a change, a body of 0 removes the entry of that kind and key.
+type Row = (u8, &'static str, u8);
+
+/// Changes that are committed, and the entries that they leave.
+const COMMITS: &[(&str, &[Row], &[Row])] = &[
+    ("nothing", &[], &[]),
+    ("one", &[(1, "a", 7)], &[(1, "a", 7)]),
+    (
+        "by key",
+        &[(1, "b", 1), (1, "a", 2)],
+        &[(1, "a", 2), (1, "b", 1)],
+    ),
+    (
+        "by kind first",
+        &[(2, "a", 1), (1, "b", 2)],
+        &[(1, "b", 2), (2, "a", 1)],
+    ),
+    (
+        "a shorter key first",
+        &[(1, "aa", 1), (1, "a", 2)],
+        &[(1, "a", 2), (1, "aa", 1)],
+    ),
+    (
+        "replaced",
+        &[(1, "a", 1), (1, "b", 2), (1, "a", 3)],
+        &[(1, "a", 3), (1, "b", 2)],
+    ),
+    (
+        "removed",
+        &[(1, "a", 1), (2, "a", 2), (1, "a", 0)],
+        &[(2, "a", 2)],
+    ),
+    (
+        "removed where there is none",
+        &[(1, "a", 1), (1, "b", 0)],
+        &[(1, "a", 1)],
+    ),
+];
+
+/// A call of a keeper, and its answer: whether a commit is made or fails, and what a load finds, or that it fails.
+#[derive(Clone, Copy)]
+enum Call {
+    Commit(&'static [Row], bool),
+    Load(Option<&'static [Row]>),
+}
+
+/// Calls of a keeper of which the second and the fourth fail, with the count of failures after each.
+const LISTED: &[(Call, u64)] = &[
+    (Call::Commit(&[(1, "a", 1)], true), 0),
+    (Call::Commit(&[(1, "a", 2), (1, "b", 2)], false), 1),
+    (Call::Load(Some(&[(1, "a", 1)])), 1),
+    (Call::Load(None), 2),
+    (Call::Commit(&[(1, "a", 0)], true), 2),
+    (Call::Load(Some(&[])), 2),
+];
+
+fn entry(alloc: Global, row: Row) -> Entry {
+    let (kind, key, byte) = row;
+    Entry {
+        kind,
+        key: text_of(alloc, key),
+        body: bytes_of(alloc, &[byte]),
+    }
+}
+
+fn change(alloc: Global, row: Row) -> Result<EntryChange, NoMemory> {
+    let (kind, key, byte) = row;
+    if byte > 0 {
+        return Ok(EntryChange::Put(Boxed::new(alloc, entry(alloc, row))?));
+    }
+    Ok(EntryChange::Remove {
+        kind,
+        key: text_of(alloc, key),
+    })
+}
+
+fn changes_of(alloc: Global, rows: &[Row]) -> Seq<EntryChange> {
+    let mut all = Seq::new(alloc);
+    for row in rows {
+        if let Ok(change) = change(alloc, *row) {
+            let _ = all.push(change);
+        }
+    }
+    all
+}
+
+fn entries_of(alloc: Global, rows: &[Row]) -> Seq<Entry> {
+    let mut all = Seq::new(alloc);
+    for row in rows {
+        let _ = all.push(entry(alloc, *row));
+    }
+    all
+}
+
+/// Whether these changes are committed, or else the keeper fails.
+fn commits(alloc: Global, keeper: &mut MapKeeper, rows: &[Row], is_made: bool) -> bool {
+    let changes = changes_of(alloc, rows);
+    let answer = keeper.commit(&changes);
+    drop(changes);
+    match answer {
+        Ok(()) => is_made,
+        Err(why) => !is_made && why == Or::Why(KeeperFailed),
+    }
+}
+
+fn is_row(entry: &Entry, row: Row) -> bool {
+    entry.kind == row.0 && entry.key.view() == row.1 && entry.body.view() == [row.2].as_slice()
+}
+
+/// Whether each row is on the list, in this order, and nothing else.
+fn are_rows(found: &Seq<Entry>, rows: &[Row]) -> bool {
+    found.len() == rows.len()
+        && found
+            .view()
+            .iter()
+            .zip(rows)
+            .all(|(entry, row)| is_row(entry, *row))
+}
+
+/// Whether a load finds these rows, or the keeper fails where none are wanted.
+fn loads<K: Keeper>(keeper: &mut K, wanted: Option<&[Row]>) -> bool {
+    match keeper.load() {
+        Ok(found) => {
+            let is = match wanted {
+                Some(rows) => are_rows(&found, rows),
+                None => false,
+            };
+            drop(found);
+            is
+        }
+        Err(why) => wanted.is_none() && why == Or::Why(KeeperFailed),
+    }
+}
+
+/// Whether these changes, made in one commit and made in a commit each, leave these rows.
+fn keeps(alloc: Global, made: &[Row], kept: &[Row]) -> bool {
+    let mut together = MapKeeper::new(alloc, Seq::new(alloc));
+    let mut one_by_one = MapKeeper::new(alloc, Seq::new(alloc));
+    let mut is = commits(alloc, &mut together, made, true);
+    for row in made {
+        is = commits(alloc, &mut one_by_one, &[*row], true) && is;
+    }
+    is = loads(&mut together, Some(kept)) && loads(&mut one_by_one, Some(kept)) && is;
+    drop(one_by_one);
+    drop(together);
+    is
+}
+
+#[test]
+fn commits_keep_one_entry_of_each_kind_and_key(rt: HostRuntime) {
+    for (case, made, kept) in COMMITS {
+        assert!(rt; keeps(rt.alloc(), made, kept), "{case}");
+    }
+}
+
+/// Whether all listed calls are answered as they are listed, with their counts of failures.
+fn answers_listed(alloc: Global) -> bool {
+    let mut keeper = MapKeeper::new(alloc, numbers_of(alloc, &[2, 4, 4]));
+    let mut all = true;
+    for (call, faults) in LISTED {
+        let is = match call {
+            Call::Commit(rows, is_made) => commits(alloc, &mut keeper, rows, *is_made),
+            Call::Load(wanted) => loads(&mut keeper, *wanted),
+        };
+        all = is && keeper.faults() == *faults && all;
+    }
+    drop(keeper);
+    all
+}
+
+/// A keeper that begins with entries, whose first call fails.
+fn beginning(alloc: Global, rows: &[Row]) -> Result<MapKeeper, NoMemory> {
+    let given = entries_of(alloc, rows);
+    let keeper = MapKeeper::with_entries(alloc, &given, numbers_of(alloc, &[1]));
+    drop(given);
+    keeper
+}
+
+/// Whether a keeper that begins with some rows fails at its first call, and then has others.
+fn begins(alloc: Global, given: &[Row], kept: &[Row]) -> bool {
+    let Ok(mut keeper) = beginning(alloc, given) else {
+        return false;
+    };
+    let is = loads(&mut keeper, None) && loads(&mut keeper, Some(kept));
+    drop(keeper);
+    is
+}
+
+const GIVEN: &[Row] = &[(2, "x", 1), (1, "y", 2), (2, "x", 3)];
+
+const KEPT: &[Row] = &[(1, "y", 2), (2, "x", 3)];
+
+#[test]
+fn listed_calls_fail_and_change_nothing(rt: HostRuntime) {
+    assert!(rt; answers_listed(rt.alloc()));
+    assert!(rt; begins(rt.alloc(), GIVEN, KEPT));
+}
