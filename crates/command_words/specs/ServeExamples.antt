@@ -5,7 +5,7 @@ use Rattle.command_words.specs.declared.serve_setup.ServeSetup.{ServeSetup}
 
 -- nothing to make a server of
 abbrev pub not_read : ServeSetup
-not_read = record { port = 0; db = []; passes = 0 }
+not_read = record { port = 0; db = []; tickets = 0 }
 
 -- the two options that have to be given
 abbrev pub both : List (List ℕ)
@@ -14,10 +14,10 @@ both = codes "--port" ∷ codes "8443" ∷ codes "--connections" ∷ codes "4" �
 pub record AreWorked : Type 0 where
   -- the two options that have to be given, and all four
   pub plain : serve_words_of both ≡ Some (record { connections = 4; workers = 2 })
-  pub plain_setup : serve_setup_of both ≡ record { port = 8443; db = []; passes = 7 }
+  pub plain_setup : serve_setup_of both ≡ record { port = 8443; db = []; tickets = 7 }
   pub all : serve_setup_of
       (codes "--db=f" ∷ codes "--workers=8" ∷ codes "--connections=1000000" ∷ codes "--port=1" ∷ [])
-      ≡ record { port = 1; db = codes "f"; passes = 1000009 }
+      ≡ record { port = 1; db = codes "f"; tickets = 1000009 }
   -- one of the two is missing, a number is out of range, or there is a word more
   pub nothing : serve_setup_of [] ≡ not_read
   pub no_port : serve_words_of (codes "--connections=4" ∷ []) ≡ None

@@ -84,12 +84,12 @@ serve_words_of words =
 abbrev pub db_in : List (List ℕ) → List ℕ
 db_in words = unwrap_or (option_and_then (first_of (codes "db")) (parsed_options words)) []
 
--- one pass through the lock for each connection, one for each worker, and one to close
+-- one ticket through the lock for each connection, one for each worker, and one to close
 abbrev pub setup_with : Option Options → List ℕ → ServeSetup
 setup_with (Some options) db =
-    record { port = options.port; db = db; passes = options.connections + options.workers + 1 }
-setup_with None db = record { port = 0; db = []; passes = 0 }
+    record { port = options.port; db = db; tickets = options.connections + options.workers + 1 }
+setup_with None db = record { port = 0; db = []; tickets = 0 }
 
--- what the words say of the outside: port 0, no file and no passes where they are not read
+-- what the words say of the outside: port 0, no file and no tickets where they are not read
 abbrev pub serve_setup_of : List (List ℕ) → ServeSetup
 serve_setup_of words = setup_with (options_of words) (db_in words)

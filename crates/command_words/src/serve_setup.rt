@@ -12,12 +12,12 @@ use size_values::{NoMemory, Text};
 use std::alloc::Global;
 
 /// The port that is listened on; the file that keeps the rows, or the empty text where they are kept in memory; and how
-/// many passes through the lock of the server the run takes.
+/// many tickets through the lock of the server the run takes.
 #[derive(Drop)]
 pub struct ServeSetup {
     pub port: u32,
     pub db: Text,
-    pub passes: u32,
+    pub tickets: u32,
 }
 
 /// The path of the file, or the empty text.
@@ -39,23 +39,23 @@ fn setup_of_matches(alloc: Global, given: &Option<ArgMatches<'_>>) -> Result<Ser
 {
     match options_of_matches(given) {
         Some(options) => {
-            let passes = options.connections + options.workers + 1;
+            let tickets = options.connections + options.workers + 1;
             let db = Text::from_text(alloc, db_of(given))?;
             Ok(ServeSetup {
                 port: options.port,
                 db,
-                passes,
+                tickets,
             })
         }
         None => Ok(ServeSetup {
             port: 0,
             db: Text::new(alloc),
-            passes: 0,
+            tickets: 0,
         }),
     }
 }
 
-/// What the doors, the keeper and the lock of the server are made of: port 0, the empty path and no passes where the
+/// What the doors, the keeper and the lock of the server are made of: port 0, the empty path and no tickets where the
 /// words are not read.
 #[tactic(auto, unfolding(crate::specs::ServeWords::options_of))]
 pub fn serve_setup_of(alloc: Global, words: &[String]) -> Result<ServeSetup, NoMemory>

@@ -50,7 +50,7 @@ where
     type Out = (u8, Option<R>);
 
     ghost is_sound = { λ b. ((D.seen b.doors).given ≡ 0) × (b.blank.name ≡ L.name) × (b.blank.parts ≡ L.parts)
-        × (b.blank.parts ≡ (serve_setup_of (map (λ w. string_bytes w) b.words.now)).passes) };
+        × (b.blank.parts ≡ (serve_setup_of (map (λ w. string_bytes w) b.words.now)).tickets) };
 
     fn run<P: Spawner<Job<D, R, L, T>>>(self, spawner: &mut P) -> (u8, Option<R>) {
         let Beginning {
@@ -88,7 +88,7 @@ where
     requires doors { (D.seen doors).given ≡ 0 }
     requires name { blank.name ≡ L.name }
     requires parts { (blank.parts ≡ L.parts)
-        × (blank.parts ≡ (serve_setup_of (map (λ w. string_bytes w) words.now)).passes) }
+        × (blank.parts ≡ (serve_setup_of (map (λ w. string_bytes w) words.now)).tickets) }
 {
     let beginning = Beginning::<'_, D, R, L, T> {
         system,
@@ -102,23 +102,23 @@ where
     on_threads(system, beginning)
 }
 
-/// The same over TCP, at a ledger of its own, with a part for each pass.
+/// The same over TCP, at a ledger of its own, with a part for each ticket.
 pub(crate) fn serve_over<R, T>(
     rt: HostRuntime,
     system: T,
     words: &[String],
     port: u16,
-    passes: u32,
+    tickets: u32,
     keeper: R,
 ) -> (u8, Option<R>)
 where
     R: Keeper + Drop + Send + 'static,
     T: Net<Listener = TcpListener, Stream = TcpStream> + Threads + Wait + time::Clock,
     T: Copy + Drop + Send + Sync + 'static,
-    requires { passes ≡ (serve_setup_of (map (λ w. string_bytes w) words.now)).passes }
+    requires { tickets ≡ (serve_setup_of (map (λ w. string_bytes w) words.now)).tickets }
 {
     let doors = listen(&system, port);
     tell_address(rt, port, doors.is_listening());
-    let blank = Blank::new(u64::from(passes));
+    let blank = Blank::new(u64::from(tickets));
     serve_at::<_, Brand, R, T>(system, rt.alloc(), words, doors, keeper, blank)
 }

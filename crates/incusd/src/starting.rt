@@ -15,14 +15,14 @@ use std::thread::Threads;
 use std::time;
 
 /// The exit status of a server over rows in memory.
-fn serve_in_memory<T>(rt: HostRuntime, system: T, words: &[String], port: u16, passes: u32) -> u8
+fn serve_in_memory<T>(rt: HostRuntime, system: T, words: &[String], port: u16, tickets: u32) -> u8
 where
     T: Net<Listener = TcpListener, Stream = TcpStream> + Threads + Wait + time::Clock,
     T: Copy + Drop + Send + Sync + 'static,
-    requires { passes ≡ (serve_setup_of (map (λ w. string_bytes w) words.now)).passes }
+    requires { tickets ≡ (serve_setup_of (map (λ w. string_bytes w) words.now)).tickets }
 {
     let keeper = MapKeeper::new(rt.alloc(), Seq::new(rt.alloc()));
-    let (status, back) = serve_over(rt, system, words, port, passes, keeper);
+    let (status, back) = serve_over(rt, system, words, port, tickets, keeper);
     drop(back);
     status
 }
@@ -33,16 +33,16 @@ fn serve_file<T>(
     system: T,
     words: &[String],
     port: u16,
-    passes: u32,
+    tickets: u32,
     path: Text,
 ) -> u8
 where
     T: Net<Listener = TcpListener, Stream = TcpStream> + Threads + Wait + time::Clock,
     T: Copy + Drop + Send + Sync + 'static,
-    requires { passes ≡ (serve_setup_of (map (λ w. string_bytes w) words.now)).passes }
+    requires { tickets ≡ (serve_setup_of (map (λ w. string_bytes w) words.now)).tickets }
 {
     let keeper = SqliteKeeper::at(rt, path);
-    let (status, back) = serve_over(rt, system, words, port, passes, keeper);
+    let (status, back) = serve_over(rt, system, words, port, tickets, keeper);
     let Some(mut keeper) = back else {
         return status;
     };
@@ -61,13 +61,13 @@ where
         return StartFault::NoMemory.status();
     };
     let port = u16::try_from(setup.port).unwrap_or(0);
-    let passes = setup.passes;
+    let tickets = setup.tickets;
     let db = setup.db;
     if port == 0 {
         StartFault::Words.status()
     } else if db.is_empty() {
-        serve_in_memory(rt, system, words, port, passes)
+        serve_in_memory(rt, system, words, port, tickets)
     } else {
-        serve_file(rt, system, words, port, passes, db)
+        serve_file(rt, system, words, port, tickets, db)
     }
 }
