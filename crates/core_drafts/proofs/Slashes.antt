@@ -1,22 +1,27 @@
 -- Keys with as many slashes as stand between their names: no other names have such a key.
-use Rattle.std.proofs.Common.{◌≡◌, ◌≢◌, ℕ, ◌+◌, ◌<◌, Bool, true, false, ◌&&◌, ◌==◌, List, [], ◌∷◌, length, get_or, refl, sym, ◌∙◌, ap, arith}
+use Rattle.std.proofs.Common.{◌≡◌, ◌≢◌, ℕ, ◌+◌, ◌<◌, Bool, true, false, ◌&&◌, ◌==◌, not, List, [], ◌∷◌, length, get_or, refl, sym, ◌∙◌, ap, arith}
 use Rattle.std.specs.Str.{bytes_eq}
 use Rattle.std.proofs.lemmas.Bool.{ne_eqb}
 use Rattle.std.proofs.lemmas.Grind.{common_steps}
 use Rattle.std.proofs.lemmas.List.{append_assoc, length-append}
 use Rattle.config_lists.proofs.Keys.{same}
 use Rattle.row_codec.proofs.Fields.{both_true}
+use Rattle.row_codec.proofs.Names.{HasNoSlash}
+use Rattle.row_codec.specs.Reading.{is_slash}
 use Rattle.row_codec.specs.Spelling.{two_names, three_names}
 
--- a text without a slash
-abbrev pub HasNoSlash : List ℕ → Type 0
-HasNoSlash text = (i : ℕ) → i < length text → get_or text i 0 ≢ 47
+-- a text none of whose bytes is a slash
+pub no_slash_in : (text : List ℕ) → ((i : ℕ) → i < length text → get_or text i 0 ≢ 47) → HasNoSlash text
+no_slash_in [] none = refl
+no_slash_in (b ∷ bs) none =
+    let first : b ≢ 47 = none 0 (grind (arith, common_steps)) in
+    rw (ne_eqb b 47 first, no_slash_in bs (λ i within. let at = none (i + 1) (grind (arith, common_steps)) in grind (arith, common_steps))) refl
 
 at_head : (b : ℕ) (bs : List ℕ) → HasNoSlash (b ∷ bs) → b ≢ 47
-at_head b bs none = none 0 (grind (arith, common_steps))
+at_head b bs none same = let first = (both_true (not (is_slash b)) _ none).0 in cc (ap (λ c. not (is_slash c)) same)
 
 in_tail : (b : ℕ) (bs : List ℕ) → HasNoSlash (b ∷ bs) → HasNoSlash bs
-in_tail b bs none i within = let at = none (i + 1) (grind (arith, common_steps)) in grind (arith, common_steps)
+in_tail b bs none = (both_true (not (is_slash b)) _ none).1
 
 still_false : (t u : Bool) → u ≡ false → (t && u) ≡ false
 still_false true u h = h

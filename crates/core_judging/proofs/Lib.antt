@@ -1,2 +1,3 @@
+mod After
 mod NewProfiles
 mod Within

@@ -5,11 +5,11 @@ use Rattle.row_machine.specs.declared.changes.RowChange.{RowChange}
 use Rattle.row_machine.specs.facts.Whole.{IsWhole}
 use Rattle.row_machine.specs.machine.Changes.{applied}
 use Rattle.row_machine.specs.machine.State.{State}
-use Rattle.core_totals.specs.OneProject.{in_use, project_within, projects_of, IsProjectJudgedAlone}
+use Rattle.core_totals.specs.OneProject.{in_use, project_within, IsProjectJudgedAlone}
 use Rattle.core_totals.proofs.Renamed.{projects-alone}
-use Rattle.rules_limits.specs.InUse.{uses_over}
-use Rattle.rules_limits.specs.declared.in_use.InUse.{InUse}
-use Rattle.rules_limits.proofs.Unlimited.{unlimited-uses}
+use Rattle.rules_limits.specs.OneProject.{of_project, uses_over}
+use Rattle.rules_limits.specs.declared.one_project.InUse.{InUse}
+use Rattle.rules_limits.proofs.Unlimited.{unlimited-named}
 use Rattle.core_judging.specs.Before.{Knows}
 use Rattle.core_judging.specs.Judged.{project_exceeds, project_forbidden, project_judged, project_uncounts, projects_judged}
 
@@ -30,11 +30,12 @@ judged-within s later cs name used whole made within knows = subst
       t = applied s cs
 
       -- where no limit is set, what was used says nothing
-      same-uses : Knows name used s t → uses_over (projects_of t name) used (in_use t name) ≡ uses_over (projects_of t name) (in_use s name) (in_use t name)
-      same-uses (inl is) = ap (λ u. uses_over (projects_of t name) u (in_use t name)) is
+      same-uses : Knows name used s t
+          → of_project (uses_over used (in_use t name)) t.projects name ≡ of_project (uses_over (in_use s name) (in_use t name)) t.projects name
+      same-uses (inl is) = ap (λ u. of_project (uses_over u (in_use t name)) t.projects name) is
       same-uses (inr free) =
-          unlimited-uses (projects_of t name) used (in_use t name) free
-          ∙ sym (unlimited-uses (projects_of t name) (in_use s name) (in_use t name) free)
+          unlimited-named t.projects name used (in_use t name) free
+          ∙ sym (unlimited-named t.projects name (in_use s name) (in_use t name) free)
 
       alike : IsProjectJudgedAlone s t name → Knows name used s t → project_judged name used t ≡ projects_judged s t
       alike judged known = three-same (sym judged.policy) (sym judged.counts) (same-uses known ∙ sym judged.limits)

@@ -1,19 +1,24 @@
 -- What changes are judged by, besides the state after them.
-use Rattle.std.specs.Prelude.{◌≡◌, ℕ, true, false, List, Some, ◌⊎◌}
+use Rattle.std.specs.Prelude.{◌≡◌, ℕ, true, false, List, Option, Some, None, ◌⊎◌, if◌then◌else◌}
+use Rattle.std.specs.Str.{bytes_eq}
+use Rattle.size_values.specs.declared.kinds.ObjectKind.TheVariants as kind
+use Rattle.records.specs.declared.rows.Project.{Project}
+use Rattle.records.specs.declared.rows.Row.TheVariants as row
 use Rattle.row_machine.specs.declared.changes.RowChange.{RowChange}
+use Rattle.row_machine.specs.declared.changes.RowChange.TheVariants as change
 use Rattle.row_machine.specs.machine.Changes.{applied}
 use Rattle.row_machine.specs.machine.State.{State}
 use Rattle.core_totals.specs.NewProfile.{puts_new_profile}
-use Rattle.core_totals.specs.OneProject.{in_use, project_within, projects_of}
-use Rattle.rules_limits.specs.Exceeding.{is_any_limited, Serves}
-use Rattle.rules_limits.specs.declared.in_use.InUse.{InUse}
+use Rattle.core_totals.specs.OneProject.{in_use, project_within}
+use Rattle.rules_limits.specs.AllProjects.{Serves}
+use Rattle.rules_limits.specs.Limited.{has_limits, limits_named}
+use Rattle.rules_limits.specs.declared.one_project.InUse.{InUse}
 use Rattle.core_judging.specs.declared.changing.Before.{Before}
 use Rattle.core_judging.specs.declared.changing.Before.TheVariants as before
 
 -- It is what the project used before, or the project has no limit in the later state.
 abbrev pub Knows : List ℕ → InUse → State → State → Type 0
-Knows project used state later =
-    (used ≡ in_use state project) ⊎ (is_any_limited (projects_of later project) ≡ false)
+Knows project used state later = (used ≡ in_use state project) ⊎ (has_limits later.projects project ≡ false)
 
 -- The changes put one new profile, which is judged alone; or they are within one project, which is judged alone, by what
 -- it used; or what was counted serves to judge the limits after them.
@@ -22,3 +27,14 @@ Judges before.NewProfile state changes = puts_new_profile state changes ≡ true
 Judges (before.OneProject of) state changes =
     (project_within state changes ≡ Some of.name) × Knows of.name of.used state (applied state changes)
 Judges (before.Counted counts) state changes = Serves counts state (applied state changes)
+
+-- Of changes within one project its limits are known: those that it has in the later state.
+abbrev pub FitsLimits : Before → State → Type 0
+FitsLimits (before.OneProject of) later = of.limits ≡ limits_named later.projects of.name
+FitsLimits other later = Unit {0}
+
+-- the project of a name after a change, by what it was before
+abbrev pub after_change : RowChange → List ℕ → Option Project → Option Project
+after_change (change.Put (row.Project project)) name found = if bytes_eq project.name name then Some project else found
+after_change (change.Remove kind.Project key) name found = if bytes_eq key name then None else found
+after_change other name found = found

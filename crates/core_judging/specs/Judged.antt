@@ -1,7 +1,7 @@
 -- What changes of rows and new operations break, and the reply that tells it.
 use Rattle.std.specs.Prelude.{ℕ, List, [], ◌∷◌, Option, option_map}
 use Rattle.std.specs.Option.{option_to_list}
-use Rattle.plain_lists.specs.Firsts.{first, first_of}
+use Rattle.plain_lists.specs.Firsts.{first}
 use Rattle.size_values.specs.declared.amounts.Amounts.{Amounts}
 use Rattle.size_values.specs.declared.memory.Or.{Or}
 use Rattle.size_values.specs.declared.memory.Or.TheVariants as or
@@ -18,9 +18,8 @@ use Rattle.row_machine.specs.machine.LimitRules.{counts_broken, limits_broken, p
 use Rattle.row_machine.specs.machine.TableRules.{enter_refusal, tables_broken}
 use Rattle.row_machine.specs.machine.Task.{Task}
 use Rattle.core_totals.specs.OneProject.{in_use, projects_of}
-use Rattle.rules_limits.specs.Alone.{claim_uncounts, share_broken}
-use Rattle.rules_limits.specs.InUse.{uses_over}
-use Rattle.rules_limits.specs.declared.in_use.InUse.{InUse}
+use Rattle.rules_limits.specs.OneProject.{claim_uncounts, of_project, share_broken, uses_over}
+use Rattle.rules_limits.specs.declared.one_project.InUse.{InUse}
 use Rattle.rules_policy.specs.Alone.{claim_forbidden}
 use Rattle.rules_policy.specs.Within.{policy_broken_in}
 
@@ -43,10 +42,10 @@ unfoldable pub project_forbidden : List ℕ → State → Option Refusal
 project_forbidden project later = policy_broken_in later (projects_of later project)
 
 unfoldable pub project_uncounts : List ℕ → State → Option Refusal
-project_uncounts project later = first_of (project_uncounted later) (projects_of later project)
+project_uncounts project later = of_project (project_uncounted later) later.projects project
 
 unfoldable pub project_exceeds : List ℕ → InUse → State → Option Refusal
-project_exceeds project used later = uses_over (projects_of later project) used (in_use later project)
+project_exceeds project used later = of_project (uses_over used (in_use later project)) later.projects project
 
 abbrev pub project_judged : List ℕ → InUse → State → Option Refusal
 project_judged project used later = first
@@ -59,7 +58,7 @@ claim_judged command later fault project used share task = first
     (settings_broken later (option_to_list task.claim)
     ∷ claim_forbidden later task
     ∷ snapshot_blocked later command
-    ∷ claim_uncounts later task
+    ∷ claim_uncounts later project task
     ∷ share_broken later.projects project used share
     ∷ option_map enter_refusal fault
     ∷ tables_broken later (option_to_list task.claim)

@@ -10,12 +10,12 @@ ghost use Rattle.row_machine.specs.machine.Changes.{applied, rows_put};
 ghost use Rattle.row_machine.specs.machine.Refusals.{plain_refusal};
 ghost use Rattle.row_machine.specs.machine.State.{State};
 ghost use Rattle.core_totals.specs.NewProfile.{profile_in, profile_put, puts_new_profile};
-ghost use Rattle.rules_limits.specs.Exceeding.{Serves};
+ghost use Rattle.rules_limits.specs.AllProjects.{Serves};
 ghost use Rattle.rules_policy.specs.Alone.{profile_forbidden};
 ghost use Rattle.core_drafts.specs.Drafted.{former, IsReady};
 ghost use Rattle.machine_laws.specs.Entries.{entry_changes};
 ghost use Rattle.core_totals.specs.core_reports.specs.Entries.{HasEntry};
-ghost use Rattle.core_judging.specs.Before.{Judges};
+ghost use Rattle.core_judging.specs.Before.{FitsLimits, Judges};
 ghost use Rattle.core_judging.specs.Judged.{changes_judged, projects_judged, reply_for};
 ghost use Rattle.core_judging.specs.Commits.{Commits};
 
@@ -26,7 +26,7 @@ use record_keeper::Keeper;
 use records::{Profile, Refusal, Reply, Row, Rule};
 use row_machine::RowChange;
 use row_readings::View;
-use rules_limits::{Usage, counts_broken, limits_broken, usage_before_changes};
+use rules_limits::{Usage, counts_broken, limited_projects, limits_broken, usage_before_changes};
 use rules_policy::{policy_broken, profile_forbidden};
 use rules_refusals::nothing_told;
 use rules_settings::settings_broken;
@@ -122,7 +122,8 @@ fn profile_put_forbidden(
 pub enum Before {
     /// The changes put one new profile. No instance names it, and so it alone can break a rule, in its project.
     NewProfile,
-    /// The changes are of rows of one project, which may get another name by them. It is judged alone.
+    /// The changes are of rows of one project, which may get another name by them. It is judged alone, by its limits
+    /// after them.
     OneProject(OneProject),
     /// What counted for limits before the changes. They are judged over all projects.
     Counted(Usage),
@@ -138,7 +139,8 @@ pub struct Ready {
 /// What changes are judged by that are to be made. For one new profile nothing is counted, and for changes within a
 /// project what that one uses.
 fn before_changes(alloc: Global, view: &View<'_>, changes: &[RowChange]) -> Result<Before, NoMemory>
-    ensures { IfOk result (λ b. Judges b view.now changes.now) }
+    ensures limits { IfOk result (λ b. FitsLimits b (applied view.now changes.now)) }
+    ensures judges { IfOk result (λ b. Judges b view.now changes.now) }
 {
     if puts_new_profile(view, changes) {
         return Ok(Before::NewProfile);
@@ -159,6 +161,7 @@ pub fn prepare(
     changes: &Seq<RowChange>,
 ) -> Result<Ready, NoMemory>
     requires settled { draft.old.log ≡ [] }
+    ensures limits { IfOk result (λ r. FitsLimits r.before (applied draft.old.state changes.now)) }
     ensures before { IfOk result (λ r. Judges r.before draft.old.state changes.now) }
     ensures changes { IfOk result (λ r. r.changes ≡ changes.now) }
     ensures ready { OnOk result (IsReady draft.new changes.now) }
@@ -174,13 +177,14 @@ pub fn prepare(
 
 // ---- what is judged
 
-/// The first rule on policy and limits that is broken, of all projects.
+/// The first rule on policy and limits that is broken, of all projects. The limits of each are read once.
 fn projects_broken(alloc: Global, before: &Usage, after: &View<'_>) -> Result<(), Or<Refusal>>
     ensures { (s : State) → Serves before.now s after.now → Says result (projects_judged s after.now) }
 {
     policy_broken(alloc, after)?;
-    counts_broken(alloc, after)?;
-    limits_broken(alloc, before, after)
+    let projects = limited_projects(alloc, after.projects)?;
+    counts_broken(alloc, after, &projects)?;
+    limits_broken(alloc, before, after, &projects)
 }
 
 /// The first rule on policy and limits that changes break, judged over the state after them.
@@ -190,6 +194,7 @@ fn judge_projects(
     after: &View<'_>,
     changes: &[RowChange],
 ) -> Result<(), Or<Refusal>>
+    requires { FitsLimits before.now after.now }
     ensures { (s : State) → IsWhole s → after.now ≡ applied s changes.now → Judges before.now s changes.now
         → Says result (projects_judged s after.now) }
 {
@@ -208,6 +213,7 @@ pub fn judge(
     after: &View<'_>,
     changes: &[RowChange],
 ) -> Result<(), Or<Refusal>>
+    requires { FitsLimits before.now after.now }
     ensures { (s : State) → IsWhole s → after.now ≡ applied s changes.now → Judges before.now s changes.now
         → Says result (changes_judged s after.now (rows_put changes.now)) }
 {

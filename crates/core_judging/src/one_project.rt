@@ -1,5 +1,5 @@
 //! Changes of the rows of one project, which are judged in that project alone.
-ghost use Rattle.std.specs.Prelude.{◌≡◌, ◌&&◌, IfOk, codes, false, not};
+ghost use Rattle.std.specs.Prelude.{◌≡◌, ◌&&◌, ◌∷◌, [], IfOk, codes, false, not};
 ghost use Rattle.std.specs.List.{before_first, list_all, list_any};
 ghost use Rattle.std.specs.Option.{option_copied, option_map_or};
 ghost use Rattle.std.specs.Str.{bytes_eq};
@@ -13,21 +13,29 @@ ghost use Rattle.core_totals.specs.OneProject.{in_use, is_after_rename, is_betwe
 ghost use Rattle.core_totals.specs.OneProject.{project_of_all, project_of_key, project_put};
 ghost use Rattle.core_totals.specs.OneProject.{project_removed, project_renamed, project_touched};
 ghost use Rattle.core_totals.specs.OneProject.{project_within, renamed_from, touches_profile};
-ghost use Rattle.core_judging.specs.Before.{Knows};
+ghost use Rattle.plain_lists.specs.Firsts.{first};
+ghost use Rattle.row_machine.specs.machine.Rows.{project_named};
+ghost use Rattle.row_machine.specs.machine.State.{State};
+ghost use Rattle.rules_limits.specs.Limited.{limits_named};
+ghost use Rattle.rules_limits.specs.OneProject.{uses_over};
+ghost use Rattle.core_judging.specs.Before.{Knows, after_change};
 ghost use Rattle.core_judging.specs.Judged.{project_exceeds, project_forbidden, project_judged, project_uncounts};
 
-use records::{Refusal, Row};
+use project_limits::{Limits, limits_of};
+use records::{Project, Refusal, Row};
 use row_machine::RowChange;
 use row_readings::{View, is_on, project_of_row, rows_of, usage_of};
-use rules_limits::{InUse, counts_broken_in, is_any_limit_set, is_any_limited, uses_exceed};
+use rules_limits::{InUse, Limited, is_limited_by, limited_named, project_uncounted, uses_exceed};
 use rules_policy::policy_broken_in;
 use size_values::{Amounts, NoMemory, ObjectKind, Or, Text};
 use std::alloc::Global;
 
-/// A project of which changes put and remove rows, and what it used of its limits before them.
+/// A project of which changes put and remove rows: its limits after them, if it is there then, and what it used of them
+/// before.
 #[derive(Drop)]
 pub struct OneProject {
     pub name: Text,
+    pub limits: Option<Limits>,
     pub used: InUse,
 }
 
@@ -214,7 +222,52 @@ pub(crate) fn project_within<'x>(view: &View<'_>, changes: &'x [RowChange]) -> O
     }
 }
 
-// ---- what it uses
+// ---- its limits, and what it uses
+
+/// The project of this name after a change, by what it was before.
+fn after_change<'x>(
+    change: &'x RowChange,
+    name: &str,
+    before: Option<&'x Project>,
+) -> Option<&'x Project>
+    ensures { option_copied result ≡ after_change change.now name.now (option_copied before) }
+{
+    match change {
+        RowChange::Put(Row::Project(project)) => {
+            if project.name.view() == name {
+                Some(project)
+            } else {
+                before
+            }
+        }
+        RowChange::Remove(ObjectKind::Project, key) => {
+            if key.view() == name { None } else { before }
+        }
+        _ => before,
+    }
+}
+
+/// The project of this name after these changes.
+fn project_after<'x>(view: &View<'x>, changes: &'x [RowChange], name: &str) -> Option<&'x Project>
+    ensures { option_copied result ≡ project_named (applied view.now changes.now).projects name.now }
+{
+    let mut project = view.project_named(name);
+    for change in changes {
+        project = after_change(change, name, project);
+    }
+    project
+}
+
+/// The limits of the project of this name after these changes. They are read here, and nowhere else for changes within
+/// a project.
+fn limits_after(view: &View<'_>, changes: &[RowChange], name: &str) -> Option<Limits>
+    ensures { result ≡ limits_named (applied view.now changes.now).projects name.now }
+{
+    match project_after(view, changes, name) {
+        Some(project) => Some(limits_of(&project.config)),
+        None => None,
+    }
+}
 
 /// What a project uses of its limits.
 fn in_use(alloc: Global, view: &View<'_>, project: &str) -> Result<InUse, NoMemory>
@@ -225,16 +278,17 @@ fn in_use(alloc: Global, view: &View<'_>, project: &str) -> Result<InUse, NoMemo
     Ok(InUse { amounts, networks })
 }
 
-/// What the project uses before these changes. Where it has no limit, before or after them, nothing is summed.
+/// What the project uses before changes that leave it these limits. Where there is none, nothing is summed.
 fn use_before(
     alloc: Global,
     view: &View<'_>,
-    changes: &[RowChange],
     project: &str,
+    limits: Option<Limits>,
 ) -> Result<InUse, NoMemory>
-    ensures { IfOk result (λ used. Knows project.now used view.now (applied view.now changes.now)) }
+    ensures { IfOk result (λ used. (later : State) → limits ≡ limits_named later.projects project.now
+        → Knows project.now used view.now later) }
 {
-    if is_any_limited(rows_of(view.projects, project)) || is_any_limit_set(changes) {
+    if is_limited_by(limits) {
         return in_use(alloc, view, project);
     }
     Ok(InUse {
@@ -243,7 +297,7 @@ fn use_before(
     })
 }
 
-/// The project of these changes, and what it uses before them.
+/// The project of these changes, its limits after them, and what it uses before them.
 pub(crate) fn project_before(
     alloc: Global,
     view: &View<'_>,
@@ -251,11 +305,14 @@ pub(crate) fn project_before(
     project: &str,
 ) -> Result<OneProject, NoMemory>
     ensures name { IfOk result (λ of. of.name ≡ project.now) }
+    ensures limits { IfOk result (λ of. of.limits
+        ≡ limits_named (applied view.now changes.now).projects project.now) }
     ensures used { IfOk result (λ of. Knows project.now of.used view.now (applied view.now changes.now)) }
 {
-    let used = use_before(alloc, view, changes, project)?;
+    let limits = limits_after(view, changes, project);
+    let used = use_before(alloc, view, project, limits)?;
     let name = Text::from_text(alloc, project)?;
-    Ok(OneProject { name, used })
+    Ok(OneProject { name, limits, used })
 }
 
 // ---- what is judged
@@ -268,24 +325,33 @@ fn policy_broken(alloc: Global, of: &OneProject, after: &View<'_>) -> Result<(),
     policy_broken_in(alloc, after, projects)
 }
 
-/// L0 of the project.
-fn counts_broken(alloc: Global, of: &OneProject, after: &View<'_>) -> Result<(), Or<Refusal>>
-    ensures { Says result (project_uncounts of.now.name after.now) }
-{
-    let projects = rows_of(after.projects, of.name.view());
-    counts_broken_in(alloc, after, projects)
-}
-
 /// L1 to L8 of the project. Where it has no limit nothing is summed.
-fn limits_broken(alloc: Global, of: &OneProject, after: &View<'_>) -> Result<(), Or<Refusal>>
-    ensures { Says result (project_exceeds of.now.name of.now.used after.now) }
+fn limits_broken(
+    alloc: Global,
+    of: &OneProject,
+    after: &View<'_>,
+    project: &Limited<'_>,
+) -> Result<(), Or<Refusal>>
+    ensures { Says result (uses_over of.now.used (in_use after.now of.now.name) project.now) }
 {
-    let projects = rows_of(after.projects, of.name.view());
-    if !is_any_limited(projects) {
+    if !project.has_limits() {
         return Ok(());
     }
     let used = in_use(alloc, after, of.name.view())?;
-    uses_exceed(alloc, projects, &of.used, &used)
+    uses_exceed(alloc, project, &of.used, &used)
+}
+
+/// L0 to L8 of the project, if it is there.
+fn limits_judged(alloc: Global, of: &OneProject, after: &View<'_>) -> Result<(), Or<Refusal>>
+    requires { of.now.limits ≡ limits_named after.now.projects of.now.name }
+    ensures { Says result (first (project_uncounts of.now.name after.now ∷ project_exceeds of.now.name of.now.used after.now
+        ∷ [])) }
+{
+    let Some(project) = limited_named(after, of.name.view(), of.limits) else {
+        return Ok(());
+    };
+    project_uncounted(alloc, after, &project)?;
+    limits_broken(alloc, of, after, &project)
 }
 
 /// The first rule on policy and limits that is broken in the project.
@@ -294,9 +360,9 @@ pub(crate) fn project_broken(
     of: &OneProject,
     after: &View<'_>,
 ) -> Result<(), Or<Refusal>>
+    requires { of.now.limits ≡ limits_named after.now.projects of.now.name }
     ensures { Says result (project_judged of.now.name of.now.used after.now) }
 {
     policy_broken(alloc, of, after)?;
-    counts_broken(alloc, of, after)?;
-    limits_broken(alloc, of, after)
+    limits_judged(alloc, of, after)
 }

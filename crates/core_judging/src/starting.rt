@@ -6,7 +6,8 @@ ghost use Rattle.std.specs.Option.{option_copied};
 ghost use Rattle.core_totals.specs.Totals.{AreTotals};
 ghost use Rattle.row_machine.specs.facts.Whole.{IsWhole};
 ghost use Rattle.size_values.specs.Causes.{Says};
-ghost use Rattle.rules_limits.specs.Alone.{share_broken};
+ghost use Rattle.rules_limits.specs.Limited.{limits_named};
+ghost use Rattle.rules_limits.specs.OneProject.{share_broken};
 ghost use Rattle.operations.specs.Kept.{enter_fault, kept_at};
 ghost use Rattle.operations.specs.declared.operation.Operation.{Operation as OperationValue};
 ghost use Rattle.records.specs.declared.notices.Told.TheVariants as told_of;
@@ -28,21 +29,23 @@ use core_totals::{Totals, Waiting};
 use instance_states::may_cancel;
 use operations::{EnterFault, OpFault, Status};
 use plain_lists::push_reserved;
+use project_limits::Limits;
 use records::{Command, OpView, Refusal, Reply, Row, Told, Untold};
 use row_machine::Work;
 use row_readings::{View, kept_at, project_of_row, share_of};
-use rules_limits::{claim_uncounts, share_broken};
+use rules_limits::{claim_uncounts, limited_named, limits_named, share_broken};
 use rules_policy::{claim_forbidden, snapshot_blocked};
 use rules_settings::claim_settings_broken;
 use rules_tables::{claim_tables_broken, enter_fault, refuse_entry};
 use size_values::{Amounts, NoMemory, Or, Text};
 use std::alloc::Global;
 
-/// What the entry of an operation needs besides its work: what the project uses that its share counts for, as far as
-/// the share is judged by it, why it cannot be entered, its share with that project, how it is shown, and the notice
-/// of it.
+/// What the entry of an operation needs besides its work: the limits of the project that its share counts for, if it is
+/// there, and what that uses, as far as the share is judged by it; why it cannot be entered, its share with that
+/// project, how it is shown, and the notice of it.
 #[derive(Drop)]
 pub struct PreparedStart {
+    pub limits: Option<Limits>,
     pub used: Amounts,
     pub fault: Option<EnterFault>,
     pub share: Amounts,
@@ -126,6 +129,7 @@ fn beginning_of(
 ) -> Result<PreparedStart, NoMemory>
     requires whole { IsWhole view.now }
     requires totals { AreTotals view.now totals.old }
+    ensures limits { IfOk result (λ e. e.limits ≡ limits_named view.now.projects (project_of_task work.now)) }
     ensures few { IfOk result (λ e. (k : Part) → part k e.used ≤ 2 ^ 127 + 2 ^ 126) }
     ensures used { IfOk result (λ e. share_broken view.now.projects (project_of_task work.now) e.used e.share
         ≡ share_broken view.now.projects (project_of_task work.now)
@@ -143,10 +147,12 @@ fn beginning_of(
 {
     let fault = enter_fault(view);
     let share = share_of(alloc, view, work)?;
-    let used = totals.used_beside(alloc, view, counted_project(work), &share)?;
+    let limits = limits_named(view, counted_project(work));
+    let used = totals.used_beside(alloc, view, counted_project(work), limits, &share)?;
     let project = Text::from_text(alloc, counted_project(work))?;
     let (shown, notice) = pending_view_and_notice(alloc, view.next, work, moment)?;
     Ok(PreparedStart {
+        limits,
         used,
         fault,
         share,
@@ -156,8 +162,9 @@ fn beginning_of(
     })
 }
 
-/// Takes all memory that the entry of an operation needs, and makes what it needs. What its project uses is read off
-/// the totals of these rows, and kept there where it was not.
+/// Takes all memory that the entry of an operation needs, and makes what it needs. The limits of its project are read
+/// here, and nowhere else for the operation. What its project uses is read off the totals of these rows, and kept there
+/// where it was not.
 pub fn prepare_start(
     alloc: Global,
     draft: &mut Draft,
@@ -168,6 +175,8 @@ pub fn prepare_start(
     requires whole { IsWhole draft.old.state }
     requires totals { AreTotals draft.old.state totals.old }
     requires settled { draft.old.log ≡ [] }
+    ensures limits { IfOk result (λ e. e.limits
+        ≡ limits_named draft.old.state.projects (project_of_task work.now)) }
     ensures few { IfOk result (λ e. (k : Part) → part k e.used ≤ 2 ^ 127 + 2 ^ 126) }
     ensures used { IfOk result (λ e. share_broken draft.old.state.projects (project_of_task work.now) e.used e.share
         ≡ share_broken draft.old.state.projects (project_of_task work.now)
@@ -210,18 +219,19 @@ fn judge_work(
     command: &Command,
     work: &Work,
 ) -> Result<(), Or<Refusal>>
+    requires limits { beginning.now.limits ≡ limits_named after.now.projects beginning.now.project }
     requires used { (k : Part) → part k beginning.now.used ≤ 2 ^ 127 + 2 ^ 126 }
     requires share { (k : Part) → part k beginning.now.share < 2 ^ 80 }
     ensures { Says result (claim_judged command.now after.now beginning.now.fault beginning.now.project
         beginning.now.used beginning.now.share work.now) }
 {
     let claim = claim_of(work);
-    let project = beginning.project.view();
+    let project = limited_named(after, beginning.project.view(), beginning.limits);
     claim_settings_broken(alloc, after, claim)?;
     claim_forbidden(alloc, after, work)?;
     snapshot_blocked(alloc, after, command)?;
-    claim_uncounts(alloc, after, work)?;
-    share_broken(alloc, after, project, &beginning.used, &beginning.share)?;
+    claim_uncounts(alloc, after, &project, work)?;
+    share_broken(alloc, &project, &beginning.used, &beginning.share)?;
     refuse_entry(alloc, beginning.fault)?;
     claim_tables_broken(alloc, after, claim)
 }
@@ -235,6 +245,7 @@ pub fn judge_claim(
     command: &Command,
     number: u64,
 ) -> Result<(), Or<Refusal>>
+    requires limits { beginning.now.limits ≡ limits_named after.now.projects beginning.now.project }
     requires used { (k : Part) → part k beginning.now.used ≤ 2 ^ 127 + 2 ^ 126 }
     requires share { (k : Part) → part k beginning.now.share < 2 ^ 80 }
     ensures { Says result (option_and_then

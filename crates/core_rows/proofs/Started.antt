@@ -46,7 +46,7 @@ use Rattle.row_machine.specs.machine.Work.{claiming, entered, project_of_task}
 use Rattle.row_machine.specs.shown.Notices.{telling, view_of}
 use Rattle.row_machine.specs.machine.Usage.{usage_of}
 use Rattle.machine_laws.proofs.Cases.{IsAccepted}
-use Rattle.rules_limits.specs.Alone.{claim_uncounts, share_broken}
+use Rattle.rules_limits.specs.OneProject.{claim_uncounts, share_broken}
 use Rattle.rules_policy.specs.Alone.{claim_forbidden}
 use Rattle.core_judging.specs.core_totals.specs.Alone.{IsJudgedAlone}
 use Rattle.core_judging.specs.core_totals.proofs.Alone.{judged-alone}
@@ -120,7 +120,7 @@ flat None None None None None None None = refl
 
 -- of the others, those that what is claimed breaks alone are those that the state with it breaks
 module _ (s : State) (task : Task) (moment : ℕ) (alone : IsJudgedAlone s task moment) where
-  counts-alone : counts_broken (claiming s task moment) ≡ claim_uncounts (claiming s task moment) task
+  counts-alone : counts_broken (claiming s task moment) ≡ claim_uncounts (claiming s task moment) (project_of_task task) task
   unfolding instance_uncounted
   counts-alone = alone.counts
 
@@ -153,7 +153,7 @@ left-claim s c moment task used whole d serves =
     ∙ ap (λ o. first (settings ∷ policy ∷ o ∷ counts ∷ limits ∷ entry ∷ tables ∷ [])) (sym (alike s task moment c.project c.what))
     ∙ ap (λ o. first (settings ∷ o ∷ blocked ∷ counts ∷ limits ∷ entry ∷ tables ∷ [])) (policy-alone s task moment alone)
     ∙ ap (λ o. first (settings ∷ claim_forbidden later task ∷ blocked ∷ o ∷ limits ∷ entry ∷ tables ∷ [])) (counts-alone s task moment alone)
-    ∙ ap (λ o. first (settings ∷ claim_forbidden later task ∷ blocked ∷ claim_uncounts later task ∷ o ∷ entry ∷ tables ∷ [])) (alone.limits ∙ sym serves)
+    ∙ ap (λ o. first (settings ∷ claim_forbidden later task ∷ blocked ∷ claim_uncounts later (project_of_task task) task ∷ o ∷ entry ∷ tables ∷ [])) (alone.limits ∙ sym serves)
 
 -- what is judged of a kept operation
 abbrev pub judged_at : Command → State → Option EnterFault → List ℕ → Amounts → Amounts → ℕ → Option Refusal

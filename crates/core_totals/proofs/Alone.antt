@@ -6,7 +6,7 @@ use Rattle.core_totals.proofs.Limits.{limits-alone}
 
 pub judged-alone : ClaimsAreJudgedAlone
 judged-alone s task moment h = record {
-  counts = counts-alone s task moment h.limits;
+  counts = counts-alone s task moment h;
   policy = policy-alone s task moment h.limits;
-  limits = limits-alone s task moment h.limits;
+  limits = limits-alone s task moment h;
 }

@@ -1,5 +1,7 @@
 -- Where all else is countable, only what a new operation claims can break the rule on counts.
-use Rattle.std.proofs.Common.{◌≡◌, ℕ, None, refl, sym, ◌∙◌}
+use Rattle.std.proofs.Common.{◌≡◌, ℕ, false, cond, Option, Some, None, [], ◌∷◌, refl, sym, ap, ◌∙◌}
+use Rattle.std.specs.Option.{option_map_or, option_or}
+use Rattle.std.specs.Str.{bytes_eq}
 use Rattle.plain_lists.specs.Firsts.{first_of}
 use Rattle.plain_lists.specs.Members.{Mem}
 use Rattle.plain_lists.proofs.Elements.{Each-left, Each-map}
@@ -9,15 +11,20 @@ use Rattle.operations.specs.declared.operation.Operation.{Operation}
 use Rattle.records.specs.declared.rows.Project.{Project}
 use Rattle.records.specs.declared.rows.Instance.{Instance}
 use Rattle.records.specs.declared.rows.Volume.{Volume}
-use Rattle.row_machine.specs.machine.Claims.{of_live, claimed_instance, claimed_volume, judged_instances, judged_volumes}
+use Rattle.records.specs.declared.rows.Row.{Row}
+use Rattle.records.specs.declared.rows.Row.TheVariants as row
+use Rattle.row_machine.specs.machine.Claims.{of_live, claimed_instance, claimed_volume, judged_instances, judged_volumes, project_of_row}
 use Rattle.row_machine.specs.machine.LimitRules.{instance_uncounted, volume_uncounts, claim_uncounted, project_uncounted, counts_broken}
 use Rattle.row_machine.specs.machine.State.{State}
 use Rattle.row_machine.specs.machine.Task.{Task}
-use Rattle.row_machine.specs.machine.Work.{claiming}
-use Rattle.row_machine.specs.facts.Whole.{IsWithin, AreWithin}
-use Rattle.rules_limits.specs.Alone.{claim_uncounts}
+use Rattle.row_machine.specs.machine.Work.{claiming, project_of_task}
+use Rattle.row_machine.specs.facts.Whole.{IsWhole, IsWithin}
+use Rattle.machine_laws.proofs.DefaultsProjects.{distinct_projects}
+use Rattle.rules_limits.specs.OneProject.{claim_uncounts}
 use Rattle.rules_limits.specs.Within.{own_instance, own_volume}
 use Rattle.rules_limits.proofs.Countables.{uncounted-split}
+use Rattle.row_readings.proofs.Ranges.{apart, first_of-filter}
+use Rattle.core_totals.proofs.Named.{named-first}
 use Rattle.core_totals.proofs.Own.{own-none, listed-none, last-of, claimed}
 
 -- what is there is countable, and so is what live operations claim
@@ -48,7 +55,25 @@ module _ (s : State) (p : Project) (h : IsWithin s p) where
       ∙ last-of instances-free volumes-free
       (first_of-only (λ (o : Operation Task). claim_uncounted s p o.work) (Puts-push s.operations.live) (record { at = claim-free }))
 
-pub counts-alone : (s : State) (task : Task) (moment : ℕ) → AreWithin s → counts_broken (claiming s task moment) ≡ claim_uncounts s task
+-- a project counts no claim of another one
+uncounted-other : (s : State) (task : Task) (p : Project) (claim : Option Row) → bytes_eq p.name (option_map_or project_of_row claim task.project) ≡ false
+    → claim_uncounted s p (record task { claim = claim }) ≡ None
+uncounted-other s task p None other = refl
+uncounted-other s task p (Some (row.Instance i)) other =
+    ap (λ b. option_or (first_of (instance_uncounted s p) (cond b (i ∷ []) [])) None) (apart p.name i.project other)
+uncounted-other s task p (Some (row.Volume v)) other =
+    ap (λ b. option_or (first_of (volume_uncounts p) (cond b (v ∷ []) [])) None) (apart p.name v.project other)
+uncounted-other s task p (Some (row.Project r)) other = refl
+uncounted-other s task p (Some (row.Profile r)) other = refl
+uncounted-other s task p (Some (row.Network r)) other = refl
+uncounted-other s task p (Some (row.Pool r)) other = refl
+uncounted-other s task p (Some (row.Snapshot r)) other = refl
+
+pub counts-alone : (s : State) (task : Task) (moment : ℕ) → IsWhole s → counts_broken (claiming s task moment) ≡ claim_uncounts s (project_of_task task) task
 unfolding counts_broken
-counts-alone s task moment h = first_of-same (project_uncounted (claiming s task moment)) (λ p. claim_uncounted s p task) s.projects
-    (record { at = λ p m. project-counts s p (h.limits.at p m) task moment })
+counts-alone s task moment h =
+    first_of-same (project_uncounted (claiming s task moment)) (λ p. claim_uncounted s p task) s.projects
+    (record { at = λ p m. project-counts s p (h.limits.limits.at p m) task moment })
+    ∙ sym (first_of-filter (λ p. claim_uncounted s p task) (λ p. bytes_eq p.name (project_of_task task)) s.projects
+    (λ p other. uncounted-other s task p task.claim other))
+    ∙ named-first (λ p. claim_uncounted s p task) (project_of_task task) s.projects (distinct_projects h)

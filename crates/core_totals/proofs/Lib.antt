@@ -1,4 +1,5 @@
 pub mod Own
+pub mod Named
 mod Counts
 mod Policy
 pub mod Limits

@@ -2,18 +2,20 @@
 use Rattle.std.proofs.Common.{◌≡◌, ℕ, ◌+◌, ◌≤◌, Bool, true, false, cond, Option, Some, None, List, [], ◌++◌, refl, sym, ◌∙◌, ap, subst, arith}
 use Rattle.std.specs.Prelude.{IfSome, map, nat_lt}
 use Rattle.std.specs.List.{sum_by}
-use Rattle.std.specs.Option.{option_map, option_map_or, option_or, option_to_list}
+use Rattle.std.specs.Option.{option_and_then, option_map, option_map_or, option_or, option_to_list}
 use Rattle.std.specs.Str.{bytes_eq}
 use Rattle.std.proofs.lemmas.Bool.Decides.{nat_tests}
 use Rattle.std.proofs.lemmas.List.Sums.{sum_by-append, sum_by-cons}
 use Rattle.plain_lists.specs.Firsts.{first_of}
+use Rattle.plain_lists.specs.Members.{Distinct}
 use Rattle.plain_lists.proofs.Elements.{Each-map}
+use Rattle.plain_lists.proofs.Searches.{find-some}
 use Rattle.plain_lists.proofs.FirstLemmas.{none-first_of, first_of-same}
 use Rattle.config_lists.proofs.Keys.{same, bytes_eq-itself}
-use Rattle.size_values.specs.Amounts.{part, nothing, amount_above, fits_in}
+use Rattle.size_values.specs.Amounts.{part, nothing, amount_above, fits_in, plus_of}
 use Rattle.size_values.specs.declared.amounts.Amounts.{Amounts}
 use Rattle.size_values.specs.declared.amounts.Part.{Part}
-use Rattle.size_values.proofs.AmountParts.{fits-part, same-parts}
+use Rattle.size_values.proofs.AmountParts.{fits-part, part-plus, same-parts}
 use Rattle.project_limits.specs.Admission.{limit_on, key_of, parts}
 use Rattle.project_limits.specs.Limits.{limits_of}
 use Rattle.project_limits.specs.declared.admission.LimitKey.{LimitKey}
@@ -28,14 +30,16 @@ use Rattle.row_machine.specs.machine.State.{State}
 use Rattle.row_machine.specs.machine.Task.{Task}
 use Rattle.row_machine.specs.machine.Usage.{Load, loads, used, usage_of, networks_of, amount_for, instance_load, volume_load, claim_load}
 use Rattle.row_machine.specs.machine.Work.{claiming, project_of_task}
-use Rattle.row_machine.specs.facts.Whole.{IsWithin, AreWithin}
+use Rattle.row_machine.specs.facts.Whole.{IsWhole, IsWithin, AreWithin}
+use Rattle.row_machine.specs.machine.Rows.{is_project, project_named, project_names}
+use Rattle.machine_laws.proofs.DefaultsProjects.{distinct_projects}
 use Rattle.machine_laws.proofs.Base.{claiming-reads}
 use Rattle.row_readings.proofs.Parts.{none-of, part-of_usage}
-use Rattle.rules_limits.specs.Alone.{share_over, share_exceeds, share_broken}
-use Rattle.row_readings.proofs.Ranges.{apart}
+use Rattle.rules_limits.specs.OneProject.{amounts_over, of_project, share_broken}
+use Rattle.rules_limits.specs.Sums.{line_over}
+use Rattle.row_readings.proofs.Ranges.{apart, first_of-filter}
+use Rattle.core_totals.proofs.Named.{named-first}
 use Rattle.core_totals.proofs.Own.{or-none}
-
--- ---- parts
 
 -- ---- one more operation
 
@@ -81,6 +85,41 @@ used-after s task moment name k =
     new = option_to_list (claim_load s task)
 
 -- ---- one project
+
+-- a part of a share above what the project of a name uses
+abbrev share_over : List ℕ → Amounts → Amounts → Part → Project → Option Refusal
+share_over name used share k p =
+    cond (bytes_eq p.name name)
+    (limit_exceeded p (key_of k) (limit_on k (limits_of p.config)) (part k used) (part k used + part k share)) None
+
+-- the first part that it exceeds, of all projects
+abbrev share_exceeds : List Project → List ℕ → Amounts → Amounts → Option Refusal
+share_exceeds projects name used share = first_of (λ k. first_of (share_over name used share k) projects) parts
+
+-- is that of the project of the name
+exceeds-named : (ps : List Project) (name : List ℕ) (used share : Amounts) → Distinct project_names ps
+    → share_exceeds ps name used share ≡ of_project (amounts_over used (plus_of used share)) ps name
+exceeds-named ps name used share distinct =
+    first_of-same (λ k. first_of (share_over name used share k) ps) (λ k. of_project (share_over name used share k) ps name) parts
+    (record { at = λ k m. of-named k })
+    ∙ at (project_named ps name) refl where
+      of-named : (k : Part) → first_of (share_over name used share k) ps ≡ of_project (share_over name used share k) ps name
+      of-named k =
+          sym (first_of-filter (share_over name used share k) (λ p. bytes_eq p.name name) ps
+          (λ p other. ap (λ b. cond b
+          (limit_exceeded p (key_of k) (limit_on k (limits_of p.config)) (part k used) (part k used + part k share)) None) other))
+          ∙ named-first (share_over name used share k) name ps distinct
+
+      at : (o : Option Project) → project_named ps name ≡ o
+          → first_of (λ k. option_and_then (share_over name used share k) o) parts ≡ option_and_then (amounts_over used (plus_of used share)) o
+      at None found = refl
+      at (Some p) found = first_of-same (λ k. share_over name used share k p) (λ k. line_over k (p, (used, plus_of used share))) parts
+          (record {
+            at = λ k m. ap (λ b. cond b
+                (limit_exceeded p (key_of k) (limit_on k (limits_of p.config)) (part k used) (part k used + part k share)) None)
+                (find-some (is_project name) ps p found).1
+                ∙ ap (limit_exceeded p (key_of k) (limit_on k (limits_of p.config)) (part k used)) (sym (part-plus k used share));
+          })
 
 -- a share is nothing where it fits in nothing
 nothing-fits : (share : Amounts) → fits_in share nothing ≡ true → share ≡ nothing
@@ -164,10 +203,22 @@ module _ (s : State) (task : Task) (moment : ℕ) (h : AreWithin s) where
             (Each-map (λ p w. part-none s task p w k) h.limits);
       })
 
-  pub limits-alone : limits_broken s (claiming s task moment)
-      ≡ share_broken s.projects (project_of_task task) (usage_of s (project_of_task task)) (share_of s task)
-  limits-alone = at (fits_in (share_of s task) nothing) refl where
-    at : (b : Bool) → fits_in (share_of s task) nothing ≡ b → limits_broken s (claiming s task moment)
-        ≡ cond b None (share_exceeds s.projects (project_of_task task) (usage_of s (project_of_task task)) (share_of s task))
-    at true is = none-alone (nothing-fits (share_of s task) is)
-    at false is = exceeds-alone
+pub limits-alone : (s : State) (task : Task) (moment : ℕ) → IsWhole s → limits_broken s (claiming s task moment)
+    ≡ share_broken s.projects (project_of_task task) (usage_of s (project_of_task task)) (share_of s task)
+limits-alone s task moment h = at (fits_in (share_of s task) nothing) refl where
+  name : List ℕ
+  name = project_of_task task
+
+  exceeding : Project → Option Refusal
+  exceeding = amounts_over (usage_of s name) (plus_of (usage_of s name) (share_of s task))
+
+  nothing-of : (o : Option Project) → None ≡ option_and_then (λ p. cond true None (exceeding p)) o
+  nothing-of None = refl
+  nothing-of (Some p) = refl
+
+  at : (b : Bool) → fits_in (share_of s task) nothing ≡ b → limits_broken s (claiming s task moment)
+      ≡ of_project (λ p. cond b None (exceeding p)) s.projects name
+  at true is = none-alone s task moment h.limits (nothing-fits (share_of s task) is) ∙ nothing-of (project_named s.projects name)
+  at false is =
+      exceeds-alone s task moment h.limits
+      ∙ exceeds-named s.projects name (usage_of s name) (share_of s task) (distinct_projects h)

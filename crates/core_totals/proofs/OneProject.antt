@@ -2,10 +2,10 @@
 use Rattle.std.proofs.Common.{◌≡◌, ℕ, Bool, true, false, cond, not, Option, Some, None, List, [], ◌∷◌, ◌⊎◌, filter, length, refl, sym, ◌∙◌, ap, ap₂, subst, inl, inr, arith, true≢false, is_some, ◌&&◌}
 use Rattle.std.specs.Prelude.{codes, if◌then◌else◌}
 use Rattle.std.specs.List.{find, list_all, sum_by}
-use Rattle.std.specs.Option.{option_and_then, option_map, option_map_or, option_or}
+use Rattle.std.specs.Option.{option_and_then, option_map, option_map_or, option_or, option_to_list}
 use Rattle.std.specs.Str.{bytes_eq}
 use Rattle.plain_lists.specs.Firsts.{first, first_of}
-use Rattle.plain_lists.specs.Members.{Mem, Each}
+use Rattle.plain_lists.specs.Members.{Distinct, Mem, Each}
 use Rattle.plain_lists.proofs.Elements.{Each-head, Each-tail, Mem-append, Mem-left, Mem-right}
 use Rattle.plain_lists.proofs.FirstLemmas.{none-first_of, first_of-same}
 use Rattle.plain_lists.proofs.Readings.{sum_by-same}
@@ -34,7 +34,7 @@ use Rattle.row_machine.specs.machine.Claims.{of_live, amounts_of_instance, claim
 use Rattle.row_machine.specs.machine.Homes.{home_of, is_on}
 use Rattle.row_machine.specs.machine.LimitRules.{instance_uncounted, volume_uncounts, claim_uncounted, project_uncounted, counts_broken, limit_exceeded, part_exceeds, networks_exceed, limits_broken}
 use Rattle.row_machine.specs.machine.PolicyRules.{forbids_profile, forbids_instance, project_forbids, policy_broken}
-use Rattle.row_machine.specs.machine.Rows.{default_name, is_project, is_profile, is_instance, project_named, profile_named, instance_named}
+use Rattle.row_machine.specs.machine.Rows.{default_name, is_project, is_profile, is_instance, project_named, project_names, profile_named, instance_named}
 use Rattle.row_machine.specs.machine.State.{State}
 use Rattle.row_machine.specs.machine.Task.{Task}
 use Rattle.row_machine.specs.machine.Usage.{Load, amount_for, used, usage_of, networks_of}
@@ -47,7 +47,8 @@ use Rattle.machine_laws.proofs.NamesSuccess.{Mem-filter}
 use Rattle.machine_laws.proofs.SharesAlike.{IsShareAlike, share-alike}
 use Rattle.machine_laws.proofs.SharesApart.{instance-so, replaces-or_not}
 use Rattle.machine_laws.proofs.SharesAtOnce.{claim-judged}
-use Rattle.rules_limits.specs.InUse.{part_use_over, network_use_over, uses_over}
+use Rattle.rules_limits.specs.OneProject.{network_use_over, of_project, uses_over}
+use Rattle.rules_limits.specs.Sums.{line_over}
 use Rattle.row_readings.proofs.Ranges.{filter-filter, sum_by-filter}
 use Rattle.rules_policy.specs.Within.{policy_broken_in}
 use Rattle.row_readings.specs.Counted.{instance_part, volume_part, claim_part}
@@ -56,7 +57,8 @@ use Rattle.core_totals.specs.OneProject.{are_profiles_shared, is_within, in_use,
 use Rattle.core_totals.specs.OneProject.{IsProjectJudgedAlone}
 use Rattle.core_totals.proofs.Limits.{unexceeded}
 use Rattle.core_totals.proofs.Others.{AreBeside, Mem-back, Mem-passes, beside-itself, changes-beside, find-filter, is_other}
-use Rattle.core_totals.proofs.Own.{claimed, last-of, listed-none}
+use Rattle.core_totals.proofs.Named.{distinct-applied, named-first, named-list}
+use Rattle.core_totals.proofs.Own.{claimed, last-of, listed-none, or-none}
 
 -- ---- lists
 
@@ -429,7 +431,7 @@ module _ (s t : State) (shared : Bool) (such : List ℕ → Bool) (h : IsWhole s
 -- ---- what one project exceeds
 
 module _ (s t : State) (p : List ℕ) where
-  part-own : (k : Part) (q : Project) → bytes_eq q.name p ≡ true → part_exceeds s t k q ≡ part_use_over (usage_of s p) (usage_of t p) k q
+  part-own : (k : Part) (q : Project) → bytes_eq q.name p ≡ true → part_exceeds s t k q ≡ line_over k (q, (usage_of s p, usage_of t p))
   unfolding part_exceeds
   part-own k q own = ap₂ (limit_exceeded q (key_of k) (limit_on k (limits_of q.config))) (uses s) (uses t) where
     uses : (u : State) → used u q.name k ≡ part k (usage_of u p)
@@ -440,17 +442,17 @@ module _ (s t : State) (p : List ℕ) where
   count-own q own = ap₂ (limit_exceeded q limit_key.Networks (limits_of q.config).networks)
       (ap (networks_of s) (same q.name p own)) (ap (networks_of t) (same q.name p own))
 
-  pub exceeding-own : exceeding s t (projects_of t p) ≡ uses_over (projects_of t p) (in_use s p) (in_use t p)
-  exceeding-own = ap₂ (λ of_parts of_networks. option_or of_parts (option_or of_networks None))
-      (first_of-same (λ k. first_of (part_exceeds s t k) (projects_of t p)) (λ k. first_of (part_use_over (usage_of s p) (usage_of t p) k) (projects_of t p)) parts
-      (record {
-        at = λ k n. first_of-same (part_exceeds s t k) (part_use_over (usage_of s p) (usage_of t p) k) (projects_of t p)
-            (record { at = λ q m. part-own k q (Mem-passes named q t.projects m) });
-      }))
-      (first_of-same (networks_exceed s t) (network_use_over (networks_of s p) (networks_of t p)) (projects_of t p)
-      (record { at = λ q m. count-own q (Mem-passes named q t.projects m) })) where
-        named : Project → Bool
-        named q = bytes_eq q.name p
+  pub exceeding-own : Distinct project_names t.projects → exceeding s t (projects_of t p) ≡ of_project (uses_over (in_use s p) (in_use t p)) t.projects p
+  exceeding-own distinct = ap (exceeding s t) (named-list p t.projects distinct) ∙ at (project_named t.projects p) refl where
+    at : (o : Option Project) → project_named t.projects p ≡ o
+        → exceeding s t (option_to_list o) ≡ option_and_then (uses_over (in_use s p) (in_use t p)) o
+    at None found = refl
+    at (Some q) found =
+        let own = (find-some (is_project p) t.projects q found).1 in
+        ap₂ (λ of_parts of_networks. option_or of_parts (option_or of_networks None))
+        (first_of-same (λ k. first_of (part_exceeds s t k) (q ∷ [])) (λ k. line_over k (q, (usage_of s p, usage_of t p))) parts
+        (record { at = λ k m. or-none (part_exceeds s t k q) ∙ part-own k q own }))
+        (or-none (networks_exceed s t q) ∙ count-own q own)
 
 -- ---- changes of one project
 
@@ -465,14 +467,17 @@ all-within shared (c ∷ cs) p is = at (list_all (is_within shared (project_touc
 pub one-alone : (s : State) (cs : List RowChange) (p : List ℕ) → IsWhole s → project_of_all (are_profiles_shared s) cs ≡ Some p → IsProjectJudgedAlone s (applied s cs) p
 one-alone s cs p h is = record {
   policy = policy-within s t (are_profiles_shared s) own h (λ none. none) b;
-  counts = counts-within s t (are_profiles_shared s) own h (λ none. none) b;
-  limits = limits-within s t (are_profiles_shared s) own h (λ none. none) b ∙ exceeding-own s t p;
+  counts = counts-within s t (are_profiles_shared s) own h (λ none. none) b ∙ named-first (project_uncounted t) p t.projects distinct;
+  limits = limits-within s t (are_profiles_shared s) own h (λ none. none) b ∙ exceeding-own s t p distinct;
 } where
   t : State
   t = applied s cs
 
   own : List ℕ → Bool
   own name = bytes_eq name p
+
+  distinct : Distinct project_names t.projects
+  distinct = distinct-applied s cs h
 
   b : AreBeside (are_profiles_shared s) own s t
   b = changes-beside (are_profiles_shared s) own s h cs s (all-within (are_profiles_shared s) cs p is) (beside-itself (are_profiles_shared s) own s)

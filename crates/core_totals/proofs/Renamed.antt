@@ -26,6 +26,7 @@ use Rattle.machine_laws.proofs.ExpansionsApart.{fails-by}
 use Rattle.rules_policy.specs.Within.{policy_broken_in}
 use Rattle.core_totals.specs.OneProject.{are_profiles_shared, is_after_rename, is_between, project_of_all, project_renamed, project_put, projects_of}
 use Rattle.core_totals.specs.OneProject.{IsProjectJudgedAlone, ProjectsAreJudgedAlone}
+use Rattle.core_totals.proofs.Named.{distinct-applied, named-first, none-filter}
 use Rattle.core_totals.proofs.Others.{AreBeside, beside-itself, changes-beside, filter-replaced}
 use Rattle.core_totals.proofs.OneProject.{counts-within, exceeding, exceeding-own, limits-within, one-alone, other-not, policy-within}
 
@@ -38,11 +39,6 @@ filter-or {X} q r (x ∷ xs) none = at (q x) none (filter-or q r xs) where
       → cond (b || r x) (x ∷ filter (λ y. q y || r y) xs) (filter (λ y. q y || r y) xs) ≡ cond (r x) (x ∷ filter r xs) (filter r xs)
   at true none more = cc
   at false none more = ap (λ zs. cond (r x) (x ∷ zs) zs) (more none)
-
-none-filter : {X : Type 0} (q : X → Bool) (xs : List X) → Each (λ x. q x ≡ false) xs → filter q xs ≡ []
-none-filter q [] none = refl
-none-filter q (x ∷ xs) none =
-    ap (λ b. cond b (x ∷ filter q xs) (filter q xs)) (Each-head none) ∙ none-filter q xs (Each-tail none)
 
 -- of elements with keys of their own no other one passes what tells the key
 gone-filter : {X K : Type 0} (key : X → K) (q : X → Bool) (xs : List X) → Distinct key xs
@@ -122,8 +118,14 @@ renamed-alone : (s : State) (old new : List ℕ) (cs : List RowChange) → IsWho
     → IsProjectJudgedAlone s (applied s (change.Remove kind.Project old ∷ cs)) new
 renamed-alone s old new cs h all = record {
   policy = policy-within s t true either h always b ∙ ap (policy_broken_in t) those-are;
-  counts = counts-within s t true either h always b ∙ ap (first_of (project_uncounted t)) those-are;
-  limits = limits-within s t true either h always b ∙ ap (exceeding s t) those-are ∙ exceeding-own s t new;
+  counts =
+      counts-within s t true either h always b
+      ∙ ap (first_of (project_uncounted t)) those-are
+      ∙ named-first (project_uncounted t) new t.projects (distinct-applied s changes h);
+  limits =
+      limits-within s t true either h always b
+      ∙ ap (exceeding s t) those-are
+      ∙ exceeding-own s t new (distinct-applied s changes h);
 } where
   changes : List RowChange
   changes = change.Remove kind.Project old ∷ cs

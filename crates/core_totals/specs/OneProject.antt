@@ -4,7 +4,6 @@ use Rattle.std.specs.Prelude.{if◌then◌else◌, codes}
 use Rattle.std.specs.List.{before_first, list_all, list_any}
 use Rattle.std.specs.Option.{option_and_then, option_map_or, option_or}
 use Rattle.std.specs.Str.{bytes_eq}
-use Rattle.plain_lists.specs.Firsts.{first_of}
 use Rattle.size_values.specs.declared.kinds.ObjectKind.{ObjectKind}
 use Rattle.size_values.specs.declared.kinds.ObjectKind.TheVariants as kind
 use Rattle.records.specs.declared.rows.Project.{Project}
@@ -21,8 +20,8 @@ use Rattle.row_machine.specs.machine.PolicyRules.{policy_broken}
 use Rattle.row_machine.specs.machine.Rows.{default_name}
 use Rattle.row_machine.specs.machine.State.{State}
 use Rattle.row_machine.specs.machine.Usage.{usage_of, networks_of}
-use Rattle.rules_limits.specs.InUse.{uses_over}
-use Rattle.rules_limits.specs.declared.in_use.InUse.{InUse}
+use Rattle.rules_limits.specs.OneProject.{of_project, uses_over}
+use Rattle.rules_limits.specs.declared.one_project.InUse.{InUse}
 use Rattle.rules_policy.specs.Within.{policy_broken_in}
 
 -- the project of a row by its key; a pool is of none
@@ -113,9 +112,9 @@ in_use state project = record { amounts = usage_of state project; networks = net
 -- gets another name, none is left under the old one.
 pub record IsProjectJudgedAlone (state later : State) (project : List ℕ) : Type 0 where
   pub policy : policy_broken later ≡ policy_broken_in later (projects_of later project)
-  pub counts : counts_broken later ≡ first_of (project_uncounted later) (projects_of later project)
+  pub counts : counts_broken later ≡ of_project (project_uncounted later) later.projects project
   pub limits : limits_broken state later
-      ≡ uses_over (projects_of later project) (in_use state project) (in_use later project)
+      ≡ of_project (uses_over (in_use state project) (in_use later project)) later.projects project
 
 abbrev pub ProjectsAreJudgedAlone : Type 0
 ProjectsAreJudgedAlone = (state : State) (changes : List RowChange) (project : List ℕ) → IsWhole state

@@ -2,11 +2,13 @@ ghost use Rattle.std.specs.Prelude.{◌≡◌, ◌+◌, ◌<◌, ◌≤◌, ◌^
 ghost use Rattle.std.specs.List.{position};
 ghost use Rattle.size_values.specs.Amounts.{part};
 ghost use Rattle.size_values.specs.declared.amounts.Part.{Part};
-ghost use Rattle.rules_limits.specs.Alone.{share_broken};
+ghost use Rattle.rules_limits.specs.Limited.{limits_named};
+ghost use Rattle.rules_limits.specs.OneProject.{share_broken};
 ghost use Rattle.row_machine.specs.facts.Whole.{IsWhole};
 ghost use Rattle.row_machine.specs.machine.Usage.{usage_of};
 ghost use Rattle.core_totals.specs.Totals.{AreTotals, is_of, known, grown, lowered};
 
+use project_limits::Limits;
 use row_readings::{View, usage_of};
 use rules_limits::needs_usage;
 use size_values::{Amounts, NoMemory, Text};
@@ -80,24 +82,26 @@ impl Totals {
         Ok(())
     }
 
-    /// What the project of this name uses, as far as a share is judged by it: where the share is nothing, or the
-    /// project has no limit, it is not looked for. Where it is not known, it is summed over all rows, and known from
-    /// then on.
+    /// What the project of this name, which has these limits, uses, as far as a share is judged by it: where the share
+    /// is nothing, or the project has no limit, it is not looked for. Where it is not known, it is summed over all
+    /// rows, and known from then on.
     pub fn used_beside(
         &mut self,
         alloc: Global,
         view: &View<'_>,
         name: &str,
+        limits: Option<Limits>,
         share: &Amounts,
     ) -> Result<Amounts, NoMemory>
         requires whole { IsWhole view.now }
+        requires limits { limits ≡ limits_named view.now.projects name.now }
         requires totals { AreTotals view.now self.old }
         ensures few { IfOk result (λ used. (k : Part) → part k used ≤ 2 ^ 127 + 2 ^ 126) }
         ensures serves { IfOk result (λ used. share_broken view.now.projects name.now used share.now
             ≡ share_broken view.now.projects name.now (usage_of view.now name.now) share.now) }
         ensures totals { AreTotals view.now self.new }
     {
-        if !needs_usage(view, name, share) {
+        if !needs_usage(limits, share) {
             return Ok(Amounts::zero());
         }
         if let Some(used) = self.known(name) {

@@ -1,2 +1,1 @@
 pub mod AtHome
-pub mod Lent

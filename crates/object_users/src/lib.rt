@@ -14,6 +14,6 @@ pub use gathered::{
     add_volumes_in,
 };
 pub use row_links::{links_of_rows, row_link};
-pub use row_ref::{AnyRow, RowRef};
+pub use row_ref::RowRef;
 pub use users::used_by;
 pub use uses::{instance_uses, names_profile, profile_uses, volume_uses};

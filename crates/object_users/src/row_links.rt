@@ -4,9 +4,10 @@ ghost use Rattle.row_machine.specs.machine.Claims.{project_of_row};
 ghost use Rattle.row_machine.specs.shown.Links.{sorted, target_of};
 ghost use Rattle.row_machine.specs.shown.Views.{row_link, links};
 
-use crate::row_ref::{AnyRow, RowRef};
+use crate::row_ref::RowRef;
 use object_links::{link_of, snapshot_target, target_named, volume_target};
 use records::Target;
+use row_readings::AnyRow;
 use size_values::{NoMemory, ObjectKind, Seq, Text};
 use std::alloc::Global;
 

@@ -1,17 +1,5 @@
-use records::{Instance, Network, Pool, Profile, Project, Snapshot, Volume};
+use row_readings::AnyRow;
 use std::marker::Model;
-
-/// A row of any kind, which stays where it is.
-#[derive(Clone, Copy)]
-pub enum AnyRow<'a> {
-    Project(&'a Project),
-    Profile(&'a Profile),
-    Network(&'a Network),
-    Pool(&'a Pool),
-    Volume(&'a Volume),
-    Instance(&'a Instance),
-    Snapshot(&'a Snapshot),
-}
 
 /// A row of any kind, lent. Contracts see the row.
 #[derive(Drop)]
@@ -21,7 +9,7 @@ pub struct RowRef<'a> {
 
 impl<'a> Model for RowRef<'a> {
     ghost use Rattle.records.specs.declared.rows.Row.{Row};
-    ghost use Rattle.object_users.specs.Lent.{row_in};
+    ghost use Rattle.row_readings.specs.AnyRows.{row_in};
 
     ghost Value = { Row };
 

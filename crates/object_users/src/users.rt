@@ -8,10 +8,10 @@ ghost use Rattle.row_machine.specs.shown.Views.{links, rows_in, rows_using, used
 use crate::at_home::rows_that_may_use;
 use crate::gathered::{add_instances, add_networks, add_profiles, add_volumes};
 use crate::row_links::{sorted_links, target_of};
-use crate::row_ref::{AnyRow, RowRef};
+use crate::row_ref::RowRef;
 use crate::uses::{instance_uses, names_profile, profile_uses, volume_uses};
 use records::{Instance, Profile, Target};
-use row_readings::{View, rows_at_home, rows_of};
+use row_readings::{AnyRow, View, rows_at_home, rows_of};
 use size_values::{Boxed, NoMemory, ObjectKind, Seq, Text};
 use std::alloc::Global;
 

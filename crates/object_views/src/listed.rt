@@ -1,15 +1,14 @@
 //! The rows of lists, and rows by what names them.
-ghost use Rattle.std.specs.Prelude.{◌≡◌, ◌++◌, Some, IfOk, OnOk};
-ghost use Rattle.object_users.specs.Lent.{row_in};
+ghost use Rattle.std.specs.Prelude.{◌≡◌, ◌++◌, IfOk, OnOk};
 ghost use Rattle.row_machine.specs.machine.Plans.{row_of};
 ghost use Rattle.row_machine.specs.shown.Views.{listed};
 
 use object_users::{
-    AnyRow, RowRef, add_instances, add_networks, add_pools, add_profiles, add_projects,
-    add_snapshots, add_volumes_in,
+    RowRef, add_instances, add_networks, add_pools, add_profiles, add_projects, add_snapshots,
+    add_volumes_in,
 };
 use records::Target;
-use row_readings::{View, rows_of};
+use row_readings::{View, row_of, rows_of};
 use size_values::{NoMemory, ObjectKind};
 use std::alloc::Global;
 
@@ -59,50 +58,12 @@ pub(crate) fn listed<'x>(
     Ok(all)
 }
 
-/// A row that was found, lent.
-fn lent(row: AnyRow<'_>) -> Option<RowRef<'_>>
-    ensures { result ≡ Some (row_in row.entry) }
-{
-    Some(RowRef { row })
-}
-
-/// What stands under these names.
-pub(crate) fn row_of<'x>(view: &View<'x>, project: &str, of: &Target) -> Option<RowRef<'x>>
+/// The row that the object of a path is, lent.
+pub(crate) fn lent_row<'x>(view: &View<'x>, project: &str, of: &Target) -> Option<RowRef<'x>>
     ensures { result ≡ row_of view.now project.now of.now }
 {
-    let home = view.home_of(project, of.kind);
-    let name = of.name.view();
-    match of.kind {
-        ObjectKind::Project => match view.project_named(name) {
-            Some(row) => lent(AnyRow::Project(row)),
-            None => None,
-        },
-        ObjectKind::Profile => match view.profile_named(home, name) {
-            Some(row) => lent(AnyRow::Profile(row)),
-            None => None,
-        },
-        ObjectKind::Network => match view.network_named(home, name) {
-            Some(row) => lent(AnyRow::Network(row)),
-            None => None,
-        },
-        ObjectKind::Pool => match view.pool_named(name) {
-            Some(row) => lent(AnyRow::Pool(row)),
-            None => None,
-        },
-        ObjectKind::Volume => match view.volume_named(home, of.pool.view(), name) {
-            Some(row) => lent(AnyRow::Volume(row)),
-            None => None,
-        },
-        ObjectKind::Instance => match view.instance_named(project, name) {
-            Some(row) => lent(AnyRow::Instance(row)),
-            None => None,
-        },
-        ObjectKind::Snapshot => {
-            match view.snapshot_named(project, of.instance.view(), name) {
-                Some(row) => lent(AnyRow::Snapshot(row)),
-                None => None,
-            }
-        }
-        ObjectKind::Operation => None,
+    match row_of(view, project, of) {
+        Some(row) => Some(RowRef { row }),
+        None => None,
     }
 }

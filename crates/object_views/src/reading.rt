@@ -7,13 +7,13 @@ ghost use Rattle.row_machine.specs.machine.Plans.{row_of};
 ghost use Rattle.row_machine.specs.shown.Views.{list_reply, listed, one, read, row_view, rows_reply, state_view};
 ghost use Rattle.row_machine.specs.machine.StandingRules.{power_of};
 
-use crate::listed::{listed, row_of};
+use crate::listed::{lent_row, listed};
 use crate::operations_shown::{operation_reply, operations_reply};
 use crate::row_views::{row_view, row_views};
 use crate::usage::usage_view;
-use object_users::{AnyRow, RowRef, links_of_rows};
+use object_users::{RowRef, links_of_rows};
 use records::{Instance, Reply, Target, View as Shown, What};
-use row_readings::{View, power_of};
+use row_readings::{AnyRow, View, power_of};
 use size_values::{NoMemory, ObjectKind, Seq, Text};
 use std::alloc::Global;
 
@@ -79,7 +79,7 @@ fn list_reply(
 fn get_reply(alloc: Global, view: &View<'_>, project: &str, of: &Target) -> Result<Reply, NoMemory>
     ensures { IfOk result (λ r. r ≡ one (option_map (row_view view.now) (row_of view.now project.now of.now))) }
 {
-    match row_of(view, project, of) {
+    match lent_row(view, project, of) {
         Some(row) => Ok(Reply::One(row_view(alloc, view, &row)?)),
         None => Ok(Reply::Empty),
     }
@@ -125,7 +125,7 @@ fn state_reply(
     ensures { IfOk result (λ r. r
         ≡ one (option_and_then (state_view view.now project.now) (row_of view.now project.now of.now))) }
 {
-    match row_of(view, project, of) {
+    match lent_row(view, project, of) {
         Some(row) => state_of_row(alloc, view, project, &row),
         None => Ok(Reply::Empty),
     }

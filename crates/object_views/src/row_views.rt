@@ -4,9 +4,9 @@ ghost use Rattle.size_values.specs.declared.kinds.Power.TheVariants as power_of_
 ghost use Rattle.row_machine.specs.machine.StandingRules.{power_of};
 ghost use Rattle.row_machine.specs.shown.Views.{instance_view, row_view};
 
-use object_users::{AnyRow, RowRef, used_by};
+use object_users::{RowRef, used_by};
 use records::{Instance, View as Shown};
-use row_readings::{View, power_of};
+use row_readings::{AnyRow, View, power_of};
 use size_values::{NoMemory, Power, Seq};
 use std::alloc::Global;
 

@@ -5,43 +5,43 @@ ghost use Rattle.records.specs.declared.rows.Row.TheVariants as row_of;
 ghost use Rattle.row_machine.specs.declared.changes.RowChange.TheVariants as change;
 ghost use Rattle.row_machine.specs.machine.NewRows.{default_profile};
 ghost use Rattle.row_machine.specs.machine.Changes.{removal};
-ghost use Rattle.plans_objects.specs.Rows.{row_at};
+ghost use Rattle.row_readings.specs.AnyRows.{row_in};
 
-use crate::found::Found;
 use object_links::{three_names, two_names};
 use records::Row;
 use row_machine::RowChange;
+use row_readings::AnyRow;
 use size_values::{NoMemory, ObjectKind, Seq, Text};
 use std::alloc::Global;
 
 /// The key of a row.
-fn key_of(alloc: Global, row: Found<'_>) -> Result<Text, NoMemory>
-    ensures { IfOk result (λ key. key ≡ key_of (row_at row.entry)) }
+fn key_of(alloc: Global, row: AnyRow<'_>) -> Result<Text, NoMemory>
+    ensures { IfOk result (λ key. key ≡ key_of (row_in row.entry)) }
 {
     match row {
-        Found::Project(row) => row.name.copy(alloc),
-        Found::Profile(row) => two_names(alloc, row.project.view(), row.name.view()),
-        Found::Network(row) => two_names(alloc, row.project.view(), row.name.view()),
-        Found::Pool(row) => row.name.copy(alloc),
-        Found::Volume(row) => three_names(alloc, &row.project, &row.pool, &row.name),
-        Found::Instance(row) => two_names(alloc, row.project.view(), row.name.view()),
-        Found::Snapshot(row) => three_names(alloc, &row.project, &row.instance, &row.name),
+        AnyRow::Project(row) => row.name.copy(alloc),
+        AnyRow::Profile(row) => two_names(alloc, row.project.view(), row.name.view()),
+        AnyRow::Network(row) => two_names(alloc, row.project.view(), row.name.view()),
+        AnyRow::Pool(row) => row.name.copy(alloc),
+        AnyRow::Volume(row) => three_names(alloc, &row.project, &row.pool, &row.name),
+        AnyRow::Instance(row) => two_names(alloc, row.project.view(), row.name.view()),
+        AnyRow::Snapshot(row) => three_names(alloc, &row.project, &row.instance, &row.name),
     }
 }
 
 /// The change that removes a row.
-fn removal(alloc: Global, row: Found<'_>) -> Result<RowChange, NoMemory>
-    ensures { IfOk result (λ c. c ≡ removal (row_at row.entry)) }
+fn removal(alloc: Global, row: AnyRow<'_>) -> Result<RowChange, NoMemory>
+    ensures { IfOk result (λ c. c ≡ removal (row_in row.entry)) }
 {
     let key = key_of(alloc, row)?;
     match row {
-        Found::Project(_) => Ok(RowChange::Remove(ObjectKind::Project, key)),
-        Found::Profile(_) => Ok(RowChange::Remove(ObjectKind::Profile, key)),
-        Found::Network(_) => Ok(RowChange::Remove(ObjectKind::Network, key)),
-        Found::Pool(_) => Ok(RowChange::Remove(ObjectKind::Pool, key)),
-        Found::Volume(_) => Ok(RowChange::Remove(ObjectKind::Volume, key)),
-        Found::Instance(_) => Ok(RowChange::Remove(ObjectKind::Instance, key)),
-        Found::Snapshot(_) => Ok(RowChange::Remove(ObjectKind::Snapshot, key)),
+        AnyRow::Project(_) => Ok(RowChange::Remove(ObjectKind::Project, key)),
+        AnyRow::Profile(_) => Ok(RowChange::Remove(ObjectKind::Profile, key)),
+        AnyRow::Network(_) => Ok(RowChange::Remove(ObjectKind::Network, key)),
+        AnyRow::Pool(_) => Ok(RowChange::Remove(ObjectKind::Pool, key)),
+        AnyRow::Volume(_) => Ok(RowChange::Remove(ObjectKind::Volume, key)),
+        AnyRow::Instance(_) => Ok(RowChange::Remove(ObjectKind::Instance, key)),
+        AnyRow::Snapshot(_) => Ok(RowChange::Remove(ObjectKind::Snapshot, key)),
     }
 }
 
@@ -71,17 +71,17 @@ pub(crate) fn one_put(alloc: Global, row: Row) -> Result<Seq<RowChange>, NoMemor
 pub(crate) fn and_removal(
     alloc: Global,
     changes: Seq<RowChange>,
-    row: Found<'_>,
+    row: AnyRow<'_>,
 ) -> Result<Seq<RowChange>, NoMemory>
-    ensures { IfOk result (λ cs. cs ≡ changes ++ removal (row_at row.entry) ∷ []) }
+    ensures { IfOk result (λ cs. cs ≡ changes ++ removal (row_in row.entry) ∷ []) }
 {
     let change = removal(alloc, row)?;
     and_change(changes, change)
 }
 
 /// A row is removed.
-pub(crate) fn one_removal(alloc: Global, row: Found<'_>) -> Result<Seq<RowChange>, NoMemory>
-    ensures { IfOk result (λ cs. cs ≡ removal (row_at row.entry) ∷ []) }
+pub(crate) fn one_removal(alloc: Global, row: AnyRow<'_>) -> Result<Seq<RowChange>, NoMemory>
+    ensures { IfOk result (λ cs. cs ≡ removal (row_in row.entry) ∷ []) }
 {
     let change = removal(alloc, row)?;
     and_change(Seq::new(alloc), change)

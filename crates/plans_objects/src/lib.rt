@@ -3,7 +3,6 @@
 #![tactic(auto)]
 
 mod changes;
-mod found;
 mod made;
 mod notices;
 mod planned;

@@ -6,17 +6,16 @@ ghost use Rattle.row_machine.specs.machine.State.{State};
 ghost use Rattle.row_machine.specs.machine.Plans.{plan_create, volume_creation};
 ghost use Rattle.row_machine.specs.machine.Plans.{plan_put, plan_patch, plan_move};
 ghost use Rattle.row_machine.specs.machine.Plans.{plan_delete};
-ghost use Rattle.plans_objects.specs.Rows.{row_at};
+ghost use Rattle.row_readings.specs.AnyRows.{row_in};
 ghost use Rattle.plans_objects.specs.Planning.{changes_in};
 
 use crate::changes::{and_put, one_put, one_removal};
-use crate::found::Found;
 use crate::projects::{
     project_creation, project_deletion, project_patch, project_put, project_rename,
 };
 use records::{Body, Origin, Row, Target};
 use row_machine::RowChange;
-use row_readings::View;
+use row_readings::{AnyRow, View};
 use rows_made::{
     made_network, made_pool, made_profile, made_volume, patched_instance, patched_network,
     patched_pool, patched_profile, patched_volume, put_network, put_pool, put_profile, put_volume,
@@ -96,72 +95,72 @@ pub(crate) fn creation_changes(
 /// What a PUT changes at once.
 pub(crate) fn put_changes(
     alloc: Global,
-    old: Found<'_>,
+    old: AnyRow<'_>,
     body: &Body,
 ) -> Result<Option<Seq<RowChange>>, NoMemory>
     ensures { (s : State) (project : List ℕ) (of : TargetValue)
-        → IfOk result (λ cs. cs ≡ changes_in (plan_put s project of body.now (row_at old.entry))) }
+        → IfOk result (λ cs. cs ≡ changes_in (plan_put s project of body.now (row_in old.entry))) }
 {
     match old {
-        Found::Project(old) => {
+        AnyRow::Project(old) => {
             let changes = project_put(alloc, old, body)?;
             Ok(Some(changes))
         }
-        Found::Profile(old) => {
+        AnyRow::Profile(old) => {
             let row = put_profile(alloc, old, body)?;
             row_alone(alloc, Row::Profile(Boxed::new(alloc, row)?))
         }
-        Found::Network(old) => {
+        AnyRow::Network(old) => {
             let row = put_network(alloc, old, body)?;
             row_alone(alloc, Row::Network(row))
         }
-        Found::Pool(old) => {
+        AnyRow::Pool(old) => {
             let row = put_pool(alloc, old, body)?;
             row_alone(alloc, Row::Pool(row))
         }
-        Found::Volume(old) => {
+        AnyRow::Volume(old) => {
             let row = put_volume(alloc, old, body)?;
             row_alone(alloc, Row::Volume(Boxed::new(alloc, row)?))
         }
-        Found::Instance(_) => Ok(None),
-        Found::Snapshot(_) => Ok(None),
+        AnyRow::Instance(_) => Ok(None),
+        AnyRow::Snapshot(_) => Ok(None),
     }
 }
 
 /// What a PATCH changes at once.
 pub(crate) fn patch_changes(
     alloc: Global,
-    old: Found<'_>,
+    old: AnyRow<'_>,
     body: &Body,
 ) -> Result<Option<Seq<RowChange>>, NoMemory>
-    ensures { IfOk result (λ cs. cs ≡ changes_in (plan_patch body.now (row_at old.entry))) }
+    ensures { IfOk result (λ cs. cs ≡ changes_in (plan_patch body.now (row_in old.entry))) }
 {
     match old {
-        Found::Project(old) => {
+        AnyRow::Project(old) => {
             let changes = project_patch(alloc, old, body)?;
             Ok(Some(changes))
         }
-        Found::Profile(old) => {
+        AnyRow::Profile(old) => {
             let row = patched_profile(alloc, old, body)?;
             row_alone(alloc, Row::Profile(Boxed::new(alloc, row)?))
         }
-        Found::Network(old) => {
+        AnyRow::Network(old) => {
             let row = patched_network(alloc, old, body)?;
             row_alone(alloc, Row::Network(row))
         }
-        Found::Pool(old) => {
+        AnyRow::Pool(old) => {
             let row = patched_pool(alloc, old, body)?;
             row_alone(alloc, Row::Pool(row))
         }
-        Found::Volume(old) => {
+        AnyRow::Volume(old) => {
             let row = patched_volume(alloc, old, body)?;
             row_alone(alloc, Row::Volume(Boxed::new(alloc, row)?))
         }
-        Found::Instance(old) => {
+        AnyRow::Instance(old) => {
             let row = patched_instance(alloc, old, body)?;
             row_alone(alloc, Row::Instance(Boxed::new(alloc, row)?))
         }
-        Found::Snapshot(_) => Ok(None),
+        AnyRow::Snapshot(_) => Ok(None),
     }
 }
 
@@ -177,35 +176,35 @@ fn with_row_last(changes: Seq<RowChange>, row: Row) -> Result<Option<Seq<RowChan
 pub(crate) fn move_changes(
     alloc: Global,
     view: &View<'_>,
-    old: Found<'_>,
+    old: AnyRow<'_>,
     to: &Text,
 ) -> Result<Option<Seq<RowChange>>, NoMemory>
     ensures { (project : List ℕ) (of : TargetValue)
-        → IfOk result (λ cs. cs ≡ changes_in (plan_move view.now project of to.now (row_at old.entry))) }
+        → IfOk result (λ cs. cs ≡ changes_in (plan_move view.now project of to.now (row_in old.entry))) }
 {
     match old {
-        Found::Project(old) => {
+        AnyRow::Project(old) => {
             let changes = project_rename(alloc, view, old, to)?;
             Ok(Some(changes))
         }
-        Found::Profile(old) => {
-            let removed = one_removal(alloc, Found::Profile(old))?;
+        AnyRow::Profile(old) => {
+            let removed = one_removal(alloc, AnyRow::Profile(old))?;
             let row = renamed_profile(alloc, old, to)?;
             with_row_last(removed, Row::Profile(Boxed::new(alloc, row)?))
         }
-        Found::Network(old) => {
-            let removed = one_removal(alloc, Found::Network(old))?;
+        AnyRow::Network(old) => {
+            let removed = one_removal(alloc, AnyRow::Network(old))?;
             let row = renamed_network(alloc, old, to)?;
             with_row_last(removed, Row::Network(row))
         }
-        Found::Volume(old) => {
-            let removed = one_removal(alloc, Found::Volume(old))?;
+        AnyRow::Volume(old) => {
+            let removed = one_removal(alloc, AnyRow::Volume(old))?;
             let row = renamed_volume(alloc, old, to)?;
             with_row_last(removed, Row::Volume(Boxed::new(alloc, row)?))
         }
-        Found::Pool(_) => Ok(None),
-        Found::Instance(_) => Ok(None),
-        Found::Snapshot(_) => Ok(None),
+        AnyRow::Pool(_) => Ok(None),
+        AnyRow::Instance(_) => Ok(None),
+        AnyRow::Snapshot(_) => Ok(None),
     }
 }
 
@@ -213,21 +212,21 @@ pub(crate) fn move_changes(
 pub(crate) fn deletion_changes(
     alloc: Global,
     view: &View<'_>,
-    old: Found<'_>,
+    old: AnyRow<'_>,
 ) -> Result<Option<Seq<RowChange>>, NoMemory>
     ensures { (project : List ℕ) (of : TargetValue)
-        → IfOk result (λ cs. cs ≡ changes_in (plan_delete view.now project of (row_at old.entry))) }
+        → IfOk result (λ cs. cs ≡ changes_in (plan_delete view.now project of (row_in old.entry))) }
 {
     match old {
-        Found::Project(old) => {
+        AnyRow::Project(old) => {
             let changes = project_deletion(alloc, view, old)?;
             Ok(Some(changes))
         }
-        Found::Profile(_) | Found::Network(_) | Found::Pool(_) | Found::Volume(_) => {
+        AnyRow::Profile(_) | AnyRow::Network(_) | AnyRow::Pool(_) | AnyRow::Volume(_) => {
             let changes = one_removal(alloc, old)?;
             Ok(Some(changes))
         }
-        Found::Instance(_) => Ok(None),
-        Found::Snapshot(_) => Ok(None),
+        AnyRow::Instance(_) => Ok(None),
+        AnyRow::Snapshot(_) => Ok(None),
     }
 }

@@ -3,12 +3,11 @@ ghost use Rattle.std.specs.Prelude.{◌≡◌, IfOk};
 ghost use Rattle.records.specs.declared.commands.What.TheVariants as what;
 ghost use Rattle.plans_objects.specs.Planning.{IsPlanOf};
 
-use crate::found::row_of;
 use crate::made::{creation_changes, deletion_changes, move_changes, patch_changes, put_changes};
 use crate::notices::{changed_life, deleted_life, made_life, moved_life, with_notice};
 use crate::planned::Planned;
 use records::{Body, Command, Target, What};
-use row_readings::View;
+use row_readings::{View, row_of};
 use size_values::{NoMemory, Text};
 use std::alloc::Global;
 

@@ -10,10 +10,9 @@ ghost use Rattle.row_machine.specs.machine.Plans.{project_change, project_rename
 ghost use Rattle.row_machine.specs.machine.Plans.{project_deletion};
 
 use crate::changes::{and_default_removal, and_put, and_removal, one_put, one_removal};
-use crate::found::Found;
 use records::{Body, Profile, Project, Row};
 use row_machine::RowChange;
-use row_readings::{View, is_on};
+use row_readings::{AnyRow, View, is_on};
 use rows_made::{
     default_profile, made_project, patched_project, put_project, rehomed_profile, renamed_project,
 };
@@ -101,7 +100,7 @@ fn and_rehomed(
     ensures { IfOk result (λ cs. cs ≡ changes
         ++ moved_row (row_of.Profile old.now) (row_of.Profile (record old.now { project = project.now }))) }
 {
-    let changes = and_removal(alloc, changes, Found::Profile(old))?;
+    let changes = and_removal(alloc, changes, AnyRow::Profile(old))?;
     let profile = rehomed_profile(alloc, old, project)?;
     and_put(changes, Row::Profile(Boxed::new(alloc, profile)?))
 }
@@ -115,7 +114,7 @@ pub(crate) fn project_rename(
 ) -> Result<Seq<RowChange>, NoMemory>
     ensures { IfOk result (λ cs. cs ≡ project_rename view.now to.now old.now) }
 {
-    let changes = one_removal(alloc, Found::Project(old))?;
+    let changes = one_removal(alloc, AnyRow::Project(old))?;
     let row = renamed_project(alloc, old, to)?;
     let changes = and_put(changes, Row::Project(row))?;
     match view.profile_named(old.name.view(), "default") {
@@ -132,9 +131,9 @@ pub(crate) fn project_deletion(
 ) -> Result<Seq<RowChange>, NoMemory>
     ensures { IfOk result (λ cs. cs ≡ project_deletion view.now old.now) }
 {
-    let changes = one_removal(alloc, Found::Project(old))?;
+    let changes = one_removal(alloc, AnyRow::Project(old))?;
     match view.profile_named(old.name.view(), "default") {
-        Some(own) => and_removal(alloc, changes, Found::Profile(own)),
+        Some(own) => and_removal(alloc, changes, AnyRow::Profile(own)),
         None => Ok(changes),
     }
 }

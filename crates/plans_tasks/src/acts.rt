@@ -7,7 +7,7 @@ ghost use Rattle.row_machine.specs.machine.Tasks.{act_task};
 
 use crate::calls::{one_call, spec_of};
 use crate::creation_calls::{place_of, push_clear};
-use crate::pairs::zip_or_drop;
+use crate::pairs::both;
 use crate::works::{plain_task, project_and_target};
 use host_model::{HostCall, Place};
 use records::{Instance, Target};
@@ -28,7 +28,7 @@ fn push_start(
         ≡ calls.old
         ++ call.Start at.now (spec_of (expanded_of view.now.projects view.now.profiles row.now)) ∷ []) }
 {
-    let (at, spec) = zip_or_drop(at.copy(alloc), spec_of(alloc, view, row))?;
+    let (at, spec) = both(at.copy(alloc), spec_of(alloc, view, row))?;
     calls.push(HostCall::Start { at, spec })
 }
 
@@ -128,7 +128,7 @@ pub(crate) fn act_task(
     let at = place_of(alloc, project, &of.name)?;
     let calls = calls_at(alloc, view, action, &at, row);
     drop(at);
-    let (about, calls) = zip_or_drop(project_and_target(alloc, project, of), calls)?;
+    let (about, calls) = both(project_and_target(alloc, project, of), calls)?;
     let deed = Deed::Act {
         action,
         ephemeral: row.ephemeral,

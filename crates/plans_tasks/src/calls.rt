@@ -5,7 +5,7 @@ ghost use Rattle.row_machine.specs.machine.Expansions.{expanded_of};
 ghost use Rattle.row_machine.specs.machine.HostCalls.{place_of, spec_of};
 
 use crate::creation_calls::place_of;
-use crate::pairs::zip_or_drop;
+use crate::pairs::both;
 use host_model::{HostCall, Place, Spec};
 use records::{Instance, Target};
 use row_readings::View;
@@ -57,7 +57,7 @@ pub(crate) fn apply_calls(
         (spec_of (expanded_of view.now.projects view.now.profiles row.now)) ∷ []) }
 {
     let spec = spec_of(alloc, view, row);
-    let (at, spec) = zip_or_drop(place_of(alloc, project, name), spec)?;
+    let (at, spec) = both(place_of(alloc, project, name), spec)?;
     one_call(alloc, HostCall::Apply { at, spec })
 }
 
@@ -72,7 +72,7 @@ pub(crate) fn rename_calls(
         ≡ call.Rename (place_of project.now name.now) (place_of project.now new.now) ∷ []) }
 {
     let from = place_of(alloc, project, name);
-    let (from, to) = zip_or_drop(from, place_of(alloc, project, new))?;
+    let (from, to) = both(from, place_of(alloc, project, new))?;
     one_call(alloc, HostCall::Rename { from, to })
 }
 
@@ -86,7 +86,7 @@ pub(crate) fn restore_calls(
     ensures { IfOk result (λ calls. calls ≡ call.Restore (place_of project.now name.now) snapshot.now ∷ []) }
 {
     let at = place_of(alloc, project, name);
-    let (at, name) = zip_or_drop(at, snapshot.copy(alloc))?;
+    let (at, name) = both(at, snapshot.copy(alloc))?;
     one_call(alloc, HostCall::Restore { at, name })
 }
 
@@ -99,7 +99,7 @@ pub(crate) fn snapshot_place(
     ensures { IfOk result (λ p. p ≡ (place_of project.now of.now.instance, of.now.name)) }
 {
     let at = place_of(alloc, project, &of.instance);
-    zip_or_drop(at, of.name.copy(alloc))
+    both(at, of.name.copy(alloc))
 }
 
 /// A snapshot is made.

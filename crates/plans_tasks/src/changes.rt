@@ -7,7 +7,7 @@ ghost use Rattle.plans_tasks.specs.Begun.{task_in};
 
 use crate::calls::{apply_calls, rename_calls, restore_calls};
 use crate::finds::instance_at;
-use crate::pairs::zip_or_drop;
+use crate::pairs::both;
 use crate::rows::{put_instance, renamed_instance, restored_instance};
 use crate::works::{replacing_task, target_and_replaced};
 use records::{Body, Instance, Snapshot, Target};
@@ -29,8 +29,8 @@ fn update_task(
 {
     let row = Boxed::new(alloc, put_instance(alloc, old, body)?)?;
     let calls = apply_calls(alloc, view, project, &of.name, &row);
-    let made = zip_or_drop(Ok(row), calls);
-    let (about, made) = zip_or_drop(target_and_replaced(alloc, project, of), made)?;
+    let made = both(Ok(row), calls);
+    let (about, made) = both(target_and_replaced(alloc, project, of), made)?;
     Ok(replacing_task(Deed::Update, about, made.0, made.1))
 }
 
@@ -45,8 +45,8 @@ fn rename_task(
     ensures { IfOk result (λ w. w ≡ rename_task project.now of.now to.now old.now) }
 {
     let calls = rename_calls(alloc, project, &of.name, to);
-    let made = zip_or_drop(Boxed::of(alloc, renamed_instance(alloc, old, to)), calls);
-    let (about, made) = zip_or_drop(target_and_replaced(alloc, project, of), made)?;
+    let made = both(Boxed::of(alloc, renamed_instance(alloc, old, to)), calls);
+    let (about, made) = both(target_and_replaced(alloc, project, of), made)?;
     Ok(replacing_task(Deed::Rename, about, made.0, made.1))
 }
 
@@ -61,11 +61,11 @@ fn restore_task(
     ensures { IfOk result (λ w. w ≡ restore_task project.now of.now old.now snapshot.now) }
 {
     let calls = restore_calls(alloc, project, &of.name, &snapshot.name);
-    let made = zip_or_drop(
+    let made = both(
         Boxed::of(alloc, restored_instance(alloc, old, snapshot)),
         calls,
     );
-    let (about, made) = zip_or_drop(target_and_replaced(alloc, project, of), made)?;
+    let (about, made) = both(target_and_replaced(alloc, project, of), made)?;
     Ok(replacing_task(Deed::Restore, about, made.0, made.1))
 }
 

@@ -3,7 +3,7 @@ ghost use Rattle.std.specs.Prelude.{◌≡◌, IfOk, OnOk, ◌++◌, ◌∷◌, 
 ghost use Rattle.host_model.specs.declared.call.HostCall.TheVariants as call;
 ghost use Rattle.row_machine.specs.machine.HostCalls.{place_of, create_calls, copy_calls};
 
-use crate::pairs::zip_or_drop;
+use crate::pairs::both;
 use host_model::{HostCall, Place};
 use size_values::{NoMemory, Seq, Text};
 use std::alloc::Global;
@@ -12,7 +12,7 @@ use std::alloc::Global;
 pub fn place_of(alloc: Global, project: &Text, name: &Text) -> Result<Place, NoMemory>
     ensures { IfOk result (λ p. p ≡ place_of project.now name.now) }
 {
-    let (project, name) = zip_or_drop(project.copy(alloc), name.copy(alloc))?;
+    let (project, name) = both(project.copy(alloc), name.copy(alloc))?;
     Ok(Place {
         volume: false,
         project,
@@ -37,7 +37,7 @@ fn push_make(
 ) -> Result<(), NoMemory>
     ensures { OnOk result (calls.new ≡ calls.old ++ call.MakeRoot at.now image.now ∷ []) }
 {
-    let (at, origin) = zip_or_drop(at.copy(alloc), Text::from_text(alloc, image))?;
+    let (at, origin) = both(at.copy(alloc), Text::from_text(alloc, image))?;
     calls.push(HostCall::MakeRoot { at, origin })
 }
 
@@ -64,8 +64,8 @@ fn push_copy(
 ) -> Result<(), NoMemory>
     ensures { OnOk result (calls.new ≡ calls.old ++ call.CopyRoot from.now snapshot.now to.now ∷ []) }
 {
-    let places = zip_or_drop(from.copy(alloc), to.copy(alloc));
-    let (places, snapshot) = zip_or_drop(places, Text::from_text(alloc, snapshot))?;
+    let places = both(from.copy(alloc), to.copy(alloc));
+    let (places, snapshot) = both(places, Text::from_text(alloc, snapshot))?;
     calls.push(HostCall::CopyRoot {
         from: places.0,
         snapshot,

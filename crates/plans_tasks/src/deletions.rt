@@ -6,7 +6,7 @@ ghost use Rattle.plans_tasks.specs.Begun.{task_in};
 
 use crate::calls::{clear_calls, unsnap_calls};
 use crate::finds::{instance_at, snapshot_at};
-use crate::pairs::zip_or_drop;
+use crate::pairs::both;
 use crate::works::{plain_task, project_and_target};
 use records::Target;
 use row_machine::Work;
@@ -19,7 +19,7 @@ fn deletion_task(alloc: Global, project: &Text, of: &Target) -> Result<Work, NoM
     ensures { IfOk result (λ w. w ≡ deletion_task project.now of.now) }
 {
     let calls = clear_calls(alloc, project, &of.name);
-    let (about, calls) = zip_or_drop(project_and_target(alloc, project, of), calls)?;
+    let (about, calls) = both(project_and_target(alloc, project, of), calls)?;
     Ok(plain_task(Deed::Delete, about, calls))
 }
 
@@ -28,7 +28,7 @@ fn snapshot_deletion(alloc: Global, project: &Text, of: &Target) -> Result<Work,
     ensures { IfOk result (λ w. w ≡ snapshot_deletion project.now of.now) }
 {
     let calls = unsnap_calls(alloc, project, of);
-    let (about, calls) = zip_or_drop(project_and_target(alloc, project, of), calls)?;
+    let (about, calls) = both(project_and_target(alloc, project, of), calls)?;
     Ok(plain_task(Deed::Unsnap, about, calls))
 }
 

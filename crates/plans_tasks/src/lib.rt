@@ -20,6 +20,6 @@ mod works;
 
 pub use creation_calls::{copy_calls, place_of, push_clear};
 pub use making::copy_texts;
-pub use pairs::zip_or_drop;
+pub use pairs::both;
 pub use plans::plan_task;
 pub use tasks::instance_creation;

@@ -6,7 +6,7 @@ ghost use Rattle.row_machine.specs.machine.NewRows.{new_devices, patched_config}
 ghost use Rattle.row_machine.specs.machine.NewRows.{patched_devices, image_of};
 ghost use Rattle.row_machine.specs.machine.NewRows.{made_instance, copied_instance};
 
-use crate::pairs::zip_or_drop;
+use crate::pairs::both;
 use config_lists::{Config, Devices};
 use records::{Body, Instance, Origin};
 use rows_made::{new_config, new_description, new_devices, patched_config, patched_devices};
@@ -82,9 +82,9 @@ fn new_texts(alloc: Global, project: &Text, name: &Text, body: &Body) -> Result<
           origin = image_of body.now.origin;
         }) }
 {
-    let names = zip_or_drop(project.copy(alloc), name.copy(alloc));
+    let names = both(project.copy(alloc), name.copy(alloc));
     let origin = Text::from_text(alloc, image_of(&body.origin));
-    let (names, told) = zip_or_drop(names, zip_or_drop(new_description(alloc, body), origin))?;
+    let (names, told) = both(names, both(new_description(alloc, body), origin))?;
     Ok(Texts {
         project: names.0,
         name: names.1,
@@ -109,8 +109,8 @@ fn new_parts(alloc: Global, body: &Body) -> Result<Parts, NoMemory>
           devices = new_devices body.now;
         }) }
 {
-    let settings = zip_or_drop(new_config(alloc, body), new_devices(alloc, body));
-    let (profiles, settings) = zip_or_drop(new_profiles(alloc, body), settings)?;
+    let settings = both(new_config(alloc, body), new_devices(alloc, body));
+    let (profiles, settings) = both(new_profiles(alloc, body), settings)?;
     Ok(Parts {
         profiles,
         config: settings.0,
@@ -129,7 +129,7 @@ pub(crate) fn made_instance(
     ensures { IfOk result (λ r. r ≡ made_instance project.now name.now body.now moment) }
 {
     let texts = new_texts(alloc, project, name, body);
-    let (texts, given) = zip_or_drop(texts, new_parts(alloc, body))?;
+    let (texts, given) = both(texts, new_parts(alloc, body))?;
     Ok(Instance {
         project: texts.project,
         name: texts.name,
@@ -161,14 +161,11 @@ fn copied_parts(alloc: Global, body: &Body, source: &Source) -> Result<Parts, No
           devices = patched_devices source.now.devices.now body.now;
         }) }
 {
-    let settings = zip_or_drop(
+    let settings = both(
         patched_config(source.config, body),
         patched_devices(source.devices, body),
     );
-    let (profiles, settings) = zip_or_drop(
-        copied_profiles(alloc, body, source.profiles),
-        settings,
-    )?;
+    let (profiles, settings) = both(copied_profiles(alloc, body, source.profiles), settings)?;
     Ok(Parts {
         profiles,
         config: settings.0,
@@ -195,7 +192,7 @@ pub(crate) fn copied_instance(
         })) }
 {
     let texts = new_texts(alloc, project, name, body);
-    let (texts, given) = zip_or_drop(texts, copied_parts(alloc, body, source))?;
+    let (texts, given) = both(texts, copied_parts(alloc, body, source))?;
     Ok(Instance {
         project: texts.project,
         name: texts.name,

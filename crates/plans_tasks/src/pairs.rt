@@ -3,7 +3,7 @@ ghost use Rattle.std.specs.Prelude.{◌≡◌, IfOk};
 use size_values::NoMemory;
 
 /// Both values, where there was memory for both. Neither is then alive where the other one is missing.
-pub fn zip_or_drop<A: Drop, B: Drop>(
+pub fn both<A: Drop, B: Drop>(
     first: Result<A, NoMemory>,
     second: Result<B, NoMemory>,
 ) -> Result<(A, B), NoMemory>

@@ -3,7 +3,7 @@ ghost use Rattle.std.specs.Prelude.{◌≡◌, IfOk, [], unwrap_or};
 ghost use Rattle.row_machine.specs.machine.NewRows.{new_config, new_devices, put_instance, restored_instance};
 
 use crate::making::copy_texts;
-use crate::pairs::zip_or_drop;
+use crate::pairs::both;
 use config_lists::{Config, Devices};
 use records::{Body, Instance, Snapshot};
 use rows_made::{new_config, new_description, new_devices};
@@ -28,8 +28,8 @@ pub(crate) fn copied_parts(
     ensures { IfOk result (λ p. p
         ≡ record { profiles = profiles.now; config = config.now; devices = devices.now }) }
 {
-    let settings = zip_or_drop(config.copy(), devices.copy());
-    let (profiles, settings) = zip_or_drop(copy_texts(alloc, profiles.view()), settings)?;
+    let settings = both(config.copy(), devices.copy());
+    let (profiles, settings) = both(copy_texts(alloc, profiles.view()), settings)?;
     Ok(Parts {
         profiles,
         config: settings.0,
@@ -56,8 +56,8 @@ fn put_parts(alloc: Global, body: &Body) -> Result<Parts, NoMemory>
           devices = new_devices body.now;
         }) }
 {
-    let settings = zip_or_drop(new_config(alloc, body), new_devices(alloc, body));
-    let (profiles, settings) = zip_or_drop(put_profiles(alloc, body), settings)?;
+    let settings = both(new_config(alloc, body), new_devices(alloc, body));
+    let (profiles, settings) = both(put_profiles(alloc, body), settings)?;
     Ok(Parts {
         profiles,
         config: settings.0,
@@ -77,8 +77,8 @@ fn names_of(alloc: Global, old: &Instance) -> Result<Names, NoMemory>
     ensures { IfOk result (λ n. n
         ≡ record { project = old.now.project; name = old.now.name; origin = old.now.origin }) }
 {
-    let own = zip_or_drop(old.project.copy(alloc), old.name.copy(alloc));
-    let (own, origin) = zip_or_drop(own, old.origin.copy(alloc))?;
+    let own = both(old.project.copy(alloc), old.name.copy(alloc));
+    let (own, origin) = both(own, old.origin.copy(alloc))?;
     Ok(Names {
         project: own.0,
         name: own.1,
@@ -90,8 +90,8 @@ fn names_of(alloc: Global, old: &Instance) -> Result<Names, NoMemory>
 pub(crate) fn put_instance(alloc: Global, old: &Instance, body: &Body) -> Result<Instance, NoMemory>
     ensures { IfOk result (λ r. r ≡ put_instance old.now body.now) }
 {
-    let texts = zip_or_drop(names_of(alloc, old), new_description(alloc, body));
-    let (texts, parts) = zip_or_drop(texts, put_parts(alloc, body))?;
+    let texts = both(names_of(alloc, old), new_description(alloc, body));
+    let (texts, parts) = both(texts, put_parts(alloc, body))?;
     let names = texts.0;
     Ok(Instance {
         project: names.project,
@@ -115,14 +115,14 @@ pub(crate) fn restored_instance(
 ) -> Result<Instance, NoMemory>
     ensures { IfOk result (λ r. r ≡ restored_instance old.now snapshot.now) }
 {
-    let texts = zip_or_drop(names_of(alloc, old), old.description.copy(alloc));
+    let texts = both(names_of(alloc, old), old.description.copy(alloc));
     let parts = copied_parts(
         alloc,
         &snapshot.profiles,
         &snapshot.config,
         &snapshot.devices,
     );
-    let (texts, parts) = zip_or_drop(texts, parts)?;
+    let (texts, parts) = both(texts, parts)?;
     let names = texts.0;
     Ok(Instance {
         project: names.project,
@@ -146,6 +146,6 @@ pub(crate) fn renamed_instance(
 ) -> Result<Instance, NoMemory>
     ensures { IfOk result (λ r. r ≡ record old.now { name = to.now }) }
 {
-    let (row, name) = zip_or_drop(old.copy(alloc), to.copy(alloc))?;
+    let (row, name) = both(old.copy(alloc), to.copy(alloc))?;
     Ok(Instance { name, ..row })
 }

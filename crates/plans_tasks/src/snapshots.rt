@@ -12,7 +12,7 @@ ghost use Rattle.row_machine.specs.machine.Tasks.{plain_task, snapshot_creation}
 ghost use Rattle.plans_tasks.specs.Begun.{task_in};
 
 use crate::calls::{snap_calls, snapshot_place};
-use crate::pairs::zip_or_drop;
+use crate::pairs::both;
 use crate::rows::copied_parts;
 use crate::works::project_and_target;
 use host_model::{HostCall, Place};
@@ -31,10 +31,10 @@ fn made_snapshot(
 ) -> Result<Snapshot, NoMemory>
     ensures { IfOk result (λ r. r ≡ made_snapshot row.now name.now moment) }
 {
-    let names = zip_or_drop(row.project.copy(alloc), row.name.copy(alloc));
-    let names = zip_or_drop(names, name.copy(alloc));
+    let names = both(row.project.copy(alloc), row.name.copy(alloc));
+    let names = both(names, name.copy(alloc));
     let parts = copied_parts(alloc, &row.profiles, &row.config, &row.devices);
-    let (names, parts) = zip_or_drop(names, parts)?;
+    let (names, parts) = both(names, parts)?;
     let of = names.0;
     Ok(Snapshot {
         project: of.0,
@@ -71,7 +71,7 @@ fn with_name(
         ≡ (if length of.now.name == 0
         then record of.now { name = next_snapshot view.now row.now } else of.now)) }
 {
-    let (of, name) = zip_or_drop(of.copy(alloc), name_of(alloc, view, of, row))?;
+    let (of, name) = both(of.copy(alloc), name_of(alloc, view, of, row))?;
     Ok(Target { name, ..of })
 }
 
@@ -114,13 +114,13 @@ fn snapshot_creation(
 ) -> Result<Work, NoMemory>
     ensures { IfOk result (λ w. w ≡ snapshot_creation project.now of.now moment row.now) }
 {
-    let names = zip_or_drop(
+    let names = both(
         project_and_target(alloc, project, of),
         snapshot_place(alloc, project, of),
     );
     let made = Boxed::of(alloc, made_snapshot(alloc, row, &of.name, moment));
-    let made = zip_or_drop(made, snap_calls(alloc, project, of));
-    let (names, made) = zip_or_drop(names, made)?;
+    let made = both(made, snap_calls(alloc, project, of));
+    let (names, made) = both(names, made)?;
     Ok(snapshot_task(names.0, made.0, made.1, names.1))
 }
 

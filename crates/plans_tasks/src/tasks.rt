@@ -13,7 +13,7 @@ ghost use Rattle.plans_tasks.specs.Planned.{planned};
 
 use crate::creation_calls::{copy_calls, create_calls, place_of};
 use crate::making::{Source, copied_instance, image_of, made_instance};
-use crate::pairs::zip_or_drop;
+use crate::pairs::both;
 use host_model::{HostCall, Place};
 use records::{Body, Instance, Origin, Row, Snapshot, Target};
 use row_machine::Work;
@@ -40,7 +40,7 @@ fn begun_with(
 ) -> Result<Begun, NoMemory>
     ensures { IfOk result (λ b. b ≡ record { project = project.now; target = of.now; at = at; calls = calls }) }
 {
-    match zip_or_drop(project.copy(alloc), of.copy(alloc)) {
+    match both(project.copy(alloc), of.copy(alloc)) {
         Ok(about) => Ok(Begun {
             project: about.0,
             target: about.1,
@@ -72,7 +72,7 @@ fn begin_from_image(
 {
     let at = place_of(alloc, project, &of.name)?;
     let calls = create_calls(alloc, &at, image);
-    let (at, calls) = zip_or_drop(Ok(at), calls)?;
+    let (at, calls) = both(Ok(at), calls)?;
     begun_with(alloc, project, of, at, calls)
 }
 
@@ -93,10 +93,10 @@ fn begin_from_root(
         }) }
 {
     let at = place_of(alloc, project, &of.name);
-    let (at, from) = zip_or_drop(at, place_of(alloc, project, instance))?;
+    let (at, from) = both(at, place_of(alloc, project, instance))?;
     let calls = copy_calls(alloc, &from, snapshot, &at);
     drop(from);
-    let (at, calls) = zip_or_drop(Ok(at), calls)?;
+    let (at, calls) = both(Ok(at), calls)?;
     begun_with(alloc, project, of, at, calls)
 }
 
@@ -134,7 +134,7 @@ fn creation_task(
 {
     let begun = begin_from_image(alloc, project, of, image_of(&body.origin));
     let row = Boxed::of(alloc, made_instance(alloc, project, &of.name, body, moment));
-    let (begun, row) = zip_or_drop(begun, row)?;
+    let (begun, row) = both(begun, row)?;
     Ok(claiming_task(Deed::Create, begun, row, None))
 }
 
@@ -184,7 +184,7 @@ fn instance_copy(
     let begun = begin_from_root(alloc, project, of, from, "");
     let row = copied_instance(alloc, project, &of.name, body, moment, &source);
     let row = Boxed::of(alloc, row);
-    let (made, target) = zip_or_drop(zip_or_drop(begun, row), instance_target(alloc, from))?;
+    let (made, target) = both(both(begun, row), instance_target(alloc, from))?;
     Ok(claiming_task(Deed::Copy, made.0, made.1, Some(target)))
 }
 
@@ -213,7 +213,7 @@ fn snapshot_copy(
     let begun = begin_from_root(alloc, project, of, from, name.view());
     let row = copied_instance(alloc, project, &of.name, body, moment, &source);
     let row = Boxed::of(alloc, row);
-    let (made, target) = zip_or_drop(zip_or_drop(begun, row), snapshot_target(alloc, from, name))?;
+    let (made, target) = both(both(begun, row), snapshot_target(alloc, from, name))?;
     Ok(claiming_task(Deed::Copy, made.0, made.1, Some(target)))
 }
 

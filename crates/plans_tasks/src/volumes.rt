@@ -11,7 +11,7 @@ ghost use Rattle.row_machine.specs.machine.Tasks.{plain_task, volume_copy};
 ghost use Rattle.plans_tasks.specs.Begun.{task_in};
 
 use crate::creation_calls::copy_calls;
-use crate::pairs::zip_or_drop;
+use crate::pairs::both;
 use host_model::{HostCall, Place};
 use records::{Body, Origin, Row, Target, Volume};
 use row_machine::Work;
@@ -24,8 +24,8 @@ use std::alloc::Global;
 fn volume_place(alloc: Global, project: &str, pool: &Text, name: &Text) -> Result<Place, NoMemory>
     ensures { IfOk result (λ p. p ≡ volume_place project.now pool.now name.now) }
 {
-    let names = zip_or_drop(pool.copy(alloc), name.copy(alloc));
-    let (project, names) = zip_or_drop(Text::from_text(alloc, project), names)?;
+    let names = both(pool.copy(alloc), name.copy(alloc));
+    let (project, names) = both(Text::from_text(alloc, project), names)?;
     Ok(Place {
         volume: true,
         project,
@@ -38,8 +38,8 @@ fn volume_place(alloc: Global, project: &str, pool: &Text, name: &Text) -> Resul
 fn volume_source(alloc: Global, of: &Target, from: &Text, pool: &Text) -> Result<Target, NoMemory>
     ensures { IfOk result (λ t. t ≡ volume_source of.now from.now pool.now) }
 {
-    let names = zip_or_drop(pool.copy(alloc), from.copy(alloc));
-    let (instance, names) = zip_or_drop(of.instance.copy(alloc), names)?;
+    let names = both(pool.copy(alloc), from.copy(alloc));
+    let (instance, names) = both(of.instance.copy(alloc), names)?;
     Ok(Target {
         kind: of.kind,
         pool: names.0,
@@ -59,13 +59,13 @@ fn copied_volume(
 ) -> Result<Volume, NoMemory>
     ensures { IfOk result (λ r. r ≡ copied_volume project.now of.now body.now moment source.now) }
 {
-    let names = zip_or_drop(of.pool.copy(alloc), of.name.copy(alloc));
-    let names = zip_or_drop(Text::from_text(alloc, project), names);
-    let content = zip_or_drop(
+    let names = both(of.pool.copy(alloc), of.name.copy(alloc));
+    let names = both(Text::from_text(alloc, project), names);
+    let content = both(
         new_description(alloc, body),
         patched_config(&source.config, body),
     );
-    let (names, content) = zip_or_drop(names, content)?;
+    let (names, content) = both(names, content)?;
     let of = names.1;
     Ok(Volume {
         project: names.0,
@@ -92,10 +92,10 @@ fn place_and_calls(
         )) }
 {
     let at = volume_place(alloc, project, &of.pool, &of.name);
-    let (at, from) = zip_or_drop(at, volume_place(alloc, project, pool, from))?;
+    let (at, from) = both(at, volume_place(alloc, project, pool, from))?;
     let calls = copy_calls(alloc, &from, "", &at);
     drop(from);
-    zip_or_drop(Ok(at), calls)
+    both(Ok(at), calls)
 }
 
 /// The operation that makes a copy, which its undoing takes away.
@@ -139,14 +139,14 @@ fn volume_copy(
     ensures { IfOk result (λ w. w
         ≡ volume_copy project.now of.now body.now moment (volume_source of.now from.now pool.now) source.now) }
 {
-    let about = zip_or_drop(Text::from_text(alloc, project), of.copy(alloc));
-    let about = zip_or_drop(about, volume_source(alloc, of, from, pool));
+    let about = both(Text::from_text(alloc, project), of.copy(alloc));
+    let about = both(about, volume_source(alloc, of, from, pool));
     let row = Boxed::of(
         alloc,
         copied_volume(alloc, project, of, body, moment, source),
     );
-    let made = zip_or_drop(row, place_and_calls(alloc, project, of, from, pool));
-    let (about, made) = zip_or_drop(about, made)?;
+    let made = both(row, place_and_calls(alloc, project, of, from, pool));
+    let (about, made) = both(about, made)?;
     Ok(copy_task(about.0, about.1, made.0, made.1))
 }
 

@@ -3,7 +3,7 @@ ghost use Rattle.std.specs.Prelude.{◌≡◌, IfOk, Some};
 ghost use Rattle.records.specs.declared.rows.Row.TheVariants as row_of;
 ghost use Rattle.row_machine.specs.machine.Tasks.{plain_task};
 
-use crate::pairs::zip_or_drop;
+use crate::pairs::both;
 use host_model::HostCall;
 use records::{Instance, Row, Target};
 use row_machine::Work;
@@ -18,7 +18,7 @@ pub(crate) fn project_and_target(
 ) -> Result<(Text, Target), NoMemory>
     ensures { IfOk result (λ a. a ≡ (project.now, of.now)) }
 {
-    zip_or_drop(project.copy(alloc), of.copy(alloc))
+    both(project.copy(alloc), of.copy(alloc))
 }
 
 /// An operation that claims nothing.
@@ -46,8 +46,8 @@ pub(crate) fn target_and_replaced(
 ) -> Result<((Text, Target), (Text, Text)), NoMemory>
     ensures { IfOk result (λ r. r ≡ ((project.now, of.now), (project.now, of.now.name))) }
 {
-    let name = zip_or_drop(project.copy(alloc), of.name.copy(alloc));
-    zip_or_drop(project_and_target(alloc, project, of), name)
+    let name = both(project.copy(alloc), of.name.copy(alloc));
+    both(project_and_target(alloc, project, of), name)
 }
 
 /// An operation whose claimed row replaces an instance.

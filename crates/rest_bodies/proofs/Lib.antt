@@ -1,3 +1,4 @@
 pub mod Counted
 pub mod FirstBad
+pub mod Found
 pub mod Spelled

@@ -3,8 +3,12 @@ pub mod Bodies
 pub mod Copies
 pub mod Drivers
 pub mod Fields
+pub mod Found
+pub mod Given
 pub mod Instances
+pub mod Keys
 pub mod Members
 pub mod Origins
 pub mod Profiles
+pub mod Sent
 pub mod Settings

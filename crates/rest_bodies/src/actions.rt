@@ -2,7 +2,8 @@ ghost use Rattle.std.specs.Prelude.{◌≡◌};
 ghost use Rattle.serde_json.specs.View.{view};
 ghost use Rattle.rest_bodies.specs.Actions.{action_of, action_in, action_at};
 
-use crate::members::non_null_member;
+use crate::keys::Key;
+use crate::sent::SentBody;
 use serde_json::Value;
 use size_values::Action;
 
@@ -41,10 +42,10 @@ pub(crate) fn action_in(value: &Value) -> Option<Action>
 
 /// The action that a body asks for, which is there in a body that was judged.
 #[tactic(auto, unfolding(crate::specs::Actions::action_at))]
-pub fn action_at(body: &Value) -> Option<Action>
+pub fn action_at(body: &SentBody) -> Option<Action>
     ensures { result ≡ action_at (view body.now) }
 {
-    match non_null_member("action", body) {
+    match body.field(Key::Action) {
         Some(value) => action_in(value),
         None => None,
     }

@@ -11,31 +11,32 @@ use crate::copies::copy_origin;
 use crate::drivers::driver_at;
 use crate::fields::Shape;
 use crate::instances::{ephemeral_at, instance_origin, kind_at};
-use crate::members::{non_null_member, text_at};
+use crate::keys::Key;
+use crate::members::text_at;
 use crate::origins::volume_origin;
 use crate::profiles::profiles_at;
+use crate::sent::SentBody;
 use crate::settings::{changes_of, devices_of};
 use config_lists::{Changes, Devices};
 use records::{Body, Driver, Origin};
-use serde_json::Value;
 use size_values::{Kind, NoMemory, Seq, Text};
 use std::alloc::Global;
 
 #[tactic(auto, unfolding(crate::specs::Bodies::config_at))]
-fn config_at(alloc: Global, body: &Value) -> Result<Option<Changes>, NoMemory>
+fn config_at(alloc: Global, body: &SentBody) -> Result<Option<Changes>, NoMemory>
     ensures { IfOk result (λ o. o ≡ config_at (view body.now)) }
 {
-    match non_null_member("config", body) {
+    match body.field(Key::Config) {
         Some(value) => Ok(Some(changes_of(alloc, value)?)),
         None => Ok(None),
     }
 }
 
 #[tactic(auto, unfolding(crate::specs::Bodies::devices_at))]
-fn devices_at(alloc: Global, body: &Value) -> Result<Option<Devices>, NoMemory>
+fn devices_at(alloc: Global, body: &SentBody) -> Result<Option<Devices>, NoMemory>
     ensures { IfOk result (λ o. o ≡ devices_at (view body.now)) }
 {
-    match non_null_member("devices", body) {
+    match body.field(Key::Devices) {
         Some(value) => Ok(Some(devices_of(alloc, value)?)),
         None => Ok(None),
     }
@@ -98,16 +99,16 @@ fn has_driver(shape: Shape) -> bool
     }
 }
 
-fn description_part(alloc: Global, shape: Shape, body: &Value) -> Result<Option<Text>, NoMemory>
+fn description_part(alloc: Global, shape: Shape, body: &SentBody) -> Result<Option<Text>, NoMemory>
     ensures { IfOk result (λ o. o ≡ part_of (has_description shape) (text_at (codes "description") (view body.now))) }
 {
     if has_description(shape) {
-        return text_at(alloc, "description", body);
+        return text_at(alloc, Key::Description, body.members());
     }
     Ok(None)
 }
 
-fn config_part(alloc: Global, shape: Shape, body: &Value) -> Result<Option<Changes>, NoMemory>
+fn config_part(alloc: Global, shape: Shape, body: &SentBody) -> Result<Option<Changes>, NoMemory>
     ensures { IfOk result (λ o. o ≡ part_of (has_description shape) (config_at (view body.now))) }
 {
     if has_description(shape) {
@@ -116,7 +117,7 @@ fn config_part(alloc: Global, shape: Shape, body: &Value) -> Result<Option<Chang
     Ok(None)
 }
 
-fn devices_part(alloc: Global, shape: Shape, body: &Value) -> Result<Option<Devices>, NoMemory>
+fn devices_part(alloc: Global, shape: Shape, body: &SentBody) -> Result<Option<Devices>, NoMemory>
     ensures { IfOk result (λ o. o ≡ part_of (has_devices shape) (devices_at (view body.now))) }
 {
     if has_devices(shape) {
@@ -125,7 +126,7 @@ fn devices_part(alloc: Global, shape: Shape, body: &Value) -> Result<Option<Devi
     Ok(None)
 }
 
-fn driver_part(shape: Shape, body: &Value) -> Option<Driver>
+fn driver_part(shape: Shape, body: &SentBody) -> Option<Driver>
     ensures { result ≡ part_of (has_driver shape) (driver_at (view body.now)) }
 {
     if has_driver(shape) {
@@ -134,7 +135,11 @@ fn driver_part(shape: Shape, body: &Value) -> Option<Driver>
     None
 }
 
-fn profiles_part(alloc: Global, shape: Shape, body: &Value) -> Result<Option<Seq<Text>>, NoMemory>
+fn profiles_part(
+    alloc: Global,
+    shape: Shape,
+    body: &SentBody,
+) -> Result<Option<Seq<Text>>, NoMemory>
     ensures { IfOk result (λ o. o ≡ part_of (is_of_instances shape) (profiles_at (view body.now))) }
 {
     if is_of_instances(shape) {
@@ -143,7 +148,7 @@ fn profiles_part(alloc: Global, shape: Shape, body: &Value) -> Result<Option<Seq
     Ok(None)
 }
 
-fn kind_part(shape: Shape, body: &Value) -> Option<Kind>
+fn kind_part(shape: Shape, body: &SentBody) -> Option<Kind>
     ensures { result ≡ part_of (has_kind shape) (kind_at (view body.now)) }
 {
     if has_kind(shape) {
@@ -152,7 +157,7 @@ fn kind_part(shape: Shape, body: &Value) -> Option<Kind>
     None
 }
 
-fn ephemeral_part(shape: Shape, body: &Value) -> Option<bool>
+fn ephemeral_part(shape: Shape, body: &SentBody) -> Option<bool>
     ensures { result ≡ part_of (is_of_instances shape) (ephemeral_at (view body.now)) }
 {
     if is_of_instances(shape) {
@@ -162,7 +167,7 @@ fn ephemeral_part(shape: Shape, body: &Value) -> Option<bool>
 }
 
 /// What the object of a body is made from.
-fn origin_of(alloc: Global, shape: Shape, body: &Value, pool: &str) -> Result<Origin, NoMemory>
+fn origin_of(alloc: Global, shape: Shape, body: &SentBody, pool: &str) -> Result<Origin, NoMemory>
     ensures { IfOk result (λ o. o ≡ origin_of shape (view body.now) pool.now) }
 {
     match shape {
@@ -175,7 +180,7 @@ fn origin_of(alloc: Global, shape: Shape, body: &Value, pool: &str) -> Result<Or
 
 /// What a body of this shape says of an object, in the pool of its path.
 #[tactic(auto, unfolding(crate::specs::Bodies::body_of))]
-pub fn body_of(alloc: Global, shape: Shape, body: &Value, pool: &str) -> Result<Body, NoMemory>
+pub fn body_of(alloc: Global, shape: Shape, body: &SentBody, pool: &str) -> Result<Body, NoMemory>
     ensures { IfOk result (λ b. b ≡ body_of shape (view body.now) pool.now) }
 {
     Ok(Body {

@@ -4,9 +4,11 @@ ghost use Rattle.records.specs.Forms.{has_slash};
 ghost use Rattle.rest_bodies.specs.Copies.{is_part, two_parts, copied_in, copied_at, copied_fault};
 ghost use Rattle.rest_bodies.specs.Copies.{copied_from, copy_origin};
 
-use crate::members::{non_null_member, str_at};
+use crate::given::Given;
+use crate::keys::Key;
+use crate::members::str_at;
+use crate::sent::SentBody;
 use records::Origin;
-use serde_json::Value;
 use size_values::{NoMemory, Text};
 use std::alloc::Global;
 
@@ -51,17 +53,17 @@ fn copied_in(text: &str) -> Option<(&str, &str)>
 
 /// What the source of a copy names, if it does.
 #[tactic(auto, unfolding(crate::specs::Copies::copied_at))]
-fn copied_at(source: &Value) -> Option<(&str, &str)>
+fn copied_at<'a>(source: &Given<'a>) -> Option<(&'a str, &'a str)>
     ensures { option_map (λ names. (names.0.now, names.1.now)) result ≡ copied_at (view source.now) }
 {
-    match str_at("source", source) {
+    match str_at(Key::Source, source) {
         Some(text) => copied_in(text),
         None => None,
     }
 }
 
 /// The key of the text that names what is copied, where it is at fault.
-pub(crate) fn copied_fault(source: &Value) -> Option<&'static str>
+pub(crate) fn copied_fault(source: &Given) -> Option<&'static str>
     ensures { option_map (λ k. k.now) result ≡ copied_fault (view source.now) }
 {
     if copied_at(source).is_some() {
@@ -88,10 +90,10 @@ fn copied_from(alloc: Global, names: Option<(&str, &str)>) -> Result<Origin, NoM
 
 /// What the body of a copy makes the new instance from: the instance or the snapshot that its `source` names.
 #[tactic(auto, unfolding(crate::specs::Copies::copy_origin))]
-pub(crate) fn copy_origin(alloc: Global, body: &Value) -> Result<Origin, NoMemory>
+pub(crate) fn copy_origin(alloc: Global, body: &SentBody) -> Result<Origin, NoMemory>
     ensures { IfOk result (λ o. o ≡ copy_origin (view body.now)) }
 {
-    match non_null_member("source", body) {
+    match body.source() {
         Some(source) => copied_from(alloc, copied_at(source)),
         None => Ok(Origin::None),
     }

@@ -2,7 +2,8 @@ ghost use Rattle.std.specs.Prelude.{◌≡◌};
 ghost use Rattle.serde_json.specs.View.{view};
 ghost use Rattle.rest_bodies.specs.Drivers.{driver_of, driver_in, driver_at};
 
-use crate::members::non_null_member;
+use crate::keys::Key;
+use crate::sent::SentBody;
 use records::Driver;
 use serde_json::Value;
 
@@ -38,10 +39,10 @@ pub(crate) fn driver_in(value: &Value) -> Option<Driver>
 
 /// The driver in a body, if one is given.
 #[tactic(auto, unfolding(crate::specs::Drivers::driver_at))]
-pub(crate) fn driver_at(body: &Value) -> Option<Driver>
+pub(crate) fn driver_at(body: &SentBody) -> Option<Driver>
     ensures { result ≡ driver_at (view body.now) }
 {
-    match non_null_member("driver", body) {
+    match body.field(Key::Driver) {
         Some(value) => driver_in(value),
         None => None,
     }

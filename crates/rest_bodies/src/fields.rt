@@ -1,15 +1,19 @@
-ghost use Rattle.std.specs.Prelude.{◌≡◌, option_map};
+ghost use Rattle.std.specs.Prelude.{◌≡◌, Some, option_map};
 ghost use Rattle.serde_json.specs.View.{view};
 ghost use Rattle.rest_bodies.specs.Fields.{fields_of, key_of, value_fits, value_fault, absent_fault, fault_of};
 ghost use Rattle.rest_bodies.specs.Fields.{first_fault};
 ghost use Rattle.rest_bodies.specs.Fields.{judged_fields, body_fault};
+ghost use Rattle.rest_bodies.specs.Keys.{word_of};
+ghost use Rattle.rest_bodies.specs.Members.{non_null_member};
 
 use crate::actions::action_in;
 use crate::drivers::driver_in;
-use crate::instances::{is_false, is_restoration, kind_in, source_fault};
-use crate::members::{is_word, non_null_member};
-use crate::origins::fits_source;
+use crate::instances::{fault_in_source, is_false, is_restoration, kind_in};
+use crate::keys::{Key, word_of};
+use crate::members::is_word;
+use crate::origins::has_volume_source;
 use crate::profiles::fits_profiles;
+use crate::sent::SentBody;
 use crate::settings::{fits_devices, fits_settings};
 use serde_json::Value;
 
@@ -122,33 +126,35 @@ fn fields_of(shape: Shape) -> &'static [Field]
     }
 }
 
-fn key_of(field: Field) -> &'static str
-    ensures { result.now ≡ key_of field }
+fn key_of(field: Field) -> Key
+    ensures { word_of result ≡ key_of field }
 {
     match field {
-        Field::Name => "name",
-        Field::SnapshotName => "name",
-        Field::Driver => "driver",
-        Field::NetworkType => "type",
-        Field::VolumeType => "type",
-        Field::InstanceType => "type",
-        Field::Description => "description",
-        Field::Config => "config",
-        Field::Devices => "devices",
-        Field::Profiles => "profiles",
-        Field::Ephemeral => "ephemeral",
-        Field::VolumeSource => "source",
-        Field::InstanceSource => "source",
-        Field::Start => "start",
-        Field::Stateful => "stateful",
-        Field::Migration => "migration",
-        Field::Project => "project",
-        Field::Action => "action",
-        Field::Restore => "restore",
+        Field::Name => Key::Name,
+        Field::SnapshotName => Key::Name,
+        Field::Driver => Key::Driver,
+        Field::NetworkType => Key::Type,
+        Field::VolumeType => Key::Type,
+        Field::InstanceType => Key::Type,
+        Field::Description => Key::Description,
+        Field::Config => Key::Config,
+        Field::Devices => Key::Devices,
+        Field::Profiles => Key::Profiles,
+        Field::Ephemeral => Key::Ephemeral,
+        Field::VolumeSource => Key::Source,
+        Field::InstanceSource => Key::Source,
+        Field::Start => Key::Start,
+        Field::Stateful => Key::Stateful,
+        Field::Migration => Key::Migration,
+        Field::Project => Key::Project,
+        Field::Action => Key::Action,
+        Field::Restore => Key::Restore,
     }
 }
 
-fn value_fits(field: Field, value: &Value) -> bool
+/// Whether the value of a field in a body has the form of the field.
+fn value_fits(field: Field, value: &Value, body: &SentBody) -> bool
+    requires { non_null_member (key_of field) (view body.now) ≡ Some (view value.now) }
     ensures { result ≡ value_fits field (view value.now) }
 {
     match field {
@@ -163,8 +169,8 @@ fn value_fits(field: Field, value: &Value) -> bool
         Field::Devices => fits_devices(value),
         Field::Profiles => fits_profiles(value),
         Field::Ephemeral => value.as_bool().is_some(),
-        Field::VolumeSource => fits_source(value),
-        Field::InstanceSource => source_fault(value).is_none(),
+        Field::VolumeSource => has_volume_source(body),
+        Field::InstanceSource => fault_in_source(body).is_none(),
         Field::Start => is_false(value),
         Field::Stateful => is_false(value),
         Field::Migration => is_false(value),
@@ -175,16 +181,17 @@ fn value_fits(field: Field, value: &Value) -> bool
 }
 
 /// The key of a value that is at fault. The source of an instance tells which of its parts is.
-fn value_fault(field: Field, value: &Value) -> Option<&'static str>
+fn value_fault(field: Field, value: &Value, body: &SentBody) -> Option<&'static str>
+    requires { non_null_member (key_of field) (view body.now) ≡ Some (view value.now) }
     ensures { option_map (λ k. k.now) result ≡ value_fault field (view value.now) }
 {
     if let Field::InstanceSource = field {
-        return source_fault(value);
+        return fault_in_source(body);
     }
-    if value_fits(field, value) {
+    if value_fits(field, value, body) {
         None
     } else {
-        Some(key_of(field))
+        Some(word_of(key_of(field)))
     }
 }
 
@@ -202,17 +209,17 @@ fn absent_fault(field: Field) -> Option<&'static str>
 
 /// The key of a field that is at fault.
 #[tactic(auto, unfolding(crate::specs::Fields::fault_of))]
-fn fault_of(field: Field, body: &Value) -> Option<&'static str>
+fn fault_of(field: Field, body: &SentBody) -> Option<&'static str>
     ensures { option_map (λ k. k.now) result ≡ fault_of field (view body.now) }
 {
-    match non_null_member(key_of(field), body) {
-        Some(value) => value_fault(field, value),
+    match body.field(key_of(field)) {
+        Some(value) => value_fault(field, value, body),
         None => absent_fault(field),
     }
 }
 
 /// The key of the first field that is at fault.
-fn first_fault(fields: &[Field], body: &Value) -> Option<&'static str>
+fn first_fault(fields: &[Field], body: &SentBody) -> Option<&'static str>
     ensures { option_map (λ k. k.now) result ≡ first_fault fields.now (view body.now) }
 {
     for field in fields {
@@ -225,7 +232,7 @@ fn first_fault(fields: &[Field], body: &Value) -> Option<&'static str>
 }
 
 /// The fields of a body that are judged: those of its shape, but none where an instance is put back to a snapshot.
-fn judged_fields(shape: Shape, body: &Value) -> &'static [Field]
+fn judged_fields(shape: Shape, body: &SentBody) -> &'static [Field]
     ensures { result.now ≡ judged_fields shape (view body.now) }
 {
     if let Shape::InstancePut = shape
@@ -238,7 +245,7 @@ fn judged_fields(shape: Shape, body: &Value) -> &'static [Field]
 
 /// The key of the first field of a body that is at fault, if one is.
 #[tactic(auto, unfolding(crate::specs::Fields::body_fault))]
-pub fn judge_fields(shape: Shape, body: &Value) -> Option<&'static str>
+pub fn judge_fields(shape: Shape, body: &SentBody) -> Option<&'static str>
     ensures { option_map (λ k. k.now) result ≡ body_fault shape (view body.now) }
 {
     first_fault(judged_fields(shape, body), body)

@@ -1,12 +1,16 @@
-ghost use Rattle.std.specs.Prelude.{◌≡◌, IfOk, option_map, is_some};
+ghost use Rattle.std.specs.Prelude.{◌≡◌, IfOk, option_and_then, option_map, is_some, codes};
 ghost use Rattle.serde_json.specs.View.{view};
 ghost use Rattle.rest_bodies.specs.Instances.{kind_of, kind_in, kind_at, is_false, ephemeral_at, text_fault};
+ghost use Rattle.rest_bodies.specs.Members.{non_null_member};
 ghost use Rattle.rest_bodies.specs.Instances.{needed_fault, named_fault, image_fault, typed_fault, source_fault};
 ghost use Rattle.rest_bodies.specs.Instances.{image_name, instance_made, instance_origin, restore_at};
 
 use crate::copies::copied_fault;
-use crate::members::{is_word, non_null_member, str_at, text_at};
+use crate::given::Given;
+use crate::keys::Key;
+use crate::members::{is_word, str_at, text_at};
 use crate::origins::has_word;
+use crate::sent::SentBody;
 use records::Origin;
 use serde_json::Value;
 use size_values::{Kind, NoMemory, Text};
@@ -38,10 +42,10 @@ pub(crate) fn kind_in(value: &Value) -> Option<Kind>
 
 /// The kind of instance in a body, if one is given.
 #[tactic(auto, unfolding(crate::specs::Instances::kind_at))]
-pub(crate) fn kind_at(body: &Value) -> Option<Kind>
+pub(crate) fn kind_at(body: &SentBody) -> Option<Kind>
     ensures { result ≡ kind_at (view body.now) }
 {
-    match non_null_member("type", body) {
+    match body.field(Key::Type) {
         Some(value) => kind_in(value),
         None => None,
     }
@@ -60,10 +64,10 @@ pub(crate) fn is_false(value: &Value) -> bool
 
 /// Whether a body says that the instance goes when it stops, if it says so at all.
 #[tactic(auto, unfolding(crate::specs::Instances::ephemeral_at))]
-pub(crate) fn ephemeral_at(body: &Value) -> Option<bool>
+pub(crate) fn ephemeral_at(body: &SentBody) -> Option<bool>
     ensures { result ≡ ephemeral_at (view body.now) }
 {
-    match non_null_member("ephemeral", body) {
+    match body.field(Key::Ephemeral) {
         Some(value) => value.as_bool(),
         None => None,
     }
@@ -91,33 +95,34 @@ fn needed_fault(key: &'static str, field: Option<&Value>) -> Option<&'static str
 
 /// The fault of the names of an image. A fingerprint that is given is the one that counts, and then the alias is not
 /// looked at.
-fn named_fault(fingerprint: Option<&Value>, source: &Value) -> Option<&'static str>
+fn named_fault(fingerprint: Option<&Value>, source: &Given) -> Option<&'static str>
     ensures { option_map (λ k. k.now) result
         ≡ named_fault (option_map (λ m. view m.now) fingerprint.entry) (view source.now) }
 {
     match fingerprint {
         Some(value) => text_fault("fingerprint", value),
-        None => needed_fault("alias", non_null_member("alias", source)),
+        None => needed_fault("alias", source.member(Key::Alias)),
     }
 }
 
-fn image_fault(source: &Value) -> Option<&'static str>
+fn image_fault(source: &Given) -> Option<&'static str>
     ensures { option_map (λ k. k.now) result ≡ image_fault (view source.now) }
 {
-    named_fault(non_null_member("fingerprint", source), source)
+    named_fault(source.member(Key::Fingerprint), source)
 }
 
 #[tactic(auto, unfolding(crate::specs::Instances::typed_fault))]
-fn typed_fault(source: &Value) -> Option<&'static str>
+fn typed_fault(source: &Given) -> Option<&'static str>
     ensures { option_map (λ k. k.now) result ≡ typed_fault (view source.now) }
 {
-    if has_word("none", non_null_member("type", source)) {
+    let word = source.member(Key::Type);
+    if has_word("none", word) {
         return None;
     }
-    if has_word("image", non_null_member("type", source)) {
+    if has_word("image", word) {
         return image_fault(source);
     }
-    if has_word("copy", non_null_member("type", source)) {
+    if has_word("copy", word) {
         return copied_fault(source);
     }
     Some("type")
@@ -125,35 +130,46 @@ fn typed_fault(source: &Value) -> Option<&'static str>
 
 /// The key of the first part of an instance's source that is at fault, or that of the source where it is no object.
 #[tactic(auto, unfolding(crate::specs::Instances::source_fault))]
-pub(crate) fn source_fault(source: &Value) -> Option<&'static str>
+fn source_fault(source: &Given) -> Option<&'static str>
     ensures { option_map (λ k. k.now) result ≡ source_fault (view source.now) }
 {
-    if source.as_object().is_some() {
+    if source.is_object() {
         typed_fault(source)
     } else {
         Some("source")
     }
 }
 
+/// The key of the first part of a body's source that is at fault.
+pub(crate) fn fault_in_source(body: &SentBody) -> Option<&'static str>
+    ensures { option_map (λ k. k.now) result
+        ≡ option_and_then source_fault (non_null_member (codes "source") (view body.now)) }
+{
+    match body.source() {
+        Some(source) => source_fault(source),
+        None => None,
+    }
+}
+
 /// The name of the image that a source asks for: its fingerprint, or else its alias.
 #[tactic(auto, unfolding(crate::specs::Instances::image_name))]
-fn image_name(source: &Value) -> &str
+fn image_name<'a>(source: &Given<'a>) -> &'a str
     ensures { result.now ≡ image_name (view source.now) }
 {
-    if let Some(fingerprint) = str_at("fingerprint", source) {
+    if let Some(fingerprint) = str_at(Key::Fingerprint, source) {
         return fingerprint;
     }
-    match str_at("alias", source) {
+    match str_at(Key::Alias, source) {
         Some(alias) => alias,
         None => "",
     }
 }
 
 #[tactic(auto, unfolding(crate::specs::Instances::instance_made))]
-fn instance_made(alloc: Global, source: &Value) -> Result<Origin, NoMemory>
+fn instance_made(alloc: Global, source: &Given) -> Result<Origin, NoMemory>
     ensures { IfOk result (λ o. o ≡ instance_made (view source.now)) }
 {
-    if has_word("image", non_null_member("type", source)) {
+    if has_word("image", source.member(Key::Type)) {
         return Ok(Origin::Image(Text::from_text(alloc, image_name(source))?));
     }
     Ok(Origin::None)
@@ -161,10 +177,10 @@ fn instance_made(alloc: Global, source: &Value) -> Result<Origin, NoMemory>
 
 /// What the body of a new instance that is no copy makes it from: an image, or nothing.
 #[tactic(auto, unfolding(crate::specs::Instances::instance_origin))]
-pub(crate) fn instance_origin(alloc: Global, body: &Value) -> Result<Origin, NoMemory>
+pub(crate) fn instance_origin(alloc: Global, body: &SentBody) -> Result<Origin, NoMemory>
     ensures { IfOk result (λ o. o ≡ instance_origin (view body.now)) }
 {
-    match non_null_member("source", body) {
+    match body.source() {
         Some(source) => instance_made(alloc, source),
         None => Ok(Origin::None),
     }
@@ -172,16 +188,16 @@ pub(crate) fn instance_origin(alloc: Global, body: &Value) -> Result<Origin, NoM
 
 /// The snapshot that an instance is put back to, if the body names one. The other fields of such a body are ignored.
 #[tactic(auto, unfolding(crate::specs::Instances::restore_at))]
-pub fn restore_at(alloc: Global, body: &Value) -> Result<Option<Text>, NoMemory>
+pub fn restore_at(alloc: Global, body: &SentBody) -> Result<Option<Text>, NoMemory>
     ensures { IfOk result (λ o. o ≡ restore_at (view body.now)) }
 {
-    text_at(alloc, "restore", body)
+    text_at(alloc, Key::Restore, body.members())
 }
 
 /// Whether a body puts an instance back to a snapshot.
 #[tactic(auto, unfolding(crate::specs::Instances::restore_at))]
-pub(crate) fn is_restoration(body: &Value) -> bool
+pub(crate) fn is_restoration(body: &SentBody) -> bool
     ensures { result ≡ is_some (restore_at (view body.now)) }
 {
-    str_at("restore", body).is_some()
+    str_at(Key::Restore, body.members()).is_some()
 }

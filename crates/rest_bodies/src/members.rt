@@ -1,8 +1,11 @@
 ghost use Rattle.std.specs.Prelude.{◌≡◌, IfOk, option_map, unwrap_or};
 ghost use Rattle.serde_json.specs.View.{view};
-ghost use Rattle.rest_bodies.specs.Members.{json_in, if_object, object_in, if_given, non_null_member, text_at, is_word};
-ghost use Rattle.rest_bodies.specs.Members.{name_at};
+ghost use Rattle.rest_bodies.specs.Keys.{word_of};
+ghost use Rattle.rest_bodies.specs.Members.{json_in, if_object, object_in, text_at, is_word, name_at};
 
+use crate::given::Given;
+use crate::keys::Key;
+use crate::sent::SentBody;
 use serde_json::Value;
 use size_values::{NoMemory, Text};
 use std::alloc::Global;
@@ -45,24 +48,6 @@ pub fn object_in(alloc: Global, body: &[u8]) -> Result<Option<Value>, NoMemory>
     }
 }
 
-#[tactic(auto, unfolding(crate::specs::Members::if_given))]
-fn if_given(value: &Value) -> Option<&Value>
-    ensures { option_map (λ m. view m.now) result ≡ if_given (view value.now) }
-{
-    if value.is_null() { None } else { Some(value) }
-}
-
-/// The value of a field that is there and not null.
-#[tactic(auto, unfolding(crate::specs::Members::non_null_member))]
-pub fn non_null_member<'a>(key: &str, body: &'a Value) -> Option<&'a Value>
-    ensures { option_map (λ m. view m.now) result ≡ non_null_member key.now (view body.now) }
-{
-    match body.get(key) {
-        Some(value) => if_given(value),
-        None => None,
-    }
-}
-
 fn copy_of(alloc: Global, text: Option<&str>) -> Result<Option<Text>, NoMemory>
     ensures { IfOk result (λ o. o ≡ option_map (λ s. s.now) text.entry) }
 {
@@ -74,18 +59,18 @@ fn copy_of(alloc: Global, text: Option<&str>) -> Result<Option<Text>, NoMemory>
 
 /// The text of a field, as it stands in the body.
 #[tactic(auto, unfolding(crate::specs::Members::text_at))]
-pub(crate) fn str_at<'a>(key: &str, body: &'a Value) -> Option<&'a str>
-    ensures { option_map (λ s. s.now) result ≡ text_at key.now (view body.now) }
+pub(crate) fn str_at<'a>(key: Key, body: &Given<'a>) -> Option<&'a str>
+    ensures { option_map (λ s. s.now) result ≡ text_at (word_of key) (view body.now) }
 {
-    match non_null_member(key, body) {
+    match body.member(key) {
         Some(value) => value.as_str(),
         None => None,
     }
 }
 
 /// The text of a field, if it is given.
-pub(crate) fn text_at(alloc: Global, key: &str, body: &Value) -> Result<Option<Text>, NoMemory>
-    ensures { IfOk result (λ o. o ≡ text_at key.now (view body.now)) }
+pub(crate) fn text_at(alloc: Global, key: Key, body: &Given) -> Result<Option<Text>, NoMemory>
+    ensures { IfOk result (λ o. o ≡ text_at (word_of key) (view body.now)) }
 {
     copy_of(alloc, str_at(key, body))
 }
@@ -101,12 +86,19 @@ pub(crate) fn is_word(word: &str, value: &Value) -> bool
     }
 }
 
-/// The name in a body, which is there in a body that was judged.
-pub fn name_at(alloc: Global, body: &Value) -> Result<Text, NoMemory>
-    ensures { IfOk result (λ t. t ≡ name_at (view body.now)) }
+/// The name among the members of a value, empty where there is none.
+pub(crate) fn name_in(alloc: Global, given: &Given) -> Result<Text, NoMemory>
+    ensures { IfOk result (λ t. t ≡ name_at (view given.now)) }
 {
-    match text_at(alloc, "name", body)? {
+    match text_at(alloc, Key::Name, given)? {
         Some(name) => Ok(name),
         None => Ok(Text::new(alloc)),
     }
+}
+
+/// The name in a body, which is there in a body that was judged.
+pub fn name_at(alloc: Global, body: &SentBody) -> Result<Text, NoMemory>
+    ensures { IfOk result (λ t. t ≡ name_at (view body.now)) }
+{
+    name_in(alloc, body.members())
 }

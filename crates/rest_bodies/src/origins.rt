@@ -1,9 +1,14 @@
-ghost use Rattle.std.specs.Prelude.{◌≡◌, IfOk, Some, option_map};
+ghost use Rattle.std.specs.Prelude.{◌≡◌, IfOk, Some, false, option_map, codes};
+ghost use Rattle.std.specs.Option.{option_map_or};
 ghost use Rattle.serde_json.specs.View.{view};
+ghost use Rattle.rest_bodies.specs.Members.{non_null_member};
 ghost use Rattle.rest_bodies.specs.Origins.{may_be_text, has_word, is_copy_source, asks_for_copy, fits_source};
 ghost use Rattle.rest_bodies.specs.Origins.{source_pool, volume_copied, volume_origin};
 
-use crate::members::{is_word, name_at, non_null_member, str_at};
+use crate::given::Given;
+use crate::keys::Key;
+use crate::members::{is_word, name_in, str_at};
+use crate::sent::SentBody;
 use records::Origin;
 use serde_json::Value;
 use size_values::{NoMemory, Text};
@@ -28,18 +33,18 @@ pub(crate) fn has_word(word: &str, field: Option<&Value>) -> bool
 }
 
 /// Whether a source is an object with the type `copy`, whatever else it says.
-fn is_copy_source(source: &Value) -> bool
+fn is_copy_source(source: &Given) -> bool
     ensures { result ≡ is_copy_source (view source.now) }
 {
-    has_word("copy", non_null_member("type", source))
+    has_word("copy", source.member(Key::Type))
 }
 
 /// Whether a body asks for a copy of an object, whatever else it says.
 #[tactic(auto, unfolding(crate::specs::Origins::asks_for_copy))]
-pub fn asks_for_copy(body: &Value) -> bool
+pub fn asks_for_copy(body: &SentBody) -> bool
     ensures { result ≡ asks_for_copy (view body.now) }
 {
-    match non_null_member("source", body) {
+    match body.source() {
         Some(source) => is_copy_source(source),
         None => false,
     }
@@ -47,29 +52,39 @@ pub fn asks_for_copy(body: &Value) -> bool
 
 /// Whether a value is the source of a volume: an object with the type `copy`, the name of a volume, and maybe its pool.
 #[tactic(auto, unfolding(crate::specs::Origins::fits_source))]
-pub(crate) fn fits_source(source: &Value) -> bool
+fn fits_source(source: &Given) -> bool
     ensures { result ≡ fits_source (view source.now) }
 {
     is_copy_source(source)
-        && str_at("name", source).is_some()
-        && may_be_text(non_null_member("pool", source))
+        && str_at(Key::Name, source).is_some()
+        && may_be_text(source.member(Key::Pool))
+}
+
+/// Whether the source of a body is that of a volume.
+pub(crate) fn has_volume_source(body: &SentBody) -> bool
+    ensures { result ≡ option_map_or fits_source (non_null_member (codes "source") (view body.now)) false }
+{
+    match body.source() {
+        Some(source) => fits_source(source),
+        None => false,
+    }
 }
 
 /// The pool that a source names. Only where it names none, not where its text is empty, the path's pool is meant.
-fn source_pool<'a>(source: &'a Value, pool: &'a str) -> &'a str
+fn source_pool<'a>(source: &Given<'a>, pool: &'a str) -> &'a str
     ensures { result.now ≡ source_pool (view source.now) pool.now }
 {
-    match str_at("pool", source) {
+    match str_at(Key::Pool, source) {
         Some(named) => named,
         None => pool,
     }
 }
 
-fn volume_copied(alloc: Global, source: &Value, pool: &str) -> Result<Origin, NoMemory>
+fn volume_copied(alloc: Global, source: &Given, pool: &str) -> Result<Origin, NoMemory>
     ensures { IfOk result (λ o. o ≡ volume_copied (Some (view source.now)) pool.now) }
 {
     let pool = Text::from_text(alloc, source_pool(source, pool))?;
-    let from = name_at(alloc, source)?;
+    let from = name_in(alloc, source)?;
     Ok(Origin::Copy {
         from,
         snapshot: Text::new(alloc),
@@ -80,10 +95,10 @@ fn volume_copied(alloc: Global, source: &Value, pool: &str) -> Result<Origin, No
 /// What the body of a new volume makes it from, in the pool of its path: a copy of the volume that its `source` names,
 /// or nothing where it has no `source`.
 #[tactic(auto, unfolding(crate::specs::Origins::volume_origin))]
-pub fn volume_origin(alloc: Global, body: &Value, pool: &str) -> Result<Origin, NoMemory>
+pub(crate) fn volume_origin(alloc: Global, body: &SentBody, pool: &str) -> Result<Origin, NoMemory>
     ensures { IfOk result (λ o. o ≡ volume_origin (view body.now) pool.now) }
 {
-    match non_null_member("source", body) {
+    match body.source() {
         Some(source) => volume_copied(alloc, source, pool),
         None => Ok(Origin::None),
     }

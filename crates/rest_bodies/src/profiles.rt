@@ -5,7 +5,8 @@ ghost use Rattle.records.specs.Forms.{most_profiles};
 ghost use Rattle.rest_bodies.specs.Profiles.{is_text, are_texts, is_here, is_among, comes_again, are_distinct};
 ghost use Rattle.rest_bodies.specs.Profiles.{are_names, fits_profiles, text_in, texts_in, profiles_in, profiles_at};
 
-use crate::members::non_null_member;
+use crate::keys::Key;
+use crate::sent::SentBody;
 use serde_json::Value;
 use size_values::{NoMemory, Seq, Text};
 use std::alloc::Global;
@@ -118,10 +119,10 @@ fn profiles_in(alloc: Global, value: &Value) -> Result<Seq<Text>, NoMemory>
 
 /// The profiles that a body names, if it has the field.
 #[tactic(auto, unfolding(crate::specs::Profiles::profiles_at))]
-pub(crate) fn profiles_at(alloc: Global, body: &Value) -> Result<Option<Seq<Text>>, NoMemory>
+pub(crate) fn profiles_at(alloc: Global, body: &SentBody) -> Result<Option<Seq<Text>>, NoMemory>
     ensures { IfOk result (λ o. o ≡ profiles_at (view body.now)) }
 {
-    match non_null_member("profiles", body) {
+    match body.field(Key::Profiles) {
         Some(value) => Ok(Some(profiles_in(alloc, value)?)),
         None => Ok(None),
     }

@@ -22,7 +22,9 @@ pub use path_laws::{
     events_stand_at_one_path, names_fill_the_braces, paths_do_not_conflict,
     the_server_stands_at_its_path,
 };
-pub use paths::{instance_of, name_of, path_of, pool_of, query_of, split_target};
+pub use paths::{
+    PathNames, instance_of, name_of, path_names, path_of, pool_of, query_of, split_target,
+};
 pub use places::{Line, Methods, Place, Verb, has_body, verb_offered};
 pub use query::{
     Flags, Query, Types, project_of, query_from_text, wait_timeout, wanted_types, wants_objects,

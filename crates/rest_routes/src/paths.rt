@@ -61,17 +61,48 @@ fn after_three_slashes(path: &str) -> &str
     after_slash(after_slash(after_slash(path)))
 }
 
+/// The names in the path of one object: its own, and that of the pool of a volume or of the instance of a snapshot.
+#[derive(Clone, Copy)]
+pub struct PathNames<'a> {
+    pub pool: &'a str,
+    pub instance: &'a str,
+    pub name: &'a str,
+}
+
+/// The names in the path of one object, each found once.
+pub fn path_names(kind: ObjectKind, path: &str) -> PathNames<'_>
+    ensures pool { result.pool.now ≡ pool_of kind path.now }
+    ensures instance { result.instance.now ≡ instance_of kind path.now }
+    ensures name { result.name.now ≡ name_of kind path.now }
+{
+    let rest = after_three_slashes(path);
+    let first = before_slash(rest);
+    match kind {
+        ObjectKind::Volume => PathNames {
+            pool: first,
+            instance: "",
+            name: before_slash(after_three_slashes(rest)),
+        },
+        ObjectKind::Snapshot => PathNames {
+            pool: "",
+            instance: first,
+            name: before_slash(after_slash(after_slash(rest))),
+        },
+        _ => PathNames {
+            pool: "",
+            instance: "",
+            name: first,
+        },
+    }
+}
+
 /// The name of the object in a path `/1.0/profiles/NAME`, for volumes
 /// `/1.0/storage-pools/POOL/volumes/custom/NAME`, and for snapshots
 /// `/1.0/instances/INSTANCE/snapshots/NAME`.
 pub fn name_of(kind: ObjectKind, path: &str) -> &str
     ensures { result.now ≡ name_of kind path.now }
 {
-    match kind {
-        ObjectKind::Volume => before_slash(after_three_slashes(after_three_slashes(path))),
-        ObjectKind::Snapshot => before_slash(after_slash(after_slash(after_three_slashes(path)))),
-        _ => before_slash(after_three_slashes(path)),
-    }
+    path_names(kind, path).name
 }
 
 /// The pool in a path of volumes, `/1.0/storage-pools/POOL/volumes`. Other objects stand in none.

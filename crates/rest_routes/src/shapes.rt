@@ -5,12 +5,11 @@ ghost use Rattle.rest_routes.specs.Shapes.{instance_shape, creation_shape, renam
 ghost use Rattle.rest_routes.specs.Shapes.{change_shape, object_shape, shape_of};
 
 use crate::places::{Place, Verb};
-use rest_bodies::{Shape, asks_for_copy};
-use serde_json::Value;
+use rest_bodies::{SentBody, Shape, asks_for_copy};
 use size_values::ObjectKind;
 
 /// A new instance, which is a copy where its source says so. This is looked up before any field is judged.
-fn instance_shape(body: &Value) -> Shape
+fn instance_shape(body: &SentBody) -> Shape
     ensures { result ≡ instance_shape (view body.now) }
 {
     if asks_for_copy(body) {
@@ -20,7 +19,7 @@ fn instance_shape(body: &Value) -> Shape
     }
 }
 
-fn creation_shape(kind: ObjectKind, body: &Value) -> Option<Shape>
+fn creation_shape(kind: ObjectKind, body: &SentBody) -> Option<Shape>
     ensures { result ≡ creation_shape kind (view body.now) }
 {
     match kind {
@@ -90,7 +89,7 @@ fn object_shape(kind: ObjectKind, verb: Verb) -> Option<Shape>
 }
 
 /// The shape of the body that a method sends to a place, if one is sent there.
-pub(crate) fn shape_of(place: Place, verb: Verb, body: &Value) -> Option<Shape>
+pub(crate) fn shape_of(place: Place, verb: Verb, body: &SentBody) -> Option<Shape>
     ensures { result ≡ shape_of place verb (view body.now) }
 {
     match place {

@@ -3,7 +3,7 @@ ghost use Rattle.std.specs.Prelude.{◌≡◌, IfOk};
 ghost use Rattle.rest_routes.specs.Answers.{Gives};
 ghost use Rattle.rest_routes.specs.Targets.{target_at_path, object_of, objects_of, operation_at};
 
-use crate::paths::{instance_of, name_of, pool_of};
+use crate::paths::{instance_of, name_of, path_names, pool_of};
 use crate::refusals::no_operation;
 use records::{Refusal, Target};
 use rest_replies::number_of;
@@ -33,8 +33,16 @@ pub(crate) fn target_at_path(
 pub(crate) fn object_of(alloc: Global, kind: ObjectKind, path: &str) -> Result<Target, NoMemory>
     ensures { IfOk result (λ of. of ≡ object_of kind path.now) }
 {
-    let name = Text::from_text(alloc, name_of(kind, path))?;
-    target_at_path(alloc, kind, path, name)
+    let names = path_names(kind, path);
+    let pool = Text::from_text(alloc, names.pool)?;
+    let instance = Text::from_text(alloc, names.instance)?;
+    let name = Text::from_text(alloc, names.name)?;
+    Ok(Target {
+        kind,
+        pool,
+        instance,
+        name,
+    })
 }
 
 /// All objects of a kind at a path: volumes of its pool, snapshots of its instance.

@@ -6,13 +6,12 @@ ghost use Rattle.rest_routes.specs.WithBody.{creation_from_body, snapshot_to_res
 ghost use Rattle.rest_routes.specs.WithBody.{action_from_body};
 ghost use Rattle.rest_routes.specs.WithBody.{what_from_body, what_with_body};
 
-use crate::paths::pool_of;
 use crate::places::{Place, Verb};
 use crate::refusals::{plain_refusal, refusal_on_key};
 use crate::shapes::shape_of;
 use crate::targets::{object_of, target_at_path};
 use records::{Refusal, Rule, Target, What};
-use rest_bodies::{Shape, action_at, body_of, judge_fields, name_at, restore_at};
+use rest_bodies::{SentBody, Shape, action_at, body_of, judge_fields, name_at, restore_at};
 use serde_json::Value;
 use size_values::{NoMemory, ObjectKind, Or, Text};
 use std::alloc::Global;
@@ -23,17 +22,21 @@ fn creation_from_body(
     kind: ObjectKind,
     path: &str,
     shape: Shape,
-    body: &Value,
+    body: &SentBody,
 ) -> Result<What, NoMemory>
     ensures { IfOk result (λ w. w ≡ creation_from_body kind path.now shape (view body.now)) }
 {
     let of = target_at_path(alloc, kind, path, name_at(alloc, body)?)?;
-    let body = body_of(alloc, shape, body, pool_of(kind, path))?;
+    let body = body_of(alloc, shape, body, of.pool.view())?;
     Ok(What::Create { of, body })
 }
 
 /// The snapshot that a PUT takes its instance back to, if it says so.
-fn snapshot_to_restore(alloc: Global, shape: Shape, body: &Value) -> Result<Option<Text>, NoMemory>
+fn snapshot_to_restore(
+    alloc: Global,
+    shape: Shape,
+    body: &SentBody,
+) -> Result<Option<Text>, NoMemory>
     ensures { IfOk result (λ snapshot. snapshot ≡ snapshot_to_restore shape (view body.now)) }
 {
     match shape {
@@ -43,7 +46,7 @@ fn snapshot_to_restore(alloc: Global, shape: Shape, body: &Value) -> Result<Opti
 }
 
 /// What PUT asks of an object: to be replaced, or to be taken back to a snapshot.
-fn put_from_body(alloc: Global, of: Target, shape: Shape, body: &Value) -> Result<What, NoMemory>
+fn put_from_body(alloc: Global, of: Target, shape: Shape, body: &SentBody) -> Result<What, NoMemory>
     ensures { IfOk result
         (λ w. w ≡ put_from_body (snapshot_to_restore shape (view body.now)) of shape (view body.now)) }
 {
@@ -60,7 +63,7 @@ fn change_from_body(
     verb: Verb,
     of: Target,
     shape: Shape,
-    body: &Value,
+    body: &SentBody,
 ) -> Result<What, NoMemory>
     ensures { IfOk result (λ w. w ≡ change_from_body verb of shape (view body.now)) }
 {
@@ -78,7 +81,7 @@ fn change_from_body(
 }
 
 /// An action on the instance in the path.
-fn action_from_body(alloc: Global, path: &str, body: &Value) -> Result<What, Or<Refusal>>
+fn action_from_body(alloc: Global, path: &str, body: &SentBody) -> Result<What, Or<Refusal>>
     ensures { Gives result (action_from_body path.now (view body.now)) }
 {
     let Some(action) = action_at(body) else {
@@ -95,7 +98,7 @@ fn what_from_body(
     verb: Verb,
     path: &str,
     shape: Shape,
-    body: &Value,
+    body: &SentBody,
 ) -> Result<What, Or<Refusal>>
     ensures { Gives result (what_from_body place verb path.now shape (view body.now)) }
 {
@@ -121,14 +124,15 @@ pub(crate) fn what_with_body(
 ) -> Result<What, Or<Refusal>>
     ensures { Gives result (what_with_body place verb path.now (option_map view sent.now)) }
 {
-    let Some(body) = sent else {
+    let Some(value) = sent else {
         return Err(plain_refusal(alloc, Rule::A4));
     };
-    let Some(shape) = shape_of(place, verb, body) else {
+    let body = SentBody::new(value);
+    let Some(shape) = shape_of(place, verb, &body) else {
         return Err(plain_refusal(alloc, Rule::A2));
     };
-    match judge_fields(shape, body) {
+    match judge_fields(shape, &body) {
         Some(key) => Err(refusal_on_key(alloc, Rule::A5, key)),
-        None => what_from_body(alloc, place, verb, path, shape, body),
+        None => what_from_body(alloc, place, verb, path, shape, &body),
     }
 }

@@ -1,3 +1,4 @@
+pub mod AnyRows
 pub mod Loads
 pub mod Lent
 pub mod Rising

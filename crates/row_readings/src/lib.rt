@@ -3,6 +3,7 @@
 #![tactic(auto)]
 
 mod amounts;
+mod any_row;
 mod claims;
 mod homes;
 mod instances;
@@ -16,6 +17,7 @@ mod usage;
 mod view;
 
 pub use amounts::{Load, amounts_of_instance, loads, project_of_row, share_of, usage_in};
+pub use any_row::{AnyRow, row_of};
 pub use claims::{claimed_instance, claimed_snapshot, claimed_volume, replaced_instance};
 pub use homes::{is_on, is_true};
 pub use lookups::{kept_at, power_of};

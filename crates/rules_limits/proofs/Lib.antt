@@ -1,7 +1,6 @@
 pub mod Countables
-pub mod Limited
-mod OneProject
 mod OwnRows
+pub mod Serving
 mod Summed
 mod Tables
 pub mod Unchanged

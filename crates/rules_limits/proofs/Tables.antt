@@ -12,14 +12,14 @@ use Rattle.project_limits.specs.Limits.{limits_of}
 use Rattle.records.specs.declared.rows.Project.{Project}
 use Rattle.row_machine.specs.machine.LimitRules.{limit_exceeded}
 use Rattle.row_machine.specs.machine.Usage.{Load}
-use Rattle.rules_limits.specs.Exceeding.{part_over, parts_over}
+use Rattle.rules_limits.specs.AllProjects.{part_over, parts_over}
 use Rattle.rules_limits.specs.Sums.{sums_for, sums_of, lines, line_over, lines_over}
 use Rattle.rules_limits.proofs.Summed.{part-sums}
 
 -- ---- the line at a place
 
 -- a place that is there needs no default
-any-default : {X : Type 0} (xs : List X) (i : ℕ) (d e : X) → i < length xs → get_or xs i d ≡ get_or xs i e
+pub any-default : {X : Type 0} (xs : List X) (i : ℕ) (d e : X) → i < length xs → get_or xs i d ≡ get_or xs i e
 any-default [] i d e within = absurd (omega (arith, within))
 any-default (x ∷ xs) zero d e within = refl
 any-default (x ∷ xs) (suc i) d e within = any-default xs i d e (omega (arith, within))

@@ -1,7 +1,6 @@
 -- Changes that put no project with a limit leave projects without limits.
-use Rattle.std.proofs.Common.{◌≡◌, ℕ, Bool, true, false, ◌&&◌, List, [], ◌∷◌, filter, refl, sym, ◌∙◌}
+use Rattle.std.proofs.Common.{◌≡◌, ℕ, Bool, false, List, [], ◌∷◌}
 use Rattle.std.specs.List.{list_any}
-use Rattle.std.specs.Str.{bytes_eq}
 use Rattle.plain_lists.specs.Members.{Each}
 use Rattle.plain_lists.proofs.EditLemmas.{replaced-is, Each-Replaces, Each-dropped}
 use Rattle.plain_lists.proofs.Searches.{any-none, none-any}
@@ -16,8 +15,7 @@ use Rattle.row_machine.specs.declared.changes.RowChange.TheVariants as change
 use Rattle.row_machine.specs.machine.State.{State}
 use Rattle.row_machine.specs.machine.Rows.{is_project, project_names, texts_before}
 use Rattle.row_machine.specs.machine.Changes.{with_row, without_row, changed, applied, has_key}
-use Rattle.row_readings.proofs.Ranges.{list_any-filter}
-use Rattle.rules_limits.specs.Exceeding.{limits_any, is_any_limited, is_limited_row, sets_limit}
+use Rattle.rules_limits.specs.AllProjects.{limits_any, is_any_limited, is_limited_row, sets_limit}
 use Rattle.rules_limits.proofs.Unlimited.{neither}
 
 -- a fact on each project that one without a limit meets
@@ -60,21 +58,3 @@ pub stays-free : (s : State) (cs : List RowChange) → is_any_limited s.projects
 stays-free s cs none unset =
     none-any is_limited (applied s cs).projects
     (all-free (λ p. is_limited p ≡ false) (λ p is. is) cs s unset (any-none is_limited s.projects none))
-
--- the same of the projects of a name
-pub stays-free_of : (s : State) (cs : List RowChange) (name : List ℕ)
-    → is_any_limited (filter (λ (p : Project). bytes_eq p.name name) s.projects) ≡ false → list_any sets_limit cs ≡ false
-    → is_any_limited (filter (λ (p : Project). bytes_eq p.name name) (applied s cs).projects) ≡ false
-stays-free_of s cs name none unset =
-    list_any-filter is_limited own (applied s cs).projects
-    ∙ none-any (λ p. own p && is_limited p) (applied s cs).projects
-    (all-free (λ p. (own p && is_limited p) ≡ false) frees cs s unset
-    (any-none (λ p. own p && is_limited p) s.projects (sym (list_any-filter is_limited own s.projects) ∙ none))) where
-      own : Project → Bool
-      own p = bytes_eq p.name name
-
-      frees : (p : Project) → is_limited p ≡ false → (own p && is_limited p) ≡ false
-      frees p is = at (own p) where
-        at : (b : Bool) → (b && is_limited p) ≡ false
-        at true = is
-        at false = refl

@@ -1,11 +1,13 @@
 -- Where a project limits no sum, all is countable; where no project has a limit, none is exceeded.
 use Rattle.std.proofs.Common.{◌≡◌, ℕ, Bool, true, false, ◌||◌, Option, Some, None, List, [], ◌∷◌, refl, ap}
+use Rattle.std.specs.Option.{option_and_then, option_map, option_map_or}
 use Rattle.std.specs.Prelude.{codes, is_some}
 use Rattle.plain_lists.specs.Members.{Each}
 use Rattle.plain_lists.specs.Firsts.{first_of}
 use Rattle.plain_lists.proofs.Elements.{Each-none, Each-cons, Each-map}
 use Rattle.plain_lists.proofs.FirstLemmas.{none-first_of}
 use Rattle.size_values.specs.Amounts.{part}
+use Rattle.size_values.specs.declared.amounts.Amounts.{Amounts}
 use Rattle.size_values.specs.declared.amounts.Part.{Part}
 use Rattle.size_values.specs.declared.amounts.Part.TheVariants as part_of
 use Rattle.size_values.specs.declared.kinds.Kind.{Kind}
@@ -24,14 +26,17 @@ use Rattle.records.specs.declared.rows.Volume.{Volume}
 use Rattle.records.specs.declared.rows.Instance.{Instance}
 use Rattle.operations.specs.declared.operation.Operation.{Operation}
 use Rattle.row_machine.specs.machine.Task.{Task}
+use Rattle.row_machine.specs.machine.Rows.{project_named}
 use Rattle.row_machine.specs.machine.State.{State}
 use Rattle.row_machine.specs.machine.Usage.{used, networks_of}
 use Rattle.row_machine.specs.machine.Expansions.{expanded_of}
 use Rattle.row_machine.specs.machine.LimitRules.{project_uncounted, claim_uncounted, instance_uncounted, volume_uncounts, limits_broken, part_exceeds, networks_exceed, limit_exceeded, object_uncounted}
 use Rattle.rules_refusals.proofs.Saying.{none-or}
-use Rattle.rules_limits.specs.Exceeding.{limits_sum, limits_any, is_any_limited}
-use Rattle.rules_limits.specs.InUse.{part_use_over, network_use_over, uses_over}
-use Rattle.rules_limits.specs.declared.in_use.InUse.{InUse}
+use Rattle.rules_limits.specs.AllProjects.{limits_sum, limits_any, is_any_limited}
+use Rattle.rules_limits.specs.Limited.{has_limits}
+use Rattle.rules_limits.specs.OneProject.{amounts_over, of_project, uses_over}
+use Rattle.rules_limits.specs.Sums.{line_over}
+use Rattle.rules_limits.specs.declared.one_project.InUse.{InUse}
 
 -- ---- limits that are not set
 
@@ -139,16 +144,24 @@ unlimited-fits before after e =
     (record { at = λ k m. none-first_of (part_exceeds before after k) after.projects (Each-map (part-none before after k) free) }))
     (none-or (none-first_of (networks_exceed before after) after.projects (Each-map (networks-none before after) free)) refl)
 
--- of projects that used so much and use so much
-pub unlimited-uses : (projects : List Project) (before after : InUse) → is_any_limited projects ≡ false → uses_over projects before after ≡ None
-unlimited-uses projects before after e =
-    let free = each-free projects e in
-    none-or
-    (none-first_of (λ k. first_of (part_use_over before.amounts after.amounts k) projects) parts
-    (record { at = λ k m. none-first_of (part_use_over before.amounts after.amounts k) projects (Each-map (part-free k) free) }))
-    (none-or (none-first_of (network_use_over before.networks after.networks) projects (Each-map networks-free free)) refl) where
-      part-free : (k : Part) (p : Project) → HasNone (limits_of p.config) → part_use_over before.amounts after.amounts k p ≡ None
-      part-free k p free = ap (λ limit. limit_exceeded p (key_of k) limit (part k before.amounts) (part k after.amounts)) (free.parts k)
+-- ---- limits of one project
 
-      networks-free : (p : Project) → HasNone (limits_of p.config) → network_use_over before.networks after.networks p ≡ None
-      networks-free p free = ap (λ limit. limit_exceeded p Networks limit before.networks after.networks) free.networks
+module _ (p : Project) (free : limits_any (limits_of p.config) ≡ false) where
+  -- whatever it uses
+  pub unlimited-amounts : (before after : Amounts) → amounts_over before after p ≡ None
+  unlimited-amounts before after = none-first_of (λ k. line_over k (p, (before, after))) parts (record {
+    at = λ k m. ap (λ limit. limit_exceeded p (key_of k) limit (part k before) (part k after)) ((no-limit (limits_of p.config) free).parts k);
+  })
+
+  pub unlimited-uses : (before after : InUse) → uses_over before after p ≡ None
+  unlimited-uses before after = none-or (unlimited-amounts before.amounts after.amounts)
+      (none-or (ap (λ limit. limit_exceeded p Networks limit before.networks after.networks) (no-limit (limits_of p.config) free).networks) refl)
+
+-- of the project of a name
+pub unlimited-named : (ps : List Project) (name : List ℕ) (before after : InUse) → has_limits ps name ≡ false
+    → of_project (uses_over before after) ps name ≡ None
+unlimited-named ps name before after = at (project_named ps name) where
+  at : (o : Option Project) → option_map_or limits_any (option_map (λ p. limits_of p.config) o) false ≡ false
+      → option_and_then (uses_over before after) o ≡ None
+  at None free = refl
+  at (Some p) free = unlimited-uses p free before after

@@ -1,6 +1,6 @@
-pub mod Alone
+pub mod AllProjects
 pub mod Counting
-pub mod Exceeding
-pub mod InUse
+pub mod Limited
+pub mod OneProject
 pub mod Sums
 pub mod Within

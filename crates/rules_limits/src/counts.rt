@@ -7,10 +7,11 @@ ghost use Rattle.row_machine.specs.machine.LimitRules.{sum_text, object_uncounte
 ghost use Rattle.row_machine.specs.machine.LimitRules.{counts_broken};
 ghost use Rattle.rules_limits.specs.Within.{own_instance, own_volume, own_objects};
 
+use crate::limited::Limited;
 use crate::parts::limits_sum;
 use operations::Operation;
-use project_limits::{SumKey, countable, limits_of, volume_countable};
-use records::{Instance, Project, Refusal, Rule, Volume};
+use project_limits::{SumKey, countable, volume_countable};
+use records::{Instance, Refusal, Rule, Volume};
 use row_machine::Work;
 use row_readings::{View, claimed_instance, claimed_volume, rows_of};
 use rules_refusals::on_key_of;
@@ -31,7 +32,7 @@ fn sum_text(key: SumKey) -> &'static str
 /// An object of this name gives no number for this sum.
 fn object_uncounted(
     alloc: Global,
-    project: &Project,
+    project: &Limited<'_>,
     name: &Text,
     key: Option<SumKey>,
 ) -> Result<(), Or<Refusal>>
@@ -41,7 +42,7 @@ fn object_uncounted(
         return Ok(());
     };
     let key = sum_text(key);
-    Err(Or::Why(on_key_of(alloc, Rule::L0, key, name.view(), project.name.view())?))
+    Err(Or::Why(on_key_of(alloc, Rule::L0, key, name.view(), project.name().view())?))
 }
 
 /// An instance of the project gives no number for a sum that the project limits.
@@ -49,17 +50,17 @@ fn object_uncounted(
 fn instance_uncounted(
     alloc: Global,
     view: &View<'_>,
-    project: &Project,
+    project: &Limited<'_>,
     row: &Instance,
 ) -> Result<(), Or<Refusal>>
     ensures { Says result (own_instance view.now project.now row.now) }
 {
-    if !row.project.is(&project.name) {
+    if !row.project.is(project.name()) {
         return Ok(());
     }
     let expanded = view.expansion(alloc, row)?;
-    let limits = limits_of(&project.config);
-    let key = countable(&limits, row.kind, &expanded.config, &expanded.devices).err();
+    let limits = project.limits();
+    let key = countable(limits, row.kind, &expanded.config, &expanded.devices).err();
     drop(expanded);
     object_uncounted(alloc, project, &row.name, key)
 }
@@ -67,7 +68,7 @@ fn instance_uncounted(
 fn instances_uncounted(
     alloc: Global,
     view: &View<'_>,
-    project: &Project,
+    project: &Limited<'_>,
     rows: &[Boxed<Instance>],
 ) -> Result<(), Or<Refusal>>
     ensures { Says result (first_of (own_instance view.now project.now) rows.now) }
@@ -82,19 +83,19 @@ fn instances_uncounted(
 
 /// A volume of the project has no size although the project limits its disk.
 #[tactic(auto, unfolding(row_machine::specs::machine::LimitRules::volume_uncounts))]
-fn volume_uncounted(alloc: Global, project: &Project, row: &Volume) -> Result<(), Or<Refusal>>
+fn volume_uncounted(alloc: Global, project: &Limited<'_>, row: &Volume) -> Result<(), Or<Refusal>>
     ensures { Says result (own_volume project.now row.now) }
 {
-    if !row.project.is(&project.name) {
+    if !row.project.is(project.name()) {
         return Ok(());
     }
-    let key = volume_countable(&limits_of(&project.config), &row.config).err();
+    let key = volume_countable(project.limits(), &row.config).err();
     object_uncounted(alloc, project, &row.name, key)
 }
 
 fn volumes_uncounted(
     alloc: Global,
-    project: &Project,
+    project: &Limited<'_>,
     rows: &[Boxed<Volume>],
 ) -> Result<(), Or<Refusal>>
     ensures { Says result (first_of (own_volume project.now) rows.now) }
@@ -110,7 +111,7 @@ fn volumes_uncounted(
 fn claimed_instance_uncounted(
     alloc: Global,
     view: &View<'_>,
-    project: &Project,
+    project: &Limited<'_>,
     work: &Work,
 ) -> Result<(), Or<Refusal>>
     ensures { Says result (option_and_then (own_instance view.now project.now) (claimed_instance work.now)) }
@@ -123,7 +124,7 @@ fn claimed_instance_uncounted(
 
 fn claimed_volume_uncounted(
     alloc: Global,
-    project: &Project,
+    project: &Limited<'_>,
     work: &Work,
 ) -> Result<(), Or<Refusal>>
     ensures { Says result (option_and_then (own_volume project.now) (claimed_volume work.now)) }
@@ -138,7 +139,7 @@ fn claimed_volume_uncounted(
 pub(crate) fn claim_uncounted(
     alloc: Global,
     view: &View<'_>,
-    project: &Project,
+    project: &Limited<'_>,
     work: &Work,
 ) -> Result<(), Or<Refusal>>
     ensures { Says result (claim_uncounted view.now project.now work.now) }
@@ -150,7 +151,7 @@ pub(crate) fn claim_uncounted(
 fn claims_uncounted(
     alloc: Global,
     view: &View<'_>,
-    project: &Project,
+    project: &Limited<'_>,
     live: &[Operation<Work>],
 ) -> Result<(), Or<Refusal>>
     ensures { Says result (first_of (λ o. claim_uncounted view.now project.now o.work) live.now) }
@@ -167,11 +168,11 @@ fn claims_uncounted(
 fn own_instances_uncounted(
     alloc: Global,
     view: &View<'_>,
-    project: &Project,
+    project: &Limited<'_>,
 ) -> Result<(), Or<Refusal>>
     ensures { Says result (first_of (own_instance view.now project.now) view.now.instances) }
 {
-    let rows = rows_of(view.instances, project.name.view());
+    let rows = rows_of(view.instances, project.name().view());
     instances_uncounted(alloc, view, project, rows)
 }
 
@@ -179,15 +180,19 @@ fn own_instances_uncounted(
 fn own_volumes_uncounted(
     alloc: Global,
     view: &View<'_>,
-    project: &Project,
+    project: &Limited<'_>,
 ) -> Result<(), Or<Refusal>>
     ensures { Says result (first_of (own_volume project.now) view.now.volumes) }
 {
-    let rows = rows_of(view.volumes, project.name.view());
+    let rows = rows_of(view.volumes, project.name().view());
     volumes_uncounted(alloc, project, rows)
 }
 
-fn objects_uncounted(alloc: Global, view: &View<'_>, project: &Project) -> Result<(), Or<Refusal>>
+fn objects_uncounted(
+    alloc: Global,
+    view: &View<'_>,
+    project: &Limited<'_>,
+) -> Result<(), Or<Refusal>>
     ensures { Says result (own_objects view.now project.now) }
 {
     own_instances_uncounted(alloc, view, project)?;
@@ -195,25 +200,31 @@ fn objects_uncounted(alloc: Global, view: &View<'_>, project: &Project) -> Resul
     claims_uncounted(alloc, view, project, view.live)
 }
 
-/// The first instance, volume or claim of a project that is not countable. Where the project limits no sum, none is
-/// asked.
-fn project_uncounted(alloc: Global, view: &View<'_>, project: &Project) -> Result<(), Or<Refusal>>
+/// L0 of a project: the first instance, volume or claim of it that gives no number for a sum that it limits. Where it
+/// limits no sum, none is asked.
+pub fn project_uncounted(
+    alloc: Global,
+    view: &View<'_>,
+    project: &Limited<'_>,
+) -> Result<(), Or<Refusal>>
     ensures { Says result (project_uncounted view.now project.now) }
 {
-    if !limits_sum(&limits_of(&project.config)) {
+    if !limits_sum(project.limits()) {
         return Ok(());
     }
     objects_uncounted(alloc, view, project)
 }
 
-/// L0 of these projects: the first of them, and there the first instance, volume or claim, that gives no number for a sum
-/// that its project limits.
-pub fn counts_broken_in(
+/// L0 of all projects, each with its limits: the first of them, and there the first instance, volume or claim, that
+/// gives no number for a sum that its project limits.
+#[tactic(auto, unfolding(row_machine::specs::machine::LimitRules::counts_broken))]
+pub fn counts_broken(
     alloc: Global,
     after: &View<'_>,
-    projects: &[Project],
+    projects: &[Limited<'_>],
 ) -> Result<(), Or<Refusal>>
-    ensures { Says result (first_of (project_uncounted after.now) projects.now) }
+    requires { projects.now ≡ after.now.projects }
+    ensures { Says result (counts_broken after.now) }
 {
     for project in projects {
         if let Err(why) = project_uncounted(alloc, after, project) {
@@ -221,12 +232,4 @@ pub fn counts_broken_in(
         }
     }
     Ok(())
-}
-
-/// L0 of all projects.
-#[tactic(auto, unfolding(row_machine::specs::machine::LimitRules::counts_broken))]
-pub fn counts_broken(alloc: Global, after: &View<'_>) -> Result<(), Or<Refusal>>
-    ensures { Says result (counts_broken after.now) }
-{
-    counts_broken_in(alloc, after, after.projects)
 }

@@ -1,11 +1,12 @@
 //! The limits of a project by their parts: which are set, and how a refusal tells one.
-ghost use Rattle.std.specs.Prelude.{◌≡◌};
+ghost use Rattle.std.specs.Prelude.{◌≡◌, false};
 ghost use Rattle.std.specs.List.{list_any};
+ghost use Rattle.std.specs.Option.{option_map_or};
 ghost use Rattle.size_values.specs.Amounts.{part};
 ghost use Rattle.project_limits.specs.Admission.{key_of, limit_on};
 ghost use Rattle.project_limits.specs.Limits.{limits_of};
 ghost use Rattle.row_machine.specs.machine.LimitRules.{limit_rule, limit_text};
-ghost use Rattle.rules_limits.specs.Exceeding.{limits_any, limits_sum, is_any_limited, is_limited_row, sets_limit};
+ghost use Rattle.rules_limits.specs.AllProjects.{limits_any, limits_sum, is_any_limited, is_limited_row, sets_limit};
 
 use project_limits::{LimitKey, Limits, limits_of};
 use records::{Project, Row, Rule};
@@ -105,7 +106,7 @@ pub(crate) fn limits_sum(limits: &Limits) -> bool
         || limits.disk.is_some()
 }
 
-fn limits_any(limits: &Limits) -> bool
+pub(crate) fn limits_any(limits: &Limits) -> bool
     ensures { result ≡ limits_any limits.now }
 {
     limits.instances.is_some()
@@ -115,14 +116,24 @@ fn limits_any(limits: &Limits) -> bool
         || limits_sum(limits)
 }
 
+/// Whether limits, if they are those of a project, set one.
+pub fn is_limited_by(limits: Option<Limits>) -> bool
+    ensures { result ≡ option_map_or limits_any limits false }
+{
+    match limits {
+        Some(limits) => limits_any(&limits),
+        None => false,
+    }
+}
+
 fn is_limited(project: &Project) -> bool
     ensures { result ≡ limits_any (limits_of project.now.config) }
 {
     limits_any(&limits_of(&project.config))
 }
 
-/// Whether one of the projects has a limit.
-pub fn is_any_limited(projects: &[Project]) -> bool
+/// Whether one of the projects has a limit. The limits of each are read until one has some.
+pub(crate) fn have_limits(projects: &[Project]) -> bool
     ensures { result ≡ is_any_limited projects.now }
 {
     projects.iter().any(is_limited)

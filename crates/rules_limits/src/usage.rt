@@ -3,9 +3,9 @@ ghost use Rattle.std.specs.Prelude.{◌≡◌, IfOk, map};
 ghost use Rattle.row_machine.specs.machine.Changes.{applied};
 ghost use Rattle.row_readings.specs.Loads.{AreSmall};
 ghost use Rattle.rules_limits.specs.Counting.{counts_in};
-ghost use Rattle.rules_limits.specs.Exceeding.{Serves};
+ghost use Rattle.rules_limits.specs.AllProjects.{Serves};
 
-use crate::parts::{is_any_limit_set, is_any_limited};
+use crate::parts::{have_limits, is_any_limit_set};
 use records::Network;
 use row_machine::RowChange;
 use row_readings::{Load, View, loads};
@@ -68,7 +68,7 @@ pub fn usage_before_changes(
 ) -> Result<Usage, NoMemory>
     ensures { IfOk result (λ u. Serves u view.now (applied view.now changes.now)) }
 {
-    if is_any_limited(view.projects) || is_any_limit_set(changes) {
+    if have_limits(view.projects) || is_any_limit_set(changes) {
         return usage_before(alloc, view);
     }
     Ok(Usage {

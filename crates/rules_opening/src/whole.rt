@@ -14,11 +14,11 @@ ghost use Rattle.rules_opening.specs.Rules.{breach_of};
 
 use crate::breach::{Breach, broken_at, broken_in};
 use crate::rules::rows_break_rules;
-use records::{Refusal, Row, Rule};
+use records::{Row, Rule};
 use row_codec::{kind_of, row_size};
 use row_readings::View;
 use rows_made::{LARGEST_ROW, cap_of};
-use rules_limits::{limits_broken, usage_before_changes};
+use rules_limits::standing_limits_broken;
 use size_values::{ObjectKind, Or};
 use std::alloc::Global;
 
@@ -45,21 +45,11 @@ fn default_missing(alloc: Global, view: &View<'_>) -> Result<(), Or<Breach>>
 
 // ---- the limits of projects
 
-/// The first limit that a project's usage is above, and the project.
-fn limits_exceeded(alloc: Global, view: &View<'_>) -> Result<(), Or<Refusal>>
-    ensures { Says result (limits_broken view.now view.now) }
-{
-    let before = usage_before_changes(alloc, view, &[])?;
-    let exceeded = limits_broken(alloc, &before, view);
-    drop(before);
-    exceeded
-}
-
-/// The same, told at the project.
+/// The first limit that a project's usage is above, told at the project.
 fn limit_breach(alloc: Global, view: &View<'_>) -> Result<(), Or<Breach>>
     ensures { Says result (option_map breach_of (limits_broken view.now view.now)) }
 {
-    match limits_exceeded(alloc, view) {
+    match standing_limits_broken(alloc, view) {
         Ok(()) => Ok(()),
         Err(Or::NoMemory) => Err(Or::NoMemory),
         Err(Or::Why(refusal)) => {

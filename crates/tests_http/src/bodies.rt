@@ -4,7 +4,7 @@ use crate::answers::{is_text, text_of};
 use crate::faults::{AFTER_SOURCE, CHANGED, NEW, OTHERS};
 use crate::sayings::SAID;
 use records::{Body, Origin};
-use rest_bodies::{Shape, action_at, body_of, judge_fields, object_in, restore_at};
+use rest_bodies::{SentBody, Shape, action_at, body_of, judge_fields, object_in, restore_at};
 use serde_json::Value;
 use size_values::{Action, Kind, Seq, Text};
 use std::alloc::Global;
@@ -93,18 +93,18 @@ fn is_said(body: &Body, want: Want) -> bool {
     }
 }
 
-fn says(alloc: Global, shape: Shape, value: &Value, want: Want) -> bool {
-    let body = body_of(alloc, shape, value, "pool");
-    let is = match &body {
-        Ok(body) => is_said(body, want),
+fn says(alloc: Global, shape: Shape, body: &SentBody, want: Want) -> bool {
+    let said = body_of(alloc, shape, body, "pool");
+    let is = match &said {
+        Ok(said) => is_said(said, want),
         Err(_) => false,
     };
-    drop(body);
+    drop(said);
     is
 }
 
-fn restores(alloc: Global, value: &Value, snapshot: Option<&str>) -> bool {
-    let restored = restore_at(alloc, value);
+fn restores(alloc: Global, body: &SentBody, snapshot: Option<&str>) -> bool {
+    let restored = restore_at(alloc, body);
     let is = match &restored {
         Ok(text) => is_text(text, snapshot),
         Err(_) => false,
@@ -113,18 +113,18 @@ fn restores(alloc: Global, value: &Value, snapshot: Option<&str>) -> bool {
     is
 }
 
-fn has_fault(shape: Shape, value: &Value, key: &str) -> bool {
-    judge_fields(shape, value).unwrap_or("") == key
+fn has_fault(shape: Shape, body: &SentBody, key: &str) -> bool {
+    judge_fields(shape, body).unwrap_or("") == key
 }
 
-fn is_wanted(alloc: Global, shape: Shape, value: &Value, want: Want) -> bool {
+fn is_wanted(alloc: Global, shape: Shape, body: &SentBody, want: Want) -> bool {
     match want {
-        Want::Fault(key) => has_fault(shape, value, key),
-        Want::Asks(action) => action_at(value) == action,
-        Want::Restores(snapshot) => restores(alloc, value, snapshot),
-        Want::Copies(_, _) => has_fault(shape, value, "") & says(alloc, shape, value, want),
-        Want::CopiesNothing => has_fault(shape, value, "source") & says(alloc, shape, value, want),
-        _ => says(alloc, shape, value, want),
+        Want::Fault(key) => has_fault(shape, body, key),
+        Want::Asks(action) => action_at(body) == action,
+        Want::Restores(snapshot) => restores(alloc, body, snapshot),
+        Want::Copies(_, _) => has_fault(shape, body, "") & says(alloc, shape, body, want),
+        Want::CopiesNothing => has_fault(shape, body, "source") & says(alloc, shape, body, want),
+        _ => says(alloc, shape, body, want),
     }
 }
 
@@ -149,7 +149,7 @@ fn value_of(alloc: Global, texts: Texts) -> Option<Value> {
 fn is_body(alloc: Global, shape: Shape, texts: Texts, want: Want) -> bool {
     match value_of(alloc, texts) {
         Some(value) => {
-            let is = is_wanted(alloc, shape, &value, want);
+            let is = is_wanted(alloc, shape, &SentBody::new(&value), want);
             drop(value);
             is
         }

@@ -4,13 +4,14 @@ ghost use Rattle.size_values.specs.declared.amounts.Part.{Part};
 
 use operations::{OpFault, Operation, Status};
 use plans_tasks::instance_creation;
+use project_limits::Limits;
 use records::{Body, Command, Driver, Origin, Pool, Project, Refusal, Row, Rule, Target, What};
 use row_machine::Work;
 use row_readings::{View, rows_of, usage_of};
 use rules_conflicts::standing_broken;
 use rules_limits::{
-    InUse, claim_uncounts, counts_broken, counts_broken_in, is_any_limited, limits_broken,
-    needs_usage, share_broken, usage_before, uses_exceed,
+    InUse, claim_uncounts, counts_broken, limited_named, limited_projects, limits_broken,
+    limits_named, needs_usage, project_uncounted, share_broken, usage_before, uses_exceed,
 };
 use rules_names::names_broken;
 use rules_policy::{claim_forbidden, policy_broken, policy_broken_in};
@@ -224,9 +225,10 @@ fn later_broken(alloc: Global, rows: &Rows) -> Result<(), Or<Refusal>> {
     let after = rows.view();
     claim_settings_broken(alloc, &after, last_claim(&after))?;
     policy_broken(alloc, &after)?;
-    counts_broken(alloc, &after)?;
+    let projects = limited_projects(alloc, after.projects)?;
+    counts_broken(alloc, &after, &projects)?;
     let before = usage_before(alloc, &rows.before_last())?;
-    let broken = limits_broken(alloc, &before, &after);
+    let broken = limits_broken(alloc, &before, &after, &projects);
     drop(before);
     broken
 }
@@ -246,22 +248,30 @@ fn project_broken(alloc: Global, rows: &Rows) -> Result<(), Or<Refusal>> {
         return Ok(());
     };
     let project = operation.work.project.view();
-    let projects = rows_of(after.projects, project);
-    policy_broken_in(alloc, &after, projects)?;
-    counts_broken_in(alloc, &after, projects)?;
-    if !is_any_limited(projects) {
+    policy_broken_in(alloc, &after, rows_of(after.projects, project))?;
+    let limits = limits_named(&after, project);
+    let Some(limited) = limited_named(&after, project, limits) else {
+        return Ok(());
+    };
+    project_uncounted(alloc, &after, &limited)?;
+    if !limited.has_limits() {
         return Ok(());
     }
     let before = in_use(alloc, &rows.before_last(), project)?;
     let later = in_use(alloc, &after, project)?;
-    uses_exceed(alloc, projects, &before, &later)
+    uses_exceed(alloc, &limited, &before, &later)
 }
 
 /// What a project uses, where its share is judged by it.
-fn used_beside(alloc: Global, view: &View<'_>, project: &str) -> Result<Amounts, NoMemory>
+fn used_beside(
+    alloc: Global,
+    view: &View<'_>,
+    project: &str,
+    limits: Option<Limits>,
+) -> Result<Amounts, NoMemory>
     ensures { IfOk result (λ used. (k : Part) → part k used ≤ 2 ^ 127 + 2 ^ 126) }
 {
-    if !needs_usage(view, project, &SHARE) {
+    if !needs_usage(limits, &SHARE) {
         return Ok(Amounts::zero());
     }
     usage_of(alloc, view, project)
@@ -277,9 +287,11 @@ fn alone_broken(alloc: Global, rows: &Rows) -> Result<(), Or<Refusal>> {
     let work = &operation.work;
     let project = work.project.view();
     claim_forbidden(alloc, &after, work)?;
-    claim_uncounts(alloc, &after, work)?;
-    let used = used_beside(alloc, &rows.before_last(), project)?;
-    share_broken(alloc, &after, project, &used, &SHARE)
+    let limits = limits_named(&after, project);
+    let limited = limited_named(&after, project, limits);
+    claim_uncounts(alloc, &after, &limited, work)?;
+    let used = used_beside(alloc, &rows.before_last(), project, limits)?;
+    share_broken(alloc, &limited, &used, &SHARE)
 }
 
 /// An operation that waits for its first call.

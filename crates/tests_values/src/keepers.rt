@@ -7,59 +7,6 @@ use std::alloc::Global;
 /// An entry as a kind, a key and a body of one byte. As a change, a body of 0 removes the entry of that kind and key.
 type Row = (u8, &'static str, u8);
 
-/// Changes that are committed, and the entries that they leave.
-const COMMITS: &[(&str, &[Row], &[Row])] = &[
-    ("nothing", &[], &[]),
-    ("one", &[(1, "a", 7)], &[(1, "a", 7)]),
-    (
-        "by key",
-        &[(1, "b", 1), (1, "a", 2)],
-        &[(1, "a", 2), (1, "b", 1)],
-    ),
-    (
-        "by kind first",
-        &[(2, "a", 1), (1, "b", 2)],
-        &[(1, "b", 2), (2, "a", 1)],
-    ),
-    (
-        "a shorter key first",
-        &[(1, "aa", 1), (1, "a", 2)],
-        &[(1, "a", 2), (1, "aa", 1)],
-    ),
-    (
-        "replaced",
-        &[(1, "a", 1), (1, "b", 2), (1, "a", 3)],
-        &[(1, "a", 3), (1, "b", 2)],
-    ),
-    (
-        "removed",
-        &[(1, "a", 1), (2, "a", 2), (1, "a", 0)],
-        &[(2, "a", 2)],
-    ),
-    (
-        "removed where there is none",
-        &[(1, "a", 1), (1, "b", 0)],
-        &[(1, "a", 1)],
-    ),
-];
-
-/// A call of a keeper, and its answer: whether a commit is made or fails, and what a load finds, or that it fails.
-#[derive(Clone, Copy)]
-enum Call {
-    Commit(&'static [Row], bool),
-    Load(Option<&'static [Row]>),
-}
-
-/// Calls of a keeper of which the second and the fourth fail, with the count of failures after each.
-const LISTED: &[(Call, u64)] = &[
-    (Call::Commit(&[(1, "a", 1)], true), 0),
-    (Call::Commit(&[(1, "a", 2), (1, "b", 2)], false), 1),
-    (Call::Load(Some(&[(1, "a", 1)])), 1),
-    (Call::Load(None), 2),
-    (Call::Commit(&[(1, "a", 0)], true), 2),
-    (Call::Load(Some(&[])), 2),
-];
-
 fn entry(alloc: Global, row: Row) -> Entry {
     let (kind, key, byte) = row;
     Entry {
@@ -138,40 +85,16 @@ fn loads<K: Keeper>(keeper: &mut K, wanted: Option<&[Row]>) -> bool {
     }
 }
 
-/// Whether these changes, made in one commit and made in a commit each, leave these rows.
-fn keeps(alloc: Global, made: &[Row], kept: &[Row]) -> bool {
-    let mut together = MapKeeper::new(alloc, Seq::new(alloc));
-    let mut one_by_one = MapKeeper::new(alloc, Seq::new(alloc));
-    let mut is = commits(alloc, &mut together, made, true);
-    for row in made {
-        is = commits(alloc, &mut one_by_one, &[*row], true) && is;
-    }
-    is = loads(&mut together, Some(kept)) && loads(&mut one_by_one, Some(kept)) && is;
-    drop(one_by_one);
-    drop(together);
-    is
-}
-
-#[test]
-fn commits_keep_one_entry_of_each_kind_and_key(rt: HostRuntime) {
-    for (case, made, kept) in COMMITS {
-        assert!(rt; keeps(rt.alloc(), made, kept), "{case}");
-    }
-}
-
-/// Whether all listed calls are answered as they are listed, with their counts of failures.
-fn answers_listed(alloc: Global) -> bool {
-    let mut keeper = MapKeeper::new(alloc, numbers_of(alloc, &[2, 4, 4]));
-    let mut all = true;
-    for (call, faults) in LISTED {
-        let is = match call {
-            Call::Commit(rows, is_made) => commits(alloc, &mut keeper, rows, *is_made),
-            Call::Load(wanted) => loads(&mut keeper, *wanted),
-        };
-        all = is && keeper.faults() == *faults && all;
-    }
+/// Whether a keeper whose second call fails keeps what the others commit, and counts the failure.
+fn keeps(alloc: Global) -> bool {
+    let mut keeper = MapKeeper::new(alloc, numbers_of(alloc, &[2]));
+    let is = commits(alloc, &mut keeper, &[(1, "b", 1), (1, "a", 2)], true)
+        && commits(alloc, &mut keeper, &[(1, "a", 0)], false)
+        && keeper.faults() == 1
+        && commits(alloc, &mut keeper, &[(1, "b", 0)], true)
+        && loads(&mut keeper, Some(&[(1, "a", 2)]));
     drop(keeper);
-    all
+    is
 }
 
 /// A keeper that begins with entries, whose first call fails.
@@ -197,7 +120,6 @@ const GIVEN: &[Row] = &[(2, "x", 1), (1, "y", 2), (2, "x", 3)];
 const KEPT: &[Row] = &[(1, "y", 2), (2, "x", 3)];
 
 #[test]
-fn listed_calls_fail_and_change_nothing(rt: HostRuntime) {
-    assert!(rt; answers_listed(rt.alloc()));
-    assert!(rt; begins(rt.alloc(), GIVEN, KEPT));
+fn a_keeper_keeps_what_is_committed(rt: HostRuntime) {
+    assert!(rt; keeps(rt.alloc()) && begins(rt.alloc(), GIVEN, KEPT));
 }

@@ -5,15 +5,6 @@ use size_values::{Boxed, Entry, EntryChange, NoMemory, Seq, Text};
 use std::alloc::Global;
 use std::cmp::Ordering;
 
-/// Two texts, and the order of the first to the second.
-const TEXTS: &[(&str, &str, Ordering)] = &[
-    ("lab", "lac", Ordering::Less),
-    ("lac", "lab", Ordering::Greater),
-    ("lab", "lab", Ordering::Equal),
-    ("la", "lab", Ordering::Less),
-    ("", "", Ordering::Equal),
-];
-
 /// A text that is made of a string.
 fn of_string(alloc: Global, bytes: &str) -> Text {
     match String::from_str(alloc, bytes) {
@@ -39,26 +30,16 @@ fn is_set(mut text: Text, bytes: &str) -> bool {
     is
 }
 
-/// Whether a text has the bytes that it is made of, so that it is its copy and lies in this order to the other.
-fn is_text(alloc: Global, bytes: &str, other: &str, order: Ordering) -> bool {
-    let text = text_of(alloc, bytes);
-    let other = of_string(alloc, other);
-    let is = text.view() == bytes
-        && is_copied(alloc, &text, bytes)
-        && is_set(of_string(alloc, "x"), bytes)
-        && is_set(text_of(alloc, "longer than those"), bytes)
-        && text.compare(&other) == order
-        && text.is(&other) == (order == Ordering::Equal);
+/// Whether a text has the bytes that it is made of, is its copy, and lies below a later text.
+fn is_text(alloc: Global) -> bool {
+    let text = text_of(alloc, "lab");
+    let other = of_string(alloc, "lac");
+    let is = is_copied(alloc, &text, "lab")
+        && text.compare(&other) == Ordering::Less
+        && !text.is(&other);
     drop(other);
     drop(text);
-    is
-}
-
-#[test]
-fn texts_keep_their_bytes(rt: HostRuntime) {
-    for (text, other, order) in TEXTS {
-        assert!(rt; is_text(rt.alloc(), text, other, *order), "for {text}");
-    }
+    is && is_set(of_string(alloc, "x"), "lab") && is_set(text_of(alloc, "longer than those"), "lab")
 }
 
 /// Whether items that are put into a vector with room stand there in their order.
@@ -137,9 +118,15 @@ fn is_taken_out(alloc: Global, entry: Entry) -> bool {
     is
 }
 
+fn are_kept(alloc: Global) -> bool {
+    is_text(alloc)
+        && is_pushed_in_order(alloc)
+        && is_first_in_first_out(alloc)
+        && are_new_ones_empty(alloc)
+        && is_entry_copied(alloc)
+}
+
 #[test]
-fn lists_keep_their_order_and_entries_are_copied_whole(rt: HostRuntime) {
-    let alloc = rt.alloc();
-    assert!(rt; is_pushed_in_order(alloc) && is_first_in_first_out(alloc));
-    assert!(rt; are_new_ones_empty(alloc) && is_entry_copied(alloc));
+fn lists_texts_and_entries_keep_what_they_hold(rt: HostRuntime) {
+    assert!(rt; are_kept(rt.alloc()));
 }

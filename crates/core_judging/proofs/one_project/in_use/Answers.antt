@@ -3,7 +3,7 @@ use Rattle.std.specs.Str.{bytes_eq}
 use Rattle.size_values.specs.declared.amounts.Amounts.{Amounts}
 use Rattle.row_machine.specs.machine.State.{State}
 use Rattle.row_machine.specs.machine.Usage.{networks_of}
-use Rattle.rules_limits.specs.declared.in_use.InUse.{InUse}
+use Rattle.rules_limits.specs.declared.one_project.InUse.{InUse}
 use Rattle.core_judging.proofs.one_project.in_use.Goals as goal
 
 pub returns : goal.returns

@@ -7,7 +7,7 @@ use Rattle.row_machine.specs.machine.Homes.{home_of}
 use Rattle.row_machine.specs.shown.Notices.{life_notice, moved_life}
 use Rattle.row_machine.specs.machine.Plans.{plan_of, row_of, plan_move}
 use Rattle.plans_objects.specs.Planning.{IsPlanned}
-use Rattle.plans_objects.specs.Rows.{row_at}
+use Rattle.row_readings.specs.AnyRows.{row_in}
 use Rattle.plans_objects.proofs.Silent.{command_of, move-silent}
 use Rattle.plans_objects.proofs.Noted.{noted, changes-there, changes-gone}
 use Rattle.plans_objects.proofs.plans.plan_move.Goals as goal
@@ -38,5 +38,5 @@ returns c =
     (noted plan (life_notice c.args.moment (home_of s.projects project renamed.kind) renamed)
     c.in-Some.action (moved_life of.kind) c.with_notice-planned.result c.in-Some.ensures
     (c.with_notice-planned.ensures plan
-    (changes-there (plan_move s project of c.args.to.now) (row_at c.in-Some-row_of.old) (row_of s project of)
+    (changes-there (plan_move s project of c.args.to.now) (row_in c.in-Some-row_of.old) (row_of s project of)
     c.in_ok-changes.changes c.in-Some-row_of.ensures (c.in_ok-changes.ensures project of))))

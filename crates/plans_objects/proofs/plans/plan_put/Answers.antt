@@ -2,7 +2,7 @@ use Rattle.records.specs.declared.commands.What.TheVariants as what
 use Rattle.row_machine.specs.machine.Homes.{home_of}
 use Rattle.row_machine.specs.shown.Notices.{life_notice, changed_life}
 use Rattle.row_machine.specs.machine.Plans.{plan_of, row_of, plan_put}
-use Rattle.plans_objects.specs.Rows.{row_at}
+use Rattle.row_readings.specs.AnyRows.{row_in}
 use Rattle.plans_objects.proofs.Silent.{command_of, put-silent}
 use Rattle.plans_objects.proofs.Noted.{noted, changes-there, changes-gone}
 use Rattle.plans_objects.proofs.plans.plan_put.Goals as goal
@@ -28,5 +28,5 @@ returns c =
     noted plan (life_notice c.args.moment (home_of s.projects project of.kind) of)
     c.in-Some.action (changed_life of.kind) c.with_notice.result c.in-Some.ensures
     (c.with_notice.ensures plan
-    (changes-there (plan_put s project of c.args.body.now) (row_at c.in-Some-row_of.old) (row_of s project of)
+    (changes-there (plan_put s project of c.args.body.now) (row_in c.in-Some-row_of.old) (row_of s project of)
     c.in_ok-changes.changes c.in-Some-row_of.ensures (c.in_ok-changes.ensures s project of)))

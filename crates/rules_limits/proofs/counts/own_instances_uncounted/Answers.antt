@@ -12,7 +12,7 @@ returns c =
     let rule = own_instance c.args.view.now c.args.project.now in
     let rows = c.view.inside.instances.now in
     says-as c.instances_uncounted.result
-    (ap (first_of rule) (c.rows_of-rows.ensures ∙ ap (λ name. filter (λ row. bytes_eq row.project name) rows) c.view-2.ensures.value)
+    (ap (first_of rule) (c.rows_of-rows.ensures ∙ ap (λ name. filter (λ row. bytes_eq row.project name) rows) (c.view-2.ensures.value ∙ c.name.ensures))
     ∙ own-instances c.args.view.now c.args.project.now rows
     ∙ ap (λ (s : State). first_of rule s.instances) c.view.view_is)
     c.instances_uncounted.ensures

@@ -12,7 +12,7 @@ returns c =
     let rule = own_volume c.args.project.now in
     let rows = c.view.inside.volumes.now in
     says-as c.volumes_uncounted.result
-    (ap (first_of rule) (c.rows_of-rows.ensures ∙ ap (λ name. filter (λ row. bytes_eq row.project name) rows) c.view-2.ensures.value)
+    (ap (first_of rule) (c.rows_of-rows.ensures ∙ ap (λ name. filter (λ row. bytes_eq row.project name) rows) (c.view-2.ensures.value ∙ c.name.ensures))
     ∙ own-volumes c.args.project.now rows
     ∙ ap (λ (s : State). first_of rule s.volumes) c.view.view_is)
     c.volumes_uncounted.ensures

@@ -5,6 +5,7 @@ use Rattle.row_machine.specs.machine.Changes.{applied}
 use Rattle.row_machine.specs.facts.Whole.{IsWhole}
 use Rattle.machine_laws.specs.Entries.{entry_changes}
 use Rattle.row_machine.specs.machine.State.{State}
+use Rattle.core_judging.specs.Before.{FitsLimits}
 use Rattle.core_drafts.specs.Background.{Backing}
 use Rattle.machine_laws.proofs.NamesApplied.{applied-operations}
 use Rattle.core_drafts.specs.Steps.{before_changes}
@@ -25,6 +26,12 @@ pub returns-in_default : goal.returns-in_default
 returns-in_default g c =
     unready-from c.args.self.now.state c.args.command.now c.args.moment c.args.changes c.args.notice c.self.inside.draft.state c.prepare.new.draft.state
     _ (g.R.Keeper.store c.args.keeper.now) (ap (λ (k : Kept). k.state) c.self.view_is) c.prepare.ensures.state (still-quiet _ _ c.self.inside.untold.items (ap (λ (k : Kept). k.untold) c.self.view_is ∙ c.requires.quiet))
+
+pub judge-judged-requires : goal.judge-judged-requires
+judge-judged-requires g c =
+    subst (FitsLimits c.in-Ok.ready.before)
+    (sym (c.view.ensures ∙ c.apply.ensures.state ∙ ap (λ t. applied t c.args.changes) c.prepare.ensures.state))
+    c.in-Ok.ensures.limits
 
 pub returns-in-Err : goal.returns-in-Err
 returns-in-Err g c =

@@ -7,6 +7,7 @@ use Rattle.row_machine.specs.machine.State.{State}
 use Rattle.row_machine.specs.machine.Work.{claiming}
 use Rattle.row_machine.specs.facts.Whole.{IsWhole}
 use Rattle.core_drafts.specs.Steps.{before_changes}
+use Rattle.rules_limits.specs.Limited.{limits_named}
 use Rattle.row_readings.proofs.Small.{low-share_of}
 use Rattle.machine_laws.proofs.WholeKept.{whole-entered}
 use Rattle.core_rows.specs.Asked.{IsAsked}
@@ -49,6 +50,14 @@ returns-in-Err c = λ store.
     ∙ ap (λ us. before_changes us c.prepare_start.new.draft.state) c.prepare_start.ensures.log
     ∙ c.prepare_start.ensures.state)
     (still-quiet _ _ c.self.inside.untold.items (ap (λ (k : Kept). k.untold) c.self.view_is ∙ c.requires.quiet)) c.roll_back.ensures.reply)
+
+pub judge_claim-judged-requires-clause-limits : goal.judge_claim-judged-requires-clause-limits
+judge_claim-judged-requires-clause-limits c =
+    let old = c.self.inside.draft.state in
+    let claimed = c.claim-number.ensures.state ∙ ap (λ t. claiming t c.args.work c.args.moment) c.prepare_start.ensures.state in
+    c.in-Ok.ensures.limits
+    ∙ ap (limits_named old.projects) (sym c.in-Ok.ensures.project)
+    ∙ ap (λ (t : State). limits_named t.projects c.in-Ok.beginning.project) (sym (c.view.ensures ∙ claimed))
 
 pub judge_claim-judged-requires-clause-share : goal.judge_claim-judged-requires-clause-share
 judge_claim-judged-requires-clause-share c = λ k.

@@ -1,8 +1,0 @@
-use Rattle.std.proofs.Common.{◌≡◌, None, take}
-use Rattle.rules_limits.specs.Exceeding.{networks_over}
-use Rattle.plain_lists.specs.Firsts.{first_of}
-use Rattle.rules_limits.proofs.limits.networks_exceed.Given as goal
-
--- those before break nothing
-abbrev pub invariant-loop-project : goal.invariant-loop-project
-invariant-loop-project l = first_of (networks_over l.before l.after) (take l.project-index l.projects) ≡ None

@@ -1,0 +1,4 @@
+pub mod Policies
+pub mod Spellings
+pub mod States
+pub mod Tables

@@ -1,0 +1,6 @@
+pub mod DeviceOptions
+pub mod Layers
+pub mod Limits
+pub mod Names
+pub mod Options
+pub mod Tables

@@ -1,0 +1,5 @@
+pub mod Entries
+pub mod Readers
+pub mod Summaries
+pub mod Tables
+pub mod Values
