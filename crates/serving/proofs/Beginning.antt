@@ -129,6 +129,7 @@ ended_then {n} {a} {b} {c} {k} {m} {o} e (inr w) = record {
 } where
   links : c.links ≡ b.links
   links = ap (λ x. x.links) w.1.0
+
   declined : c.declined ≡ b.declined
   declined = ap (λ x. x.declined) w.1.0
 
@@ -190,9 +191,9 @@ begins_all {l} {a} {b} {c} {k} {m} {n} {o} {x} {y} idle none no_tasks no_given s
       waited = t.waited ∙ w.waited;
       late = t.late w.waited ∙ w.late;
     } where
-  full : (t.away ≡ 0) ⊎ (b.links + l ≤ c.links + n) → (t.away ≡ 0) ⊎ (l ≤ c.links)
-  full (inl p) = inl p
-  full (inr p) = inr (omega (arith, p, no_tasks))
+      full : (t.away ≡ 0) ⊎ (b.links + l ≤ c.links + n) → (t.away ≡ 0) ⊎ (l ≤ c.links)
+      full (inl p) = inl p
+      full (inr p) = inr (omega (arith, p, no_tasks))
 
 -- ---- causes
 

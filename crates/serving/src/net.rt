@@ -67,6 +67,22 @@ impl<N: Net, E: DoorEvents> NetDoors<N, E> {
         }
     }
 
+    /// Doors over a listener that stands.
+    pub fn over(net: N, listener: N::Listener, times: LinkTimes, events: E) -> NetDoors<N, E>
+        ensures { result ≡ record { given = 0; none_left = false; failed = 0 } }
+    {
+        NetDoors {
+            net,
+            address: SocketAddr::from((Ipv4Addr::LOCALHOST, 0)),
+            listener: Some(listener),
+            was_opened: true,
+            times,
+            events,
+            given: 0,
+            faults: 0,
+        }
+    }
+
     /// Listens on the port, where that was not tried yet.
     fn open(&mut self)
         ensures { self.new ≡ self.old }
@@ -79,11 +95,7 @@ impl<N: Net, E: DoorEvents> NetDoors<N, E> {
     }
 }
 
-impl<N: Net, E: DoorEvents> Doors for NetDoors<N, E>
-where
-    N::Listener: OpenListener<Stream = N::Stream>,
-    N::Stream: Read + Write + OpenStream + Drop,
-{
+impl<N: Net, E: DoorEvents> Doors for NetDoors<N, E> {
     type Source = ReaderSource<N::Stream>;
 
     type Sink = WriterSink<N::Stream>;
