@@ -1,5 +1,5 @@
 -- What a server does with the links that its doors give, and with its workers.
-use Rattle.std.specs.Prelude.{◌≡◌, ℕ, ◌+◌, ◌^◌, ◌≤◌, ◌⊎◌, Bool, true, false}
+use Rattle.std.specs.Prelude.{◌≡◌, ℕ, ◌+◌, ◌^◌, ◌<◌, ◌≤◌, ◌⊎◌, Bool, true, false}
 use Rattle.std.specs.Prelude.{List, ◌++◌, length, Option, option_map, Result, Ok, Err}
 use Rattle.serving.specs.Counts.{Counts}
 use Rattle.serving.specs.Accepts.{Seen}

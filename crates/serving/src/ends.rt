@@ -44,8 +44,11 @@ pub(crate) fn take_ended<J: Job, B: Jobs<J>, P: Spawner<J>>(
     ensures closed { B.closed jobs.new ≡ B.closed jobs.old }
     ensures ready { P.ready spawner.new }
 {
-    for place in (0..tasks.len()).rev() {
-        let task = tasks.swap_remove(place);
+    // From the last one on, so that what takes a place was looked at before.
+    let mut left = tasks.len();
+    while left > 0 {
+        left -= 1;
+        let task = tasks.swap_remove(left);
         match spawner.take_ended(task) {
             Ok(out) => jobs.take_back(out),
             Err(task) => tasks.push_reserved(task),

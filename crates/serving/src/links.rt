@@ -43,6 +43,7 @@ pub(crate) fn accept_links<
     ensures later { P.failures spawner.old ≤ P.failures spawner.new }
     ensures slots { B.slots jobs.new + vec_len tasks.new ≡ B.slots jobs.old + vec_len tasks.old }
     ensures room { B.room jobs.old ≤ B.room jobs.new }
+    ensures held { vec_len tasks.new ≤ at_once }
     ensures ready { P.ready spawner.new }
 {
     for _i in 0..connections {

@@ -138,7 +138,7 @@ fn next_link<T: OpenListener, E: DoorEvents>(
     events: &mut E,
 ) -> Option<Link<ReaderSource<T::Stream>, WriterSink<T::Stream>>>
 where
-    T::Stream: Read + Write + OpenStream,
+    T::Stream: Read + Write + OpenStream + Drop,
 {
     let listener = listener.as_ref()?;
     for _ in 0..u64::MAX {
@@ -155,7 +155,7 @@ where
 }
 
 /// The two handles of a stream.
-fn link_of<S: Read + Write + OpenStream>(
+fn link_of<S: Read + Write + OpenStream + Drop>(
     stream: S,
     times: LinkTimes,
 ) -> Result<Link<ReaderSource<S>, WriterSink<S>>, ErrorKind> {

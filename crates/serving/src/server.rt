@@ -94,7 +94,9 @@ fn begin_all<J: Job, B: Jobs<J>, D: Doors<Source = B::Source, Sink = B::Sink>, P
     ensures room { B.slots jobs.new + vec_len links.new + vec_len others.new ≤ B.room jobs.new }
     ensures ready { P.ready spawner.new }
 {
-    links.reserve(at_once)?;
+    if links.reserve(at_once).is_err() {
+        return Err(Trouble::NoMemory);
+    }
     start_workers(jobs, spawner, others, workers)?;
     accept_links(jobs, doors, spawner, links, connections, at_once)?;
     Ok(())
