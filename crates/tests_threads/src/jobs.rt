@@ -126,7 +126,7 @@ pub(crate) struct Bench<S, K, R> {
     of: PhantomData<(S, K)>,
 }
 
-impl<S, K, R> Bench<S, K, R> {
+impl<S, K, R: Drop> Bench<S, K, R> {
     /// Jobs with so many slots, whose links wait for `meet` of them.
     pub(crate) fn new(
         rt: R,
@@ -139,7 +139,7 @@ impl<S, K, R> Bench<S, K, R> {
         ensures room { IfOk result (λ b. vec_len b.boards ≤ vec_capacity b.boards) }
     {
         let mut boards = Vec::with_capacity(alloc, slots)?;
-        for _ in 0..slots {
+        for _place in 0..slots {
             boards.push_reserved(Arc::try_clone(board)?);
         }
         Ok(Bench {

@@ -18,9 +18,9 @@ use std::thread::Threads;
 /// which starts fail.
 struct Case {
     links: usize,
-    connections: u64,
-    at_once: usize,
-    workers: u32,
+    connections: u32,
+    at_once: u16,
+    workers: u8,
     accepts: &'static [u64],
     starts: &'static [u64],
 }
@@ -118,16 +118,16 @@ fn alone<R: Wait + Copy + Drop>(rt: R, alloc: Global, case: &Case) -> Result<Tol
     let board = Arc::new(alloc, Board::new())?;
     let mut doors = doors(alloc, case.links, case.accepts)?;
     let mut spawner = RefusingSpawner::new(numbers(alloc, case.starts)?);
-    let slots = case.at_once + case.workers as usize + 1;
+    let slots = usize::from(case.at_once) + usize::from(case.workers) + 1;
     let mut jobs: InMemory<R> = Bench::new(rt, alloc, &board, 0, slots)?;
     let status = status_of(serve::<InMemoryJob<R>, _, _, _>(
         alloc,
         &mut jobs,
         &mut doors,
         &mut spawner,
-        case.connections,
-        case.at_once,
-        case.workers,
+        u64::from(case.connections),
+        usize::from(case.at_once),
+        u32::from(case.workers),
     ));
     let links = begun::<InMemoryJob<R>, _>(&spawner, true);
     let workers = begun::<InMemoryJob<R>, _>(&spawner, false);

@@ -121,9 +121,7 @@ fn writes_failed<K: Sink + Drop>(alloc: Global, mut sink: K) -> Option<u64> {
 }
 
 /// A client that never sends: its link gives no byte once it was idle for long enough.
-fn silent<R: Net<Listener = TcpListener, Stream = TcpStream> + Copy + Drop>(
-    rt: &R,
-) -> Option<bool> {
+fn idle<R: Net<Listener = TcpListener, Stream = TcpStream> + Copy + Drop>(rt: &R) -> Option<bool> {
     let (mut doors, address) = open(rt)?;
     let client = rt.connect(address).ok()?;
     let none = match doors.accept() {
@@ -136,7 +134,7 @@ fn silent<R: Net<Listener = TcpListener, Stream = TcpStream> + Copy + Drop>(
 
 #[test]
 fn a_client_that_never_sends_is_let_go(rt: HostRuntime) {
-    assert!(rt; silent(&rt) == Some(true), "its read ends");
+    assert!(rt; idle(&rt) == Some(true), "its read ends");
 }
 
 #[test]
